@@ -19,29 +19,29 @@ use Rattle.flight_model.specs.declared.states.Choice.{Choice}
 use Rattle.flight_model.specs.declared.events.Order.{Order}
 use Rattle.flight_model.specs.declared.events.Frame.{Frame}
 use Rattle.flight_model.specs.declared.events.Frame.TheVariants.{To, Noted}
-use Rattle.flight_model.specs.declared.flights.Want.{Want}
+use Rattle.flight_model.specs.declared.flights.Condition.{Condition}
 use Rattle.flight_model.specs.declared.flights.Flight.{Flight}
 use Rattle.flight_model.specs.declared.states.Track.{Track}
 use Rattle.flight_model.specs.Directors.{all_fit, first_unfit, aged, frames_from, has_risen, land_order}
 
--- wants with no track left
-all_fit-none : (silence : ℕ) (ws : List Want) (d : ℕ) → d < length ws → all_fit silence (drop d ws) [] ≡ false
+-- conditions with no track left
+all_fit-none : (silence : ℕ) (ws : List Condition) (d : ℕ) → d < length ws → all_fit silence (drop d ws) [] ≡ false
 all_fit-none silence [] d l = absurd (omega arith)
 all_fit-none silence (w ∷ ws) zero l = refl
 all_fit-none silence (w ∷ ws) (suc d) l = all_fit-none silence ws d (omega arith)
 
-pub all_fit-short : (silence : ℕ) (ws : List Want) (ts : List Track) (d : ℕ) → d < length ws → length ts ≤ d → all_fit silence (drop d ws) (drop d ts) ≡ false
+pub all_fit-short : (silence : ℕ) (ws : List Condition) (ts : List Track) (d : ℕ) → d < length ws → length ts ≤ d → all_fit silence (drop d ws) (drop d ts) ≡ false
 all_fit-short silence [] ts d l m = absurd (omega arith)
 all_fit-short silence (w ∷ ws) [] zero l m = refl
 all_fit-short silence (w ∷ ws) [] (suc d) l m = all_fit-none silence ws d (omega arith)
 all_fit-short silence (w ∷ ws) (t ∷ ts) zero l m = absurd (omega arith)
 all_fit-short silence (w ∷ ws) (t ∷ ts) (suc d) l m = all_fit-short silence ws ts d (omega arith) (omega arith)
 
-first-none : (silence k : ℕ) (ws : List Want) → first_unfit silence k ws [] ≡ k
+first-none : (silence k : ℕ) (ws : List Condition) → first_unfit silence k ws [] ≡ k
 first-none silence k [] = refl
 first-none silence k (w ∷ ws) = refl
 
-pub first_unfit-short : (silence k : ℕ) (ws : List Want) (ts : List Track) (d : ℕ) → length ts ≤ d → first_unfit silence k (drop d ws) (drop d ts) ≡ k
+pub first_unfit-short : (silence k : ℕ) (ws : List Condition) (ts : List Track) (d : ℕ) → length ts ≤ d → first_unfit silence k (drop d ws) (drop d ts) ≡ k
 first_unfit-short silence k ws [] zero m = first-none silence k ws
 first_unfit-short silence k [] [] (suc d) m = refl
 first_unfit-short silence k (w ∷ ws) [] (suc d) m = first-none silence k (drop d ws)
@@ -81,16 +81,16 @@ landings-step f n d =
     ∙ (frames_from-append 0 (map g (range_with_len 0 d)) (g d ∷ [])
     ∙ ap (λ k. frames_from 0 (map g (range_with_len 0 d)) ++ frames_from k (g d ∷ [])) (omega (arith, long)))
 
--- ---- a drone that isn't as is wanted
+-- ---- a drone that doesn't meet its condition
 
-pub all_fit-unfit : (silence : ℕ) (ws : List Want) (ts : List Track) (d : ℕ) (w : Want) (t : Track) → d < length ws → d < length ts →
+pub all_fit-unfit : (silence : ℕ) (ws : List Condition) (ts : List Track) (d : ℕ) (w : Condition) (t : Track) → d < length ws → d < length ts →
     is_fit silence (get_or ws d w) (get_or ts d t).seen ≡ false → all_fit silence (drop d ws) (drop d ts) ≡ false
 all_fit-unfit silence [] ts d w t l m h = absurd (omega arith)
 all_fit-unfit silence (v ∷ ws) [] d w t l m h = absurd (omega arith)
 all_fit-unfit silence (v ∷ ws) (u ∷ ts) zero w t l m h = rw h refl
 all_fit-unfit silence (v ∷ ws) (u ∷ ts) (suc d) w t l m h = all_fit-unfit silence ws ts d w t (omega arith) (omega arith) h
 
-pub first_unfit-here : (silence k : ℕ) (ws : List Want) (ts : List Track) (d : ℕ) (w : Want) (t : Track) → d < length ws → d < length ts →
+pub first_unfit-here : (silence k : ℕ) (ws : List Condition) (ts : List Track) (d : ℕ) (w : Condition) (t : Track) → d < length ws → d < length ts →
     is_fit silence (get_or ws d w) (get_or ts d t).seen ≡ false → first_unfit silence k (drop d ws) (drop d ts) ≡ k
 first_unfit-here silence k [] ts d w t l m h = absurd (omega arith)
 first_unfit-here silence k (v ∷ ws) [] d w t l m h = absurd (omega arith)

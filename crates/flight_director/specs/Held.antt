@@ -2,8 +2,8 @@
 use Rattle.std.specs.Prelude.{◌≡◌, ℕ, ◌≤◌, ◌<◌, List, length, Option, Some, None, slice_get, All}
 use Rattle.integer_player.specs.Played.{IsPlayable, duration_of}
 use Rattle.traj_codec.specs.declared.traj.Traj.{Traj}
-use Rattle.flight_model.specs.declared.flights.Deed.{Deed}
-use Rattle.flight_model.specs.declared.flights.Deed.TheVariants.{Each, All as ToEach}
+use Rattle.flight_model.specs.declared.flights.Orders.{Orders}
+use Rattle.flight_model.specs.declared.flights.Orders.TheVariants.{Each, All as ToEach}
 use Rattle.flight_model.specs.declared.flights.Step.{Step}
 use Rattle.flight_model.specs.declared.flights.Flight.{Flight}
 use Rattle.flight_model.specs.declared.events.Event.{Event}
@@ -11,10 +11,10 @@ use Rattle.flight_model.specs.declared.events.Event.TheVariants.{Clock, Seen, An
 use Rattle.flight_model.specs.Directors.{State, drones}
 use Rattle.flight_model.specs.declared.states.Track.{Track}
 
--- a deed orders something of 32 drones at most
-abbrev pub IsSmallDeed : Deed → Type 0
-IsSmallDeed (Each orders) = length orders ≤ 32
-IsSmallDeed (ToEach o) = Unit {0}
+-- orders to 32 drones at most
+abbrev pub AreFew : Orders → Type 0
+AreFew (Each orders) = length orders ≤ 32
+AreFew (ToEach o) = Unit {0}
 
 -- Each curve of the show may be played, up to the show's end.
 pub record IsCurve (f : Flight) (t : Traj) : Type 0 where
@@ -25,8 +25,8 @@ pub record IsCurve (f : Flight) (t : Traj) : Type 0 where
 pub record IsHeld (f : Flight) : Type 0 where
   pub few : drones f ≤ 32
   pub short : f.show_ms ≤ 1000000000
-  pub deeds : All (λ (step : Step). IsSmallDeed step.deed) f.steps
-  pub wants : All (λ (step : Step). length step.wants ≤ 32) f.steps
+  pub orders : All (λ (step : Step). AreFew step.orders) f.steps
+  pub conditions : All (λ (step : Step). length step.conditions ≤ 32) f.steps
   pub curves : All (IsCurve f) f.curves
 
 -- the director as a contract sees it

@@ -15,7 +15,8 @@ mod tracks;
 
 pub use director::Director;
 pub use flight_model::{
-    Deed, Event, Fault, Flight, Frame, Note, Order, Phase, Place, Sample, Step, Track, Want, Word,
+    Condition, Event, Fault, Flight, Frame, Note, Order, Orders, Phase, Position, Sample, Signal,
+    Step, Track,
 };
 pub use notes::{MOST_NOTES, Notes};
 pub use state::{MOST_OUT, Out, State};

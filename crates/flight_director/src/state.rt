@@ -4,10 +4,10 @@ ghost use Rattle.std.specs.Prelude.{slice_set, slice_get, All, true, if◌then�
 ghost use Rattle.std.specs.List.{list_any, list_all};
 ghost use Rattle.flight_model.specs.declared.events.Note.{Note};
 ghost use Rattle.flight_model.specs.declared.flights.Step.{Step as StepWord};
-ghost use Rattle.flight_model.specs.declared.events.Frame.TheVariants.{Noted};
+ghost use Rattle.flight_model.specs.declared.events.Frame.TheVariants.{Noted, Over};
 ghost use Rattle.flight_model.specs.declared.states.Choice.TheVariants.{Begin};
-ghost use Rattle.flight_model.specs.Directors.{start, drones, in_show, is_off as word_off, track_with as word_track, tracks_after, harms as word_harms, heard, fits, next_step, noticed as word_noticed, overdue as word_overdue, notes as word_notes, is_due as word_due, is_due_step, is_late_step, is_grave as word_grave, is_over as word_over, chosen, has_risen as word_risen, frames_of, landings, done, led, happens, says, is_fault, is_go as word_go, is_land as word_land, is_stop as word_stop, passed as word_passed, is_rise as word_rise, order_in, frames_of_step, frames_from, into, starts_with, unfit_in, is_flying as word_flying, land_order, State as StateWord};
-ghost use Rattle.flight_director.specs.Held.{IsHeld, IsSmallDeed, with_tracks};
+ghost use Rattle.flight_model.specs.Directors.{start, drones, in_show, is_off as word_off, track_with as word_track, tracks_after, harms as word_harms, heard, fits, next_step, noticed as word_noticed, overdue as word_overdue, notes as word_notes, is_due as word_due, is_due_step, is_late_step, is_grave as word_grave, is_over as word_over, chosen, has_risen as word_risen, frames_of, landings, done, led, happens, says, is_fault, is_go as word_go, is_land as word_land, is_stop as word_stop, passed as word_passed, is_rise as word_rise, order_in, frames_of_step, frames_from, into, starts_with, unfit_in, is_flying as word_flying, land_order, is_flown, State as StateWord};
+ghost use Rattle.flight_director.specs.Held.{IsHeld, AreFew, with_tracks};
 
 use crate::curve::is_kept;
 use crate::fit::{all_fit, first_unfit};
@@ -15,7 +15,7 @@ use crate::notes::{Notes, note_if, note_sample, note_silent};
 use crate::tracks::{age, all_disarmed, all_down, any_silent, later, off_with};
 use arrayvec::ArrayVec;
 use flight_model::{
-    Choice, Deed, Event, Fault, Flight, Frame, Note, Order, Phase, Sample, Step, Track, Word,
+    Choice, Event, Fault, Flight, Frame, Note, Order, Orders, Phase, Sample, Signal, Step, Track,
 };
 use std::marker::Model;
 
@@ -64,19 +64,29 @@ impl Model for State {
 fn is_go(e: &Event) -> bool
     ensures { result ≡ word_go e.now }
 {
-    matches!(e, Event::Said { word: Word::Go })
+    matches!(e, Event::Said { signal: Signal::Go })
 }
 
 fn is_land(e: &Event) -> bool
     ensures { result ≡ word_land e.now }
 {
-    matches!(e, Event::Said { word: Word::Land })
+    matches!(
+        e,
+        Event::Said {
+            signal: Signal::Land
+        }
+    )
 }
 
 fn is_stop(e: &Event) -> bool
     ensures { result ≡ word_stop e.now }
 {
-    matches!(e, Event::Said { word: Word::Stop })
+    matches!(
+        e,
+        Event::Said {
+            signal: Signal::Stop
+        }
+    )
 }
 
 // How much time an event says has passed.
@@ -96,13 +106,13 @@ fn is_rise_order(order: &Order) -> bool
     matches!(order, Order::Rise { .. })
 }
 
-// Whether a deed has a drone rise.
-fn is_rise(deed: &Deed, d: usize) -> bool
-    ensures { result ≡ word_rise (order_in deed.now d) }
+// Whether these orders have drone d rise.
+fn is_rise(orders: &Orders, d: usize) -> bool
+    ensures { result ≡ word_rise (order_in orders.now d) }
 {
-    match deed {
-        Deed::All { order } => is_rise_order(order),
-        Deed::Each { orders } => match orders.as_slice().get(d) {
+    match orders {
+        Orders::All { order } => is_rise_order(order),
+        Orders::Each { orders } => match orders.as_slice().get(d) {
             None => false,
             Some(None) => false,
             Some(Some(order)) => is_rise_order(order),
@@ -116,7 +126,7 @@ fn has_risen(f: &Flight, n: usize, d: usize) -> bool
 {
     let steps = f.steps.as_slice();
     for k in 0..n.min(steps.len()) {
-        if is_rise(&steps[k].deed, d) {
+        if is_rise(&steps[k].orders, d) {
             return true;
         }
     }
@@ -179,28 +189,28 @@ fn put_orders(out: &mut Out, orders: &[Option<Order>])
     }
 }
 
-// Puts what a deed orders after the others.
-fn put_deed(out: &mut Out, deed: &Deed)
-    requires small { IsSmallDeed deed.now }
+// Puts the frames of these orders after the others.
+fn put_all(out: &mut Out, orders: &Orders)
+    requires small { AreFew orders.now }
     requires room { length out.old.items ≤ 33 }
-    ensures { out.new.items ≡ out.old.items ++ frames_of deed.now }
+    ensures { out.new.items ≡ out.old.items ++ frames_of orders.now }
 {
-    match deed {
-        Deed::All { order } => put_one(out, Frame::ToAll { order: *order }),
-        Deed::Each { orders } => put_orders(out, orders.as_slice()),
+    match orders {
+        Orders::All { order } => put_one(out, Frame::ToAll { order: *order }),
+        Orders::Each { orders } => put_orders(out, orders.as_slice()),
     }
 }
 
 // Puts what step k orders after the others, if there is one.
 fn put_step_at(out: &mut Out, steps: &[Step], k: usize)
-    requires small { All (λ (step : StepWord). IsSmallDeed step.deed) steps.now }
+    requires small { All (λ (step : StepWord). AreFew step.orders) steps.now }
     requires room { length out.old.items ≤ 33 }
     ensures { out.new.items ≡ out.old.items ++ frames_of_step (slice_get steps.now k) }
 {
     if k >= steps.len() {
         return;
     }
-    put_deed(out, &steps[k].deed);
+    put_all(out, &steps[k].orders);
 }
 
 // Puts one frame after the others.
@@ -222,7 +232,7 @@ fn put_notes(out: &mut Out, notes: &[Note])
     }
 }
 
-// Puts one drone's track in its place.
+// Puts one drone's track where it belongs.
 fn put_track(tracks: &mut [Track], d: usize, track: Track)
     requires { d < length tracks.old }
     ensures { tracks.new ≡ slice_set tracks.old d track }
@@ -230,13 +240,13 @@ fn put_track(tracks: &mut [Track], d: usize, track: Track)
     tracks[d] = track;
 }
 
-// Whether a deed is the start.
-fn is_start(deed: &Deed) -> bool
-    ensures { result ≡ starts_with deed.now }
+// Whether these orders start the show.
+fn is_start(orders: &Orders) -> bool
+    ensures { result ≡ starts_with orders.now }
 {
-    match deed {
-        Deed::All { order } => matches!(order, Order::Start),
-        Deed::Each { .. } => false,
+    match orders {
+        Orders::All { order } => matches!(order, Order::Start),
+        Orders::Each { .. } => false,
     }
 }
 
@@ -333,13 +343,17 @@ impl State {
         }
     }
 
-    // The step that is next wants the drones as they are.
+    // Whether there is a next step, and each drone meets its condition.
     fn fits(&self, f: &Flight) -> bool
         ensures { result ≡ fits f.now.silence (next_step f.now self.now) self.now.tracks }
     {
         match f.steps.as_slice().get(self.next) {
             None => false,
-            Some(step) => all_fit(f.silence, step.wants.as_slice(), self.tracks.as_slice()),
+            Some(step) => all_fit(
+                f.silence,
+                step.conditions.as_slice(),
+                self.tracks.as_slice(),
+            ),
         }
     }
 
@@ -391,7 +405,11 @@ impl State {
         (!step.asked || is_go(e))
             && step.after <= self.waited
             && step.settle <= self.steady
-            && all_fit(f.silence, step.wants.as_slice(), self.tracks.as_slice())
+            && all_fit(
+                f.silence,
+                step.conditions.as_slice(),
+                self.tracks.as_slice(),
+            )
     }
 
     #[tactic(auto, unfolding(flight_model::specs::Directors::is_due))]
@@ -411,7 +429,7 @@ impl State {
         !step.asked && step.after as u64 + step.settle as u64 + PATIENCE_MS <= self.waited as u64
     }
 
-    // Whether the step that is next waits for no word, and its time was over long ago.
+    // Whether the step that is next waits for no go, and its time was over long ago.
     fn is_next_late(&self, f: &Flight) -> bool
         ensures { result ≡ is_late_step self.now (next_step f.now self.now) }
     {
@@ -421,7 +439,7 @@ impl State {
         }
     }
 
-    // The first drone that isn't as the next step wants it.
+    // The first drone that does not meet its condition for the next step.
     fn unfit(&self, f: &Flight) -> usize
         requires { IsHeld f.now }
         ensures value { result ≡ unfit_in f.now self.now (next_step f.now self.now) }
@@ -429,7 +447,11 @@ impl State {
     {
         match f.steps.as_slice().get(self.next) {
             None => 0,
-            Some(step) => first_unfit(f.silence, step.wants.as_slice(), self.tracks.as_slice()),
+            Some(step) => first_unfit(
+                f.silence,
+                step.conditions.as_slice(),
+                self.tracks.as_slice(),
+            ),
         }
     }
 
@@ -535,6 +557,17 @@ impl State {
         put_step_at(out, f.steps.as_slice(), self.next);
     }
 
+    // The end of the flight.
+    fn end(&self, f: &Flight) -> Frame
+        ensures { result ≡ Over (is_flown f.now self.now) (is_flown f.now self.now && self.now.kept) }
+    {
+        let flown = self.phase == Phase::Off && self.next == f.steps.as_slice().len();
+        Frame::Over {
+            flown,
+            kept: flown && self.kept,
+        }
+    }
+
     // Puts what a choice sends after the others.
     #[tactic(auto, unfolding(flight_model::specs::Directors::done))]
     fn put(&self, f: &Flight, choice: Choice, out: &mut Out)
@@ -553,13 +586,7 @@ impl State {
                     order: Order::Disarm,
                 },
             ),
-            Choice::Finish => put_one(
-                out,
-                Frame::Over {
-                    flown: self.phase == Phase::Off && self.next == f.steps.as_slice().len(),
-                    kept: self.kept,
-                },
-            ),
+            Choice::Finish => put_one(out, self.end(f)),
         }
     }
 
@@ -582,7 +609,7 @@ impl State {
         let steps = f.steps.as_slice();
         self.showing = match steps.get(self.next) {
             None => false,
-            Some(step) => is_start(&step.deed),
+            Some(step) => is_start(&step.orders),
         };
         self.next += 1;
         self.waited = 0;

@@ -5,10 +5,11 @@ ghost use Rattle.std.specs.Prelude.{◌≡◌, ◌≤◌, length, IfOk, All};
 ghost use Rattle.traj_codec.specs.declared.traj.Traj.{Traj as TrajWord};
 ghost use Rattle.integer_player.specs.Played.{IsPlayable, duration_of};
 ghost use Rattle.flight_model.specs.declared.flights.Step.{Step as StepWord};
-ghost use Rattle.flight_director.specs.Held.{IsSmallDeed, IsHeld};
+ghost use Rattle.flight_director.specs.Held.{AreFew, IsHeld};
 
 use crate::{
-    Deed, Director, Event, Fault, Flight, Frame, Note, Order, Out, Place, Sample, Step, Want, Word,
+    Condition, Director, Event, Fault, Flight, Frame, Note, Order, Orders, Out, Position, Sample,
+    Signal, Step,
 };
 use listed::Listed;
 use std::alloc::{AllocError, Global};
@@ -18,13 +19,13 @@ use traj_codec::{Element, Segment, Traj};
 // Where a drone hovers at the beginning and the end of the show.
 const TOP: i16 = 1000;
 
-fn place(x: i16, z: i16) -> Place {
-    Place { x, y: 0, z }
+fn position(x: i16, z: i16) -> Position {
+    Position { x, y: 0, z }
 }
 
-fn want(x: i16, z: i16, bound: u16, ready: bool, armed: bool) -> Want {
-    Want {
-        place: place(x, z),
+fn condition(x: i16, z: i16, bound: u16, ready: bool, armed: bool) -> Condition {
+    Condition {
+        position: position(x, z),
         bound,
         ready,
         armed,
@@ -38,36 +39,36 @@ fn both(
     bound: u16,
     ready: bool,
     armed: bool,
-) -> Result<Listed<Want>, AllocError>
+) -> Result<Listed<Condition>, AllocError>
     ensures { IfOk result (λ ws. length ws ≡ 2) }
 {
-    let mut wants = Vec::new(alloc);
-    wants.push(want(0, z, bound, ready, armed))?;
-    wants.push(want(2000, z, bound, ready, armed))?;
-    Ok(Listed::from_vec(wants))
+    let mut conditions = Vec::new(alloc);
+    conditions.push(condition(0, z, bound, ready, armed))?;
+    conditions.push(condition(2000, z, bound, ready, armed))?;
+    Ok(Listed::from_vec(conditions))
 }
 
-fn each(alloc: Global, order: Order) -> Result<Deed, AllocError>
-    ensures { IfOk result (λ d. IsSmallDeed d) }
+fn each(alloc: Global, order: Order) -> Result<Orders, AllocError>
+    ensures { IfOk result (λ d. AreFew d) }
 {
     let mut orders = Vec::new(alloc);
     orders.push(Some(order))?;
     orders.push(Some(order))?;
-    Ok(Deed::Each {
+    Ok(Orders::Each {
         orders: Listed::from_vec(orders),
     })
 }
 
-fn step(asked: bool, after: u32, settle: u32, wants: Listed<Want>, deed: Deed) -> Step
-    ensures wants { result.wants ≡ wants }
-    ensures deed { result.deed ≡ deed }
+fn step(asked: bool, after: u32, settle: u32, conditions: Listed<Condition>, orders: Orders) -> Step
+    ensures conditions { result.conditions ≡ conditions }
+    ensures orders { result.orders ≡ orders }
 {
     Step {
         asked,
         after,
         settle,
-        wants,
-        deed,
+        conditions,
+        orders,
     }
 }
 
@@ -92,47 +93,29 @@ fn curve(alloc: Global, x: i16) -> Result<Traj, AllocError>
     })
 }
 
-fn steps(alloc: Global) -> Result<Listed<Step>, AllocError>
-    ensures deeds { IfOk result (λ ss. All (λ (s : StepWord). IsSmallDeed s.deed) ss) }
-    ensures wants { IfOk result (λ ss. All (λ (s : StepWord). length s.wants ≤ 32) ss) }
+fn to_all(order: Order) -> Orders
+    ensures { AreFew result }
 {
-    let rise = Order::Rise { z: TOP, ms: 2000 };
-    let land = Order::Land { z: 0, ms: 2500 };
-    let start = Deed::All {
-        order: Order::Start,
-    };
-    let disarm = Deed::All {
-        order: Order::Disarm,
-    };
-    let arming = step(
-        true,
-        0,
-        0,
-        both(alloc, 0, 100, true, false)?,
-        each(alloc, Order::Arm)?,
-    );
-    let rising = step(
-        false,
-        0,
-        0,
-        both(alloc, 0, 100, false, true)?,
-        each(alloc, rise)?,
-    );
-    let starting = step(true, 2000, 1000, both(alloc, TOP, 50, false, true)?, start);
-    let landing = step(
-        false,
-        1000,
-        1000,
-        both(alloc, TOP, 50, false, true)?,
-        each(alloc, land)?,
-    );
-    let ending = step(
-        false,
-        2500,
-        1000,
-        both(alloc, 0, 100, false, false)?,
-        disarm,
-    );
+    Orders::All { order }
+}
+
+fn steps(alloc: Global) -> Result<Listed<Step>, AllocError>
+    ensures orders { IfOk result (λ ss. All (λ (s : StepWord). AreFew s.orders) ss) }
+    ensures conditions { IfOk result (λ ss. All (λ (s : StepWord). length s.conditions ≤ 32) ss) }
+{
+    let on_pads = both(alloc, 0, 100, true, false)?;
+    let armed = both(alloc, 0, 100, false, true)?;
+    let at_start = both(alloc, TOP, 50, false, true)?;
+    let at_end = both(alloc, TOP, 50, false, true)?;
+    let back = both(alloc, 0, 100, false, false)?;
+    let arm = each(alloc, Order::Arm)?;
+    let rise = each(alloc, Order::Rise { z: TOP, ms: 2000 })?;
+    let land = each(alloc, Order::Land { z: 0, ms: 2500 })?;
+    let arming = step(true, 0, 0, on_pads, arm);
+    let rising = step(false, 0, 0, armed, rise);
+    let starting = step(true, 2000, 1000, at_start, to_all(Order::Start));
+    let landing = step(false, 1000, 1000, at_end, land);
+    let ending = step(false, 2500, 1000, back, to_all(Order::Disarm));
     Ok(Listed::from_vec(Vec::from_array(alloc, [arming, rising, starting, landing, ending])?))
 }
 
@@ -225,14 +208,14 @@ fn half(
     hear_both(d, y, z, armed, down, all)
 }
 
-fn say(d: &mut Director, word: Word, all: &mut Vec<Frame>) -> Result<(), AllocError> {
-    hear(d, Event::Said { word }, all)
+fn say(d: &mut Director, signal: Signal, all: &mut Vec<Frame>) -> Result<(), AllocError> {
+    hear(d, Event::Said { signal }, all)
 }
 
 // From the pads to the first places.
 fn go_up(d: &mut Director, all: &mut Vec<Frame>) -> Result<(), AllocError> {
     hear_both(d, 0, 0, false, true, all)?;
-    say(d, Word::Go, all)?;
+    say(d, Signal::Go, all)?;
     hear_both(d, 0, 0, true, true, all)?;
     for _ in 0..4 {
         half(d, 0, 500, true, false, all)?;
@@ -243,63 +226,55 @@ fn go_up(d: &mut Director, all: &mut Vec<Frame>) -> Result<(), AllocError> {
     Ok(())
 }
 
+// The show, and down to the pads.
+fn fly_and_land(d: &mut Director, all: &mut Vec<Frame>) -> Result<(), AllocError> {
+    say(d, Signal::Go, all)?;
+    half(d, 225, TOP, true, false, all)?;
+    for _ in 0..3 {
+        half(d, 0, TOP, true, false, all)?;
+    }
+    for _ in 0..4 {
+        half(d, 0, 500, true, false, all)?;
+    }
+    for _ in 0..3 {
+        half(d, 0, 0, true, true, all)?;
+    }
+    hear_both(d, 0, 0, false, true, all)
+}
+
+fn to(drone: u8, order: Order) -> Frame {
+    Frame::To { drone, order }
+}
+
+fn told_all(order: Order) -> Frame {
+    Frame::ToAll { order }
+}
+
 #[test]
 fn flies_a_whole_flight(rt: HostRuntime) -> Result<(), Fail> {
     let alloc = rt.alloc();
     let mut d = Director::make(flight(alloc, true)?);
     let mut all = Vec::new(alloc);
     go_up(&mut d, &mut all)?;
-    say(&mut d, Word::Go, &mut all)?;
-    half(&mut d, 225, TOP, true, false, &mut all)?;
-    for _ in 0..3 {
-        half(&mut d, 0, TOP, true, false, &mut all)?;
-    }
-    for _ in 0..4 {
-        half(&mut d, 0, 500, true, false, &mut all)?;
-    }
-    for _ in 0..3 {
-        half(&mut d, 0, 0, true, true, &mut all)?;
-    }
-    hear_both(&mut d, 0, 0, false, true, &mut all)?;
+    fly_and_land(&mut d, &mut all)?;
     let rise = Order::Rise { z: TOP, ms: 2000 };
     let land = Order::Land { z: 0, ms: 2500 };
+    let end = Frame::Over {
+        flown: true,
+        kept: true,
+    };
     assert_eq!(rt;
         all.as_slice(),
         [
-            Frame::To {
-                drone: 0,
-                order: Order::Arm
-            },
-            Frame::To {
-                drone: 1,
-                order: Order::Arm
-            },
-            Frame::To {
-                drone: 0,
-                order: rise
-            },
-            Frame::To {
-                drone: 1,
-                order: rise
-            },
-            Frame::ToAll {
-                order: Order::Start
-            },
-            Frame::To {
-                drone: 0,
-                order: land
-            },
-            Frame::To {
-                drone: 1,
-                order: land
-            },
-            Frame::ToAll {
-                order: Order::Disarm
-            },
-            Frame::Over {
-                flown: true,
-                kept: true
-            },
+            to(0, Order::Arm),
+            to(1, Order::Arm),
+            to(0, rise),
+            to(1, rise),
+            told_all(Order::Start),
+            to(0, land),
+            to(1, land),
+            told_all(Order::Disarm),
+            end,
         ]
         .as_slice()
     );
@@ -313,24 +288,19 @@ fn lands_and_halts_at_the_word(rt: HostRuntime) -> Result<(), Fail> {
     let mut all = Vec::new(alloc);
     go_up(&mut d, &mut all)?;
     all.clear();
-    for word in [Word::Land, Word::Go, Word::Stop, Word::Land, Word::Go] {
-        say(&mut d, word, &mut all)?;
+    for signal in [
+        Signal::Land,
+        Signal::Go,
+        Signal::Stop,
+        Signal::Land,
+        Signal::Go,
+    ] {
+        say(&mut d, signal, &mut all)?;
     }
     let land = Order::Land { z: 0, ms: 4000 };
     assert_eq!(rt;
         all.as_slice(),
-        [
-            Frame::To {
-                drone: 0,
-                order: land
-            },
-            Frame::To {
-                drone: 1,
-                order: land
-            },
-            Frame::ToAll { order: Order::Halt },
-        ]
-        .as_slice()
+        [to(0, land), to(1, land), told_all(Order::Halt)].as_slice()
     );
     Ok(())
 }
@@ -341,7 +311,7 @@ fn flies_on_past_a_silent_drone(rt: HostRuntime) -> Result<(), Fail> {
     let mut d = Director::make(flight(alloc, true)?);
     let mut all = Vec::new(alloc);
     go_up(&mut d, &mut all)?;
-    say(&mut d, Word::Go, &mut all)?;
+    say(&mut d, Signal::Go, &mut all)?;
     all.clear();
     hear(&mut d, Event::Clock { ms: 400 }, &mut all)?;
     hear(
@@ -378,45 +348,56 @@ fn random(seed: &mut u64) -> u64 {
     x
 }
 
+fn random_clock(seed: &mut u64) -> Event {
+    let most = if random(seed) % 50 == 0 { 600 } else { 150 };
+    Event::Clock {
+        ms: (random(seed) % most) as u32,
+    }
+}
+
+fn random_sample(seed: &mut u64, armed: bool, z: i16) -> Event {
+    let drone = (random(seed) % 2) as u8;
+    let aside = if random(seed) % 400 == 0 { 400 } else { 0 };
+    Event::Seen {
+        drone,
+        sample: Sample {
+            age: (random(seed) % 30) as u32,
+            x: if drone == 0 { 0 } else { 2000 },
+            y: aside,
+            z,
+            ready: random(seed) % 50 != 0,
+            armed,
+            lost: random(seed) % 4000 == 0,
+            down: z == 0,
+        },
+    }
+}
+
+fn said(signal: Signal) -> Event {
+    Event::Said { signal }
+}
+
+fn answered(drone: u8, status: u8) -> Event {
+    Event::Answered { drone, status }
+}
+
 // An event that is likely to bring the flight on, and sometimes one that isn't.
 fn random_event(seed: &mut u64, armed: bool, z: i16) -> Event {
     let kind = random(seed) % 1000;
     if kind < 200 {
-        let most = if random(seed) % 50 == 0 { 600 } else { 150 };
-        Event::Clock {
-            ms: (random(seed) % most) as u32,
-        }
-    } else if kind < 920 {
-        let drone = (random(seed) % 2) as u8;
-        let aside = if random(seed) % 400 == 0 { 400 } else { 0 };
-        Event::Seen {
-            drone,
-            sample: Sample {
-                age: (random(seed) % 30) as u32,
-                x: if drone == 0 { 0 } else { 2000 },
-                y: aside,
-                z,
-                ready: random(seed) % 50 != 0,
-                armed,
-                lost: random(seed) % 4000 == 0,
-                down: z == 0,
-            },
-        }
-    } else if kind < 998 {
-        Event::Said { word: Word::Go }
-    } else {
-        match random(seed) % 6 {
-            0 => Event::Said { word: Word::Land },
-            1 => Event::Said { word: Word::Stop },
-            2 => Event::Answered {
-                drone: 0,
-                status: 1,
-            },
-            _ => Event::Answered {
-                drone: 1,
-                status: 0,
-            },
-        }
+        return random_clock(seed);
+    }
+    if kind < 920 {
+        return random_sample(seed, armed, z);
+    }
+    if kind < 998 {
+        return said(Signal::Go);
+    }
+    match random(seed) % 6 {
+        0 => said(Signal::Land),
+        1 => said(Signal::Stop),
+        2 => answered(0, 1),
+        _ => answered(1, 0),
     }
 }
 
@@ -453,103 +434,184 @@ fn is_only(ranks: &[usize]) -> bool {
     true
 }
 
-// One list of events. Adds up how many were flown; an answer of `false` is a clause that does not hold.
-fn keeps_the_law(alloc: Global, seed: &mut u64, counts: &mut [u32; 4]) -> Result<bool, AllocError> {
-    let mut d = Director::make(flight(alloc, random(seed) % 2 == 0)?);
-    let mut told = Vec::new(alloc);
-    let mut ages: [u32; 2] = [1_000_000; 2];
-    let mut near = [false; 2];
-    let mut landed = false;
-    let mut halted = false;
-    let mut z: i16 = 0;
-    let mut armed = false;
-    for _ in 0..900 {
-        let e = random_event(seed, armed, z);
-        match &e {
+// The order of a frame to the first drone.
+fn order_in(frame: &Frame) -> Option<Order> {
+    match frame {
+        Frame::To { drone: 0, order } => Some(*order),
+        Frame::ToAll { order } => Some(*order),
+        _ => None,
+    }
+}
+
+fn is_signal(e: &Event, wanted: Signal) -> bool {
+    match e {
+        Event::Said { signal } => *signal == wanted,
+        _ => false,
+    }
+}
+
+// How many flights were flown, ended, were halted and were landed.
+#[derive(Drop)]
+struct Counts {
+    flown: u32,
+    over: u32,
+    stops: u32,
+    lands: u32,
+}
+
+impl Counts {
+    fn count(&mut self, frame: &Frame) {
+        if let Frame::Over { flown, .. } = frame {
+            self.over = self.over.saturating_add(1);
+            if *flown {
+                self.flown = self.flown.saturating_add(1);
+            }
+        }
+    }
+}
+
+// What was heard of both drones so far, and what the first one was told, which it obeys.
+#[derive(Drop)]
+struct Watch {
+    told: Vec<usize>,
+    ages: [u32; 2],
+    near: [bool; 2],
+    landed: bool,
+    halted: bool,
+    z: i16,
+    armed: bool,
+}
+
+impl Watch {
+    fn new(alloc: Global) -> Watch {
+        Watch {
+            told: Vec::new(alloc),
+            ages: [1_000_000; 2],
+            near: [false; 2],
+            landed: false,
+            halted: false,
+            z: 0,
+            armed: false,
+        }
+    }
+
+    fn hear(&mut self, e: &Event) {
+        match e {
             Event::Clock { ms } => {
-                ages[0] = ages[0].saturating_add(*ms);
-                ages[1] = ages[1].saturating_add(*ms);
+                self.ages[0] = self.ages[0].saturating_add(*ms);
+                self.ages[1] = self.ages[1].saturating_add(*ms);
             }
             Event::Seen { drone, sample } => {
                 let k = (*drone % 2) as usize;
-                ages[k] = sample.age;
-                near[k] = sample.y == 0 && !sample.lost;
+                self.ages[k] = sample.age;
+                self.near[k] = sample.y == 0 && !sample.lost;
             }
             _ => {}
         }
-        let mut out = Out::new();
-        d.event(&e, &mut out);
-        let mut halts = false;
-        let mut lands = false;
-        for frame in out.as_slice() {
-            let order = match frame {
-                Frame::To { drone: 0, order } => Some(*order),
-                Frame::ToAll { order } => Some(*order),
-                _ => None,
-            };
-            if let Frame::Over { flown, .. } = frame {
-                counts[1] = counts[1].saturating_add(1);
-                if *flown {
-                    counts[0] = counts[0].saturating_add(1);
-                }
+    }
+
+    // Whether a step may order this: each drone is fresh and at its place; arm and start go out at the operator's
+    // go alone.
+    fn may_begin(&self, rank: usize, e: &Event) -> bool {
+        let fresh = self.ages[0] <= 500 && self.ages[1] <= 500;
+        let near = self.near[0] && self.near[1];
+        let waits = rank == 0 || rank == 2;
+        fresh && near && !self.landed && (!waits || is_signal(e, Signal::Go))
+    }
+
+    fn obey(&mut self, order: &Order) {
+        match order {
+            Order::Arm => self.armed = true,
+            Order::Rise { .. } => self.z = TOP,
+            Order::Land { .. } => self.z = 0,
+            Order::Disarm | Order::Halt => {
+                self.armed = false;
+                self.z = 0;
             }
-            if let Some(order) = order {
-                let r = rank(&order);
-                told.push(r)?;
-                halts = halts || r == 7;
-                lands = lands || r == 5;
-                // due: each drone is fresh and at its place; arm and start at the operator's go alone
-                if r < 4 {
-                    let fresh = ages[0] <= 500 && ages[1] <= 500 && near[0] && near[1];
-                    let go = matches!(e, Event::Said { word: Word::Go });
-                    if !fresh || landed || halted || ((r == 0 || r == 2) && !go) {
-                        return Ok(false);
-                    }
-                }
-                // after halt nothing
-                if halted {
-                    return Ok(false);
-                }
-                match order {
-                    Order::Arm => armed = true,
-                    Order::Rise { .. } => z = TOP,
-                    Order::Land { .. } => z = 0,
-                    Order::Disarm | Order::Halt => {
-                        armed = false;
-                        z = 0;
-                    }
-                    _ => {}
-                }
-            }
+            _ => {}
         }
-        // land and halt at once
-        if matches!(e, Event::Said { word: Word::Stop }) {
-            counts[2] = counts[2].saturating_add(1);
-            halted = true;
+    }
+
+    // An order to the first drone. The answer says whether it may come: after halt nothing does, and halt comes at
+    // the operator's stop alone.
+    fn take(&mut self, order: &Order, e: &Event) -> Result<bool, AllocError> {
+        let place = rank(order);
+        self.told.push(place)?;
+        self.obey(order);
+        let due = place >= 4 || self.may_begin(place, e);
+        let asked = place != 7 || is_signal(e, Signal::Stop);
+        Ok(due && asked && !self.halted)
+    }
+
+    // After the answer to an event.
+    fn note(&mut self, e: &Event, counts: &mut Counts) {
+        if is_signal(e, Signal::Stop) {
+            counts.stops = counts.stops.saturating_add(1);
+            self.halted = true;
         }
-        if matches!(e, Event::Said { word: Word::Land }) {
-            counts[3] = counts[3].saturating_add(1);
-            landed = true;
+        if is_signal(e, Signal::Land) {
+            counts.lands = counts.lands.saturating_add(1);
+            self.landed = true;
         }
-        if halts && !halted {
+    }
+}
+
+// One event. An answer of `false` is a clause that does not hold.
+fn keeps_at(
+    d: &mut Director,
+    e: &Event,
+    watch: &mut Watch,
+    counts: &mut Counts,
+) -> Result<bool, AllocError> {
+    watch.hear(e);
+    let mut out = Out::new();
+    d.event(e, &mut out);
+    let mut holds = true;
+    for frame in out.as_slice() {
+        counts.count(frame);
+        if let Some(order) = order_in(frame) {
+            let allowed = watch.take(&order, e)?;
+            holds = holds && allowed;
+        }
+    }
+    watch.note(e, counts);
+    Ok(holds)
+}
+
+// One list of events.
+fn keeps_the_law(alloc: Global, seed: &mut u64, counts: &mut Counts) -> Result<bool, AllocError> {
+    let mut d = Director::make(flight(alloc, random(seed) % 2 == 0)?);
+    let mut watch = Watch::new(alloc);
+    for _ in 0..900 {
+        let e = random_event(seed, watch.armed, watch.z);
+        if !keeps_at(&mut d, &e, &mut watch, counts)? {
             return Ok(false);
         }
     }
-    Ok(is_only(told.as_slice()))
+    Ok(is_only(watch.told.as_slice()))
 }
 
 #[test]
 fn keeps_the_law_at_random(rt: HostRuntime) -> Result<(), Fail> {
     let mut seed: u64 = 0x9E37_79B9_7F4A_7C15;
-    let mut counts: [u32; 4] = [0; 4];
+    let mut counts = Counts {
+        flown: 0,
+        over: 0,
+        stops: 0,
+        lands: 0,
+    };
     for run in 0..1000 {
         let kept = keeps_the_law(rt.alloc(), &mut seed, &mut counts)?;
         assert!(rt; kept, "run {run}");
     }
     println!(rt;
         "flown {}, over {}, stops {}, lands {}",
-        counts[0], counts[1], counts[2], counts[3]
+        counts.flown, counts.over, counts.stops, counts.lands
     )?;
-    assert!(rt; counts[0] > 50, "too few flights were flown: {}", counts[0]);
+    assert!(rt;
+        counts.flown > 50,
+        "too few flights were flown: {}",
+        counts.flown
+    );
     Ok(())
 }

@@ -6,10 +6,10 @@ use Rattle.std.proofs.lemmas.Int.{ints}
 use Rattle.flight_model.specs.declared.events.Order.{Order}
 use Rattle.flight_model.specs.declared.events.Order.TheVariants as order
 use Rattle.flight_model.specs.declared.events.Sample.{Sample}
-use Rattle.flight_model.specs.declared.events.Word.TheVariants as word
+use Rattle.flight_model.specs.declared.events.Signal.TheVariants as signal
 use Rattle.flight_model.specs.declared.events.Event.{Event}
 use Rattle.flight_model.specs.declared.events.Event.TheVariants.{Clock, Seen, Answered, Said}
-use Rattle.flight_model.specs.declared.flights.Want.{Want}
+use Rattle.flight_model.specs.declared.flights.Condition.{Condition}
 use Rattle.flight_model.specs.declared.flights.Step.{Step}
 use Rattle.flight_model.specs.declared.flights.Flight.{Flight}
 unfoldable use Rattle.flight_model.specs.Samples.{is_fit_by}
@@ -17,7 +17,7 @@ use Rattle.flight_model.specs.Samples.{is_fit, is_at, differ_by}
 unfoldable use Rattle.flight_model.specs.Directors.{heard, is_due, choice, done, led, happens, says}
 use Rattle.flight_model.specs.Directors.{Phase, Steps, Landing, Off, Halted, Ended, Track, State, Choice, Rest, Begin, Descend, Cut, Quit, Finish, chosen, is_fault, is_go, land_order, has_risen, drones, next_step, is_due_step, all_fit}
 use Rattle.flight_model.specs.Law.{orders_to, only_if, DifferBy, IsFit, MayBegin, IsOnward, DueLaw}
-use Rattle.flight_model.proofs.Orders.{orders_to-landing, orders_to-no_landing}
+use Rattle.flight_model.proofs.OrdersTo.{orders_to-landing, orders_to-no_landing}
 use Rattle.flight_model.proofs.Choices.{steps-has, landing-has, off-has, halted-has}
 use Rattle.flight_model.proofs.Telling.{orders_to-says}
 
@@ -35,11 +35,11 @@ implied : (a b : Bool) → (not a || b) ≡ true → a ≡ true → b ≡ true
 implied true b h e = h
 implied false b h e = absurd (cc)
 
-fit-true : (silence : ℕ) (w : Want) (x : Sample) → is_fit_by silence w x ≡ true → IsFit silence w x
+fit-true : (silence : ℕ) (w : Condition) (x : Sample) → is_fit_by silence w x ≡ true → IsFit silence w x
 unfolding is_fit_by
 fit-true silence w x h =
     let fresh = leb x.age silence in
-    let there = is_at w.bound w.place x in
+    let there = is_at w.bound w.position x in
     let kept = not x.lost in
     let ready = not w.ready || x.ready in
     let armed = not w.armed || x.armed in
@@ -47,27 +47,27 @@ fit-true silence w x h =
     let q = and_parts ((fresh && there) && kept) ready p.0 in
     let r = and_parts (fresh && there) kept q.0 in
     let s = and_parts fresh there r.0 in
-    let u = and_parts (differ_by w.bound x.x w.place.x && differ_by w.bound x.y w.place.y) (differ_by w.bound x.z w.place.z) s.1 in
-    let v = and_parts (differ_by w.bound x.x w.place.x) (differ_by w.bound x.y w.place.y) u.0 in
+    let u = and_parts (differ_by w.bound x.x w.position.x && differ_by w.bound x.y w.position.y) (differ_by w.bound x.z w.position.z) s.1 in
+    let v = and_parts (differ_by w.bound x.x w.position.x) (differ_by w.bound x.y w.position.y) u.0 in
     record {
       fresh = leb-true x.age silence s.0;
-      x_near = differ-true w.bound x.x w.place.x v.0;
-      y_near = differ-true w.bound x.y w.place.y v.1;
-      z_near = differ-true w.bound x.z w.place.z u.1;
+      x_near = differ-true w.bound x.x w.position.x v.0;
+      y_near = differ-true w.bound x.y w.position.y v.1;
+      z_near = differ-true w.bound x.z w.position.z u.1;
       not_lost = not-true x.lost r.1;
       ready = implied w.ready x.ready q.1;
       armed = implied w.armed x.armed p.1;
     }
 
 -- the track of a drone that is fit
-abbrev FitTrack : ℕ → Want → Track → Type 0
+abbrev FitTrack : ℕ → Condition → Track → Type 0
 FitTrack silence w t = (x : Sample) × (t.seen ≡ Some x) × IsFit silence w x
 
-fit_track : (silence : ℕ) (w : Want) (t : Track) (o : Option Sample) → t.seen ≡ o → is_fit silence w o ≡ true → FitTrack silence w t
+fit_track : (silence : ℕ) (w : Condition) (t : Track) (o : Option Sample) → t.seen ≡ o → is_fit silence w o ≡ true → FitTrack silence w t
 fit_track silence w t None e h = absurd (cc)
 fit_track silence w t (Some x) e h = (x, e, fit-true silence w x h)
 
-all_fit-each : (silence : ℕ) (ws : List Want) (ts : List Track) → all_fit silence ws ts ≡ true → (d : ℕ) (w : Want) → slice_get ws d ≡ Some w →
+all_fit-each : (silence : ℕ) (ws : List Condition) (ts : List Track) → all_fit silence ws ts ≡ true → (d : ℕ) (w : Condition) → slice_get ws d ≡ Some w →
     (t : Track) × (x : Sample) × (slice_get ts d ≡ Some t) × (t.seen ≡ Some x) × IsFit silence w x
 all_fit-each silence [] ts h d w e = absurd (cc)
 all_fit-each silence (v ∷ ws) [] h d w e = absurd (cc)
@@ -81,10 +81,10 @@ all_fit-each silence (v ∷ ws) (t ∷ ts) h (suc d) w e =
 
 -- ---- a step that is due
 
-go-true : (e : Event) → is_go e ≡ true → e ≡ Said word.Go
-go-true (Said word.Go) h = refl
-go-true (Said word.Land) h = absurd (cc)
-go-true (Said word.Stop) h = absurd (cc)
+go-true : (e : Event) → is_go e ≡ true → e ≡ Said signal.Go
+go-true (Said signal.Go) h = refl
+go-true (Said signal.Land) h = absurd (cc)
+go-true (Said signal.Stop) h = absurd (cc)
 go-true (Clock ms) h = absurd (cc)
 go-true (Seen d x) h = absurd (cc)
 go-true (Answered d status) h = absurd (cc)
@@ -98,7 +98,7 @@ due-may f s e flying due = by_step (next_step f s) refl due where
       let asked = not step.asked || is_go e in
       let time = leb step.after (heard f s e).waited in
       let settled = leb step.settle (heard f s e).steady in
-      let fit = all_fit f.silence step.wants (heard f s e).tracks in
+      let fit = all_fit f.silence step.conditions (heard f s e).tracks in
       let p = and_parts ((asked && time) && settled) fit h in
       let q = and_parts (asked && time) settled p.0 in
       let r = and_parts asked time q.0 in
@@ -109,7 +109,7 @@ due-may f s e flying due = by_step (next_step f s) refl due where
         asked = λ a. go-true e (implied step.asked (is_go e) r.0 a);
         time = leb-true step.after (heard f s e).waited r.1;
         settled = leb-true step.settle (heard f s e).steady q.1;
-        fit = all_fit-each f.silence step.wants (heard f s e).tracks p.1;
+        fit = all_fit-each f.silence step.conditions (heard f s e).tracks p.1;
       }
 
 -- ---- only a step that begins orders what is onward
@@ -164,7 +164,7 @@ chosen-begin f h e fault Halted same =
     halted-has (λ c. c ≡ Begin → (Halted ≡ Steps) × (is_due f h e ≡ true)) f h e fault (λ b. absurd (cc)) (λ b. absurd (cc)) same
 chosen-begin f h e fault Ended same = absurd (cc)
 
-begin-may : (f : Flight) (s : State) (e : Event) → choice f s e ≡ Begin → MayBegin f s e
+pub begin-may : (f : Flight) (s : State) (e : Event) → choice f s e ≡ Begin → MayBegin f s e
 unfolding choice
 begin-may f s e same =
     let b = chosen-begin f (heard f s e) e (is_fault f s e) s.phase same in

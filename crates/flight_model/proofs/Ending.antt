@@ -5,14 +5,14 @@ use Rattle.std.proofs.Math.Bool.{and_assoc}
 use Rattle.std.specs.Prelude.{All}
 use Rattle.flight_model.specs.declared.events.Order.{Order}
 use Rattle.flight_model.specs.declared.events.Order.TheVariants as order
-use Rattle.flight_model.specs.declared.events.Word.TheVariants as word
+use Rattle.flight_model.specs.declared.events.Signal.TheVariants as signal
 use Rattle.flight_model.specs.declared.events.Event.{Event}
 use Rattle.flight_model.specs.declared.events.Event.TheVariants.{Clock, Seen, Answered, Said}
 use Rattle.flight_model.specs.declared.flights.Flight.{Flight}
 unfoldable use Rattle.flight_model.specs.Directors.{heard, is_due, choice, done, led, happens, says}
-use Rattle.flight_model.specs.Directors.{Phase, Steps, Landing, Off, Halted, Ended, State, Choice, Rest, Begin, Descend, Cut, Quit, Finish, start, sent, after, chosen, is_fault, is_stop, is_land, harms, frames_from, landings, land_order, has_risen, drones}
-use Rattle.flight_model.specs.Law.{orders_to, only_if, Lands, IsLast, LandLaw, FaultLaw, HaltLaw, KeptLaw, none_harms}
-use Rattle.flight_model.proofs.Orders.{orders_to-append, orders_to-landing}
+use Rattle.flight_model.specs.Directors.{Phase, Steps, Landing, Off, Halted, Ended, State, Choice, Rest, Begin, Descend, Cut, Quit, Finish, sent, after, chosen, is_fault, is_stop, is_land, harms, frames_from, landings, land_order, has_risen, drones}
+use Rattle.flight_model.specs.Law.{orders_to, only_if, Lands, IsLast, LandLaw, FaultLaw, HaltLaw}
+use Rattle.flight_model.proofs.OrdersTo.{orders_to-append, orders_to-landing}
 use Rattle.flight_model.proofs.Choices.{landing-has, off-has, halted-has}
 use Rattle.flight_model.proofs.Telling.{orders_to-says}
 
@@ -29,13 +29,13 @@ descends : (f : Flight) (s : State) (e : Event) → s.phase ≡ Steps → is_sto
 unfolding choice
 descends f s e p go land = descends-in f (heard f s e) e (is_fault f s e) s.phase p go land
 
-land-now : (f : Flight) (s : State) → s.phase ≡ Steps → Lands f s (Said word.Land)
-land-now f s p = lands-where f s (Said word.Land) (descends f s (Said word.Land) p refl refl)
+land-now : (f : Flight) (s : State) → s.phase ≡ Steps → Lands f s (Said signal.Land)
+land-now f s p = lands-where f s (Said signal.Land) (descends f s (Said signal.Land) p refl refl)
 
-no_stop : (e : Event) → e ≢ Said word.Stop → is_stop e ≡ false
-no_stop (Said word.Go) h = refl
-no_stop (Said word.Land) h = refl
-no_stop (Said word.Stop) h = absurd (h refl)
+no_stop : (e : Event) → e ≢ Said signal.Stop → is_stop e ≡ false
+no_stop (Said signal.Go) h = refl
+no_stop (Said signal.Land) h = refl
+no_stop (Said signal.Stop) h = absurd (h refl)
 no_stop (Clock ms) h = refl
 no_stop (Seen d x) h = refl
 no_stop (Answered d status) h = refl
@@ -104,11 +104,11 @@ land_law = record { now = land-now; afterwards = land-afterwards; each = land-ea
 
 -- ---- halt
 
-halt-told : (f : Flight) (s : State) (d : ℕ) → choice f s (Said word.Stop) ≡ Cut → orders_to d (says f s (Said word.Stop)) ≡ order.Halt ∷ []
+halt-told : (f : Flight) (s : State) (d : ℕ) → choice f s (Said signal.Stop) ≡ Cut → orders_to d (says f s (Said signal.Stop)) ≡ order.Halt ∷ []
 unfolding done
-halt-told f s d same = rw (orders_to-says d f s (Said word.Stop), same) refl
+halt-told f s d same = rw (orders_to-says d f s (Said signal.Stop), same) refl
 
-cuts : (f : Flight) (s : State) → (s.phase ≡ Steps) ⊎ ((s.phase ≡ Landing) ⊎ (s.phase ≡ Off)) → choice f s (Said word.Stop) ≡ Cut
+cuts : (f : Flight) (s : State) → (s.phase ≡ Steps) ⊎ ((s.phase ≡ Landing) ⊎ (s.phase ≡ Off)) → choice f s (Said signal.Stop) ≡ Cut
 unfolding choice
 cuts f s (inl p) = rw p refl
 cuts f s (inr (inl p)) = rw p refl
@@ -146,23 +146,23 @@ stopped-all f s n (e ∷ es) d =
     let now : orders_to d (says f s e) ≡ [] = orders_to-says d f s e ∙ one.silent in
     orders_to-append d (says f s e) (sent f (happens f s e) es) ∙ rw (now, rest) refl
 
-stop-leads : (f : Flight) (h : State) (fault : Bool) (p : Phase) → h.phase ≡ p → is_stopped (led f h (chosen f h (Said word.Stop) fault p)).phase ≡ true
+stop-leads : (f : Flight) (h : State) (fault : Bool) (p : Phase) → h.phase ≡ p → is_stopped (led f h (chosen f h (Said signal.Stop) fault p)).phase ≡ true
 unfolding led
 stop-leads f h fault Steps same = refl
 stop-leads f h fault Landing same = refl
 stop-leads f h fault Off same = refl
 stop-leads f h fault Halted same =
-    halted-has (λ c. is_stopped (led f h c).phase ≡ true) f h (Said word.Stop) fault refl (ap is_stopped same)
+    halted-has (λ c. is_stopped (led f h c).phase ≡ true) f h (Said signal.Stop) fault refl (ap is_stopped same)
 stop-leads f h fault Ended same = ap is_stopped same
 
-stop-stopped : (f : Flight) (s : State) → is_stopped (happens f s (Said word.Stop)).phase ≡ true
+stop-stopped : (f : Flight) (s : State) → is_stopped (happens f s (Said signal.Stop)).phase ≡ true
 unfolding happens choice heard
-stop-stopped f s = stop-leads f (heard f s (Said word.Stop)) (is_fault f s (Said word.Stop)) s.phase refl
+stop-stopped f s = stop-leads f (heard f s (Said signal.Stop)) (is_fault f s (Said signal.Stop)) s.phase refl
 
 pub halt_law : HaltLaw
 halt_law = record {
   now = λ f s p d. halt-told f s d (cuts f s p);
-  afterwards = λ f s events d. stopped-all f (happens f s (Said word.Stop)) (stop-stopped f s) events d;
+  afterwards = λ f s events d. stopped-all f (happens f s (Said signal.Stop)) (stop-stopped f s) events d;
 }
 
 -- ---- kept
@@ -176,11 +176,16 @@ kept-led f h Cut = refl
 kept-led f h Quit = refl
 kept-led f h Finish = refl
 
-kept-event : (f : Flight) (s : State) (e : Event) → (happens f s e).kept ≡ (s.kept && not (harms f s e))
+pub kept-event : (f : Flight) (s : State) (e : Event) → (happens f s e).kept ≡ (s.kept && not (harms f s e))
 unfolding happens heard
 kept-event f s e = kept-led f (heard f s e) (choice f s e)
 
-kept-all : (f : Flight) (s : State) (events : List Event) → (after f s events).kept ≡ (s.kept && none_harms f s events)
+-- no event of these harms the show
+abbrev pub none_harms : Flight → State → List Event → Bool
+none_harms f s [] = true
+none_harms f s (e ∷ es) = not (harms f s e) && none_harms f (happens f s e) es
+
+pub kept-all : (f : Flight) (s : State) (events : List Event) → (after f s events).kept ≡ (s.kept && none_harms f s events)
 kept-all f s [] = by_kept s.kept where
   by_kept : (b : Bool) → b ≡ (b && true)
   by_kept true = refl
@@ -189,6 +194,3 @@ kept-all f s (e ∷ es) =
     kept-all f (happens f s e) es
     ∙ (ap (λ b. b && none_harms f (happens f s e) es) (kept-event f s e)
     ∙ and_assoc s.kept (not (harms f s e)) (none_harms f (happens f s e) es))
-
-pub kept_law : KeptLaw
-kept_law f events = kept-all f (start f) events

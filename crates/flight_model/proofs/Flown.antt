@@ -1,5 +1,5 @@
 -- A flight that is said to be flown was flown.
-use Rattle.std.proofs.Common.{◌≡◌, ◌⊎◌, ◌<◌, ◌∷◌, ◌++◌, ◌∙◌, [], List, Bool, true, false, cond, refl, sym, ap, subst, None, Some, Option, ℕ, suc, inl, inr, take, length, eqb, arith}
+use Rattle.std.proofs.Common.{◌≡◌, ◌⊎◌, ◌<◌, ◌&&◌, ◌∷◌, ◌++◌, ◌∙◌, [], List, Bool, true, false, cond, refl, sym, ap, subst, None, Some, Option, ℕ, suc, inl, inr, take, length, eqb, arith}
 use Rattle.std.proofs.lemmas.Bool.{eqb-true, eqb-false, and_parts}
 use Rattle.std.proofs.lemmas.List.{append-nil, append_assoc, take_all}
 use Rattle.std.proofs.lemmas.List.Elements.{All-nil, All-cons, All-contains, Contains-append_cases}
@@ -11,48 +11,48 @@ use Rattle.flight_model.specs.declared.events.Note.{Note}
 use Rattle.flight_model.specs.declared.events.Event.{Event}
 use Rattle.flight_model.specs.declared.events.Frame.{Frame}
 use Rattle.flight_model.specs.declared.events.Frame.TheVariants.{To, ToAll, Noted, Over}
-use Rattle.flight_model.specs.declared.flights.Deed.{Deed}
-use Rattle.flight_model.specs.declared.flights.Deed.TheVariants.{Each, All as ToEach}
+use Rattle.flight_model.specs.declared.flights.Orders.{Orders}
+use Rattle.flight_model.specs.declared.flights.Orders.TheVariants.{Each, All as ToEach}
 use Rattle.flight_model.specs.declared.flights.Step.{Step}
 use Rattle.flight_model.specs.declared.flights.Flight.{Flight}
 unfoldable use Rattle.flight_model.specs.Directors.{heard, is_due, choice, done, led, happens, says}
 use Rattle.flight_model.specs.Directors.{Phase, Steps, Landing, Off, Halted, Ended, State, Choice, Rest, Begin, Descend, Cut, Quit, Finish, start, sent, chosen, is_fault, notes, order_in, frames_from, frames_of, frames_of_step, landings, next_step, is_due_step, is_flown, is_off_phase}
 use Rattle.flight_model.specs.Law.{orders_to, in_step, ordered, OverLaw}
-use Rattle.flight_model.proofs.Orders.{orders_to-append, orders_to-deed, ordered-next}
+use Rattle.flight_model.proofs.OrdersTo.{orders_to-append, orders_to-of_step, ordered-next}
 use Rattle.flight_model.proofs.Choices.{steps-has, landing-has, off-has, halted-has}
 use Rattle.flight_model.proofs.Telling.{orders_to-says, as_phase}
 use Rattle.flight_model.proofs.Ending.{is_stopped, stopped-all}
 
 -- ---- only the end says so
 
-abbrev NoOver : Frame → Type 0
+abbrev pub NoOver : Frame → Type 0
 NoOver x = (flown kept : Bool) → x ≡ Over flown kept → ⊥
 
-no_over-notes : (ns : List Note) → All NoOver (map Noted ns)
+pub no_over-notes : (ns : List Note) → All NoOver (map Noted ns)
 no_over-notes [] = All-nil NoOver
 no_over-notes (n ∷ ns) = All-cons NoOver (Noted n) (map Noted ns) (λ a b e. cc) (no_over-notes ns)
 
-no_over-from : (d : ℕ) (os : List (Option Order)) → All NoOver (frames_from d os)
+pub no_over-from : (d : ℕ) (os : List (Option Order)) → All NoOver (frames_from d os)
 no_over-from d [] = All-nil NoOver
 no_over-from d (None ∷ os) = no_over-from (suc d) os
 no_over-from d (Some o ∷ os) = All-cons NoOver (To d o) (frames_from (suc d) os) (λ a b e. cc) (no_over-from (suc d) os)
 
-no_over-all : (o : Order) → All NoOver (ToAll o ∷ [])
+pub no_over-all : (o : Order) → All NoOver (ToAll o ∷ [])
 no_over-all o = All-cons NoOver (ToAll o) [] (λ a b e. cc) (All-nil NoOver)
 
-no_over-deed : (deed : Deed) → All NoOver (frames_of deed)
-no_over-deed (Each os) = no_over-from 0 os
-no_over-deed (ToEach o) = no_over-all o
+no_over-orders : (orders : Orders) → All NoOver (frames_of orders)
+no_over-orders (Each os) = no_over-from 0 os
+no_over-orders (ToEach o) = no_over-all o
 
-no_over-step : (o : Option Step) → All NoOver (frames_of_step o)
+pub no_over-step : (o : Option Step) → All NoOver (frames_of_step o)
 no_over-step None = All-nil NoOver
-no_over-step (Some step) = no_over-deed step.deed
+no_over-step (Some step) = no_over-orders step.orders
 
-over-not : (xs : List Frame) (flown kept : Bool) → All NoOver xs → Contains xs (Over flown kept) → ⊥
+pub over-not : (xs : List Frame) (flown kept : Bool) → All NoOver xs → Contains xs (Over flown kept) → ⊥
 over-not xs flown kept all has = All-contains NoOver xs (Over flown kept) all has flown kept refl
 
 -- a choice that says that the flight was flown
-over-finish : (f : Flight) (h : State) (c : Choice) (kept : Bool) → Contains (done f h c) (Over true kept) → (c ≡ Finish) × (is_flown f h ≡ true)
+pub over-finish : (f : Flight) (h : State) (c : Choice) (kept : Bool) → Contains (done f h c) (Over true kept) → (c ≡ Finish) × (is_flown f h ≡ true)
 unfolding done
 over-finish f h Rest kept has = absurd (over-not [] true kept (All-nil NoOver) has)
 over-finish f h Begin kept has = absurd (over-not (frames_of_step (next_step f h)) true kept (no_over-step (next_step f h)) has)
@@ -60,12 +60,12 @@ over-finish f h Descend kept has = absurd (over-not (frames_from 0 (landings f h
 over-finish f h Cut kept has = absurd (over-not (ToAll order.Halt ∷ []) true kept (no_over-all order.Halt) has)
 over-finish f h Quit kept has = absurd (over-not (ToAll order.Disarm ∷ []) true kept (no_over-all order.Disarm) has)
 over-finish f h Finish kept has = (refl, by_flown (is_flown f h) has) where
-  by_flown : (b : Bool) → Contains (Over b h.kept ∷ []) (Over true kept) → b ≡ true
+  by_flown : (b : Bool) → Contains (Over b (b && h.kept) ∷ []) (Over true kept) → b ≡ true
   by_flown true has = refl
   by_flown false has =
-      let e : Over true kept ≡ Over false h.kept =
-      All-contains (λ x. x ≡ Over false h.kept) (Over false h.kept ∷ []) (Over true kept)
-      (All-cons (λ x. x ≡ Over false h.kept) (Over false h.kept) [] refl (All-nil (λ x. x ≡ Over false h.kept))) has in
+      let e : Over true kept ≡ Over false false =
+      All-contains (λ x. x ≡ Over false false) (Over false false ∷ []) (Over true kept)
+      (All-cons (λ x. x ≡ Over false false) (Over false false) [] refl (All-nil (λ x. x ≡ Over false false))) has in
       cc
 
 -- ---- how much of the way was flown
@@ -88,19 +88,19 @@ flown-begin : (f : Flight) (d : ℕ) (h : State) (e : Event) (os : List Order) �
 unfolding led done is_due
 flown-begin f d h e os t due = by_step (next_step f h) refl due where
   by_last : (step : Step) → slice_get f.steps h.next ≡ Some step → (b : Bool) → eqb (suc h.next) (length f.steps) ≡ b →
-      FlownIn f d (suc h.next) (os ++ in_step (order_in step.deed d)) (cond b Off Steps)
+      FlownIn f d (suc h.next) (os ++ in_step (order_in step.orders d)) (cond b Off Steps)
   by_last step same true all =
       let whole : take (suc h.next) f.steps ≡ f.steps = take_all (suc h.next) f.steps (let l = eqb-true (suc h.next) (length f.steps) all in omega arith) in
-      inr (ap (λ xs. xs ++ in_step (order_in step.deed d)) t.1 ∙ (sym (ordered-next d h.next f.steps step same) ∙ ap (λ xs. ordered d xs) whole))
+      inr (ap (λ xs. xs ++ in_step (order_in step.orders d)) t.1 ∙ (sym (ordered-next d h.next f.steps step same) ∙ ap (λ xs. ordered d xs) whole))
   by_last step same false more =
       let other = eqb-false (suc h.next) (length f.steps) more in
       let inside = slice_get_within f.steps h.next step same in
-      (omega arith, ap (λ xs. xs ++ in_step (order_in step.deed d)) t.1 ∙ sym (ordered-next d h.next f.steps step same))
+      (omega arith, ap (λ xs. xs ++ in_step (order_in step.orders d)) t.1 ∙ sym (ordered-next d h.next f.steps step same))
 
   by_step : (o : Option Step) → slice_get f.steps h.next ≡ o → is_due_step f h e o ≡ true → NextFlown f d h os Steps Begin
   by_step None same due = absurd (cc)
   by_step (Some step) same due =
-      rw same (rw (orders_to-deed d step.deed) (by_last step same (eqb (suc h.next) (length f.steps)) refl))
+      rw same (rw (orders_to-of_step d step.orders) (by_last step same (eqb (suc h.next) (length f.steps)) refl))
 
 flown-chosen : (f : Flight) (d : ℕ) (h : State) (e : Event) (fault : Bool) (os : List Order) (p : Phase) → FlownIn f d h.next os p →
     NextFlown f d h os p (chosen f (as_phase h p) e fault p)

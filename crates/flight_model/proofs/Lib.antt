@@ -1,9 +1,15 @@
 mod Rows
-mod Orders
+mod ExampleRows
+mod OrdersTo
 mod Choices
 mod Telling
 mod Beginning
 mod Ending
 mod Flown
 mod Quiet
+mod Sightings
+mod Shows
+mod Kept
 mod Planned
+mod RejectedFlights
+mod RejectedShows

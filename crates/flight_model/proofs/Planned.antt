@@ -3,16 +3,16 @@ use Rattle.std.proofs.Common.{◌≡◌, ◌∷◌, ◌++◌, ◌∙◌, [], Lis
 use Rattle.std.proofs.lemmas.List.{append_assoc}
 use Rattle.std.proofs.lemmas.Grind.{flat_map-append}
 use Rattle.std.specs.Prelude.{map, slice_get}
-use Rattle.std.specs.List.{flat_map, range_with_len, sum}
+use Rattle.std.specs.List.{flat_map, range_with_len}
 use Rattle.traj_codec.specs.declared.traj.Traj.{Traj}
 use Rattle.flight_model.specs.declared.events.Order.{Order}
 use Rattle.flight_model.specs.declared.events.Order.TheVariants as order
 use Rattle.flight_model.specs.declared.flights.Step.{Step}
 unfoldable use Rattle.flight_model.specs.Legs.{steps_of}
-use Rattle.flight_model.specs.Legs.{Ways, Leg, legs_of, leg_count, arm_order, up_order, down_order, arm_step, up_step, start_step, down_step, last_step, lasts}
+use Rattle.flight_model.specs.Legs.{Routes, Leg, legs_of, leg_count, arm_order, up_order, down_order, arm_step, up_step, start_step, down_step, last_step, lasts}
 use Rattle.flight_model.specs.Directors.{order_in}
 use Rattle.flight_model.specs.Law.{ordered, in_step}
-use Rattle.flight_model.specs.Plan.{one_of, up_leg, plan_of, PlanLaw}
+use Rattle.flight_model.specs.Plan.{one_of, up_leg, PlanLaw}
 
 get-legs : (g : List Leg → Option Order) (ts : List Traj) (d : ℕ) (t : Traj) → slice_get ts d ≡ Some t → in_step (slice_get (map g (map legs_of ts)) d) ≡ one_of (g (legs_of t))
 get-legs g [] d t e = absurd (cc)
@@ -23,9 +23,9 @@ get-legs g (u ∷ ts) zero t e = let same : u ≡ t = cc in by_order (g (legs_of
 get-legs g (u ∷ ts) (suc d) t e = get-legs g ts d t e
 
 ordered-append : (d : ℕ) (xs ys : List Step) → ordered d (xs ++ ys) ≡ ordered d xs ++ ordered d ys
-ordered-append d xs ys = flat_map-append (λ (step : Step). in_step (order_in step.deed d)) xs ys
+ordered-append d xs ys = flat_map-append (λ (step : Step). in_step (order_in step.orders d)) xs ys
 
-ups : (w : Ways) (d : ℕ) (up : Traj) → slice_get w.up d ≡ Some up → (ks : List ℕ) →
+ups : (w : Routes) (d : ℕ) (up : Traj) → slice_get w.up d ≡ Some up → (ks : List ℕ) →
     ordered d (flat_map (λ k. arm_step w (map legs_of w.up) k ∷ up_step w (map legs_of w.up) k ∷ []) ks) ≡ flat_map (up_leg (legs_of up)) ks
 ups w d up e [] = refl
 ups w d up e (k ∷ ks) =
@@ -35,7 +35,7 @@ ups w d up e (k ∷ ks) =
       three : (x y z p q r : List Order) → x ≡ p → y ≡ q → z ≡ r → x ++ (y ++ z) ≡ (p ++ q) ++ r
       three x y z p q r h i j = ap (λ xs. xs ++ (y ++ z)) h ∙ (ap (λ xs. p ++ (xs ++ z)) i ∙ (ap (λ xs. p ++ (q ++ xs)) j ∙ sym (append_assoc p q r)))
 
-downs : (w : Ways) (d : ℕ) (down : Traj) → slice_get w.down d ≡ Some down → (ms : ℕ) (ks : List ℕ) →
+downs : (w : Routes) (d : ℕ) (down : Traj) → slice_get w.down d ≡ Some down → (ms : ℕ) (ks : List ℕ) →
     ordered d (map (down_step w ms (map legs_of w.down)) ks) ≡ flat_map (λ k. one_of (down_order (legs_of down) k)) ks
 downs w d down e ms [] = refl
 downs w d down e ms (k ∷ ks) =

@@ -6,20 +6,19 @@ use Rattle.std.specs.Prelude.{map, slice_get}
 use Rattle.std.specs.List.{list_any}
 use Rattle.flight_model.specs.declared.events.Order.{Order}
 use Rattle.flight_model.specs.declared.events.Sample.{Sample}
-use Rattle.flight_model.specs.declared.events.Word.TheVariants as word
+use Rattle.flight_model.specs.declared.events.Signal.TheVariants as signal
 use Rattle.flight_model.specs.declared.events.Event.{Event}
 use Rattle.flight_model.specs.declared.events.Event.TheVariants.{Clock, Seen, Answered, Said}
 use Rattle.flight_model.specs.declared.events.Fault.TheVariants.{Late}
 use Rattle.flight_model.specs.declared.events.Frame.{Frame}
-use Rattle.flight_model.specs.declared.flights.Deed.{Deed}
-use Rattle.flight_model.specs.declared.flights.Deed.TheVariants.{Each, All as ToEach}
+use Rattle.flight_model.specs.declared.flights.Orders.{Orders}
+use Rattle.flight_model.specs.declared.flights.Orders.TheVariants.{Each, All as ToEach}
 use Rattle.flight_model.specs.declared.flights.Step.{Step}
 use Rattle.flight_model.specs.declared.flights.Flight.{Flight}
 unfoldable use Rattle.flight_model.specs.Directors.{tracks_after, heard, is_due, notes, is_fault, choice, done, led, happens, says}
 use Rattle.flight_model.specs.Directors.{Phase, Steps, Landing, Off, Halted, Ended, Track, State, Choice, Rest, Begin, Descend, Cut, Quit, Finish, start, sent, after, chosen, is_go, is_land, is_stop, is_off, is_silent, is_lost, is_astray, older, aged, later, passed, fits, next_step, harms, noticed, overdue, note_if, silent_from, sample_notes, seen_notes, track_with, off_with, is_flying, is_due_step, is_late_step, unfit_in, all_fit, frames_from, frames_of, frames_of_step, landings}
 use Rattle.flight_model.specs.Law.{IsQuiet, AllQuiet, is_on_course, noted_by, notes_in, QuietLaw}
-use Rattle.flight_model.proofs.Ending.{kept_law}
-use Rattle.flight_model.specs.Law.{none_harms}
+use Rattle.flight_model.proofs.Ending.{kept-all, none_harms}
 use Rattle.flight_model.proofs.Choices.{steps-has, off-has}
 use Rattle.std.proofs.lemmas.Grind.{flat_map-append}
 
@@ -88,7 +87,7 @@ module _ (slack : ℕ) (few : slack ≤ 8000) where
       let steady : (heard f s e).waited ≤ step.after + slack + (heard f s e).steady = heard-in_time f s e q i step same asked in
       let settled : step.settle ≤ (heard f s e).steady = omega arith in
       subst (λ o. is_due_step f (heard f s e) e o ≡ true) (sym same)
-      (all_four (not step.asked || is_go e) (leb step.after (heard f s e).waited) (leb step.settle (heard f s e).steady) (all_fit f.silence step.wants (heard f s e).tracks)
+      (all_four (not step.asked || is_go e) (leb step.after (heard f s e).waited) (leb step.settle (heard f s e).steady) (all_fit f.silence step.conditions (heard f s e).tracks)
       (ap (λ b. not b || is_go e) asked) (le-leb step.after (heard f s e).waited time) (le-leb step.settle (heard f s e).steady settled) (q.in_time step same asked there)) where
         all_four : (a b c d : Bool) → a ≡ true → b ≡ true → c ≡ true → d ≡ true → ((a && b) && c) && d ≡ true
         all_four a b c d ha hb hc hd = rw (ha, hb, hc, hd) refl
@@ -127,9 +126,9 @@ module _ (slack : ℕ) (few : slack ≤ 8000) where
   notes_in-from d (None ∷ os) = notes_in-from (suc d) os
   notes_in-from d (Some o ∷ os) = notes_in-from (suc d) os
 
-  notes_in-deed : (deed : Deed) → notes_in (frames_of deed) ≡ []
-  notes_in-deed (Each os) = notes_in-from 0 os
-  notes_in-deed (ToEach o) = refl
+  notes_in-orders : (orders : Orders) → notes_in (frames_of orders) ≡ []
+  notes_in-orders (Each os) = notes_in-from 0 os
+  notes_in-orders (ToEach o) = refl
 
   notes_in-done : (f : Flight) (h : State) (c : Choice) → notes_in (done f h c) ≡ []
   unfolding done
@@ -137,7 +136,7 @@ module _ (slack : ℕ) (few : slack ≤ 8000) where
   notes_in-done f h Begin = by_step (next_step f h) where
     by_step : (o : Option Step) → notes_in (frames_of_step o) ≡ []
     by_step None = refl
-    by_step (Some step) = notes_in-deed step.deed
+    by_step (Some step) = notes_in-orders step.orders
   notes_in-done f h Descend = notes_in-from 0 (landings f h.next)
   notes_in-done f h Cut = refl
   notes_in-done f h Quit = refl
@@ -150,17 +149,17 @@ module _ (slack : ℕ) (few : slack ≤ 8000) where
   -- ---- where it leads
 
   no_stop : (f : Flight) (s : State) (e : Event) → IsQuiet f slack s e → is_stop e ≡ false
-  no_stop f s (Said word.Go) q = refl
-  no_stop f s (Said word.Land) q = refl
-  no_stop f s (Said word.Stop) q = absurd (q.no_stop refl)
+  no_stop f s (Said signal.Go) q = refl
+  no_stop f s (Said signal.Land) q = refl
+  no_stop f s (Said signal.Stop) q = absurd (q.no_stop refl)
   no_stop f s (Clock ms) q = refl
   no_stop f s (Seen d x) q = refl
   no_stop f s (Answered d status) q = refl
 
   no_land : (f : Flight) (s : State) (e : Event) → IsQuiet f slack s e → is_land e ≡ false
-  no_land f s (Said word.Go) q = refl
-  no_land f s (Said word.Land) q = absurd (q.no_land refl)
-  no_land f s (Said word.Stop) q = refl
+  no_land f s (Said signal.Go) q = refl
+  no_land f s (Said signal.Land) q = absurd (q.no_land refl)
+  no_land f s (Said signal.Stop) q = refl
   no_land f s (Clock ms) q = refl
   no_land f s (Seen d x) q = refl
   no_land f s (Answered d status) q = refl
@@ -288,6 +287,6 @@ pub quiet_law : QuietLaw
 quiet_law = record {
   noted = λ f slack events few q. noted-all slack few f (start f) events q (course-start slack few f);
   goes_on = λ f slack events few q. (course-all slack few f (start f) events q (course-start slack few f)).course;
-  kept = λ f slack events few q. kept_law f events ∙ none-harm slack few f (start f) events q;
+  kept = λ f slack events few q. kept-all f (start f) events ∙ none-harm slack few f (start f) events q;
   prompt = λ f slack events e step few q. prompt-all slack few f (start f) events e step q (course-start slack few f);
 }

@@ -1,22 +1,16 @@
 -- The definitions at a small flight: two drones, one leg up, a show of one cue, one leg down.
 use Rattle.std.proofs.Common.{◌≡◌, ◌∷◌, ◌++◌, [], List, Bool, true, false, refl, None, Some, ℕ}
 use Rattle.std.specs.Prelude.{ℤ, pos}
-use Rattle.traj_codec.specs.declared.traj.Traj.{Traj}
-use Rattle.traj_codec.specs.declared.traj.Element.{Element}
-use Rattle.traj_codec.specs.declared.traj.Element.TheVariants.{Constant, Cubic, Seven}
 use Rattle.flight_model.specs.declared.events.Order.{Order}
 use Rattle.flight_model.specs.declared.events.Order.TheVariants as order
-use Rattle.flight_model.specs.declared.events.Sample.{Sample}
-use Rattle.flight_model.specs.declared.events.Word.TheVariants as word
+use Rattle.flight_model.specs.declared.events.Signal.TheVariants as signal
 use Rattle.flight_model.specs.declared.events.Event.{Event}
 use Rattle.flight_model.specs.declared.events.Event.TheVariants.{Clock, Seen, Answered, Said}
 use Rattle.flight_model.specs.declared.events.Fault.{Fault}
 use Rattle.flight_model.specs.declared.events.Fault.TheVariants as fault
 use Rattle.flight_model.specs.declared.events.Frame.{Frame}
 use Rattle.flight_model.specs.declared.events.Frame.TheVariants.{To, ToAll, Noted, Over}
-use Rattle.flight_model.specs.declared.flights.Flight.{Flight}
 unfoldable use Rattle.flight_model.specs.Legs.{steps_of}
-use Rattle.flight_model.specs.Legs.{Ways}
 unfoldable use Rattle.flight_model.specs.Samples.{is_fit_by, is_kept}
 unfoldable use Rattle.flight_model.specs.Directors.{tracks_after, heard, is_due, notes, is_fault, choice, done, led, happens, says}
 use Rattle.flight_model.specs.Directors.{start, sent, after, State, Track, Steps}
@@ -24,66 +18,8 @@ unfoldable use Rattle.fleet_math.specs.Decoded.{decoded}
 unfoldable use Rattle.fleet_math.specs.Moments.{moment}
 unfoldable use Rattle.fleet_math.specs.Bernstein.{bernstein}
 use Rattle.flight_model.specs.Law.{ordered}
-
--- from rest to rest, to this value
-abbrev rest : ℤ → ℤ → Element
-rest a b = Seven (a ∷ a ∷ a ∷ b ∷ b ∷ b ∷ b ∷ [])
-
-abbrev up_at : ℤ → Traj
-up_at x = record {
-  start = x ∷ pos 0 ∷ pos 0 ∷ pos 0 ∷ [];
-  segments = record { ms = 2000; elements = Constant ∷ Constant ∷ rest (pos 0) (pos 1000) ∷ Constant ∷ [] } ∷ [];
-}
-
--- aside and back again
-abbrev show_at : ℤ → Traj
-show_at x = record {
-  start = x ∷ pos 0 ∷ pos 1000 ∷ pos 0 ∷ [];
-  segments = record { ms = 1000; elements = Constant ∷ Cubic (pos 300 ∷ pos 300 ∷ pos 0 ∷ []) ∷ Constant ∷ Constant ∷ [] } ∷ [];
-}
-
-abbrev down_at : ℤ → Traj
-down_at x = record {
-  start = x ∷ pos 0 ∷ pos 1000 ∷ pos 0 ∷ [];
-  segments = record { ms = 2500; elements = Constant ∷ Constant ∷ rest (pos 1000) (pos 0) ∷ Constant ∷ [] } ∷ [];
-}
-
-abbrev two : (ℤ → Traj) → List Traj
-two t = t (pos 0) ∷ t (pos 2000) ∷ []
-
-abbrev ways : Ways
-ways = record { up = two up_at; show = two show_at; down = two down_at; near = 100; at_place = 50 }
-
-unfoldable flight : Bool → Flight
-unfolding steps_of
-flight flies_on = record {
-  steps = steps_of ways;
-  curves = two show_at;
-  show_ms = 1000;
-  stray = 30;
-  late = 2;
-  silence = 500;
-  flies_on = flies_on;
-  floor = pos 0;
-  descent = 4000;
-}
-
-abbrev sample : ℤ → ℤ → ℤ → Bool → Bool → Sample
-sample x y z armed down = record { age = 0; x = x; y = y; z = z; ready = true; armed = armed; lost = false; down = down }
-
--- both are at this height, and so far aside
-abbrev both : ℤ → ℤ → Bool → Bool → List Event
-both y z armed down = Seen 0 (sample (pos 0) y z armed down) ∷ Seen 1 (sample (pos 2000) y z armed down) ∷ []
-
-abbrev go : List Event
-go = Said word.Go ∷ []
-
--- half a second, and both are still there
-abbrev half : ℤ → Bool → Bool → List Event
-half z armed down = Clock 500 ∷ both (pos 0) z armed down
-
-abbrev lift_off : List Event
-lift_off = both (pos 0) (pos 0) false true ++ go ++ both (pos 0) (pos 0) true true
+unfoldable use Rattle.flight_model.specs.Example.{flight}
+use Rattle.flight_model.specs.Example.{sample, both, half, go, lift_off, show, way_down}
 
 abbrev second : ℤ → Bool → Bool → List Event
 second z armed down = both (pos 0) z armed down ++ half z armed down ++ half z armed down
@@ -128,15 +64,6 @@ note d fault = Noted (record { drone = d; fault = fault })
 abbrev all_land : List Frame
 all_land = To 0 (order.Land (pos 0) 4000) ∷ To 1 (order.Land (pos 0) 4000) ∷ []
 
-abbrev show : List Event
-show = both (pos 0) (pos 1000) true false ++ (Clock 500 ∷ both (pos 225) (pos 1000) true false) ++ half (pos 1000) true false
-
-abbrev sinking : List Event
-sinking = half (pos 500) true false ++ half (pos 500) true false
-
-abbrev way_down : List Event
-way_down = half (pos 1000) true false ++ half (pos 1000) true false ++ sinking ++ sinking ++ half (pos 0) true true ++ half (pos 0) true true ++ half (pos 0) true true ++ both (pos 0) (pos 0) false true
-
 pub record Rows : Type 0 where
   -- the orders to a drone
   planned : plan 1 ≡ order.Arm ∷ order.Rise (pos 1000) 2000 ∷ order.Start ∷ order.Land (pos 0) 2500 ∷ order.Disarm ∷ []
@@ -149,7 +76,7 @@ pub record Rows : Type 0 where
   -- down, off, and the end
   downs : says_all true at_last way_down ≡ To 0 (order.Land (pos 0) 2500) ∷ To 1 (order.Land (pos 0) 2500) ∷ ToAll order.Disarm ∷ Over true true ∷ []
   -- the operator's land in the middle, and stop after it
-  lands : says_all true at_last (Said word.Land ∷ Said word.Go ∷ Said word.Stop ∷ Said word.Land ∷ []) ≡ all_land ++ ToAll order.Halt ∷ []
+  lands : says_all true at_last (Said signal.Land ∷ Said signal.Go ∷ Said signal.Stop ∷ Said signal.Land ∷ []) ≡ all_land ++ ToAll order.Halt ∷ []
   -- too early
   early : says_all true (record at_ready { steady = 999 }) go ≡ []
   -- a drone that is silent is noted, and the show goes on; it isn't kept

@@ -13,7 +13,7 @@ use Rattle.flight_model.specs.declared.flights.Flight.{Flight}
 unfoldable use Rattle.flight_model.specs.Directors.{heard, is_due, choice, done, led, happens, says}
 use Rattle.flight_model.specs.Directors.{Phase, Steps, Landing, Off, Halted, Ended, State, Choice, Rest, Begin, Descend, start, sent, after, chosen, is_fault, notes, order_in, frames_from, landings, land_order, has_risen, drones, next_step, is_due_step}
 use Rattle.flight_model.specs.Law.{orders_to, in_step, ordered, only_if, OnlyOrders, OnlyLaw}
-use Rattle.flight_model.proofs.Orders.{orders_to-append, orders_to-notes, orders_to-deed, orders_to-landing, orders_to-no_landing, ordered-next}
+use Rattle.flight_model.proofs.OrdersTo.{orders_to-append, orders_to-notes, orders_to-of_step, orders_to-landing, orders_to-no_landing, ordered-next}
 use Rattle.flight_model.proofs.Choices.{steps-has, landing-has, off-has, halted-has}
 
 -- the orders of the first n steps and then these three
@@ -117,12 +117,12 @@ told-land f d n os b t = record {
 }
 
 told-step : (f : Flight) (d n : ℕ) (os : List Order) (step : Step) → Told f d n os false false false → slice_get f.steps n ≡ Some step →
-    Told f d (suc n) (os ++ in_step (order_in step.deed d)) false false false
+    Told f d (suc n) (os ++ in_step (order_in step.orders d)) false false false
 told-step f d n os step t e = record {
   landed = false;
   disarmed = false;
   halted = false;
-  are = ap (λ xs. xs ++ in_step (order_in step.deed d)) (are-steps f d n os t)
+  are = ap (λ xs. xs ++ in_step (order_in step.orders d)) (are-steps f d n os t)
       ∙ (sym (ordered-next d n f.steps step e) ∙ sym (append-nil (ordered d (take (suc n) f.steps))));
   no_landing = λ e. refl;
   no_disarm = λ e. refl;
@@ -152,16 +152,16 @@ next-descend f d h os t = by_drone (ltb d (drones f)) refl where
 next-begin : (f : Flight) (d : ℕ) (h : State) (e : Event) (os : List Order) → ToldIn f d h.next os Steps → is_due f h e ≡ true → Next f d h os Steps Begin
 unfolding led done is_due
 next-begin f d h e os t due = by_step (next_step f h) refl due where
-  by_last : (step : Step) → (b : Bool) → Told f d (suc h.next) (os ++ in_step (order_in step.deed d)) false false false →
-      ToldIn f d (suc h.next) (os ++ in_step (order_in step.deed d)) (cond b Off Steps)
-  by_last step true u = told-off f d (suc h.next) (os ++ in_step (order_in step.deed d)) false false u
+  by_last : (step : Step) → (b : Bool) → Told f d (suc h.next) (os ++ in_step (order_in step.orders d)) false false false →
+      ToldIn f d (suc h.next) (os ++ in_step (order_in step.orders d)) (cond b Off Steps)
+  by_last step true u = told-off f d (suc h.next) (os ++ in_step (order_in step.orders d)) false false u
   by_last step false u = u
 
   by_step : (o : Option Step) → slice_get f.steps h.next ≡ o → is_due_step f h e o ≡ true → Next f d h os Steps Begin
   by_step None same due = absurd (cc)
   by_step (Some step) same due =
       rw same
-      (rw (orders_to-deed d step.deed)
+      (rw (orders_to-of_step d step.orders)
       (by_last step (eqb (suc h.next) (length f.steps)) (told-step f d h.next os step t same)))
 
 next-chosen : (f : Flight) (d : ℕ) (h : State) (e : Event) (fault : Bool) (os : List Order) (p : Phase) → ToldIn f d h.next os p →

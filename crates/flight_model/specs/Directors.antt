@@ -1,10 +1,11 @@
--- The director, as a machine: what it is after a list of events, and what went out by then.
+-- The flight director as a function of all that happened to it: its state after a list of events, and what it said.
+-- `happens` and `says` at the end of this file are one event; all above them is in the order in which an event passes.
 use Rattle.std.specs.Prelude.{ℕ, suc, ◌+◌, ◌-◌, Bool, true, false, not, ◌&&◌, ◌||◌, nat_le, nat_lt, ◌==◌, if◌then◌else◌, List, [], ◌∷◌, ◌++◌, length, map, take, slice_get, slice_set, Option, Some, None, min, replicate}
 use Rattle.std.specs.List.{list_any, list_all, range_with_len}
 use Rattle.flight_model.specs.declared.events.Order.{Order}
 use Rattle.flight_model.specs.declared.events.Order.TheVariants as order
 use Rattle.flight_model.specs.declared.events.Sample.{Sample}
-use Rattle.flight_model.specs.declared.events.Word.TheVariants as word
+use Rattle.flight_model.specs.declared.events.Signal.TheVariants as signal
 use Rattle.flight_model.specs.declared.events.Event.{Event}
 use Rattle.flight_model.specs.declared.events.Event.TheVariants.{Clock, Seen, Answered, Said}
 use Rattle.flight_model.specs.declared.events.Fault.{Fault}
@@ -12,9 +13,9 @@ use Rattle.flight_model.specs.declared.events.Fault.TheVariants.{Silent, Astray,
 use Rattle.flight_model.specs.declared.events.Note.{Note}
 use Rattle.flight_model.specs.declared.events.Frame.{Frame}
 use Rattle.flight_model.specs.declared.events.Frame.TheVariants.{To, ToAll, Noted, Over}
-use Rattle.flight_model.specs.declared.flights.Want.{Want}
-use Rattle.flight_model.specs.declared.flights.Deed.{Deed}
-use Rattle.flight_model.specs.declared.flights.Deed.TheVariants.{Each, All as ToEach}
+use Rattle.flight_model.specs.declared.flights.Condition.{Condition}
+use Rattle.flight_model.specs.declared.flights.Orders.{Orders}
+use Rattle.flight_model.specs.declared.flights.Orders.TheVariants.{Each, All as ToEach}
 use Rattle.flight_model.specs.declared.flights.Step.{Step}
 use Rattle.flight_model.specs.declared.flights.Flight.{Flight}
 use Rattle.flight_model.specs.Samples.{is_fit, is_kept}
@@ -24,19 +25,20 @@ pub use Rattle.flight_model.specs.declared.states.Track.{Track}
 pub use Rattle.flight_model.specs.declared.states.Choice.{Choice}
 pub use Rattle.flight_model.specs.declared.states.Choice.TheVariants.{Rest, Begin, Descend, Cut, Quit, Finish}
 
--- ---- what the director knows
+-- ---- the state
 
+-- What the director knows.
 pub record State : Type 0 where
   pub phase : Phase
   -- how many steps have begun
   pub next : ℕ
   -- how long ago the last of them did, or the phase
   pub waited : ℕ
-  -- for how long the drones have been as the next step wants them
+  -- for how long the drones have met the conditions of the next step
   pub steady : ℕ
-  -- the show is on
+  -- the last step was the start
   pub showing : Bool
-  -- each sample of the show was at its drone's curve, and no drone was silent
+  -- nothing has harmed the show
   pub kept : Bool
   pub tracks : List Track
 
@@ -44,6 +46,7 @@ pub record State : Type 0 where
 abbrev pub drones : Flight → ℕ
 drones f = length f.curves
 
+-- a flight to which nothing has happened
 abbrev pub start : Flight → State
 start f = record {
   phase = Steps;
@@ -59,11 +62,13 @@ start f = record {
 abbrev pub most_ms : ℕ
 most_ms = 1000000000
 
+-- a time, and more of it
 abbrev pub later : ℕ → ℕ → ℕ
 later ms more = min (ms + more) most_ms
 
--- ---- hearing
+-- ---- an event is heard
 
+-- a sample, after some time
 abbrev pub older : ℕ → Option Sample → Option Sample
 older ms None = None
 older ms (Some x) = Some (record x { age = later x.age ms })
@@ -71,7 +76,7 @@ older ms (Some x) = Some (record x { age = later x.age ms })
 abbrev pub aged : ℕ → Track → Track
 aged ms t = record t { seen = older ms t.seen }
 
--- the instant of the show at which a sample was taken, if the show was on then
+-- the sample was taken in the show: its instant there is `waited` less its age
 abbrev pub in_show : Flight → State → Sample → Bool
 in_show f s x = s.showing && nat_le x.age s.waited && nat_le (s.waited - x.age) f.show_ms
 
@@ -84,6 +89,7 @@ abbrev pub off_with : Option ℕ → Option Sample → Sample → ℕ
 off_with (Some ms) (Some last) x = later ms (last.age - x.age)
 off_with off last x = 0
 
+-- what is known of a drone with this sample after the others
 abbrev pub track_with : Flight → State → ℕ → Track → Sample → Track
 track_with f s d t x = record { seen = Some x; off = if is_off f s d x then Some (off_with t.off t.seen x) else None }
 
@@ -91,7 +97,7 @@ abbrev pub tracked : Flight → State → ℕ → Sample → Option Track → Li
 tracked f s d x None = s.tracks
 tracked f s d x (Some t) = slice_set s.tracks d (track_with f s d t x)
 
--- the tracks after an event
+-- what is known of each drone after an event
 unfoldable pub tracks_after : Flight → State → Event → List Track
 tracks_after f s (Clock ms) = map (aged ms) s.tracks
 tracks_after f s (Seen d x) = tracked f s d x (slice_get s.tracks d)
@@ -105,21 +111,22 @@ passed (Seen d x) = 0
 passed (Answered d status) = 0
 passed (Said w) = 0
 
--- each drone is as wanted, by drone
-abbrev pub all_fit : ℕ → List Want → List Track → Bool
+-- each drone meets its condition; a drone of which nothing is known doesn't
+abbrev pub all_fit : ℕ → List Condition → List Track → Bool
 all_fit silence [] tracks = true
 all_fit silence (w ∷ ws) [] = false
 all_fit silence (w ∷ ws) (t ∷ ts) = is_fit silence w t.seen && all_fit silence ws ts
 
--- the step that is next, if there is one, wants the drones as they are
+-- there is a next step, and each drone meets its condition
 abbrev pub fits : ℕ → Option Step → List Track → Bool
 fits silence None tracks = false
-fits silence (Some step) tracks = all_fit silence step.wants tracks
+fits silence (Some step) tracks = all_fit silence step.conditions tracks
 
 abbrev pub next_step : Flight → State → Option Step
 next_step f s = slice_get f.steps s.next
 
--- the drone was silent for too long before the time passed, or is so after it
+-- A drone is silent once its last sample is older than `silence`. Before its first sample it isn't: a step doesn't
+-- begin without one.
 abbrev pub is_silent : ℕ → Option Sample → Bool
 is_silent silence None = false
 is_silent silence (Some x) = nat_lt silence x.age
@@ -132,7 +139,7 @@ harms f s (Seen d x) = is_off f s d x
 harms f s (Answered d status) = false
 harms f s (Said w) = false
 
--- the state with an event heard, and nothing done yet; these are the tracks after it
+-- the state that has heard an event, and has done nothing yet; these are its tracks
 abbrev pub heard_with : Flight → State → Event → List Track → State
 heard_with f s e tracks = record s {
   waited = later s.waited (passed e);
@@ -144,7 +151,7 @@ heard_with f s e tracks = record s {
 unfoldable pub heard : Flight → State → Event → State
 heard f s e = heard_with f s e (tracks_after f s e)
 
--- ---- what people are told
+-- ---- faults, of which people are told
 
 abbrev pub note_if : Bool → ℕ → Fault → List Note
 note_if b d fault = if b then record { drone = d; fault = fault } ∷ [] else []
@@ -166,7 +173,7 @@ abbrev pub is_astray : Option ℕ → Bool
 is_astray None = false
 is_astray (Some ms) = nat_le 300 ms
 
--- it becomes so with a sample
+-- a drone becomes lost or astray with a sample: its track before and after it
 abbrev pub sample_notes : ℕ → Track → Track → List Note
 sample_notes d t u =
     note_if (not (is_lost t.seen) && is_lost u.seen) d Lost ++ note_if (not (is_astray t.off) && is_astray u.off) d Astray
@@ -175,6 +182,7 @@ abbrev pub seen_notes : Flight → State → ℕ → Sample → Option Track →
 seen_notes f s d x None = []
 seen_notes f s d x (Some t) = sample_notes d t (track_with f s d t x)
 
+-- the faults that an event itself shows
 abbrev pub noticed : Flight → State → Event → List Note
 noticed f s (Clock ms) = silent_from f.silence ms 0 s.tracks
 noticed f s (Seen d x) = seen_notes f s d x (slice_get s.tracks d)
@@ -184,47 +192,47 @@ noticed f s (Said w) = []
 -- ---- when a step begins
 
 abbrev pub is_go : Event → Bool
-is_go (Said word.Go) = true
+is_go (Said signal.Go) = true
 is_go e = false
 
 abbrev pub is_land : Event → Bool
-is_land (Said word.Land) = true
+is_land (Said signal.Land) = true
 is_land e = false
 
 abbrev pub is_stop : Event → Bool
-is_stop (Said word.Stop) = true
+is_stop (Said signal.Stop) = true
 is_stop e = false
 
--- The step may begin with this event, where the state has heard it: the operator says go, where the step waits for that;
--- the step before is over; the drones have settled; and each is as it has to be.
+-- With this event, which the state has heard, the step is due: the operator says go, where the step waits for that; the
+-- step before is over; the drones have met the conditions for as long as they have to settle; and each meets its own.
 abbrev pub is_due_step : Flight → State → Event → Option Step → Bool
 is_due_step f s e None = false
 is_due_step f s e (Some step) =
-    (not step.asked || is_go e) && nat_le step.after s.waited && nat_le step.settle s.steady && all_fit f.silence step.wants s.tracks
+    (not step.asked || is_go e) && nat_le step.after s.waited && nat_le step.settle s.steady && all_fit f.silence step.conditions s.tracks
 
 unfoldable pub is_due : Flight → State → Event → Bool
 is_due f s e = is_due_step f s e (next_step f s)
 
--- the step waits for no word, and its time was over 8 seconds ago
+-- the step waits for no go, and its time was over 8 seconds ago
 abbrev pub is_late_step : State → Option Step → Bool
 is_late_step s None = false
 is_late_step s (Some step) = not step.asked && nat_le (step.after + step.settle + 8000) s.waited
 
--- the first drone that isn't as it has to be
-abbrev pub first_unfit : ℕ → ℕ → List Want → List Track → ℕ
+-- the first drone that doesn't meet its condition
+abbrev pub first_unfit : ℕ → ℕ → List Condition → List Track → ℕ
 first_unfit silence d [] tracks = d
 first_unfit silence d (w ∷ ws) [] = d
 first_unfit silence d (w ∷ ws) (t ∷ ts) = if is_fit silence w t.seen then first_unfit silence (suc d) ws ts else d
 
 abbrev pub unfit_in : Flight → State → Option Step → ℕ
 unfit_in f s None = 0
-unfit_in f s (Some step) = first_unfit f.silence 0 step.wants s.tracks
+unfit_in f s (Some step) = first_unfit f.silence 0 step.conditions s.tracks
 
 abbrev pub is_flying : Phase → Bool
 is_flying Steps = true
 is_flying p = false
 
--- the next step is due no more
+-- the next step is late, for the sake of this drone
 abbrev pub overdue : Flight → State → Event → List Note
 overdue f s e =
     note_if (is_flying s.phase && not (is_due f s e) && is_late_step s (next_step f s)) (unfit_in f s (next_step f s)) Late
@@ -233,8 +241,8 @@ overdue f s e =
 unfoldable pub notes : Flight → State → Event → List Note
 notes f s e = noticed f s e ++ overdue f (heard f s e) e
 
--- Whether a fault ends the flight: silence never does, since a silent drone's way is part of what was proved; and in a
--- show that flies on a lost drone or one astray doesn't.
+-- A grave fault ends the flight. Silence never is one: a silent drone flies its show on, which was proved to be apart
+-- from all others. In a show that flies on neither is a drone that is lost or astray.
 abbrev pub is_grave : Flight → State → Fault → Bool
 is_grave f s Silent = false
 is_grave f s Astray = not (s.showing && f.flies_on)
@@ -255,7 +263,7 @@ abbrev pub is_disarmed : Option Sample → Bool
 is_disarmed None = false
 is_disarmed (Some x) = not x.armed
 
--- each drone has been seen so, in a fresh sample
+-- each drone has been seen so in a fresh sample
 abbrev pub all_seen : ℕ → (Option Sample → Bool) → List Track → Bool
 all_seen silence p tracks = list_all (λ (t : Track). p t.seen && not (is_silent silence t.seen)) tracks
 
@@ -263,13 +271,14 @@ all_seen silence p tracks = list_all (λ (t : Track). p t.seen && not (is_silent
 abbrev pub is_over : Flight → State → Bool
 is_over f s = all_seen f.silence is_disarmed s.tracks || nat_le 5000 s.waited
 
--- on the way: what the state s, which heard e, does; `fault` says whether a fault ends the flight
+-- on the way, in a state that has heard e; `fault` says whether there was a grave fault
 abbrev pub on_the_way : Flight → State → Event → Bool → Choice
 on_the_way f s e fault =
     if is_stop e then Cut
     else (if is_land e || fault then Descend
     else (if is_due f s e then Begin else Rest))
 
+-- and in each phase
 abbrev pub chosen : Flight → State → Event → Bool → Phase → Choice
 chosen f s e fault Steps = on_the_way f s e fault
 chosen f s e fault Landing = if is_stop e then Cut else (if all_seen f.silence is_down s.tracks then Quit else Rest)
@@ -280,10 +289,10 @@ chosen f s e fault Ended = Rest
 unfoldable pub choice : Flight → State → Event → Choice
 choice f s e = chosen f (heard f s e) e (is_fault f s e) s.phase
 
--- ---- what goes out
+-- ---- what is said
 
--- what a deed orders of drone d
-abbrev pub order_in : Deed → ℕ → Option (Option Order)
+-- the order to drone d, if these say anything of it
+abbrev pub order_in : Orders → ℕ → Option (Option Order)
 order_in (Each orders) d = slice_get orders d
 order_in (ToEach o) d = Some (Some o)
 
@@ -293,22 +302,23 @@ is_rise o = false
 
 -- drone d was told to rise in the first n steps
 abbrev pub has_risen : Flight → ℕ → ℕ → Bool
-has_risen f n d = list_any (λ (step : Step). is_rise (order_in step.deed d)) (take n f.steps)
+has_risen f n d = list_any (λ (step : Step). is_rise (order_in step.orders d)) (take n f.steps)
 
+-- orders by drone, from drone d on
 abbrev pub frames_from : ℕ → List (Option Order) → List Frame
 frames_from d [] = []
 frames_from d (None ∷ orders) = frames_from (suc d) orders
 frames_from d (Some o ∷ orders) = To d o ∷ frames_from (suc d) orders
 
-abbrev pub frames_of : Deed → List Frame
+abbrev pub frames_of : Orders → List Frame
 frames_of (Each orders) = frames_from 0 orders
 frames_of (ToEach o) = ToAll o ∷ []
 
 abbrev pub frames_of_step : Option Step → List Frame
 frames_of_step None = []
-frames_of_step (Some step) = frames_of step.deed
+frames_of_step (Some step) = frames_of step.orders
 
--- all that have risen land where they are
+-- the landing where drones are: straight down, all at one height in one time, so who is above stays above
 abbrev pub land_order : Flight → Order
 land_order f = order.Land f.floor f.descent
 
@@ -319,7 +329,7 @@ abbrev pub is_off_phase : Phase → Bool
 is_off_phase Off = true
 is_off_phase p = false
 
--- it was flown: all steps have begun, and nothing stopped it
+-- all steps have begun, and nothing broke the flight off
 abbrev pub is_flown : Flight → State → Bool
 is_flown f s = is_off_phase s.phase && s.next == length f.steps
 
@@ -329,17 +339,18 @@ done f s Begin = frames_of_step (next_step f s)
 done f s Descend = frames_from 0 (landings f s.next)
 done f s Cut = ToAll order.Halt ∷ []
 done f s Quit = ToAll order.Disarm ∷ []
-done f s Finish = Over (is_flown f s) s.kept ∷ []
+done f s Finish = Over (is_flown f s) (is_flown f s && s.kept) ∷ []
 
 -- ---- where that leads
 
-abbrev pub starts_with : Deed → Bool
+-- they start the show
+abbrev pub starts_with : Orders → Bool
 starts_with (ToEach order.Start) = true
 starts_with d = false
 
 abbrev pub starts : Option Step → Bool
 starts None = false
-starts (Some step) = starts_with step.deed
+starts (Some step) = starts_with step.orders
 
 -- a new phase
 abbrev pub into : State → Phase → State
@@ -365,10 +376,11 @@ led f s Finish = into s Ended
 unfoldable pub happens : Flight → State → Event → State
 happens f s e = led f (heard f s e) (choice f s e)
 
--- what goes out at the event: what people are told, and then what is done
+-- what is said at the event: its faults, and then what is done
 unfoldable pub says : Flight → State → Event → List Frame
 says f s e = map Noted (notes f s e) ++ done f (heard f s e) (choice f s e)
 
+-- the state after all of these events, and all that was said
 abbrev pub after : Flight → State → List Event → State
 after f s [] = s
 after f s (e ∷ es) = after f (happens f s e) es

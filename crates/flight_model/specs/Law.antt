@@ -1,21 +1,21 @@
--- What holds of every flight and every list of events.
-use Rattle.std.specs.Prelude.{◌≡◌, ◌≢◌, ◌⊎◌, ℕ, ◌<◌, ◌≤◌, Bool, true, false, not, ◌&&◌, ◌==◌, if◌then◌else◌, List, [], ◌∷◌, ◌++◌, length, map, take, slice_get, Option, Some, None, ℤ, pos, ◌-ℤ◌, ◌≤ℤ◌, All, Contains, ◌+◌, suc}
+-- The laws of the flight director: each holds of every flight and every list of events. Kept.antt has one more.
+use Rattle.std.specs.Prelude.{◌≡◌, ◌≢◌, ◌⊎◌, ℕ, ◌<◌, ◌≤◌, Bool, true, false, ◌==◌, if◌then◌else◌, List, [], ◌∷◌, ◌++◌, length, map, take, slice_get, Option, Some, None, ℤ, pos, ◌-ℤ◌, ◌≤ℤ◌, All, Contains, ◌+◌, suc}
 use Rattle.std.specs.List.{flat_map, list_any}
 use Rattle.flight_model.specs.declared.events.Order.{Order}
 use Rattle.flight_model.specs.declared.events.Order.TheVariants as order
 use Rattle.flight_model.specs.declared.events.Sample.{Sample}
-use Rattle.flight_model.specs.declared.events.Word.TheVariants as word
+use Rattle.flight_model.specs.declared.events.Signal.TheVariants as signal
 use Rattle.flight_model.specs.declared.events.Event.{Event}
 use Rattle.flight_model.specs.declared.events.Event.TheVariants.{Seen, Answered, Said}
 use Rattle.flight_model.specs.declared.events.Note.{Note}
 use Rattle.flight_model.specs.declared.events.Frame.{Frame}
 use Rattle.flight_model.specs.declared.events.Frame.TheVariants.{To, ToAll, Noted, Over}
-use Rattle.flight_model.specs.declared.flights.Want.{Want}
+use Rattle.flight_model.specs.declared.flights.Condition.{Condition}
 use Rattle.flight_model.specs.declared.flights.Step.{Step}
 use Rattle.flight_model.specs.declared.flights.Flight.{Flight}
-use Rattle.flight_model.specs.Directors.{Phase, is_off, next_step, is_silent, all_fit, Steps, Landing, Off, Halted, Ended, Track, State, start, drones, order_in, land_order, landings, frames_from, has_risen, heard, harms, notes, is_fault, happens, says, after, sent}
+use Rattle.flight_model.specs.Directors.{Phase, is_off, next_step, is_silent, all_fit, Steps, Landing, Off, Halted, Ended, Track, State, start, drones, order_in, land_order, landings, frames_from, has_risen, heard, notes, is_fault, happens, says, after, sent}
 
--- ---- what a drone is told
+-- ---- only: what a drone is told
 
 -- what a frame tells drone d
 abbrev pub told_by : ℕ → Frame → List Order
@@ -33,9 +33,9 @@ in_step None = []
 in_step (Some None) = []
 in_step (Some (Some o)) = o ∷ []
 
--- what these steps order of drone d, in order
+-- the orders of these steps to drone d, in order
 abbrev pub ordered : ℕ → List Step → List Order
-ordered d steps = flat_map (λ (step : Step). in_step (order_in step.deed d)) steps
+ordered d steps = flat_map (λ (step : Step). in_step (order_in step.orders d)) steps
 
 abbrev pub only_if : Bool → Order → List Order
 only_if b o = if b then o ∷ [] else []
@@ -54,35 +54,35 @@ pub record OnlyOrders (f : Flight) (d : ℕ) (orders : List Order) : Type 0 wher
 abbrev pub OnlyLaw : Type 0
 OnlyLaw = (f : Flight) (events : List Event) (d : ℕ) → OnlyOrders f d (orders_to d (sent f (start f) events))
 
--- ---- when a step begins
+-- ---- due: when a step begins
 
 -- a and b differ by at most this
 abbrev pub DifferBy : ℕ → ℤ → ℤ → Type 0
 DifferBy most a b = ((a -ℤ b) ≤ℤ pos most) × ((b -ℤ a) ≤ℤ pos most)
 
--- The drone's last sample is fresh, and as is wanted.
-pub record IsFit (silence : ℕ) (w : Want) (x : Sample) : Type 0 where
+-- The sample is fresh and meets the condition: within the bound on each axis, not lost, ready and armed where asked.
+pub record IsFit (silence : ℕ) (w : Condition) (x : Sample) : Type 0 where
   pub fresh : x.age ≤ silence
-  pub x_near : DifferBy w.bound x.x w.place.x
-  pub y_near : DifferBy w.bound x.y w.place.y
-  pub z_near : DifferBy w.bound x.z w.place.z
+  pub x_near : DifferBy w.bound x.x w.position.x
+  pub y_near : DifferBy w.bound x.y w.position.y
+  pub z_near : DifferBy w.bound x.z w.position.z
   pub not_lost : x.lost ≡ false
   pub ready : w.ready ≡ true → x.ready ≡ true
   pub armed : w.armed ≡ true → x.armed ≡ true
 
--- With the event e the state s begins its next step, and may: it is on its way; the operator says go, where the step
--- waits for that; the step before is over; and each drone was heard, and is fit.
+-- With the event e the next step of the state s may begin: the flight is on its way; the operator says go, where the
+-- step waits for that; the step before is over; the drones have settled; and each was heard, and meets its condition.
 pub record MayBegin (f : Flight) (s : State) (e : Event) : Type 0 where
   pub flying : s.phase ≡ Steps
   pub step : Step
   pub is_next : slice_get f.steps s.next ≡ Some step
-  pub asked : step.asked ≡ true → e ≡ Said word.Go
+  pub asked : step.asked ≡ true → e ≡ Said signal.Go
   pub time : step.after ≤ (heard f s e).waited
   pub settled : step.settle ≤ (heard f s e).steady
-  pub fit : (d : ℕ) (w : Want) → slice_get step.wants d ≡ Some w →
+  pub fit : (d : ℕ) (w : Condition) → slice_get step.conditions d ≡ Some w →
       (t : Track) × (x : Sample) × (slice_get (heard f s e).tracks d ≡ Some t) × (t.seen ≡ Some x) × IsFit f.silence w x
 
--- what only steps order
+-- the orders that only steps give
 pub data IsOnward : Order → Type 0 where
   Arms : IsOnward order.Arm
   Rises : (z : ℤ) (ms : ℕ) → IsOnward (order.Rise z ms)
@@ -95,7 +95,7 @@ pub record DueLaw : Type 0 where
   pub orders : (f : Flight) (s : State) (e : Event) (d : ℕ) (o : Order) → IsOnward o → Contains (orders_to d (says f s e)) o → MayBegin f s e
   pub steps : (f : Flight) (s : State) (e : Event) → ((happens f s e).next ≡ s.next) ⊎ MayBegin f s e
 
--- ---- land and halt
+-- ---- land, fault and halt: at once
 
 -- The operator's land, and a fault that lands, at once: in every state on the way, what goes out at the event ends with
 -- the landing of each drone that has risen, and the director has left the way.
@@ -107,41 +107,33 @@ abbrev pub IsLast : Order → Type 0
 IsLast o = (o ≡ order.Disarm) ⊎ (o ≡ order.Halt)
 
 pub record LandLaw : Type 0 where
-  pub now : (f : Flight) (s : State) → s.phase ≡ Steps → Lands f s (Said word.Land)
+  pub now : (f : Flight) (s : State) → s.phase ≡ Steps → Lands f s (Said signal.Land)
   -- off the way a drone is told nothing but disarm and halt, whatever comes
   pub afterwards : (f : Flight) (s : State) → s.phase ≢ Steps → (events : List Event) (d : ℕ) → All IsLast (orders_to d (sent f s events))
   -- the landing reaches each drone that has risen
   pub each : (f : Flight) (n d : ℕ) → has_risen f n d ≡ true → d < drones f → orders_to d (frames_from 0 (landings f n)) ≡ land_order f ∷ []
 
 abbrev pub FaultLaw : Type 0
-FaultLaw = (f : Flight) (s : State) (e : Event) → s.phase ≡ Steps → e ≢ Said word.Stop → is_fault f s e ≡ true → Lands f s e
+FaultLaw = (f : Flight) (s : State) (e : Event) → s.phase ≡ Steps → e ≢ Said signal.Stop → is_fault f s e ≡ true → Lands f s e
 
 -- The operator's stop goes out at once, in every phase before a halt or the end; and after it nothing does.
 pub record HaltLaw : Type 0 where
   pub now : (f : Flight) (s : State) → (s.phase ≡ Steps) ⊎ ((s.phase ≡ Landing) ⊎ (s.phase ≡ Off)) →
-      (d : ℕ) → orders_to d (says f s (Said word.Stop)) ≡ order.Halt ∷ []
-  pub afterwards : (f : Flight) (s : State) (events : List Event) (d : ℕ) → orders_to d (sent f (happens f s (Said word.Stop)) events) ≡ []
+      (d : ℕ) → orders_to d (says f s (Said signal.Stop)) ≡ order.Halt ∷ []
+  pub afterwards : (f : Flight) (s : State) (events : List Event) (d : ℕ) → orders_to d (sent f (happens f s (Said signal.Stop)) events) ≡ []
 
--- ---- the end
+-- ---- over: the end
 
--- A flight that is said to be flown was flown: all steps have begun, and each drone was told all of them, and nothing else.
+-- A flight that is said to be flown was flown: all steps have begun, and each drone was told all of them, and nothing
+-- else.
 abbrev pub OverLaw : Type 0
 OverLaw =
     (f : Flight) → 1 ≤ length f.steps → (events : List Event) (kept : Bool) → Contains (sent f (start f) events) (Over true kept) →
     (d : ℕ) → orders_to d (sent f (start f) events) ≡ ordered d f.steps
 
--- no event of these harms the show
-abbrev pub none_harms : Flight → State → List Event → Bool
-none_harms f s [] = true
-none_harms f s (e ∷ es) = not (harms f s e) && none_harms f (happens f s e) es
+-- ---- quiet: no false alarm
 
--- Kept says that no event has harmed the show: no sample of it was off its drone's curve, and no drone was silent.
-abbrev pub KeptLaw : Type 0
-KeptLaw = (f : Flight) (events : List Event) → (after f (start f) events).kept ≡ none_harms f (start f) events
-
--- ---- no false alarm
-
--- The drones that a frame notes.
+-- the notes of frames
 abbrev pub noted_by : Frame → List Note
 noted_by (To d o) = []
 noted_by (ToAll o) = []
@@ -151,17 +143,17 @@ noted_by (Over flown kept) = []
 abbrev pub notes_in : List Frame → List Note
 notes_in frames = flat_map noted_by frames
 
--- Nothing is wrong with the event e in the state s: an answer is good; the operator says neither land nor stop; a sample
--- is of a drone that isn't lost, and in the show at its curve; no drone is silent; and from `slack` after the end of the
--- step before on, each drone is as the next one wants it, where that waits for no word.
+-- Nothing is wrong at the event e in the state s: an answer is good; the operator says neither land nor stop; a sample
+-- is of a drone that isn't lost, and in the show at its curve; no drone is silent; and from `slack` after the end of
+-- the step before on, each drone meets its condition for the next one, where that waits for no go.
 pub record IsQuiet (f : Flight) (slack : ℕ) (s : State) (e : Event) : Type 0 where
   pub answer : (d status : ℕ) → e ≡ Answered d status → status ≡ 0
-  pub no_land : e ≢ Said word.Land
-  pub no_stop : e ≢ Said word.Stop
+  pub no_land : e ≢ Said signal.Land
+  pub no_stop : e ≢ Said signal.Stop
   pub sample : (d : ℕ) (x : Sample) → e ≡ Seen d x → (x.lost ≡ false) × (is_off f s d x ≡ false)
   pub fresh : list_any (λ (t : Track). is_silent f.silence t.seen) (heard f s e).tracks ≡ false
   pub in_time : (step : Step) → next_step f s ≡ Some step → step.asked ≡ false → step.after + slack ≤ (heard f s e).waited →
-      all_fit f.silence step.wants (heard f s e).tracks ≡ true
+      all_fit f.silence step.conditions (heard f s e).tracks ≡ true
 
 abbrev pub AllQuiet : Flight → ℕ → State → List Event → Type 0
 AllQuiet f slack s [] = Unit {0}
@@ -175,8 +167,8 @@ is_on_course Off = true
 is_on_course Halted = false
 is_on_course Ended = true
 
--- Where nothing is wrong, with a slack of 8 seconds at most, nobody is told of a fault, the flight isn't broken off, the
--- show is kept, and no step is held up: one that waits for no word begins once its time is over and the drones have
+-- Where nothing is wrong, with a slack of 8 seconds at most, nobody is told of a fault, the flight isn't broken off,
+-- the show is kept, and no step is held up: one that waits for no go begins once its time is over and the drones have
 -- settled.
 pub record QuietLaw : Type 0 where
   pub noted : (f : Flight) (slack : ℕ) (events : List Event) → slack ≤ 8000 → AllQuiet f slack (start f) events → notes_in (sent f (start f) events) ≡ []

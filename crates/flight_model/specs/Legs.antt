@@ -1,6 +1,6 @@
--- From three ways to the steps of a flight: the way up, the show and the way down, each a trajectory for
--- each drone with one segment a cue.
-use Rattle.std.specs.Prelude.{◌≡◌, ◌⊎◌, ℕ, suc, ◌-◌, ◌<◌, ◌==◌, Bool, true, false, not, ◌&&◌, if◌then◌else◌, List, [], ◌∷◌, ◌++◌, length, map, take, drop, slice_index_or, slice_get, Option, Some, None, ℤ, int_le, All}
+-- From three shows to the steps of a flight: the way up, the show and the way down, each a trajectory for each drone
+-- with one segment a cue.
+use Rattle.std.specs.Prelude.{◌≡◌, ◌⊎◌, ℕ, suc, ◌-◌, ◌<◌, ◌≤◌, ◌==◌, Bool, true, false, not, ◌&&◌, if◌then◌else◌, List, [], ◌∷◌, ◌++◌, length, map, take, drop, slice_index_or, slice_get, Option, Some, None, ℤ, int_le, All}
 use Rattle.std.specs.List.{flat_map, list_any, range_with_len, sum}
 use Rattle.fleet_math.specs.Bernstein.{at}
 use Rattle.traj_codec.specs.declared.traj.Segment.{Segment}
@@ -8,26 +8,24 @@ use Rattle.traj_codec.specs.declared.traj.Traj.{Traj}
 use Rattle.traj_codec.specs.Positions.{durations, points, element_on, value_after}
 use Rattle.flight_model.specs.declared.events.Order.{Order}
 use Rattle.flight_model.specs.declared.events.Order.TheVariants as order
-use Rattle.flight_model.specs.declared.flights.Place.{Place}
-use Rattle.flight_model.specs.declared.flights.Want.{Want}
-use Rattle.flight_model.specs.declared.flights.Deed.TheVariants.{Each, All as ToEach}
+use Rattle.flight_model.specs.declared.flights.Position.{Position}
+use Rattle.flight_model.specs.declared.flights.Condition.{Condition}
+use Rattle.flight_model.specs.declared.flights.Orders.TheVariants.{Each, All as ToEach}
 use Rattle.flight_model.specs.declared.flights.Step.{Step}
+pub use Rattle.flight_model.specs.declared.flights.Leg.{Leg}
 
--- The ways of a flight, and how near to its pad and to its place a drone has to be.
-pub record Ways : Type 0 where
+-- The routes of a flight: a trajectory for each drone up, in the show and down; and how near a drone has to be to its
+-- pad and to its position in the air, in millimetres.
+pub record Routes : Type 0 where
   pub up : List Traj
   pub show : List Traj
   pub down : List Traj
+  -- how far drones may stray from their way up (its show's `stray`)
+  pub stray : ℕ
   pub near : ℕ
   pub at_place : ℕ
 
 -- ---- legs
-
--- A leg of one drone: where it begins and ends, on x, y, z and yaw, and how long it lasts.
-pub record Leg : Type 0 where
-  pub from : List ℤ
-  pub to : List ℤ
-  pub ms : ℕ
 
 -- where a segment ends that begins here
 abbrev pub after_segment : List ℤ → Segment → List ℤ
@@ -35,12 +33,12 @@ after_segment here s =
     value_after (at here 0) (element_on s 0) ∷ value_after (at here 1) (element_on s 1)
     ∷ value_after (at here 2) (element_on s 2) ∷ value_after (at here 3) (element_on s 3) ∷ []
 
--- the legs of segments from a place on, one a segment
+-- the legs of segments from here on, one a segment
 abbrev pub legs_from : List ℤ → List Segment → List Leg
 legs_from here [] = []
 legs_from here (s ∷ rest) = record { from = here; to = after_segment here s; ms = s.ms } ∷ legs_from (after_segment here s) rest
 
--- the legs of a way
+-- the legs of a way: in each cue from where the drone is to where its segment ends
 abbrev pub legs_of : Traj → List Leg
 legs_of t = legs_from t.start t.segments
 
@@ -51,8 +49,8 @@ no_leg = record { from = []; to = []; ms = 0 }
 abbrev pub leg : List Leg → ℕ → Leg
 leg legs k = slice_index_or legs k no_leg
 
--- On this axis the segment goes from rest to rest: it stays, or its eight control values are four times one value and
--- four times another.
+-- On this axis the segment goes from rest to rest: it stays, or its eight control points are four times one value and
+-- four times another, as those of `move` are (docs/TRAJECTORY.md).
 abbrev pub RestsOn : List ℤ → Type 0
 RestsOn b = (length b ≡ 1) ⊎ ((u v : ℤ) × (b ≡ u ∷ u ∷ u ∷ u ∷ v ∷ v ∷ v ∷ v ∷ []))
 
@@ -107,32 +105,49 @@ down_order legs k =
 abbrev pub arm_order : List Leg → ℕ → Option Order
 arm_order legs k = if not (has_moved legs k) && moves (leg legs k) then Some order.Arm else None
 
--- A way up: the first move is straight up; a way down: the last move is straight down. Each drone moves.
+-- the first leg in which a drone moves, and the last one
+abbrev pub first_move : List Leg → Option Leg
+first_move [] = None
+first_move (l ∷ legs) = if moves l then Some l else first_move legs
+
+abbrev pub last_move : List Leg → Option Leg
+last_move [] = None
+last_move (l ∷ legs) = if list_any moves legs then last_move legs else (if moves l then Some l else None)
+
+-- the leg goes straight up or down, and the drone doesn't turn
+abbrev pub is_vertical : Leg → Bool
+is_vertical l = same_on l 0 && same_on l 1 && same_on l 3
+
+-- A way up: the drone moves, and at first straight up, since a rise has a height alone.
 pub record IsWayUp (t : Traj) : Type 0 where
   pub rests : IsWay t
-  pub moves_once : has_moved (legs_of t) (length t.segments) ≡ true
-  pub straight : (k : ℕ) → k < length t.segments → has_moved (legs_of t) k ≡ false → moves (leg (legs_of t) k) ≡ true →
-      (same_on (leg (legs_of t) k) 0 ≡ true) × (same_on (leg (legs_of t) k) 1 ≡ true) × (same_on (leg (legs_of t) k) 3 ≡ true)
+  pub first : Leg
+  pub is_first : first_move (legs_of t) ≡ Some first
+  pub vertical : is_vertical first ≡ true
 
+-- A way down: the drone moves, and at last straight down, since a landing has a height alone.
 pub record IsWayDown (t : Traj) : Type 0 where
   pub rests : IsWay t
-  pub moves_once : will_move (legs_of t) 0 ≡ true
-  pub straight : (k : ℕ) → k < length t.segments → will_move (legs_of t) (suc k) ≡ false → moves (leg (legs_of t) k) ≡ true →
-      (same_on (leg (legs_of t) k) 0 ≡ true) × (same_on (leg (legs_of t) k) 1 ≡ true) × (same_on (leg (legs_of t) k) 3 ≡ true)
+  pub last : Leg
+  pub is_last : last_move (legs_of t) ≡ Some last
+  pub vertical : is_vertical last ≡ true
 
--- The three ways are those of one flight: as many drones, each a way, and joined at their ends.
-pub record IsFlight (w : Ways) : Type 0 where
+-- Three ways are a flight: they have as many drones; each drone goes up by a way up and down by a way down; and its
+-- way up ends where its show begins, its show where its way down begins, and that where its way up began.
+pub record IsFlight (w : Routes) : Type 0 where
   pub ups : length w.up ≡ length w.show
   pub downs : length w.down ≡ length w.show
   pub rise : All IsWayUp w.up
   pub return : All IsWayDown w.down
+  -- a rise begins where the drone stands, which is up to `near` from its pad
+  pub strays : w.near ≤ w.stray
   pub joined : (d : ℕ) (u s n : Traj) → slice_get w.up d ≡ Some u → slice_get w.show d ≡ Some s → slice_get w.down d ≡ Some n →
       (way_ends u ≡ way_begins s) × (way_ends s ≡ way_begins n) × (way_ends n ≡ way_begins u)
 
 -- ---- the steps
 
-abbrev pub place_of : List ℤ → Place
-place_of v = record { x = at v 0; y = at v 1; z = at v 2 }
+abbrev pub position_of : List ℤ → Position
+position_of v = record { x = at v 0; y = at v 1; z = at v 2 }
 
 -- how many legs a way has, and how long leg k lasts: the same for all drones
 abbrev pub leg_count : List (List Leg) → ℕ
@@ -147,76 +162,82 @@ leg_ms (legs ∷ rest) k = (leg legs k).ms
 abbrev pub ms_before : ℕ → List (List Leg) → ℕ → ℕ
 ms_before first all k = if k == 0 then first else leg_ms all (k - 1)
 
--- How near to its place a drone has to be where leg k begins: on its pad, and where it has just risen, as near as to its
--- pad.
-abbrev pub up_bound : Ways → List Leg → ℕ → ℕ
+-- How near to the leg's beginning a drone has to be: before its first move, and where it has just risen, as near as to
+-- its pad.
+abbrev pub up_bound : Routes → List Leg → ℕ → ℕ
 up_bound w legs k = if has_moved legs (k - 1) then w.at_place else w.near
 
-abbrev pub down_bound : Ways → List Leg → ℕ → ℕ
+abbrev pub down_bound : Routes → List Leg → ℕ → ℕ
 down_bound w legs k = if will_move legs k then w.at_place else w.near
 
--- before leg k of the way up, before and after those who rise in it are armed
-abbrev pub want_to_arm : Ways → ℕ → List Leg → Want
-want_to_arm w k legs =
-    record { place = place_of (leg legs k).from; bound = up_bound w legs k; ready = not (has_moved legs k); armed = has_moved legs k }
+-- before those that rise in leg k are armed: who has risen is armed, all others are ready
+abbrev pub arm_condition : Routes → ℕ → List Leg → Condition
+arm_condition w k legs =
+    record { position = position_of (leg legs k).from; bound = up_bound w legs k; ready = not (has_moved legs k); armed = has_moved legs k }
 
-abbrev pub want_up : Ways → ℕ → List Leg → Want
-want_up w k legs =
-    record { place = place_of (leg legs k).from; bound = up_bound w legs k; ready = false; armed = has_moved legs (suc k) }
+-- once they are
+abbrev pub up_condition : Routes → ℕ → List Leg → Condition
+up_condition w k legs =
+    record { position = position_of (leg legs k).from; bound = up_bound w legs k; ready = false; armed = has_moved legs (suc k) }
 
-abbrev pub arm_step : Ways → List (List Leg) → ℕ → Step
+-- the step that arms those that rise in leg k; the first one waits for the operator's go
+abbrev pub arm_step : Routes → List (List Leg) → ℕ → Step
 arm_step w all k = record {
   asked = k == 0;
   after = ms_before 0 all k;
   settle = if k == 0 then 0 else 1000;
-  wants = map (want_to_arm w k) all;
-  deed = Each (map (λ legs. arm_order legs k) all);
+  conditions = map (arm_condition w k) all;
+  orders = Each (map (λ legs. arm_order legs k) all);
 }
 
-abbrev pub up_step : Ways → List (List Leg) → ℕ → Step
+-- leg k of the way up
+abbrev pub up_step : Routes → List (List Leg) → ℕ → Step
 up_step w all k = record {
   asked = false;
   after = 0;
   settle = 0;
-  wants = map (want_up w k) all;
-  deed = Each (map (λ legs. up_order legs k) all);
+  conditions = map (up_condition w k) all;
+  orders = Each (map (λ legs. up_order legs k) all);
 }
 
--- the start: all at their first places
-abbrev pub want_first : Ways → ℕ → Traj → Want
-want_first w bound t = record { place = place_of (way_begins t); bound = bound; ready = false; armed = true }
+-- the start: each drone at the first position of its show
+abbrev pub start_condition : Routes → ℕ → Traj → Condition
+start_condition w bound t = record { position = position_of (way_begins t); bound = bound; ready = false; armed = true }
 
-abbrev pub start_step : Ways → List (List Leg) → Step
+-- the show, at the operator's go
+abbrev pub start_step : Routes → List (List Leg) → Step
 start_step w ups = record {
   asked = true;
   after = ms_before 0 ups (leg_count ups);
   settle = 1000;
-  wants = map (want_first w w.at_place) w.show;
-  deed = ToEach order.Start;
+  conditions = map (start_condition w w.at_place) w.show;
+  orders = ToEach order.Start;
 }
 
-abbrev pub want_down : Ways → ℕ → List Leg → Want
-want_down w k legs = record { place = place_of (leg legs k).from; bound = down_bound w legs k; ready = false; armed = will_move legs k }
+-- leg k of the way down, after the show or the leg before
+abbrev pub down_condition : Routes → ℕ → List Leg → Condition
+down_condition w k legs = record { position = position_of (leg legs k).from; bound = down_bound w legs k; ready = false; armed = will_move legs k }
 
-abbrev pub down_step : Ways → ℕ → List (List Leg) → ℕ → Step
+abbrev pub down_step : Routes → ℕ → List (List Leg) → ℕ → Step
 down_step w show_ms all k = record {
   asked = false;
   after = ms_before show_ms all k;
   settle = 1000;
-  wants = map (want_down w k) all;
-  deed = Each (map (λ legs. down_order legs k) all);
+  conditions = map (down_condition w k) all;
+  orders = Each (map (λ legs. down_order legs k) all);
 }
 
-abbrev pub want_last : Ways → Traj → Want
-want_last w t = record { place = place_of (way_ends t); bound = w.near; ready = false; armed = false }
+-- the end: each drone on its pad
+abbrev pub last_condition : Routes → Traj → Condition
+last_condition w t = record { position = position_of (way_ends t); bound = w.near; ready = false; armed = false }
 
-abbrev pub last_step : Ways → List (List Leg) → Step
+abbrev pub last_step : Routes → List (List Leg) → Step
 last_step w downs = record {
   asked = false;
   after = ms_before 0 downs (leg_count downs);
   settle = 1000;
-  wants = map (want_last w) w.down;
-  deed = ToEach order.Disarm;
+  conditions = map (last_condition w) w.down;
+  orders = ToEach order.Disarm;
 }
 
 -- how long a show lasts
@@ -224,11 +245,11 @@ abbrev pub lasts : List Traj → ℕ
 lasts [] = 0
 lasts (t ∷ rest) = sum (durations t.segments)
 
-abbrev pub steps_between : Ways → List (List Leg) → List (List Leg) → List Step
+abbrev pub steps_between : Routes → List (List Leg) → List (List Leg) → List Step
 steps_between w ups downs =
     flat_map (λ k. arm_step w ups k ∷ up_step w ups k ∷ []) (range_with_len 0 (leg_count ups))
     ++ start_step w ups ∷ (map (down_step w (lasts w.show) downs) (range_with_len 0 (leg_count downs)) ++ last_step w downs ∷ [])
 
 -- All steps of a flight: leg by leg up, each after its drones are armed; the start; leg by leg down; and the end.
-unfoldable pub steps_of : Ways → List Step
+unfoldable pub steps_of : Routes → List Step
 steps_of w = steps_between w (map legs_of w.up) (map legs_of w.down)

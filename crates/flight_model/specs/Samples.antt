@@ -1,4 +1,4 @@
--- What a sample says of its drone.
+-- What a sample says of its drone: that it meets a condition, and that it is on its curve.
 use Rattle.std.specs.Prelude.{ℕ, ◌+◌, ◌-◌, ◌*◌, ◌/◌, Bool, false, not, ◌&&◌, ◌||◌, nat_le, List, slice_get, Option, Some, None, min, ℤ, pos, ◌+ℤ◌, ◌-ℤ◌, ◌*ℤ◌, int_le}
 use Rattle.std.specs.List.{list_any, range_with_len}
 use Rattle.fleet_math.specs.Bernstein.{at}
@@ -6,27 +6,27 @@ use Rattle.traj_codec.specs.declared.traj.Traj.{Traj}
 use Rattle.integer_player.specs.Played.{played}
 use Rattle.flight_model.specs.declared.events.Sample.{Sample}
 use Rattle.flight_model.specs.declared.flights.Flight.{Flight}
-use Rattle.flight_model.specs.declared.flights.Place.{Place}
-use Rattle.flight_model.specs.declared.flights.Want.{Want}
+use Rattle.flight_model.specs.declared.flights.Position.{Position}
+use Rattle.flight_model.specs.declared.flights.Condition.{Condition}
 
--- ---- at a place
+-- ---- at a position
 
--- two numbers differ by at most so much
+-- two numbers differ by at most this
 abbrev pub differ_by : ℕ → ℤ → ℤ → Bool
 differ_by most a b = int_le (a -ℤ b) (pos most) && int_le (b -ℤ a) (pos most)
 
--- on each axis the sample is at most so far from the place
-abbrev pub is_at : ℕ → Place → Sample → Bool
+-- on each axis the sample is at most `bound` from the position
+abbrev pub is_at : ℕ → Position → Sample → Bool
 is_at bound p x = differ_by bound x.x p.x && differ_by bound x.y p.y && differ_by bound x.z p.z
 
--- The drone of this sample is as is wanted: the sample is fresh, at the place, not lost, and ready and armed where that
--- is wanted.
-unfoldable pub is_fit_by : ℕ → Want → Sample → Bool
+-- The sample meets the condition: it is fresh, at the position, not lost, and ready and armed where the condition asks
+-- for that.
+unfoldable pub is_fit_by : ℕ → Condition → Sample → Bool
 is_fit_by silence w x =
-    nat_le x.age silence && is_at w.bound w.place x && not x.lost && (not w.ready || x.ready) && (not w.armed || x.armed)
+    nat_le x.age silence && is_at w.bound w.position x && not x.lost && (not w.ready || x.ready) && (not w.armed || x.armed)
 
--- the drone whose last sample this is; without a sample it isn't
-abbrev pub is_fit : ℕ → Want → Option Sample → Bool
+-- a drone's last sample meets it; without one the drone doesn't
+abbrev pub is_fit : ℕ → Condition → Option Sample → Bool
 is_fit silence w None = false
 is_fit silence w (Some x) = is_fit_by silence w x
 
@@ -35,19 +35,19 @@ is_fit silence w (Some x) = is_fit_by silence w x
 abbrev pub square : ℤ → ℤ
 square z = z *ℤ z
 
--- the sample is within `stray` mm of a place in thousandths of a millimetre
+-- the sample is within `stray` mm of a point in micrometres, in a straight line
 abbrev pub is_within : ℕ → List ℤ → Sample → Bool
 is_within stray p x =
     int_le
     (square (pos 1000 *ℤ x.x -ℤ at p 0) +ℤ square (pos 1000 *ℤ x.y -ℤ at p 1) +ℤ square (pos 1000 *ℤ x.z -ℤ at p 2))
     (square (pos (1000 * stray)))
 
--- the instants of a show that are at most half of `late` from this one
+-- the instants of a show that are at most half of `late` from this one, in whole milliseconds
 abbrev pub instants_near : (late total ms : ℕ) → List ℕ
 instants_near late total ms = range_with_len (ms - late / 2) (min (ms + late / 2) total + 1 - (ms - late / 2))
 
--- At the instant `ms` of the show the sample is within `stray` of the drone's curve at some instant within half of
--- `late`.
+-- The sample, taken at the instant `ms` of the show, is within `stray` of where the drone's curve is at some instant at
+-- most half of `late` from that one: what the show's proof allows for (docs/SEPARATION.md, stray and late).
 abbrev pub is_on_curve : Flight → Option Traj → ℕ → Sample → Bool
 is_on_curve f None ms x = false
 is_on_curve f (Some t) ms x = list_any (λ i. is_within f.stray (played t i) x) (instants_near f.late f.show_ms ms)

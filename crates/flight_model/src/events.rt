@@ -1,15 +1,18 @@
-//! What happens to the director, and what goes out of it. Drones count from 0; lengths are in
-//! millimetres, yaw in tenths of a degree, times in milliseconds.
+//! What happens to the director, and what it says. Drones are numbered from 0; lengths are in millimetres,
+//! yaw in tenths of a degree, times in milliseconds.
 
-/// What a drone is told.
+/// An order to a drone. Rise, go, land and halt are commands of Bitcraze's high-level commander (`take off`, `go to`,
+/// `land`, `stop`), and `Start` starts the trajectory that was uploaded.
 #[derive(Clone, Copy, Debug, PartialEq, Eq)]
 pub enum Order {
+    /// The motors may turn.
     Arm,
     /// Straight up, to this height.
     Rise {
         z: i16,
         ms: u32,
     },
+    /// From rest to rest, straight to this position.
     Go {
         x: i16,
         y: i16,
@@ -26,18 +29,21 @@ pub enum Order {
     Start,
     /// All motors off, at once.
     Halt,
+    /// The motors may turn no more.
     Disarm,
 }
 
-/// What is known of a drone: how old it is, where the drone is, and what the bridge judges.
+/// What a bridge knows of a drone: where it is, and what the bridge judges of it.
 #[derive(Clone, Copy, Debug, Default, PartialEq, Eq)]
 pub struct Sample {
+    /// For how long this has been known.
     pub age: u32,
     pub x: i16,
     pub y: i16,
     pub z: i16,
     /// Battery, estimator and heading allow a take-off.
     pub ready: bool,
+    /// Its motors may turn.
     pub armed: bool,
     /// It tumbled, is locked, or its battery is critical.
     pub lost: bool,
@@ -45,56 +51,64 @@ pub struct Sample {
     pub down: bool,
 }
 
-/// What the operator says.
+/// The operator's signals.
 #[derive(Clone, Copy, Debug, PartialEq, Eq)]
-pub enum Word {
+pub enum Signal {
+    /// A step that waits for this may begin.
     Go,
+    /// All that have risen land where they are.
     Land,
+    /// All motors off.
     Stop,
 }
 
 /// What happens to the director.
 #[derive(Clone, Copy, Debug, PartialEq, Eq)]
 pub enum Event {
-    /// Time has passed.
+    /// So much time has passed since the clock before.
     Clock { ms: u32 },
     /// A sample of a drone came.
     Seen { drone: u8, sample: Sample },
-    /// A drone has answered an order, with this status: 0 is well.
+    /// A drone has answered an order, with this status: 0 where it obeys.
     Answered { drone: u8, status: u8 },
-    /// The operator said a word.
-    Said { word: Word },
+    /// The operator gave a signal.
+    Said { signal: Signal },
 }
 
-/// What people are told of a drone.
+/// What may be wrong with a drone.
 #[derive(Clone, Copy, Debug, Default, PartialEq, Eq)]
 pub enum Fault {
-    /// It has been silent for too long.
+    /// Its last sample is older than the flight's `silence`.
     #[default]
     Silent,
-    /// It has left its curve.
+    /// For 300 ms its samples have been off its curve in the show.
     Astray,
+    /// A sample says that it is lost.
     Lost,
     /// It refused an order.
     Refused,
-    /// It isn't where the next step begins, and the time for that is over.
+    /// It doesn't meet the next step's condition, 8 seconds after that step's time.
     Late,
 }
 
-/// A fault of a drone.
+/// A fault of a drone, as people are told of it.
 #[derive(Clone, Copy, Debug, Default, PartialEq, Eq)]
 pub struct Note {
     pub drone: u8,
     pub fault: Fault,
 }
 
-/// What goes out.
+/// What the director says.
 #[derive(Clone, Copy, Debug, PartialEq, Eq)]
 pub enum Frame {
+    /// An order to one drone.
     To { drone: u8, order: Order },
+    /// An order to all drones.
     ToAll { order: Order },
+    /// People are told of a fault.
     Noted { note: Note },
-    /// The flight is over: whether it was flown to its last step, and whether the show was kept.
+    /// The flight is over: whether it was flown to its last step; and whether each drone was at its curve in each
+    /// sample of the show, with none silent. Nothing is kept that wasn't flown.
     Over { flown: bool, kept: bool },
 }
 

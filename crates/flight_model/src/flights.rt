@@ -1,48 +1,57 @@
-//! What is flown.
+//! A flight: its steps, and its show.
 
 use crate::events::Order;
 use listed::Listed;
 use traj_codec::Traj;
 
-/// A place.
+/// A position in space, in millimetres.
 #[derive(Clone, Copy, Debug, PartialEq, Eq)]
-pub struct Place {
+pub struct Position {
     pub x: i16,
     pub y: i16,
     pub z: i16,
 }
 
-/// How a drone has to be where a step begins.
+/// A leg of one drone: where it begins and ends, on x, y, z and yaw, and how long it lasts.
 #[derive(Clone, Copy, Debug, PartialEq, Eq)]
-pub struct Want {
-    pub place: Place,
-    /// How far from the place it may be, on each axis.
+pub struct Leg {
+    pub from: [i16; 4],
+    pub to: [i16; 4],
+    pub ms: u32,
+}
+
+/// The condition of a drone under which a step may begin.
+#[derive(Clone, Copy, Debug, PartialEq, Eq)]
+pub struct Condition {
+    pub position: Position,
+    /// How far from the position it may be on each axis, in millimetres.
     pub bound: u16,
+    /// Whether it has to be ready, and armed.
     pub ready: bool,
     pub armed: bool,
 }
 
-/// What is ordered in a step: something of each drone, by drone, or one thing of all at once.
+/// The orders of a step: to each drone its own or none, by number; or one to all at once.
 #[derive(Debug, Drop)]
-pub enum Deed {
+pub enum Orders {
     Each { orders: Listed<Option<Order>> },
     All { order: Order },
 }
 
-/// A step of a flight: when it begins, how each drone has to be then, and what is ordered.
+/// A step of a flight: when it begins, the condition of each drone for that, and its orders. Times in milliseconds.
 #[derive(Debug, Drop)]
 pub struct Step {
-    /// It begins at the operator's go alone.
+    /// It begins only with the operator's go.
     pub asked: bool,
     /// How long the step before lasts.
     pub after: u32,
-    /// For how long the drones have to have been as they have to be.
+    /// For how long the drones have to have met their conditions.
     pub settle: u32,
-    pub wants: Listed<Want>,
-    pub deed: Deed,
+    pub conditions: Listed<Condition>,
+    pub orders: Orders,
 }
 
-/// A flight.
+/// A flight. Lengths in millimetres, times in milliseconds.
 #[derive(Debug, Drop)]
 pub struct Flight {
     /// From the pads to the pads.
@@ -53,11 +62,11 @@ pub struct Flight {
     /// How far drones may be from their curves, and how late they may be.
     pub stray: u16,
     pub late: u16,
-    /// A sample older than this is none.
+    /// A drone whose last sample is older is silent.
     pub silence: u32,
     /// The show goes on where a drone is lost or astray.
     pub flies_on: bool,
-    /// Where a fault lands all: at this height, after this time.
+    /// Where all land that have risen: at this height, in this time.
     pub floor: i16,
     pub descent: u32,
 }

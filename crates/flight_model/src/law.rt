@@ -2,7 +2,10 @@
 
 ghost use Rattle.std.specs.Prelude.{◌≡◌};
 ghost use Rattle.flight_model.specs.Plan.{PlanLaw};
-ghost use Rattle.flight_model.specs.Law.{OnlyLaw, DueLaw, LandLaw, FaultLaw, HaltLaw, OverLaw, KeptLaw, QuietLaw};
+ghost use Rattle.flight_model.specs.Law.{OnlyLaw, DueLaw, LandLaw, FaultLaw, HaltLaw, OverLaw, QuietLaw};
+ghost use Rattle.flight_model.specs.Kept.{KeptLaw};
+ghost use Rattle.flight_model.specs.Example.{ExampleLaw};
+ghost use Rattle.flight_model.specs.Rejected.{RejectedLaw};
 
 /// The steps of three ways order of each drone: leg by leg up, the start, leg by leg down, and disarm.
 pub fn plan_law()
@@ -19,4 +22,14 @@ pub fn director_law()
     ensures over { OverLaw }
     ensures kept { KeptLaw }
     ensures quiet { QuietLaw }
+{}
+
+/// A small flight for which the premises of these laws hold, and what the laws then say of it.
+pub fn example_law()
+    ensures { ExampleLaw }
+{}
+
+/// Small flights and shows that `IsFlight` and `IsKeptShow` reject, each beside a neighbour that they accept.
+pub fn rejected_law()
+    ensures { RejectedLaw }
 {}

@@ -1,7 +1,9 @@
-//! A flight as mathematics: the steps from the pads to the pads, the director as a function of all that
-//! happened to it, and the laws that every list of events keeps.
+//! A flight as mathematics: its steps from the pads to the pads, the flight director as a function of all that happened
+//! to it, and the laws that hold of every list of events (docs/PROMISES.md, "The flight director").
 //!
-//! Code is in `flight_director`, whose contracts cite these definitions.
+//! `steps_of` of specs/Legs.antt makes the steps of three ways, `happens` and `says` of specs/Directors.antt are the
+//! director, specs/Law.antt and specs/Kept.antt have the laws. The code is `flight_director`, whose contracts cite
+//! them.
 #![tactic(auto)]
 
 mod events;
@@ -9,7 +11,7 @@ mod flights;
 mod law;
 mod states;
 
-pub use events::{Event, Fault, Frame, Note, Order, Sample, Word};
-pub use flights::{Deed, Flight, Place, Step, Want};
-pub use law::{director_law, plan_law};
+pub use events::{Event, Fault, Frame, Note, Order, Sample, Signal};
+pub use flights::{Condition, Flight, Leg, Orders, Position, Step};
+pub use law::{director_law, example_law, plan_law, rejected_law};
 pub use states::{Choice, Phase, Track};

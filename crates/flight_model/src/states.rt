@@ -1,8 +1,8 @@
-//! What the director keeps, and what it chooses.
+//! The phases of a flight, what is known of a drone, and what the director may choose.
 
 use crate::events::Sample;
 
-/// Where a flight is.
+/// The phase of a flight.
 #[derive(Clone, Copy, Debug, PartialEq, Eq)]
 pub enum Phase {
     /// On the way, from the pads to the pads.
@@ -17,14 +17,14 @@ pub enum Phase {
     Ended,
 }
 
-/// A drone's last sample, as old as it is now, and for how long its samples have been off its curve.
+/// A drone's last sample, with its age by now; and for how long its samples have been off its curve, if they are.
 #[derive(Clone, Copy, Debug, Default, PartialEq, Eq)]
 pub struct Track {
     pub seen: Option<Sample>,
     pub off: Option<u32>,
 }
 
-/// What is done at an event.
+/// What the director does at an event.
 #[derive(Clone, Copy, Debug, PartialEq, Eq)]
 pub enum Choice {
     /// Nothing.

@@ -4,11 +4,11 @@ use Rattle.std.proofs.lemmas.Option.{slice_get_past, slice_get-get_or}
 use Rattle.std.specs.Prelude.{slice_get}
 use Rattle.flight_model.specs.declared.flights.Step.{Step}
 use Rattle.flight_model.specs.Directors.{frames_of_step}
-use Rattle.flight_director.specs.Held.{IsSmallDeed}
+use Rattle.flight_director.specs.Held.{AreFew}
 use Rattle.flight_director.proofs.state.put_step_at.Goals as goal
 
-pub put_deed-requires-clause-small : goal.put_deed-requires-clause-small
-put_deed-requires-clause-small c = c.requires.small c.args.k c.index-steps-k.result (omega arith)
+pub put_all-requires-clause-small : goal.put_all-requires-clause-small
+put_all-requires-clause-small c = c.requires.small c.args.k c.index-steps-k.result (omega arith)
 
 pub returns-then-k-steps : goal.returns-then-k-steps
 returns-then-k-steps c =
@@ -18,4 +18,4 @@ returns-then-k-steps c =
 pub returns : goal.returns
 returns c =
     let e = slice_get-get_or c.args.steps.now c.args.k c.index-steps-k.result (omega arith) in
-    c.put_deed.ensures ∙ sym (ap (λ (o : Option Step). c.args.out.now.items ++ frames_of_step o) e)
+    c.put_all.ensures ∙ sym (ap (λ (o : Option Step). c.args.out.now.items ++ frames_of_step o) e)

@@ -2,6 +2,7 @@ use Rattle.flight_model.proofs.Telling as telling
 use Rattle.flight_model.proofs.Beginning as beginning
 use Rattle.flight_model.proofs.Ending as ending
 use Rattle.flight_model.proofs.Flown as flown
+use Rattle.flight_model.proofs.Kept as kept
 use Rattle.flight_model.proofs.Quiet as quiet
 use Rattle.flight_model.proofs.law.director_law.Goals as goal
 
@@ -21,7 +22,7 @@ pub returns-clause-halt : goal.returns-clause-halt
 returns-clause-halt c = ending.halt_law
 
 pub returns-clause-kept : goal.returns-clause-kept
-returns-clause-kept c = ending.kept_law
+returns-clause-kept c = kept.kept_law
 
 pub returns-clause-over : goal.returns-clause-over
 returns-clause-over c = flown.over_law
