@@ -5,6 +5,7 @@ use Rattle.choreo_lines.specs.declared.line.LineKind.TheVariants as kind
 use Rattle.choreo_lines.specs.declared.line.Place.TheVariants.{Top, InRepeat, InCue, InFigureCue}
 use Rattle.choreo_lines.specs.declared.line.Entry.TheVariants as entry
 use Rattle.choreo_lines.specs.declared.parts.Act.TheVariants as act
+use Rattle.choreo_lines.specs.declared.parts.Ease.TheVariants as ease
 use Rattle.choreo_lines.specs.declared.parts.Mirror.TheVariants as mirror
 
 -- `memory 3 100`, at top and in a cue
@@ -70,6 +71,31 @@ arc_line : entry_of InFigureCue (codes "a" ∷ codes "arc" ∷ codes "cw" ∷ co
 unfolding act_line act_in values_in
 arc_line = refl
 
+-- `a swing ccw 1 -2 3`, `a arc_in cw 1 2 -900`, `a arc_out ccw 0 0 0`: each is its own act; `arc_in` is a name, too
+swing_line : entry_of InCue (codes "a" ∷ codes "swing" ∷ codes "ccw" ∷ codes "1" ∷ codes "-2" ∷ codes "3" ∷ [])
+    ≡ Ok (entry.One (record { items = codes "a" }) (act.Eased ease.InOut true (pos 1) (neg_ℤ (pos 2)) (pos 3)))
+unfolding act_line act_in values_in
+swing_line = refl
+
+arc_in_line : entry_of InFigureCue (codes "arc_in" ∷ codes "arc_in" ∷ codes "cw" ∷ codes "1" ∷ codes "2" ∷ codes "-900" ∷ [])
+    ≡ Ok (entry.One (record { items = codes "arc_in" }) (act.Eased ease.In false (pos 1) (pos 2) (neg_ℤ (pos 900))))
+unfolding act_line act_in values_in
+arc_in_line = refl
+
+arc_out_line : entry_of InCue (codes "a" ∷ codes "arc_out" ∷ codes "ccw" ∷ codes "0" ∷ codes "0" ∷ codes "0" ∷ [])
+    ≡ Ok (entry.One (record { items = codes "a" }) (act.Eased ease.Out true (pos 0) (pos 0) (pos 0)))
+unfolding act_line act_in values_in
+arc_out_line = refl
+
+-- `a swing ccw 0 0` lacks a word; `a arc_in up x 0 0` has a wrong sense before a wrong number
+short_swing : kind_in InCue (codes "a" ∷ codes "swing" ∷ codes "ccw" ∷ codes "0" ∷ codes "0" ∷ []) ≡ Some kind.BadCount
+unfolding act_line act_in
+short_swing = refl
+
+no_sense : kind_in InCue (codes "a" ∷ codes "arc_in" ∷ codes "up" ∷ codes "x" ∷ codes "0" ∷ codes "0" ∷ []) ≡ Some kind.BadWord
+unfolding act_line act_in values_in
+no_sense = refl
+
 curve_line : entry_of InCue (codes "a" ∷ codes "curve" ∷ codes "1" ∷ codes "2" ∷ codes "3" ∷ codes "4" ∷ codes "5" ∷ codes "6" ∷ codes "7" ∷ codes "8" ∷ codes "9" ∷ codes "10" ∷ [])
     ≡ Ok (entry.One (record { items = codes "a" }) (act.Curve (pos 1 ∷ pos 2 ∷ pos 3 ∷ []) (pos 4 ∷ pos 5 ∷ pos 6 ∷ []) (record { x = pos 7; y = pos 8; z = pos 9; yaw = pos 10 })))
 unfolding act_line act_in values_in
@@ -114,6 +140,13 @@ arc_said = ((refl, refl), (refl, (refl, (number refl (record { le = tt }) (recor
 
 no_other_way : Says (codes "a" ∷ codes "arc" ∷ codes "cw" ∷ codes "1" ∷ codes "2" ∷ codes "-900" ∷ []) (entry.One (record { items = codes "a" }) (act.Arc true (pos 1) (pos 2) (neg_ℤ (pos 900)))) → ⊥
 no_other_way h = let e = h.1.1.0 in cc
+
+-- `a arc_out cw 1 2 -900` comes to rest, and the same line doesn't say that it comes from rest
+arc_out_said : Says (codes "a" ∷ codes "arc_out" ∷ codes "cw" ∷ codes "1" ∷ codes "2" ∷ codes "-900" ∷ []) (entry.One (record { items = codes "a" }) (act.Eased ease.Out false (pos 1) (pos 2) (neg_ℤ (pos 900))))
+arc_out_said = ((refl, refl), (refl, (refl, (number refl (record { le = tt }) (record { le = tt }), (number refl (record { le = tt }) (record { le = tt }), (number refl (record { le = tt }) (record { le = tt }), tt))))))
+
+no_way_in : Says (codes "a" ∷ codes "arc_out" ∷ codes "cw" ∷ codes "1" ∷ codes "2" ∷ codes "-900" ∷ []) (entry.One (record { items = codes "a" }) (act.Eased ease.In false (pos 1) (pos 2) (neg_ℤ (pos 900)))) → ⊥
+no_way_in h = let e = h.1.0 in cc
 
 -- `end` says its one word; `end end` says nothing
 end_said : Says (codes "end" ∷ []) entry.End

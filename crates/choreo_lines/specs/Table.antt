@@ -5,6 +5,7 @@ use Rattle.choreo_lines.specs.declared.table.Want.{Want}
 use Rattle.choreo_lines.specs.declared.table.Want.TheVariants as want
 use Rattle.choreo_lines.specs.declared.table.ActWord.{ActWord}
 use Rattle.choreo_lines.specs.declared.table.ActWord.TheVariants as act
+use Rattle.choreo_lines.specs.declared.parts.Ease.TheVariants as ease
 use Rattle.choreo_lines.specs.declared.line.Keyword.{Keyword}
 use Rattle.choreo_lines.specs.declared.line.Keyword.TheVariants as first
 use Rattle.choreo_lines.specs.declared.line.Place.{Place}
@@ -76,7 +77,10 @@ act_of w =
     if bytes_eq w (codes "move") then Some act.Move else
     if bytes_eq w (codes "turn") then Some act.Turn else
     if bytes_eq w (codes "arc") then Some act.Arc else
-    if bytes_eq w (codes "curve") then Some act.Curve else None
+    if bytes_eq w (codes "curve") then Some act.Curve else
+    if bytes_eq w (codes "swing") then Some (act.Eased ease.InOut) else
+    if bytes_eq w (codes "arc_in") then Some (act.Eased ease.In) else
+    if bytes_eq w (codes "arc_out") then Some (act.Eased ease.Out) else None
 
 -- what the places after the word of an act want
 abbrev pub act_places : ActWord → List Want
@@ -85,6 +89,7 @@ act_places act.Line = point
 act_places act.Move = point
 act_places act.Turn = yaw ∷ []
 act_places act.Arc = want.Sense ∷ coordinate ∷ coordinate ∷ yaw ∷ []
+act_places (act.Eased how) = want.Sense ∷ coordinate ∷ coordinate ∷ yaw ∷ []
 act_places act.Curve = coordinate ∷ coordinate ∷ coordinate ∷ coordinate ∷ coordinate ∷ coordinate ∷ point
 
 -- whether a line with this first word may stand here; `Other` is an act line

@@ -109,6 +109,7 @@ act_fields (act.Line to) = (word_of.Line, point_fields to)
 act_fields (act.Move to) = (word_of.Move, point_fields to)
 act_fields (act.Turn yaw) = (word_of.Turn, Number yaw ∷ [])
 act_fields (act.Arc ccw cx cy yaw) = (word_of.Arc, Ccw ccw ∷ Number cx ∷ Number cy ∷ Number yaw ∷ [])
+act_fields (act.Eased ease ccw cx cy yaw) = (word_of.Eased ease, Ccw ccw ∷ Number cx ∷ Number cy ∷ Number yaw ∷ [])
 act_fields (act.Curve (x1 ∷ y1 ∷ z1 ∷ []) (x2 ∷ y2 ∷ z2 ∷ []) to) =
     (word_of.Curve, Number x1 ∷ Number y1 ∷ Number z1 ∷ Number x2 ∷ Number y2 ∷ Number z2 ∷ point_fields to)
 act_fields (act.Curve p1 p2 to) = (word_of.Curve, [])
@@ -120,6 +121,7 @@ act_with word_of.Line vs = act.Line (point_at vs 0)
 act_with word_of.Move vs = act.Move (point_at vs 0)
 act_with word_of.Turn vs = act.Turn (number_at vs 0)
 act_with word_of.Arc vs = act.Arc (ccw_at vs 0) (number_at vs 1) (number_at vs 2) (number_at vs 3)
+act_with (word_of.Eased ease) vs = act.Eased ease (ccw_at vs 0) (number_at vs 1) (number_at vs 2) (number_at vs 3)
 act_with word_of.Curve vs = act.Curve (triple_at vs 0) (triple_at vs 3) (point_at vs 6)
 
 -- the first word of the line of an entry; an act line has none of its own

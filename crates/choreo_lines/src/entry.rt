@@ -160,6 +160,13 @@ fn act_with(act: ActWord, values: &[Value]) -> Act
             cy: number_at(values, 2),
             yaw: number_at(values, 3),
         },
+        ActWord::Eased(ease) => Act::Eased {
+            ease,
+            ccw: ccw_at(values, 0),
+            cx: number_at(values, 1),
+            cy: number_at(values, 2),
+            yaw: number_at(values, 3),
+        },
         ActWord::Curve => Act::Curve {
             p1: triple_at(values, 0),
             p2: triple_at(values, 3),

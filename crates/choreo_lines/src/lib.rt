@@ -16,5 +16,5 @@ pub use entry::entry_of;
 pub use field::{copy_of, name_kept, number};
 pub use line::{Entry, Keyword, LineError, LineKind, Place};
 pub use listed::Listed;
-pub use parts::{Act, Frame, Mirror, Name, Point};
+pub use parts::{Act, Ease, Frame, Mirror, Name, Point};
 pub use word::{is_name, keyword};

@@ -32,6 +32,17 @@ pub struct Frame {
     pub dz: i64,
 }
 
+/// The ends of a quarter circle at which it rests.
+#[derive(Clone, Copy, PartialEq, Eq, Debug)]
+pub enum Ease {
+    /// From rest to rest.
+    InOut,
+    /// From rest into an arc.
+    In,
+    /// From an arc to rest.
+    Out,
+}
+
 /// What a drone does in a cue. Coordinates are in micrometres, yaws in tenths of a degree.
 #[derive(Clone, Copy, PartialEq, Eq, Debug)]
 pub enum Act {
@@ -51,6 +62,14 @@ pub enum Act {
     },
     /// A quarter circle around (`cx`, `cy`) at the same height, counter-clockwise where `ccw`; yaw evenly.
     Arc {
+        ccw: bool,
+        cx: i64,
+        cy: i64,
+        yaw: i64,
+    },
+    /// A quarter circle as of `Arc`, at rest at one end or at both; yaw too.
+    Eased {
+        ease: Ease,
         ccw: bool,
         cx: i64,
         cy: i64,

@@ -5,7 +5,7 @@ ghost use Rattle.std.specs.Prelude.{◌≡◌, ◌≤◌, length};
 ghost use Rattle.choreo_lines.specs.Table as spec;
 
 use crate::line::{Keyword, Place};
-use crate::parts::{Mirror, Name};
+use crate::parts::{Ease, Mirror, Name};
 use fleet_math::MOST_DRONES;
 
 /// How many places the longest line has, which is that of a curve.
@@ -52,6 +52,8 @@ pub enum ActWord {
     Turn,
     Arc,
     Curve,
+    /// `swing`, `arc_in` or `arc_out`.
+    Eased(Ease),
 }
 
 // Micrometres.
@@ -141,6 +143,12 @@ pub fn act_word(word: &[u8]) -> Option<ActWord>
         Some(ActWord::Arc)
     } else if word == b"curve".as_slice() {
         Some(ActWord::Curve)
+    } else if word == b"swing".as_slice() {
+        Some(ActWord::Eased(Ease::InOut))
+    } else if word == b"arc_in".as_slice() {
+        Some(ActWord::Eased(Ease::In))
+    } else if word == b"arc_out".as_slice() {
+        Some(ActWord::Eased(Ease::Out))
     } else {
         None
     }
@@ -155,7 +163,7 @@ pub fn act_places(act: ActWord) -> &'static [Want]
         ActWord::Hold => &[],
         ActWord::Line | ActWord::Move => &[COORDINATE, COORDINATE, COORDINATE, YAW],
         ActWord::Turn => &[YAW],
-        ActWord::Arc => &[Want::Sense, COORDINATE, COORDINATE, YAW],
+        ActWord::Arc | ActWord::Eased(_) => &[Want::Sense, COORDINATE, COORDINATE, YAW],
         ActWord::Curve => &[
             COORDINATE, COORDINATE, COORDINATE, COORDINATE, COORDINATE, COORDINATE, COORDINATE,
             COORDINATE, COORDINATE, YAW,

@@ -166,8 +166,8 @@ abbrev pub is_empty_block : List Opening → Bool
 is_empty_block [] = false
 is_empty_block (o ∷ os) = elim o.kind [ OpenCue ↦ false | _ ↦ not o.filled ]
 
--- what earlier lines leave open for a line with this first word: a setting of its kind that stands already, eight repeats
--- around another one, a block without a line that it would close
+-- what earlier lines leave open for a line with this first word: a setting of its kind that stands already, eight
+-- repeats around another one, a block without a line that it would close
 abbrev pub open_fault : Context → Keyword → Option LineKind
 open_fault c first.Memory = fault_if c.memory kind.DoubleSetting
 open_fault c first.Trajectory = fault_if c.trajectory kind.DoubleSetting

@@ -127,8 +127,8 @@ show_of p = record {
   body = p.body;
 }
 
--- what an item keeps to: no formation, figure or repeat is empty, no repeat stands inside eight others, and a figure has no perform and
--- no `form`
+-- what an item keeps to: no formation, figure or repeat is empty, no repeat stands inside eight others, and a figure
+-- has no perform and no `form`
 abbrev pub IsItem : Item → Type 0
 IsItem (Formed f) = 1 ≤ length f.places
 IsItem (Figured f) =
@@ -144,8 +144,8 @@ pub record HasSingleSettings (p : Parts) : Type 0 where
   pub stray : length p.strays ≤ 1
   pub late : length p.lates ≤ 1
 
--- The text stands for the show: there are items that make the show, and the text is a header, of the words `choreo 1`, and their lines.
--- Outside comments it has no byte that may not stand there.
+-- The text stands for the show: there are items that make the show, and the text is a header, of the words `choreo 1`,
+-- and their lines. Outside comments it has no byte that may not stand there.
 pub record StandsFor (text : List ℕ) (show : PlainShow) : Type 0 where
   pub items : List Item
   pub header : Line

@@ -685,7 +685,8 @@ pub fn read_show(alloc: Global, text: &[u8]) -> Result<Show, ShowFault>
     read_text(alloc, text)
 }
 
-/// The law of shows' texts: a text stands for at most one show, which is valid, and for one exactly where it has no fault.
+/// The law of shows' texts: a text stands for at most one show, which is valid, and for one exactly where it has no
+/// fault.
 pub fn show_law()
     ensures { ShowLaw }
 {}

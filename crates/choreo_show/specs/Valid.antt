@@ -130,9 +130,9 @@ times n (m ∷ ms) = (if n == m then 1 else 0) + times n ms
 abbrev pub all_lines : PlainShow → List ℕ
 all_lines s = drone_lines s.drones ++ (formation_lines s.formations ++ (figure_lines s.figures ++ body_lines s.body))
 
--- A show is valid where each of its lines stands where the language lets it, its line numbers are distinct and rise within
--- each list with its blocks, from 1 on, its names, numbers and counts are as the language has them, each repeat stands
--- inside at most seven others, and no formation, figure or repeat is empty.
+-- A show is valid where each of its lines stands where the language lets it, its line numbers are distinct and rise
+-- within each list with its blocks, from 1 on, its names, numbers and counts are as the language has them, each repeat
+-- stands inside at most seven others, and no formation, figure or repeat is empty.
 pub record IsValid (s : PlainShow) : Type 0 where
   pub settings : FitsSettings s.settings
   pub drones : FitDroneLines s.drones

@@ -2,8 +2,9 @@
 
 use choreo_lines::{Act, Frame, Listed, Name, Point};
 
-/// Where the trajectories go in a drone's memory; how large the drones' ellipsoids are, by half axes in millimetres, `r` across and `h`
-/// upwards; how many millimetres a drone strays from its curve at most, and how many milliseconds one is late against another.
+/// Where the trajectories go in a drone's memory; how large the drones' ellipsoids are, by half axes in millimetres,
+/// `r` across and `h` upwards; how many millimetres a drone strays from its curve at most, and how many milliseconds
+/// one is late against another.
 #[derive(Clone, Copy, PartialEq, Eq, Debug)]
 pub struct Settings {
     pub memory_id: u8,

@@ -6,7 +6,8 @@ use Rattle.choreo_lines.specs.Name.{Name}
 use Rattle.choreo_show.specs.Plain.{Body, PlainFigure, PlainShow}
 use Rattle.cue_grid.specs.Names.{figure_named}
 
--- the number of cues of blocks: a cue counts 1, a repeat its number times its body, and a perform what is handed in for its figure
+-- the number of cues of blocks: a cue counts 1, a repeat its number times its body, and a perform what is handed in for
+-- its figure
 abbrev pub count_in : (Name → ℕ) → Body → ℕ
 count_in performed plain.Done = 0
 count_in performed (plain.Cue line ms acts rest) = 1 + count_in performed rest

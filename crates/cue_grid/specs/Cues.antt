@@ -25,7 +25,8 @@ abbrev pub player : List Name → List Name → Name → Name
 player (r ∷ roles) (d ∷ drones) n = if same_name n r then d else player roles drones n
 player _ _ n = n
 
--- the job of a drone, by the first line that gives it an act, its own or the way to its place in a formation; without one it holds
+-- the job of a drone, by the first line that gives it an act, its own or the way to its place in a formation; without
+-- one it holds
 abbrev pub job_of : List Formation → Playing → ℕ → List ActLine → Name → Job
 job_of fs p cue_line [] drone = record { line = cue_line; frame = p.frame; act = act.Hold }
 job_of fs p cue_line (on.One line name a ∷ rest) drone =
@@ -47,8 +48,8 @@ abbrev pub times_over : {A : Type 0} → ℕ → List A → List A
 times_over zero xs = []
 times_over (suc n) xs = xs ++ times_over n xs
 
--- the cues of blocks: a cue gives itself, a repeat gives its body's cues as often as it says, and a perform gives what is
--- handed in for its figure, frame and drones
+-- the cues of blocks: a cue gives itself, a repeat gives its body's cues as often as it says, and a perform gives what
+-- is handed in for its figure, frame and drones
 abbrev pub cues_in : PlainShow → Playing → (Name → Frame → List Name → List Cue) → Body → List Cue
 cues_in s p performed plain.Done = []
 cues_in s p performed (plain.Cue line ms acts rest) = cue_of s p line ms acts ∷ cues_in s p performed rest
@@ -57,13 +58,15 @@ cues_in s p performed (plain.Repeat line times inside rest) =
 cues_in s p performed (plain.Perform line figure frame drones rest) =
     performed figure frame drones ++ cues_in s p performed rest
 
--- a perform gives the cues of its figure's body, with the roles replaced by the drones and in the frame; no figure performs another
+-- a perform gives the cues of its figure's body, with the roles replaced by the drones and in the frame; no figure
+-- performs another
 abbrev pub cues_of_figure : PlainShow → Option PlainFigure → Frame → List Name → List Cue
 cues_of_figure s None frame drones = []
 cues_of_figure s (Some f) frame drones =
     cues_in s (record { frame = frame; roles = f.roles; drones = drones }) (λ figure frame drones. []) f.body
 
--- the cues of a show: its blocks are played as they are written, without roles, and a perform is of the first figure of its name
+-- the cues of a show: its blocks are played as they are written, without roles, and a perform is of the first figure of
+-- its name
 abbrev pub cues_of : PlainShow → List Cue
 cues_of s =
     cues_in s (record { frame = no_frame; roles = []; drones = [] })

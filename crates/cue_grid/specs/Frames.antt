@@ -5,7 +5,8 @@ use Rattle.choreo_lines.specs.declared.parts.Frame.{Frame}
 use Rattle.choreo_lines.specs.declared.parts.Mirror.{Mirror}
 use Rattle.choreo_lines.specs.declared.parts.Mirror.TheVariants as mirror
 
--- the mirror `x` turns x round, and looks the other way along it (a half turn less the yaw); the mirror `y` turns y round
+-- the mirror `x` turns x round, and looks the other way along it (a half turn less the yaw); the mirror `y` turns y
+-- round
 abbrev pub mirrored : Mirror → Point → Point
 mirrored mirror.None p = p
 mirrored mirror.X p = record { x = neg_ℤ p.x; y = p.y; z = p.z; yaw = pos 1800 -ℤ p.yaw }

@@ -1,5 +1,5 @@
--- Who has an act in a cue, as the steps keep it: the names on `at` lines have numbers and are marked by them, other names
--- are kept by themselves.
+-- Who has an act in a cue, as the steps keep it: the names on `at` lines have numbers and are marked by them, other
+-- names are kept by themselves.
 use Rattle.std.specs.Prelude.{◌≡◌, ℕ, Bool, true, false, ◌||◌, List, [], ◌∷◌, length, map, get_or, set, Option, Some, None}
 use Rattle.choreo_lines.specs.Name.{Name}
 use Rattle.choreo_show.specs.declared.show.Formation.{Formation}

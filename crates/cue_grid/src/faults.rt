@@ -131,8 +131,8 @@ fn are_in_order(known: &[Name], acts: &[ActLine]) -> bool
     next == acts.len()
 }
 
-// The first fault of the lines of a cue. Mostly they stand in the order of the drones, each with one name: then there is
-// none, where the known names are distinct, and nobody need be kept.
+// The first fault of the lines of a cue. Mostly they stand in the order of the drones, each with one name: then there
+// is none, where the known names are distinct, and nobody need be kept.
 #[tactic(auto, using(crate::proofs::Ordered::no_fault_in_order))]
 fn cue_fault(
     alloc: Global,

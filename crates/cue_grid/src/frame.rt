@@ -5,8 +5,8 @@ ghost use Rattle.cue_grid.specs.Frames.{shifted, mirrored, turned_once, turned, 
 
 use choreo_show::{Frame, Mirror, Point};
 
-/// Where the frame puts a point: its mirror, then its quarter turns, then its shift. The point is in micrometres, its yaw
-/// in tenths of a degree.
+/// Where the frame puts a point: its mirror, then its quarter turns, then its shift. The point is in micrometres, its
+/// yaw in tenths of a degree.
 pub fn apply(f: &Frame, p: Point) -> Point
     requires frame { IsShiftUpTo (2 ^ 40) f.now }
     requires few { f.now.turns ≤ 3 }

@@ -22,8 +22,8 @@ use fleet_math::MOST_DRONES;
 use std::alloc::{AllocError, Global};
 
 /// The cues of a show in order, repeats written out and figures played by their drones, or its first fault. A drone
-/// without an act in a cue holds. What is returned is a valid grid, whose starts have names as the language has them, no two of
-/// them the same.
+/// without an act in a cue holds. What is returned is a valid grid, whose starts have names as the language has them,
+/// no two of them the same.
 pub fn unroll(alloc: Global, show: &Show) -> Result<Grid, UnrollError>
     requires { IsValid (plain show.now) }
     ensures gives { GridGives result (plain show.now) }

@@ -1,4 +1,5 @@
 mod Prelude
+pub mod Eased
 pub mod Reach
 pub mod Unfit
 pub mod Curves
@@ -6,3 +7,4 @@ pub mod Pieces
 pub mod Fitting
 pub mod Axes
 pub mod Unmoved
+pub mod Rows

@@ -1,7 +1,13 @@
 -- The pieces of a grid are where the text says.
-use Rattle.figure_expand.proofs.Prelude.{common_steps, ◌≡◌, ℕ, zero, suc, ◌+◌, ◌<◌, ℤ, pos, ◌+ℤ◌, ◌-ℤ◌, ◌*ℤ◌, List, [], ◌∷◌, map, take, length, get_or, arith, refl, sym, ap, ◌∙◌, All, All-from_recursion, power, at, mul_comm_ℤ, one_mul_ℤ, bernstein-zero, bernstein-suc, cong_add, Point, Act, DroneLine, Job, Cue, Grid, controls, axis_on, first_control, Axis, One, MicroPiece, act_of, on_axis, from_rest, written_points, ClosedForms, end_of, point_after, axes_of, piece_of, job_in, no_job, pieces_from, expanded_from, expanded, start_of, jobs_in, job_at, point_before, FliesAsWritten}
+use Rattle.figure_expand.proofs.Prelude.{common_steps, ◌≡◌, ℕ, zero, suc, ◌+◌, ◌<◌, ℤ, pos, ◌+ℤ◌, ◌-ℤ◌, ◌*ℤ◌, List, [], ◌∷◌, map, take, length, get_or, Bool, ints, arith, refl, sym, ap, ◌∙◌, All, All-from_recursion, power, at, mul_comm_ℤ, one_mul_ℤ, bernstein-zero, bernstein-suc, cong_add, Point, Act, DroneLine, Job, Cue, Grid, controls, axis_on, first_control, Axis, One, MicroPiece, act_of, on_axis, from_rest, written_points, ClosedForms, end_of, point_after, axes_of, piece_of, job_in, no_job, pieces_from, expanded_from, expanded, start_of, jobs_in, job_at, point_before, FliesAsWritten}
 use Rattle.choreo_lines.specs.declared.parts.Act.TheVariants as act
 use Rattle.mm_rounding.specs.Near.{position, IsAxis, IsPiece, last_control}
+use Rattle.choreo_lines.specs.declared.parts.Ease.{Ease}
+use Rattle.choreo_lines.specs.declared.parts.Ease.TheVariants as ease
+use Rattle.figure_expand.specs.Acts.{eased_points}
+use Rattle.figure_expand.specs.Controls.{axis_with}
+use Rattle.figure_expand.specs.Written.{eased_yaw}
+use Rattle.figure_expand.proofs.Eased.{controls_with, first_point, first_yaw}
 use Rattle.figure_expand.proofs.Curves.{closed_rest, bern-steps, from_rest-share}
 
 -- ---- the polynomial of each kind of control points
@@ -26,16 +32,38 @@ closed_forms = record { stays = one; even = two; rest = eight }
 abbrev curve_of : Point → Act → ℕ → Axis
 curve_of p x axis = get_or (axes_of p x) axis (One (pos 0))
 
+begins : (vs : List ℤ) → first_control (axis_with vs) ≡ at vs 0
+begins vs = ap (λ (ws : List ℤ). at ws 0) (controls_with vs)
+
+around : (centre v : ℤ) → centre +ℤ (v -ℤ centre) ≡ v
+around centre v = omega (arith, ints)
+
 by_act : (p : Point) (x : Act) (axis : ℕ) → axis < 4 → controls (curve_of p x axis) ≡ written_points p x axis
+by_act p (act.Eased how ccw cx cy yaw) zero small = controls_with _
+by_act p (act.Eased how ccw cx cy yaw) (suc zero) small = controls_with _
+by_act p (act.Eased how ccw cx cy yaw) (suc (suc zero)) small = refl
+by_act p (act.Eased how ccw cx cy yaw) (suc (suc (suc zero))) small = controls_with _
 by_act p x axis small = grind (arith, common_steps)
+
+-- an eased arc begins where the drone is
+eased_begins : (p : Point) (how : Ease) (ccw : Bool) (cx cy yaw : ℤ) (axis : ℕ) → axis < 4 → first_control (curve_of p (act.Eased how ccw cx cy yaw) axis) ≡ on_axis p axis
+eased_begins p how ccw cx cy yaw zero small = begins (eased_points how cx _ _) ∙ first_point how cx _ _ ∙ around cx p.x
+eased_begins p how ccw cx cy yaw (suc zero) small = begins (eased_points how cy _ _) ∙ first_point how cy _ _ ∙ around cy p.y
+eased_begins p how ccw cx cy yaw (suc (suc zero)) small = refl
+eased_begins p how ccw cx cy yaw (suc (suc (suc (suc k)))) small = absurd (omega arith)
+eased_begins p how ccw cx cy yaw (suc (suc (suc zero))) small = begins (eased_yaw how p.yaw yaw) ∙ first_yaw how p.yaw yaw
 
 -- the first control point is where the drone is
 first_by_act : (p : Point) (x : Act) (axis : ℕ) → axis < 4 → first_control (curve_of p x axis) ≡ on_axis p axis
+first_by_act p (act.Eased how ccw cx cy yaw) axis small = eased_begins p how ccw cx cy yaw axis small
 first_by_act p x axis small = grind (arith, common_steps)
 
 -- the last one is where the act ends
 last_by_act : (p : Point) (x : Act) (axis : ℕ) → axis < 4 → last_control (curve_of p x axis) ≡ on_axis (end_of p x) axis
 unfolding end_of
+last_by_act p (act.Eased ease.InOut ccw cx cy yaw) axis small = grind (arith, common_steps)
+last_by_act p (act.Eased ease.In ccw cx cy yaw) axis small = grind (arith, common_steps)
+last_by_act p (act.Eased ease.Out ccw cx cy yaw) axis small = grind (arith, common_steps)
 last_by_act p x axis small = grind (arith, common_steps)
 
 -- A piece begins where its drone is.
@@ -47,6 +75,9 @@ pub piece_ends : (p : Point) (ms : ℕ) (j : Job) (axis : ℕ) → axis < 4 → 
 piece_ends p ms j axis small = last_by_act p (act_of j) axis small
 
 whole_by_act : (p : Point) (x : Act) → All IsAxis (axes_of p x)
+whole_by_act p (act.Eased ease.InOut ccw cx cy yaw) = All-from_recursion IsAxis (axes_of p (act.Eased ease.InOut ccw cx cy yaw)) (refl, (refl, (tt, (refl, tt))))
+whole_by_act p (act.Eased ease.In ccw cx cy yaw) = All-from_recursion IsAxis (axes_of p (act.Eased ease.In ccw cx cy yaw)) (refl, (refl, (tt, (refl, tt))))
+whole_by_act p (act.Eased ease.Out ccw cx cy yaw) = All-from_recursion IsAxis (axes_of p (act.Eased ease.Out ccw cx cy yaw)) (refl, (refl, (tt, (refl, tt))))
 whole_by_act p act.Hold = All-from_recursion IsAxis (axes_of p act.Hold) assumption
 whole_by_act p x = All-from_recursion IsAxis (axes_of p x) assumption
 

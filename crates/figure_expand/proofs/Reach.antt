@@ -1,10 +1,11 @@
 -- How far the numbers of points and acts are from 0.
-use Rattle.figure_expand.proofs.Prelude.{common_steps, ◌≡◌, ℕ, zero, suc, ◌+◌, ◌*◌, ◌^◌, ◌<◌, ◌≤◌, true, ℤ, pos, ◌+ℤ◌, List, [], ◌∷◌, length, get_or, to_z, of_z, w64, arith, refl, sym, ap, subst, All, ints, to_z-of_z, All-nil, All-cons, All-get_or, All-tail, at, Point, Act, DroneLine, FitsFrame, FitsPoint, FitsCoordinate, FitsAct, Job, Cue, mirrored, turned_once, turned, IsUpTo, IsPointUpTo, IsShiftUpTo, FitsJob, FitJobs, FitsCue, FitCues, act_in, act_of, end_of, start_points, points_after, FitsYaw, FitsTriple, IsActUpTo, reach, AreInReach}
+use Rattle.figure_expand.proofs.Prelude.{common_steps, ◌≡◌, ℕ, zero, suc, ◌+◌, ◌*◌, ◌^◌, ◌<◌, ◌≤◌, Bool, true, false, ℤ, pos, ◌+ℤ◌, ◌-ℤ◌, List, [], ◌∷◌, length, get_or, to_z, of_z, w64, arith, refl, sym, ap, subst, All, ints, to_z-of_z, All-nil, All-cons, All-get_or, All-tail, at, Point, Act, DroneLine, FitsFrame, FitsPoint, FitsCoordinate, FitsAct, Job, Cue, mirrored, turned_once, turned, IsUpTo, IsPointUpTo, IsShiftUpTo, FitsJob, FitJobs, FitsCue, FitCues, act_in, act_of, end_of, start_points, points_after, FitsYaw, FitsTriple, IsActUpTo, reach, AreInReach}
 use Rattle.fleet_math.specs.Limits.{most_cues}
 use Rattle.choreo_lines.specs.declared.parts.Frame.{Frame}
 use Rattle.choreo_lines.specs.declared.parts.Mirror.{Mirror}
 use Rattle.choreo_lines.specs.declared.parts.Mirror.TheVariants as mirror
 use Rattle.choreo_lines.specs.declared.parts.Act.TheVariants as act
+use Rattle.figure_expand.proofs.Eased.{ends_as_arc}
 
 -- ---- the points of a show
 
@@ -78,6 +79,8 @@ act_in_small f (act.Move to) frame fits = omega (arith, ints, applied_small f to
 act_in_small f (act.Turn yaw) frame fits = omega (arith, ints, applied_small f _ frame (heading_fits yaw fits.0))
 act_in_small f (act.Arc ccw cx cy yaw) frame fits =
     omega (arith, ints, applied_small f _ frame (centre_fits cx cy yaw fits.1.0 fits.1.1.0 fits.1.1.1.0))
+act_in_small f (act.Eased how ccw cx cy yaw) frame fits =
+    omega (arith, ints, applied_small f _ frame (centre_fits cx cy yaw fits.1.0 fits.1.1.0 fits.1.1.1.0))
 act_in_small f (act.Curve p1 p2 to) frame fits =
     let parts = curve_fits p1 p2 to fits in
     omega (arith, ints, applied_small f _ frame (triple_fits p1 parts.0), applied_small f _ frame (triple_fits p2 parts.1), applied_small f to frame parts.2)
@@ -88,11 +91,19 @@ act_small j fits = act_in_small j.frame j.act fits.0 fits.1
 
 -- ---- ends
 
+-- a quarter circle takes a drone at most 2 ^ 30 further away
+arc_end_small : (n : ℕ) (p : Point) (ccw : Bool) (cx cy yaw : ℤ) → IsPointUpTo n p → IsActUpTo (2 ^ 28) (act.Arc ccw cx cy yaw) → IsPointUpTo (n + 2 ^ 30) (end_of p (act.Arc ccw cx cy yaw))
+unfolding end_of
+arc_end_small n p true cx cy yaw small fits = omega (arith, ints)
+arc_end_small n p false cx cy yaw small fits = omega (arith, ints)
+
 -- An act takes a drone at most 2 ^ 30 further away.
 pub end_small : (n : ℕ) (p : Point) (a : Act) → IsPointUpTo n p → IsActUpTo (2 ^ 28) a → IsPointUpTo (n + 2 ^ 30) (end_of p a)
 unfolding end_of
 end_small n p act.Hold small fits = omega (arith, ints)
-end_small n p (act.Arc true cx cy yaw) small fits = omega (arith, ints)
+end_small n p (act.Arc ccw cx cy yaw) small fits = arc_end_small n p ccw cx cy yaw small fits
+end_small n p (act.Eased how ccw cx cy yaw) small fits =
+    subst (IsPointUpTo (n + 2 ^ 30)) (sym (ends_as_arc p how ccw cx cy yaw)) (arc_end_small n p ccw cx cy yaw small fits)
 end_small n p (act.Curve (x1 ∷ y1 ∷ z1 ∷ []) (x2 ∷ y2 ∷ z2 ∷ []) to) small fits = omega (arith, ints)
 end_small n p (act.Curve p1 p2 to) small fits = absurd fits
 end_small n p a small fits = omega (arith, ints)
@@ -190,3 +201,37 @@ arc_kept present centre w first second p c v f s =
     let three_is : to_z w64 (of_z w64 (centre +ℤ w)) ≡ centre +ℤ w = kept (centre +ℤ w) (omega (arith, ints, c.0, v.0), omega (arith, ints, c.1, v.1)) in
     let two_is : to_z w64 (of_z w64 ((centre +ℤ w) +ℤ second)) ≡ (centre +ℤ w) +ℤ second = kept ((centre +ℤ w) +ℤ second) (omega (arith, ints, c.0, v.0, s.0), omega (arith, ints, c.1, v.1, s.1)) in
     rw (present_is, centre_is, w_is, first_is, second_is, one_is, three_is, two_is) refl
+
+-- three numbers, as they are kept in 64 bits
+pub sum_kept : (centre first second : ℤ) → IsUpTo (2 ^ 28) centre → IsUpTo (2 ^ 43) first → IsUpTo (2 ^ 43) second →
+    to_z w64 (of_z w64 (to_z w64 (of_z w64 (to_z w64 (of_z w64 centre) +ℤ to_z w64 (of_z w64 first))) +ℤ to_z w64 (of_z w64 second)))
+    ≡ (centre +ℤ first) +ℤ second
+sum_kept centre first second c f s =
+    let centre_is : to_z w64 (of_z w64 centre) ≡ centre = kept centre (wider (2 ^ 28) (2 ^ 43) centre (omega arith) c) in
+    let first_is : to_z w64 (of_z w64 first) ≡ first = kept first f in
+    let second_is : to_z w64 (of_z w64 second) ≡ second = kept second s in
+    let two_is : to_z w64 (of_z w64 (centre +ℤ first)) ≡ centre +ℤ first = to_z-of_z w64 (centre +ℤ first) (omega (arith, ints, c.0, f.0, c.1, f.1)) in
+    let three_is : to_z w64 (of_z w64 ((centre +ℤ first) +ℤ second)) ≡ (centre +ℤ first) +ℤ second = to_z-of_z w64 ((centre +ℤ first) +ℤ second) (omega (arith, ints, c.0, f.0, s.0, c.1, f.1, s.1)) in
+    rw (centre_is, first_is, second_is, two_is, three_is) refl
+
+-- a number and a turn, as they are kept in 64 bits
+pub turned_kept : (a turn : ℤ) → IsUpTo (2 ^ 40) a → IsUpTo (2 ^ 58) turn → to_z w64 (of_z w64 (to_z w64 (of_z w64 a) +ℤ to_z w64 (of_z w64 turn))) ≡ a +ℤ turn
+turned_kept a turn small far =
+    let a_is : to_z w64 (of_z w64 a) ≡ a = kept a (wider (2 ^ 40) (2 ^ 43) a (omega arith) small) in
+    let turn_is : to_z w64 (of_z w64 turn) ≡ turn = to_z-of_z w64 turn (omega (arith, ints, far.0, far.1)) in
+    let sum_is : to_z w64 (of_z w64 (a +ℤ turn)) ≡ a +ℤ turn = to_z-of_z w64 (a +ℤ turn) (omega (arith, ints, small.0, far.0, small.1, far.1)) in
+    rw (a_is, turn_is, sum_is) refl
+
+pub left_kept : (a turn : ℤ) → IsUpTo (2 ^ 40) a → IsUpTo (2 ^ 58) turn → to_z w64 (of_z w64 (to_z w64 (of_z w64 a) -ℤ to_z w64 (of_z w64 turn))) ≡ a -ℤ turn
+left_kept a turn small far =
+    let a_is : to_z w64 (of_z w64 a) ≡ a = kept a (wider (2 ^ 40) (2 ^ 43) a (omega arith) small) in
+    let turn_is : to_z w64 (of_z w64 turn) ≡ turn = to_z-of_z w64 turn (omega (arith, ints, far.0, far.1)) in
+    let difference_is : to_z w64 (of_z w64 (a -ℤ turn)) ≡ a -ℤ turn = to_z-of_z w64 (a -ℤ turn) (omega (arith, ints, small.0, far.0, small.1, far.1)) in
+    rw (a_is, turn_is, difference_is) refl
+
+-- the way between two yaws, as they are kept in 64 bits
+pub way_kept : (d e : ℤ) → IsUpTo (2 ^ 40) d → IsUpTo (2 ^ 28) e → to_z w64 (of_z w64 e) -ℤ to_z w64 (of_z w64 d) ≡ e -ℤ d
+way_kept d e far near =
+    let d_is : to_z w64 (of_z w64 d) ≡ d = kept d (wider (2 ^ 40) (2 ^ 43) d (omega arith) far) in
+    let e_is : to_z w64 (of_z w64 e) ≡ e = kept e (wider (2 ^ 28) (2 ^ 43) e (omega arith) near) in
+    rw (d_is, e_is) refl

@@ -1,5 +1,5 @@
 -- How large the numbers of points and acts are, so that no sum leaves 64 bits.
-use Rattle.std.specs.Prelude.{ℕ, ◌^◌, ◌+◌, ◌*◌, List, [], ◌∷◌, map, ℤ, pos, neg_ℤ}
+use Rattle.std.specs.Prelude.{ℕ, ◌≤◌, ◌^◌, ◌+◌, ◌*◌, List, [], ◌∷◌, map, ℤ, pos, neg_ℤ}
 use Rattle.std.specs.List.{All}
 use Rattle.choreo_lines.specs.Table.{coordinate, yaw, act_places}
 use Rattle.choreo_lines.specs.Values.{Fits, AllFit, act_fields}
@@ -26,6 +26,10 @@ up_to n wanted = wanted
 -- each number of an act in the show's frame is from -n to n
 abbrev pub IsActUpTo : ℕ → Act → Type 0
 IsActUpTo n a = AllFit (map (up_to n) (act_places (act_fields a).0)) (act_fields a).1
+
+-- two shares of at most 2,000,000 millionths each
+abbrev pub AreSmall : ℕ × ℕ → Type 0
+AreSmall share = (share.0 ≤ 2000000) × (share.1 ≤ 2000000)
 
 -- how far away a drone can be after this many cues: each takes it at most 2 ^ 30 further
 abbrev pub reach : ℕ → ℕ

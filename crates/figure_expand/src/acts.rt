@@ -112,6 +112,22 @@ fn framed_act(f: &Frame, act: &Act) -> Act
                 yaw: centre.yaw,
             }
         }
+        Act::Eased {
+            ease,
+            ccw,
+            cx,
+            cy,
+            yaw,
+        } => {
+            let centre = framed_centre(f, *cx, *cy, *yaw);
+            Act::Eased {
+                ease: *ease,
+                ccw: framed_sense(f.mirror, *ccw),
+                cx: centre.x,
+                cy: centre.y,
+                yaw: centre.yaw,
+            }
+        }
         Act::Curve { p1, p2, to } => Act::Curve {
             p1: framed_triple(f, p1),
             p2: framed_triple(f, p2),

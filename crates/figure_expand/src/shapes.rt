@@ -1,14 +1,16 @@
 //! The control values of acts, and where they end.
 
-ghost use Rattle.std.specs.Prelude.{◌≡◌, ◌^◌, ◌-ℤ◌, neg_ℤ, ◌∷◌, [], if◌then◌else◌};
+ghost use Rattle.std.specs.Prelude.{◌≡◌, ◌≤◌, ◌^◌, ◌+ℤ◌, ◌-ℤ◌, neg_ℤ, ◌∷◌, [], map, if◌then◌else◌};
+ghost use Rattle.std.specs.List.{All};
 ghost use Rattle.mm_rounding.specs.declared.piece.Axis.TheVariants.{One, Two, Four, Eight};
+ghost use Rattle.choreo_lines.specs.declared.parts.Act.TheVariants as act;
 ghost use Rattle.cue_grid.specs.Frames.{IsUpTo, IsPointUpTo};
-ghost use Rattle.figure_expand.specs.Acts.{handle, arc_points, arc_on};
+ghost use Rattle.figure_expand.specs.Acts.{handle, arc_points, arc_on, shares, millionths, eased_point, eased_points, eased_on};
 ghost use Rattle.figure_expand.specs.Controls.{axes_of};
-ghost use Rattle.figure_expand.specs.Written.{from_rest, end_of};
-ghost use Rattle.figure_expand.specs.Bounds.{IsActUpTo};
+ghost use Rattle.figure_expand.specs.Written.{from_rest, forty_seconds, squares, squares_left, yaw_in, yaw_out, eased_yaw, end_of};
+ghost use Rattle.figure_expand.specs.Bounds.{IsActUpTo, AreSmall};
 
-use choreo_lines::{Act, Point};
+use choreo_lines::{Act, Ease, Point};
 use mm_rounding::Axis;
 
 // The handles of a quarter arc are 0.552285 times as long as its radius; in millionths.
@@ -94,6 +96,117 @@ fn arc_y(p: &Point, ccw: bool, cx: i64, cy: i64) -> [i64; 4]
     arc_points(p.y, cy, vy, wy)
 }
 
+// How many millionths of the way from the centre to the start, and of the way from the centre to the end, are in each of the
+// eight control points of an eased arc (docs/TRAJECTORY.md, "The eased quarter circles").
+const SWING: [(u32, u32); 8] = [
+    (1_000_000, 0),
+    (1_000_000, 0),
+    (1_000_000, 0),
+    (1_063_179, 696_647),
+    (696_647, 1_063_179),
+    (0, 1_000_000),
+    (0, 1_000_000),
+    (0, 1_000_000),
+];
+
+const ARC_IN: [(u32, u32); 8] = [
+    (1_000_000, 0),
+    (1_000_000, 0),
+    (1_000_144, 114_406),
+    (993_507, 186_897),
+    (974_935, 507_934),
+    (785_073, 741_519),
+    (473_387, 1_000_000),
+    (0, 1_000_000),
+];
+
+const ARC_OUT: [(u32, u32); 8] = [
+    (1_000_000, 0),
+    (1_000_000, 473_387),
+    (741_519, 785_073),
+    (507_934, 974_935),
+    (186_897, 993_507),
+    (114_406, 1_000_144),
+    (0, 1_000_000),
+    (0, 1_000_000),
+];
+
+// The shares of an eased arc.
+#[tactic(auto, using(crate::proofs::Eased::shares_small))]
+fn shares(ease: Ease) -> &'static [(u32, u32); 8]
+    ensures value { result.now ≡ shares ease }
+    ensures small { All AreSmall result.now }
+{
+    match ease {
+        Ease::InOut => &SWING,
+        Ease::In => &ARC_IN,
+        Ease::Out => &ARC_OUT,
+    }
+}
+
+// Millionths of a number, rounded to the nearest whole number.
+#[tactic(auto, using(crate::proofs::Eased::share_small))]
+fn millionths(share: u32, s: i64) -> i64
+    requires share { share ≤ 2_000_000 }
+    requires number { IsUpTo (2 ^ 41) s }
+    ensures value { result ≡ millionths share s }
+    ensures small { IsUpTo (2 ^ 43) result }
+{
+    (i64::from(share) * s + MILLION / 2).div_euclid(MILLION)
+}
+
+// A control point of an eased arc on one axis.
+fn eased_point(centre: i64, v: i64, w: i64, share: &(u32, u32)) -> i64
+    requires centre { IsUpTo (2 ^ 28) centre }
+    requires v { IsUpTo (2 ^ 41) v }
+    requires w { IsUpTo (2 ^ 41) w }
+    requires share { AreSmall share.now }
+    ensures { result ≡ eased_point centre v w share.now }
+{
+    let first = millionths(share.0, v);
+    let second = millionths(share.1, w);
+    centre + first + second
+}
+
+// The control points of an eased arc on one axis.
+fn eased_points(ease: Ease, centre: i64, v: i64, w: i64) -> [i64; 8]
+    requires centre { IsUpTo (2 ^ 28) centre }
+    requires v { IsUpTo (2 ^ 41) v }
+    requires w { IsUpTo (2 ^ 41) w }
+    ensures { result ≡ eased_points ease centre v w }
+{
+    let table = shares(ease);
+    let mut points = [0; 8];
+    for k in 0..8 {
+        points[k] = eased_point(centre, v, w, &table[k]);
+    }
+    points
+}
+
+// The control points of an eased arc on x.
+fn eased_x(p: &Point, ease: Ease, ccw: bool, cx: i64, cy: i64) -> [i64; 8]
+    requires point { IsPointUpTo (2 ^ 40) p.now }
+    requires x { IsUpTo (2 ^ 28) cx }
+    requires y { IsUpTo (2 ^ 28) cy }
+    ensures { result ≡ eased_on p.now ease ccw cx cy 0 }
+{
+    let vx = way(p.x, cx);
+    let vy = way(p.y, cy);
+    eased_points(ease, cx, vx, end_x(ccw, vx, vy))
+}
+
+// The control points of an eased arc on y.
+fn eased_y(p: &Point, ease: Ease, ccw: bool, cx: i64, cy: i64) -> [i64; 8]
+    requires point { IsPointUpTo (2 ^ 40) p.now }
+    requires x { IsUpTo (2 ^ 28) cx }
+    requires y { IsUpTo (2 ^ 28) cy }
+    ensures { result ≡ eased_on p.now ease ccw cx cy 1 }
+{
+    let vx = way(p.x, cx);
+    let vy = way(p.y, cy);
+    eased_points(ease, cy, vy, end_y(ccw, vx, vy))
+}
+
 // The value stays.
 fn still(v: i64) -> Axis
     ensures { result ≡ One v }
@@ -114,6 +227,106 @@ fn rest(from: i64, to: i64) -> Axis
 {
     Axis::Eight {
         v: [from, from, from, from, to, to, to, to],
+    }
+}
+
+// The control points of u^2 in degree seven, in forty-seconds, and those of (1 - u)^2.
+const SQUARES: [u16; 8] = [0, 0, 2, 6, 12, 20, 30, 42];
+
+const SQUARES_LEFT: [u16; 8] = [42, 30, 20, 12, 6, 2, 0, 0];
+
+// The control points of u^2.
+fn squares() -> &'static [u16; 8]
+    ensures { result.now ≡ squares }
+{
+    &SQUARES
+}
+
+// The control points of (1 - u)^2.
+fn squares_left() -> &'static [u16; 8]
+    ensures { result.now ≡ squares_left }
+{
+    &SQUARES_LEFT
+}
+
+// Forty-seconds of a number, rounded to the nearest whole number.
+#[tactic(auto, using(crate::proofs::Eased::turn_small))]
+fn forty_seconds(n: u16, s: i64) -> i64
+    requires { IsUpTo (2 ^ 42) s }
+    ensures value { result ≡ forty_seconds n s }
+    ensures small { IsUpTo (2 ^ 58) result }
+{
+    (i64::from(n) * s + 21).div_euclid(42)
+}
+
+// The turn from one yaw to another.
+fn turn(d: i64, e: i64) -> i64
+    requires d { IsUpTo (2 ^ 40) d }
+    requires e { IsUpTo (2 ^ 28) e }
+    ensures value { result ≡ e -ℤ d }
+    ensures small { IsUpTo (2 ^ 42) result }
+{
+    e - d
+}
+
+// A control point of the yaw from rest at D into an arc to E.
+fn yaw_in(d: i64, e: i64, n: u16) -> i64
+    requires d { IsUpTo (2 ^ 40) d }
+    requires e { IsUpTo (2 ^ 28) e }
+    ensures { result ≡ yaw_in d e n }
+{
+    let turned = forty_seconds(n, turn(d, e));
+    d + turned
+}
+
+// A control point of the yaw from D in an arc to rest at E.
+fn yaw_out(d: i64, e: i64, n: u16) -> i64
+    requires d { IsUpTo (2 ^ 40) d }
+    requires e { IsUpTo (2 ^ 28) e }
+    ensures { result ≡ yaw_out d e n }
+{
+    let left = forty_seconds(n, turn(d, e));
+    e - left
+}
+
+// The yaw from rest at D into an arc to E: slowly at first, then faster and faster.
+fn yaws_in(d: i64, e: i64) -> [i64; 8]
+    requires d { IsUpTo (2 ^ 40) d }
+    requires e { IsUpTo (2 ^ 28) e }
+    ensures { result ≡ map (yaw_in d e) squares }
+{
+    let table = squares();
+    let mut points = [0; 8];
+    for k in 0..8 {
+        points[k] = yaw_in(d, e, table[k]);
+    }
+    points
+}
+
+// The yaw from D in an arc to rest at E: slower and slower.
+fn yaws_out(d: i64, e: i64) -> [i64; 8]
+    requires d { IsUpTo (2 ^ 40) d }
+    requires e { IsUpTo (2 ^ 28) e }
+    ensures { result ≡ map (yaw_out d e) squares_left }
+{
+    let table = squares_left();
+    let mut points = [0; 8];
+    for k in 0..8 {
+        points[k] = yaw_out(d, e, table[k]);
+    }
+    points
+}
+
+// The yaw of an eased arc.
+fn eased_yaw(ease: Ease, d: i64, e: i64) -> Axis
+    requires d { IsUpTo (2 ^ 40) d }
+    requires e { IsUpTo (2 ^ 28) e }
+    ensures { result ≡ Eight (eased_yaw ease d e) }
+{
+    match ease {
+        Ease::InOut => rest(d, e),
+        Ease::In => Axis::Eight { v: yaws_in(d, e) },
+        Ease::Out => Axis::Eight { v: yaws_out(d, e) },
     }
 }
 
@@ -156,12 +369,45 @@ pub(crate) fn axes(p: &Point, act: &Act) -> [Axis; 4]
             };
             [x, y, still(p.z), even(p.yaw, *yaw)]
         }
+        Act::Eased {
+            ease,
+            ccw,
+            cx,
+            cy,
+            yaw,
+        } => {
+            let x = Axis::Eight {
+                v: eased_x(p, *ease, *ccw, *cx, *cy),
+            };
+            let y = Axis::Eight {
+                v: eased_y(p, *ease, *ccw, *cx, *cy),
+            };
+            [x, y, still(p.z), eased_yaw(*ease, p.yaw, *yaw)]
+        }
         Act::Curve { p1, p2, to } => [
             curve(p.x, p1[0], p2[0], to.x),
             curve(p.y, p1[1], p2[1], to.y),
             curve(p.z, p1[2], p2[2], to.z),
             even(p.yaw, to.yaw),
         ],
+    }
+}
+
+// Where a quarter circle ends, from the present point: an eased one ends where `arc` does.
+#[tactic(auto, unfolding(crate::specs::Written::end_of))]
+fn arc_end(p: &Point, ccw: bool, cx: i64, cy: i64, yaw: i64) -> Point
+    requires point { IsPointUpTo (2 ^ 40) p.now }
+    requires x { IsUpTo (2 ^ 28) cx }
+    requires y { IsUpTo (2 ^ 28) cy }
+    ensures { result ≡ end_of p.now (act.Arc ccw cx cy yaw) }
+{
+    let x = arc_x(p, ccw, cx, cy);
+    let y = arc_y(p, ccw, cx, cy);
+    Point {
+        x: x[3],
+        y: y[3],
+        z: p.z,
+        yaw,
     }
 }
 
@@ -182,16 +428,14 @@ pub(crate) fn end_of(p: &Point, act: &Act) -> Point
             z: p.z,
             yaw: *yaw,
         },
-        Act::Arc { ccw, cx, cy, yaw } => {
-            let x = arc_x(p, *ccw, *cx, *cy);
-            let y = arc_y(p, *ccw, *cx, *cy);
-            Point {
-                x: x[3],
-                y: y[3],
-                z: p.z,
-                yaw: *yaw,
-            }
-        }
+        Act::Arc { ccw, cx, cy, yaw } => arc_end(p, *ccw, *cx, *cy, *yaw),
+        Act::Eased {
+            ccw,
+            cx,
+            cy,
+            yaw,
+            ..
+        } => arc_end(p, *ccw, *cx, *cy, *yaw),
         Act::Curve { to, .. } => *to,
     }
 }

@@ -25,7 +25,8 @@ IsAxis (Eight v) = length v ≡ 8
 abbrev pub IsPiece : MicroPiece → Type 0
 IsPiece p = All IsAxis p.axes
 
--- where the curve with these control points is at the fraction a / c of a cue: its Bernstein sum, as a numerator over c ^ 7
+-- where the curve with these control points is at the fraction a / c of a cue: its Bernstein sum, as a numerator over c
+-- ^ 7
 abbrev pub position : List ℤ → ℕ → ℕ → ℤ
 position points a c = power (pos c) (8 - length points) *ℤ bern points (pos a) (pos c)
 
@@ -33,7 +34,8 @@ position points a c = power (pos c) (8 - length points) *ℤ bern points (pos a)
 abbrev pub AtEachFraction : (ℕ → ℕ → Type 0) → Type 0
 AtEachFraction Holds = (a c : ℕ) → 1 ≤ c → a ≤ c → Holds a c
 
--- The element, which begins at the first control value in whole millimetres, keeps within half a millimetre of the axis.
+-- The element, which begins at the first control value in whole millimetres, keeps within half a millimetre of the
+-- axis.
 abbrev pub KeepsNear : Axis → Element → Type 0
 KeepsNear axis e =
     AtEachFraction (λ a c. IsNear (position (controls axis) a c) (position (first_control (rounded axis) ∷ stored e) a c) c)

@@ -58,8 +58,8 @@ abbrev pub behind_first : List ℤ → List ℤ
 behind_first [] = []
 behind_first (z ∷ zs) = zs
 
--- The element with these control values, of which the first isn't stored: it is constant exactly where all of them are equal,
--- else it has the degree of its axis.
+-- The element with these control values, of which the first isn't stored: it is constant exactly where all of them are
+-- equal, else it has the degree of its axis.
 abbrev pub element_of : Axis → Element
 element_of (One v) = Constant
 element_of (Two v) = if all_equal v then Constant else Linear (at v 1)

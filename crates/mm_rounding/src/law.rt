@@ -6,10 +6,10 @@ ghost use Rattle.mm_rounding.specs.declared.piece.MicroPiece.{MicroPiece};
 ghost use Rattle.mm_rounding.specs.Rounding.{millimetres, first_control, rounded, element_of, segment_of};
 ghost use Rattle.mm_rounding.specs.Near.{IsAxis, IsPiece, StaysNear, KeepsNear, KeepsEqual, last_control, EndsThere};
 
-/// A law. At every fraction of a cue an axis in whole millimetres is within half a millimetre of the axis in micrometres:
-/// each control value errs by half a millimetre at most, and a point of a Bézier curve is a mean of its control values
-/// (the hull property). An element is the curve of its control values, and ends at the last of them; a rounded axis begins
-/// and ends at the rounded ends of the axis.
+/// A law. At every fraction of a cue an axis in whole millimetres is within half a millimetre of the axis in
+/// micrometres: each control value errs by half a millimetre at most, and a point of a Bézier curve is a mean of its
+/// control values (the hull property). An element is the curve of its control values, and ends at the last of them; a
+/// rounded axis begins and ends at the rounded ends of the axis.
 pub fn rounding_law()
     ensures near { (axis : Axis) → IsAxis axis → KeepsNear axis (element_of (rounded axis)) }
     ensures same { (axis : Axis) → IsAxis axis → KeepsEqual axis (element_of axis) }

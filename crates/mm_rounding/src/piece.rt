@@ -1,7 +1,7 @@
 //! A piece of a drone's way in micrometres.
 
-/// The control values of one axis over one cue, the first one included: one value that stays, or the values of a curve of
-/// degree one, three or seven. Micrometres on x, y and z, tenths of a degree on yaw.
+/// The control values of one axis over one cue, the first one included: one value that stays, or the values of a curve
+/// of degree one, three or seven. Micrometres on x, y and z, tenths of a degree on yaw.
 #[derive(Clone, Copy, Debug, PartialEq, Eq)]
 pub enum Axis {
     One { v: i64 },

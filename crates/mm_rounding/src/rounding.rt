@@ -32,8 +32,8 @@ pub fn short(v: i64) -> Option<i16>
     i16::try_from(v).ok()
 }
 
-/// Micrometres in whole millimetres: `v + 500` divided by 1,000 and rounded down, so that a half goes up. Nothing exactly
-/// where the millimetres don't fit two bytes.
+/// Micrometres in whole millimetres: `v + 500` divided by 1,000 and rounded down, so that a half goes up. Nothing
+/// exactly where the millimetres don't fit two bytes.
 pub fn to_mm(v: i64) -> Option<i16>
     ensures value { result ≡ short (millimetres v) }
     // It errs by at most 500 micrometres.
@@ -164,10 +164,10 @@ fn element(axis: &Axis) -> Option<Element>
     }
 }
 
-/// The segment that a piece rounds to: x, y and z in whole millimetres, yaw in tenths of a degree as it is. An element is
-/// constant exactly where all its rounded control values are equal, else it has the degree of its axis
-/// (docs/TRAJECTORY.md). Nothing exactly where a rounded position or a yaw doesn't fit two bytes, or where the piece lasts
-/// 0 milliseconds.
+/// The segment that a piece rounds to: x, y and z in whole millimetres, yaw in tenths of a degree as it is. An element
+/// is constant exactly where all its rounded control values are equal, else it has the degree of its axis
+/// (docs/TRAJECTORY.md). Nothing exactly where a rounded position or a yaw doesn't fit two bytes, or where the piece
+/// lasts 0 milliseconds.
 pub fn round_piece(p: &MicroPiece) -> Option<Segment>
     ensures { result ≡ rounding p.now }
 {

@@ -52,7 +52,7 @@ fn piece(axes: [Axis; 4]) -> Outcome {
 }
 
 // Control values that are known from outside.
-const FIGURES: [(&[u8], [Axis; 4]); 5] = [
+const FIGURES: [(&[u8], [Axis; 4]); 11] = [
     // a quarter circle
     (
         b"choreo 1\ndrone solo 1000000 0 1000000 0\ncue 1000\nsolo arc ccw 0 0 0\nend\n",
@@ -93,6 +93,119 @@ const FIGURES: [(&[u8], [Axis; 4]); 5] = [
             Axis::Two { v: [0, 900] },
         ],
     ),
+    // from rest to rest
+    (
+        b"choreo 1\ndrone solo 1000000 0 1000000 0\ncue 1000\nsolo swing ccw 0 0 0\nend\n",
+        [
+            Axis::Eight {
+                v: [1_000_000, 1_000_000, 1_000_000, 1_063_179, 696_647, 0, 0, 0],
+            },
+            Axis::Eight {
+                v: [0, 0, 0, 696_647, 1_063_179, 1_000_000, 1_000_000, 1_000_000],
+            },
+            Axis::One { v: 1_000_000 },
+            Axis::Eight {
+                v: [0, 0, 0, 0, 0, 0, 0, 0],
+            },
+        ],
+    ),
+    // clockwise around a centre aside, from negative places
+    (
+        b"choreo 1\ndrone solo -1234567 765433 1000000 1800\ncue 1000\nsolo swing cw -1000001 -999 -1801\nend\n",
+        [
+            Axis::Eight {
+                v: [
+                    -1_234_567, -1_234_567, -1_234_567, -715_454, -348_557, -233_569, -233_569,
+                    -233_569,
+                ],
+            },
+            Axis::Eight {
+                v: [
+                    765_433, 765_433, 765_433, 977_265, 782_320, 233_567, 233_567, 233_567,
+                ],
+            },
+            Axis::One { v: 1_000_000 },
+            Axis::Eight {
+                v: [1800, 1800, 1800, 1800, -1801, -1801, -1801, -1801],
+            },
+        ],
+    ),
+    // from rest into an arc
+    (
+        b"choreo 1\ndrone solo 1000003 -2 1000000 0\ncue 1000\nsolo arc_in ccw 0 0 900\nend\n",
+        [
+            Axis::Eight {
+                v: [
+                    1_000_003, 1_000_003, 1_000_147, 993_510, 974_939, 785_076, 473_390, 2,
+                ],
+            },
+            Axis::Eight {
+                v: [
+                    -2, -2, 114_404, 186_896, 507_934, 741_519, 1_000_002, 1_000_003,
+                ],
+            },
+            Axis::One { v: 1_000_000 },
+            Axis::Eight {
+                v: [0, 0, 43, 129, 257, 429, 643, 900],
+            },
+        ],
+    ),
+    // from an arc to rest
+    (
+        b"choreo 1\ndrone solo -7 12 1000000 -1\ncue 1000\nsolo arc_out cw 3 -5 10\nend\n",
+        [
+            Axis::Eight {
+                v: [-7, 1, 9, 15, 18, 19, 20, 20],
+            },
+            Axis::Eight {
+                v: [12, 17, 16, 14, 8, 7, 5, 5],
+            },
+            Axis::One { v: 1_000_000 },
+            Axis::Eight {
+                v: [-1, 2, 5, 7, 8, 9, 10, 10],
+            },
+        ],
+    ),
+    // in the mirror y, around the other way
+    (
+        b"choreo 1\ndrone solo 1000000 0 1000000 0\nfigure go p\ncue 1000\np arc_in ccw 0 0 90\nend\nend\nperform go y 0 0 0 0 solo\n",
+        [
+            Axis::Eight {
+                v: [
+                    1_000_000, 1_000_000, 1_000_144, 993_507, 974_935, 785_073, 473_387, 0,
+                ],
+            },
+            Axis::Eight {
+                v: [
+                    0, 0, -114_406, -186_897, -507_934, -741_519, -1_000_000, -1_000_000,
+                ],
+            },
+            Axis::One { v: 1_000_000 },
+            Axis::Eight {
+                v: [0, 0, -4, -13, -26, -43, -64, -90],
+            },
+        ],
+    ),
+    // in a frame with all three steps
+    (
+        b"choreo 1\ndrone solo 1000000 0 1000000 0\nfigure go p\ncue 1000\np arc_out ccw -500000 250000 100\nend\nend\nperform go x 1 1 -2 0 solo\n",
+        [
+            Axis::Eight {
+                v: [
+                    1_000_000, 763_307, 284_364, -102_548, -513_130, -607_062, -749_997, -749_997,
+                ],
+            },
+            Axis::Eight {
+                v: [
+                    0, -591_733, -852_100, -972_636, -835_333, -807_384, -750_001, -750_001,
+                ],
+            },
+            Axis::One { v: 1_000_000 },
+            Axis::Eight {
+                v: [0, 743, 1362, 1857, 2229, 2476, 2600, 2600],
+            },
+        ],
+    ),
     // a turn, after a movement
     (
         b"choreo 1\ndrone solo 0 0 1000000 0\ncue 2000\nsolo move 5 6 7 8\nend\ncue 1000\nsolo turn 900\nend\n",
@@ -127,7 +240,7 @@ fn figures(rt: HostRuntime) {
 }
 
 // The first value that no trajectory can hold.
-const RANGES: [(&[u8], AxisValue); 3] = [
+const RANGES: [(&[u8], AxisValue); 4] = [
     (
         b"choreo 1\ndrone solo 32767500 0 1000000 0\ncue 2000\nsolo move 1000000 0 1000000 0\nend\n",
         AxisValue {
@@ -142,6 +255,15 @@ const RANGES: [(&[u8], AxisValue); 3] = [
             line: 2,
             axis: 0,
             value: -32_768_501,
+        },
+    ),
+    // a control point of a quarter circle from rest to rest, whose ends fit
+    (
+        b"choreo 1\ndrone solo 32000000 0 1000000 0\ncue 1000\nsolo swing ccw 0 0 0\nend\n",
+        AxisValue {
+            line: 4,
+            axis: 0,
+            value: 34_021_728,
         },
     ),
     // the end of a movement

@@ -1,6 +1,6 @@
 //! Lines by the tables of docs/LANGUAGE.md: what they say where they stand, or what is wrong with them.
 
-use choreo_lines::{Act, Entry, Frame, LineError, LineKind, Mirror, Place, Point, entry_of};
+use choreo_lines::{Act, Ease, Entry, Frame, LineError, LineKind, Mirror, Place, Point, entry_of};
 use std::alloc::Global;
 use text_lines::{Comments, tokens};
 
@@ -113,7 +113,7 @@ fn lines_of_blocks_are_read(rt: HostRuntime) {
     }
 }
 
-const ACT_LINES: [(&[u8], Outcome); 9] = [
+const ACT_LINES: [(&[u8], Outcome); 12] = [
     (b"form f line", Outcome::Form(false)),
     (b"form f move", Outcome::Form(true)),
     (b"a hold", Outcome::One(Act::Hold)),
@@ -139,6 +139,36 @@ const ACT_LINES: [(&[u8], Outcome); 9] = [
         }),
     ),
     (
+        b"a swing cw 5 -6 7",
+        Outcome::One(Act::Eased {
+            ease: Ease::InOut,
+            ccw: false,
+            cx: 5,
+            cy: -6,
+            yaw: 7,
+        }),
+    ),
+    (
+        b"a arc_in ccw 5 6 7",
+        Outcome::One(Act::Eased {
+            ease: Ease::In,
+            ccw: true,
+            cx: 5,
+            cy: 6,
+            yaw: 7,
+        }),
+    ),
+    (
+        b"arc_out arc_out cw -5 6 32767",
+        Outcome::One(Act::Eased {
+            ease: Ease::Out,
+            ccw: false,
+            cx: -5,
+            cy: 6,
+            yaw: 32767,
+        }),
+    ),
+    (
         b"a curve 5 6 7 8 9 10 1 -2 3 -4",
         Outcome::One(Act::Curve {
             p1: [5, 6, 7],
@@ -155,7 +185,7 @@ fn lines_of_a_cue_are_read(rt: HostRuntime) {
     }
 }
 
-const REFUSALS: [(Place, &[u8], LineKind); 24] = [
+const REFUSALS: [(Place, &[u8], LineKind); 29] = [
     // the first word, then how many there are, then the others from the left
     (Place::Top, b"at a 0 0 0 0", LineKind::BadWord),
     (Place::InFigure, b"perform g x 0 0 0 0 a", LineKind::BadWord),
@@ -180,6 +210,11 @@ const REFUSALS: [(Place, &[u8], LineKind); 24] = [
     (Place::InCue, b"Solo jump", LineKind::BadName),
     (Place::InCue, b"solo jump 0", LineKind::BadWord),
     (Place::InCue, b"solo", LineKind::BadCount),
+    (Place::InCue, b"solo arcin cw 0 0 0", LineKind::BadWord),
+    (Place::InCue, b"solo arc_out up 0 0", LineKind::BadCount),
+    (Place::InCue, b"solo arc_in up x 0 0", LineKind::BadWord),
+    (Place::InCue, b"solo swing cw 0 0 32768", LineKind::Range),
+    (Place::Top, b"swing cw 0 0 0", LineKind::BadWord),
     (Place::InCue, b"form f curve", LineKind::BadWord),
     (Place::InFigureCue, b"form f line", LineKind::BadName),
 ];

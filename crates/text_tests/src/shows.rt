@@ -369,7 +369,7 @@ fn lines_at_top_are_judged(rt: HostRuntime) {
 }
 
 // The same for lines in blocks.
-const IN_BLOCKS: [(&[u8], u32, LineKind); 31] = [
+const IN_BLOCKS: [(&[u8], u32, LineKind); 32] = [
     (
         b"# a show\n \t\r\nchoreo 1 # first\r\n\ncue 1#\x01\n# inside\n\nsolo jump 0",
         8,
@@ -432,6 +432,11 @@ const IN_BLOCKS: [(&[u8], u32, LineKind); 31] = [
     (b"choreo 1\ncue 1\na move 0 0 0 -\n", 3, LineKind::BadNumber),
     (b"choreo 1\ncue 1\na turn 32768\n", 3, LineKind::Range),
     (b"choreo 1\ncue 1\na arc left 0 0 0\n", 3, LineKind::BadWord),
+    (
+        b"choreo 1\ncue 1\na swing left 0 0 0\n",
+        3,
+        LineKind::BadWord,
+    ),
     (
         b"choreo 1\ncue 1\na curve 0 0 0 0 0 0 0 0 100000001 x\n",
         3,

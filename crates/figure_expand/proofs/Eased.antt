@@ -1,0 +1,149 @@
+-- Eased arcs: they begin where the drone is, and end where `arc` ends.
+use Rattle.figure_expand.proofs.Prelude.{◌≡◌, ℕ, zero, suc, ◌<◌, ◌≤◌, ◌^◌, Bool, All, All-from_recursion, IsUpTo, ℤ, pos, ◌+ℤ◌, ◌-ℤ◌, ◌*ℤ◌, List, [], ◌∷◌, length, map, take, get_or, set, ◌+◌, arith, refl, sym, ap, ◌∙◌, ints, at, Point, controls, Eight, end_of}
+use Rattle.std.specs.Prelude.{neg_ℤ, negsuc, ◌≤ℤ◌, ◌<ℤ◌}
+use Rattle.std.specs.Int.{int_div_euclid}
+use Rattle.std.proofs.lemmas.List.{take_all}
+use Rattle.fleet_math.proofs.RingLemmas.{le_mul_pos}
+use Rattle.fleet_math.specs.Decoded.{last_value}
+use Rattle.choreo_lines.specs.declared.parts.Act.TheVariants as act
+use Rattle.choreo_lines.specs.declared.parts.Ease.{Ease}
+use Rattle.choreo_lines.specs.declared.parts.Ease.TheVariants as ease
+use Rattle.figure_expand.specs.Acts.{eased_on, eased_points, millionths, shares}
+use Rattle.figure_expand.specs.Bounds.{AreSmall}
+use Rattle.figure_expand.specs.Controls.{axis_with}
+use Rattle.figure_expand.specs.Written.{eased_yaw, forty_seconds}
+
+-- ---- shares
+
+-- the floor of a millionth
+pub floor_of_million : (x : ℤ) → ((int_div_euclid x (pos 1000000) *ℤ pos 1000000) ≤ℤ x) × (x <ℤ ((int_div_euclid x (pos 1000000) *ℤ pos 1000000) +ℤ pos 1000000))
+floor_of_million (pos n) = (omega (arith, ints), omega (arith, ints))
+floor_of_million (negsuc n) = (omega (arith, ints), omega (arith, ints))
+
+-- all millionths of a number
+pub all_of : (v : ℤ) → millionths 1000000 v ≡ v
+all_of v = omega (arith, ints, floor_of_million ((pos 1000000 *ℤ v) +ℤ pos 500000))
+
+-- none of them
+pub none_of : (v : ℤ) → millionths 0 v ≡ pos 0
+none_of v = omega (arith, ints, floor_of_million ((pos 0 *ℤ v) +ℤ pos 500000))
+
+-- the floor of a forty-second
+floor_of_42 : (x : ℤ) → ((int_div_euclid x (pos 42) *ℤ pos 42) ≤ℤ x) × (x <ℤ ((int_div_euclid x (pos 42) *ℤ pos 42) +ℤ pos 42))
+floor_of_42 (pos n) = (omega (arith, ints), omega (arith, ints))
+floor_of_42 (negsuc n) = (omega (arith, ints), omega (arith, ints))
+
+whole_turn : (s : ℤ) → forty_seconds 42 s ≡ s
+whole_turn s = omega (arith, ints, floor_of_42 ((pos 42 *ℤ s) +ℤ pos 21))
+
+no_turn : (s : ℤ) → forty_seconds 0 s ≡ pos 0
+no_turn s = omega (arith, ints, floor_of_42 ((pos 0 *ℤ s) +ℤ pos 21))
+
+-- a share of a number that an act has fits 64 bits
+pub share_small : (a : ℕ) (s : ℤ) → a ≤ 2000000 → IsUpTo (2 ^ 41) s → IsUpTo (2 ^ 62) (pos a *ℤ s)
+share_small a s few small =
+    (omega (arith, ints, le_mul_pos a (neg_ℤ (pos (2 ^ 41))) s small.0), omega (arith, ints, le_mul_pos a s (pos (2 ^ 41)) small.1))
+
+-- so do forty-seconds of a turn
+pub turn_small : (a : ℕ) (s : ℤ) → a ≤ 65535 → IsUpTo (2 ^ 42) s → IsUpTo (2 ^ 58) (pos a *ℤ s)
+turn_small a s few small =
+    (omega (arith, ints, le_mul_pos a (neg_ℤ (pos (2 ^ 42))) s small.0), omega (arith, ints, le_mul_pos a s (pos (2 ^ 42)) small.1))
+
+-- the shares in the table are small
+pub shares_small : (how : Ease) → All AreSmall (shares how)
+shares_small ease.InOut = All-from_recursion AreSmall (shares ease.InOut) ((omega arith, omega arith), ((omega arith, omega arith), ((omega arith, omega arith), ((omega arith, omega arith), ((omega arith, omega arith), ((omega arith, omega arith), ((omega arith, omega arith), ((omega arith, omega arith), tt))))))))
+shares_small ease.In = All-from_recursion AreSmall (shares ease.In) ((omega arith, omega arith), ((omega arith, omega arith), ((omega arith, omega arith), ((omega arith, omega arith), ((omega arith, omega arith), ((omega arith, omega arith), ((omega arith, omega arith), ((omega arith, omega arith), tt))))))))
+shares_small ease.Out = All-from_recursion AreSmall (shares ease.Out) ((omega arith, omega arith), ((omega arith, omega arith), ((omega arith, omega arith), ((omega arith, omega arith), ((omega arith, omega arith), ((omega arith, omega arith), ((omega arith, omega arith), ((omega arith, omega arith), tt))))))))
+
+pub eight_shares : (how : Ease) → length (shares how) ≡ 8
+eight_shares ease.InOut = refl
+eight_shares ease.In = refl
+eight_shares ease.Out = refl
+
+-- ---- points that are made one by one
+
+-- one point more
+filled : {A : Type 0} (f : A → ℤ) (points : List ℤ) (table : List A) (k : ℕ) (v : ℤ) (other : A) → k < length points → k < length table →
+    take k points ≡ map f (take k table) → v ≡ f (get_or table k other) → take (suc k) (set points k v) ≡ map f (take (suc k) table)
+filled f [] table k v other within also done is = absurd (omega arith)
+filled f (p ∷ points) [] k v other within also done is = absurd (omega arith)
+filled f (p ∷ points) (t ∷ table) zero v other within also done is = ap (λ z. z ∷ []) is
+filled f (p ∷ points) (t ∷ table) (suc k) v other within also done is =
+    heads p (f t) (take (suc k) (set points k v)) (map f (take (suc k) table)) (first p (f t) (take k points) (map f (take k table)) done)
+    (filled f points table k v other (omega arith) (omega arith) (rest p (f t) (take k points) (map f (take k table)) done) is)
+  where
+    first : (a b : ℤ) (xs ys : List ℤ) → a ∷ xs ≡ b ∷ ys → a ≡ b
+    first a b xs ys e = cc
+
+    rest : (a b : ℤ) (xs ys : List ℤ) → a ∷ xs ≡ b ∷ ys → xs ≡ ys
+    rest a b xs ys e = cc
+
+    heads : (a b : ℤ) (xs ys : List ℤ) → a ≡ b → xs ≡ ys → a ∷ xs ≡ b ∷ ys
+    heads a b xs ys e f = cc
+
+pub filled_more : {A : Type 0} (f : A → ℤ) (points : List ℤ) (table : List A) (k : ℕ) (v : ℤ) (other : A) → k < length points → k < length table →
+    take k points ≡ map f (take k table) → v ≡ f (get_or table k other) → take (k + 1) (set points k v) ≡ map f (take (k + 1) table)
+filled_more f points table k v other within also done is =
+    let e : k + 1 ≡ suc k = omega arith in
+    rw e (filled f points table k v other within also done is)
+
+-- all points
+pub filled_all : {A : Type 0} (f : A → ℤ) (points : List ℤ) (table : List A) (k : ℕ) → length points ≤ k → length table ≤ k → take k points ≡ map f (take k table) → points ≡ map f table
+filled_all f points table k all also done = sym (take_all k points all) ∙ done ∙ ap (map f) (take_all k table also)
+
+-- ---- ends
+
+pub first_point : (how : Ease) (centre v w : ℤ) → at (eased_points how centre v w) 0 ≡ centre +ℤ v
+first_point ease.InOut centre v w = omega (arith, ints, all_of v, none_of w)
+first_point ease.In centre v w = omega (arith, ints, all_of v, none_of w)
+first_point ease.Out centre v w = omega (arith, ints, all_of v, none_of w)
+
+pub last_point : (how : Ease) (centre v w : ℤ) → last_value (pos 0) (eased_points how centre v w) ≡ centre +ℤ w
+last_point ease.InOut centre v w = omega (arith, ints, none_of v, all_of w)
+last_point ease.In centre v w = omega (arith, ints, none_of v, all_of w)
+last_point ease.Out centre v w = omega (arith, ints, none_of v, all_of w)
+
+pub first_yaw : (how : Ease) (D E : ℤ) → at (eased_yaw how D E) 0 ≡ D
+first_yaw ease.InOut D E = refl
+first_yaw ease.In D E = omega (arith, ints, no_turn (E -ℤ D))
+first_yaw ease.Out D E = omega (arith, ints, whole_turn (E -ℤ D))
+
+pub last_yaw : (how : Ease) (D E : ℤ) → last_value (pos 0) (eased_yaw how D E) ≡ E
+last_yaw ease.InOut D E = refl
+last_yaw ease.In D E = omega (arith, ints, whole_turn (E -ℤ D))
+last_yaw ease.Out D E = omega (arith, ints, no_turn (E -ℤ D))
+
+-- ---- axes
+
+-- an axis has the control points that it is made of
+pub controls_with : (vs : List ℤ) → controls (axis_with vs) ≡ vs
+controls_with (v ∷ []) = refl
+controls_with (v ∷ w ∷ []) = refl
+controls_with (v ∷ w ∷ x ∷ y ∷ []) = refl
+controls_with vs = refl
+
+pub eight_points : (how : Ease) (centre v w : ℤ) → Eight (eased_points how centre v w) ≡ axis_with (eased_points how centre v w)
+eight_points ease.InOut centre v w = refl
+eight_points ease.In centre v w = refl
+eight_points ease.Out centre v w = refl
+
+pub eight_on : (p : Point) (how : Ease) (ccw : Bool) (cx cy : ℤ) (axis : ℕ) → Eight (eased_on p how ccw cx cy axis) ≡ axis_with (eased_on p how ccw cx cy axis)
+eight_on p how ccw cx cy zero = eight_points how _ _ _
+eight_on p how ccw cx cy (suc axis) = eight_points how _ _ _
+
+pub eight_yaws : (how : Ease) (D E : ℤ) → Eight (eased_yaw how D E) ≡ axis_with (eased_yaw how D E)
+eight_yaws ease.InOut D E = refl
+eight_yaws ease.In D E = refl
+eight_yaws ease.Out D E = refl
+
+-- a point with these numbers
+abbrev point_with : ℤ → ℤ → ℤ → ℤ → Point
+point_with x y z yaw = record { x = x; y = y; z = z; yaw = yaw }
+
+same_point : (x y z yaw x' y' yaw' : ℤ) → x ≡ x' → y ≡ y' → yaw ≡ yaw' → point_with x y z yaw ≡ point_with x' y' z yaw'
+same_point x y z yaw x' y' yaw' a b c = cc
+
+-- an eased arc ends where the arc of its numbers ends
+pub ends_as_arc : (p : Point) (how : Ease) (ccw : Bool) (cx cy yaw : ℤ) → end_of p (act.Eased how ccw cx cy yaw) ≡ end_of p (act.Arc ccw cx cy yaw)
+unfolding end_of
+ends_as_arc p how ccw cx cy yaw = same_point _ _ _ _ _ _ _ (last_point how cx _ _) (last_point how cy _ _) (last_yaw how p.yaw yaw)

@@ -1,0 +1,30 @@
+use Rattle.std.proofs.Common.{rules, FitsSigned}
+use Rattle.figure_expand.proofs.Prelude.{◌≡◌, ◌<◌, ◌≤◌, ◌^◌, ℤ, map, length, to_z, of_z, to_z-of_z, w64, arith, ap, ◌∙◌}
+use Rattle.std.proofs.lemmas.List.{length-set}
+use Rattle.figure_expand.specs.Written.{squares, yaw_in}
+use Rattle.figure_expand.proofs.Eased.{filled_all, filled_more}
+use Rattle.figure_expand.proofs.Reach.{kept, wider}
+use Rattle.figure_expand.proofs.shapes.yaws_in.Goals as goal
+
+pub loop-k-preserved : goal.loop-k-preserved
+loop-k-preserved c =
+    let eight : length c.squares-table.result.now ≡ 8 = ap length c.squares-table.ensures in
+    let within : c.loop-k.k < length c.loop-k.points = omega (arith, c.loop-k.invariant.same_length, c.loop-k-test.true) in
+    let also : c.loop-k.k < length c.squares-table.result.now = omega (arith, eight, c.loop-k-test.true) in
+    let fits : FitsSigned w64 c.yaw_in.result = search rules in
+    record {
+      same_length = length-set _ _ _ ∙ c.loop-k.invariant.same_length;
+      done = filled_more _ _ _ _ _ _ within also c.loop-k.invariant.done (to_z-of_z w64 c.yaw_in.result fits ∙ c.yaw_in.ensures);
+    }
+
+pub returns : goal.returns
+returns c =
+    let eight : length c.squares-table.result.now ≡ 8 = ap length c.squares-table.ensures in
+    let all : length c.loop-k.points ≤ c.loop-k.k = omega (arith, c.loop-k.invariant.same_length, c.loop-k-test.false) in
+    let also : length c.squares-table.result.now ≤ c.loop-k.k = omega (arith, eight, c.loop-k-test.false) in
+    let d : to_z w64 (of_z w64 c.args.d) ≡ c.args.d = kept c.args.d (wider (2 ^ 40) (2 ^ 43) c.args.d (omega arith) c.requires.d) in
+    let e : to_z w64 (of_z w64 c.args.e) ≡ c.args.e = kept c.args.e (wider (2 ^ 28) (2 ^ 43) c.args.e (omega arith) c.requires.e) in
+    filled_all _ _ _ _ all also c.loop-k.invariant.done
+    ∙ ap (map (yaw_in (to_z w64 (of_z w64 c.args.d)) (to_z w64 (of_z w64 c.args.e)))) c.squares-table.ensures
+    ∙ ap (λ (z : ℤ). map (yaw_in z (to_z w64 (of_z w64 c.args.e))) squares) d
+    ∙ ap (λ (z : ℤ). map (yaw_in c.args.d z) squares) e
