@@ -13,7 +13,7 @@ pub use Rattle.std.specs.Prelude.{Err, IfErr, IfOk, IfSome, IsTrue, Ok, Result}
 pub use Rattle.text_lines.specs.Lines.{between_feeds}
 unfoldable pub use Rattle.text_lines.specs.Marker.{part_of, rest_of}
 pub use Rattle.text_lines.specs.Marker.{ended, has_marker, is_marker, lines_after, lines_before}
-pub use Rattle.fleet_io.specs.Held.{Asked, Held, buffer_bytes, given, has_whole_marker, stream, without_last}
+pub use Rattle.fleet_io.specs.Held.{Asked, Held, buffer_bytes, byte_of, has_whole_marker, stream, without_last}
 pub use Rattle.fleet_io.specs.PartBytes.{ArePlain, AsksNext, PartLaw, after_piece, begins_after, first_piece, is_marked_here, is_marked_left, is_untold, may_be_marker, part_left, plain_len, rest_left}
 pub use Rattle.fleet_io.specs.Parts.{MarkerLaw, TakesFewAfter, TakesPart, TookMarked}
 pub use Rattle.fleet_io.specs.Steps.{Goes, Runs}

@@ -154,3 +154,23 @@ told_input t u bytes w told at_end =
 
 pub told_to_come : (t : Told) (bytes : List ℕ) → to_come (t.given ++ bytes) t ≡ Some bytes
 told_to_come t bytes = ap Some (dropped t.given bytes)
+
+-- a source that exposes its input has, of all that it ever gives, this left at the end
+pub left_to_come : (t u : Told) (bytes : List ℕ) → Gives t u → t.left ≡ Some bytes → to_come (t.given ++ bytes) u ≡ u.left
+left_to_come t u bytes w told =
+    let has = has_left t.left u.left w.bytes bytes w.left told in
+    ap Some (comes u (t.given ++ bytes) has.rest (ap (λ (xs : List ℕ). t.given ++ xs) has.all ∙ sym (append_assoc t.given w.bytes has.rest) ∙ ap (λ (g : List ℕ). g ++ has.rest) (sym w.given)))
+    ∙ sym has.is
+
+-- ---- where the end was met
+
+met_unless : (b : Bool) → (b ≡ false → ⊥) → IsTrue b
+met_unless true never = refl
+met_unless false never = absurd (never refl)
+
+-- If nothing is left of any input that a source may have, it has met its end: else a byte might still come.
+pub met_end : (u : Told) → ((all : List ℕ) → IsInput u all → to_come all u ≡ Some []) → IsTrue u.ended
+met_end u none = met_unless u.ended (λ off.
+    let more : IsInput u (u.given ++ 0 ∷ []) = record { rest = 0 ∷ []; is = refl; none = λ on. absurd (let e : true ≡ false = sym on ∙ off in cc) } in
+    let one : Some (0 ∷ []) ≡ Some [] = sym (ap Some (comes u (u.given ++ 0 ∷ []) (0 ∷ []) refl)) ∙ none (u.given ++ 0 ∷ []) more in
+    absurd cc)

@@ -13,6 +13,7 @@ buffer_bytes = 4096
 abbrev pub text_limit : ℕ
 text_limit = 80000000
 
+-- what a reader of parts holds
 pub record Held : Type 0 where
   -- taken from the source, and not yet in a part
   pub waiting : List ℕ
@@ -25,7 +26,7 @@ pub record Held : Type 0 where
   -- the next byte of the part begins a line
   pub at_line : Bool
 
--- the bytes still to come, where the source tells what it has left
+-- the bytes still to come of the reader, where those of its source are known
 abbrev pub stream : Held → Option (List ℕ) → Option (List ℕ)
 stream held left = prepend_known held.waiting left
 
@@ -39,8 +40,8 @@ without_last (piece ∷ next ∷ rest) = piece ∷ without_last (next ∷ rest)
 abbrev pub has_whole_marker : List ℕ → Bool
 has_whole_marker bytes = has_marker (without_last (between_feeds bytes))
 
--- A call that began with these waiting bytes asked its source, and each time what it held had no whole marker line:
--- when it asked last it had taken the bytes before, and then it got the last ones.
+-- A call that began with these waiting bytes read from its source, and before each read what it held had no whole marker
+-- line: `before` is what it had read when it asked last, and `last` is what it got then.
 pub record Asked (waiting : List ℕ) (old new : Told) : Type 0 where
   pub before : List ℕ
   pub last : List ℕ
@@ -48,8 +49,8 @@ pub record Asked (waiting : List ℕ) (old new : Told) : Type 0 where
   pub most : length last ≤ buffer_bytes
   pub unmarked : has_whole_marker (waiting ++ before) ≡ false
 
--- the byte that a step gives, if it gives one
-abbrev pub given : {E : Type 0} → Result (Option ℕ) E → List ℕ
-given (Ok (Some byte)) = byte ∷ []
-given (Ok None) = []
-given (Err e) = []
+-- the byte that a call returned, if it returned one
+abbrev pub byte_of : {E : Type 0} → Result (Option ℕ) E → List ℕ
+byte_of (Ok (Some byte)) = byte ∷ []
+byte_of (Ok None) = []
+byte_of (Err e) = []

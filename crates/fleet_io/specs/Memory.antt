@@ -93,7 +93,7 @@ pub record StdOut : Type 0 where
   -- how many writes failed
   pub faults : ℕ
 
--- ---- what they tell
+-- ---- what they expose
 
 abbrev pub told_std : StdIn → Told
 told_std s = record { given = s.given; ended = s.ended; left = s.remaining; faults = s.faults }

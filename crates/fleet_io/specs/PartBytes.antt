@@ -74,7 +74,7 @@ pub record PartLaw : Type 0 where
 abbrev pub may_be_marker : List ℕ → Bool
 may_be_marker bytes = bytes_eq bytes [] || (bytes_eq bytes (37 ∷ []) || (bytes_eq bytes (37 ∷ 37 ∷ []) || bytes_eq bytes (37 ∷ 37 ∷ 13 ∷ [])))
 
--- these bytes that wait don't tell yet what comes next, where a line begins or not
+-- whether these bytes that wait leave open what comes next, where a line begins or not
 abbrev pub is_untold : Bool → List ℕ → Bool
 is_untold at_line bytes = bytes_eq bytes [] || (at_line && may_be_marker bytes)
 

@@ -4,7 +4,7 @@ ghost use Rattle.fleet_io.specs.declared.parts.IoFault.TheVariants.{Memory};
 ghost use Rattle.fleet_io.specs.Causes.{Rose};
 ghost use Rattle.fleet_io.specs.Told.{MayGive, Took, Went, to_come};
 ghost use Rattle.text_lines.specs.Marker.{is_marker, part_of};
-ghost use Rattle.fleet_io.specs.Held.{stream, given, Asked, has_whole_marker, buffer_bytes, text_limit};
+ghost use Rattle.fleet_io.specs.Held.{stream, byte_of, Asked, has_whole_marker, buffer_bytes, text_limit};
 ghost use Rattle.fleet_io.specs.PartBytes.{AsksNext, begins_after, begins_line, first_piece, is_marked_here, is_untold, IsWithin, may_be_marker, PartLaw, plain_len};
 ghost use Rattle.fleet_io.specs.Parts.{MarkerLaw, TakesFewAfter, TakesPart, TookMarked};
 ghost use Rattle.fleet_io.specs.Steps.{Goes, Runs};
@@ -130,14 +130,14 @@ impl Parts {
     // The next of the bytes to come. It asks the source only where none is waiting.
     fn next<S: Source>(&mut self, source: &mut S) -> Result<Option<u8>, Failed>
         requires { IsTrue self.old.ended → IsTrue (S.told source.old).ended }
-        ensures took { Took self.old.waiting self.new.waiting (S.told source.old) (S.told source.new) (given result) }
+        ensures took { Took self.old.waiting self.new.waiting (S.told source.old) (S.told source.new) (byte_of result) }
         ensures none { IfOk result (λ next. IfNone next ((self.old.waiting ≡ []) × (self.new.waiting ≡ []) × IsTrue self.new.ended)) }
         ensures alone { OnErr result ((self.old.waiting ≡ []) × (self.new.waiting ≡ []) × (self.old.ended ≡ false)) }
         ensures goes { Goes self.old self.new (S.told source.old) (S.told source.new) }
         ensures failed { OnErr result (Rose (S.told source.old).faults (S.told source.new).faults) }
         ensures at_line { self.new.at_line ≡ self.old.at_line }
         ensures unasked { 0 < length self.old.waiting → S.told source.new ≡ S.told source.old }
-        ensures most { length (given result ++ self.new.waiting) ≤ buffer_bytes }
+        ensures most { length (byte_of result ++ self.new.waiting) ≤ buffer_bytes }
     {
         if let Some(byte) = self.first() {
             return Ok(Some(byte));
@@ -196,7 +196,7 @@ impl Parts {
         }
     }
 
-    // Reads until what waits tells what comes next of the part.
+    // Reads until the bytes that wait decide what comes next of the part.
     fn fill<S: Source>(&mut self, source: &mut S) -> Result<(), Failed>
         requires { IsTrue self.old.ended → IsTrue (S.told source.old).ended }
         ensures took { Took self.old.waiting self.new.waiting (S.told source.old) (S.told source.new) [] }
@@ -244,7 +244,7 @@ impl Parts {
         Ok(())
     }
 
-    // The next part, where `sound` isn't kept.
+    // The next part. It leaves `sound` and `at_line` to `text`.
     fn gather<S: Source>(
         &mut self,
         alloc: Global,
@@ -290,7 +290,7 @@ impl Parts {
 
     /// The bytes up to the next marker line or the end. A marker line is a line that is `%%`, or `%%` and a carriage
     /// return; it is taken, and belongs to no part. `TooLong` where more than `limit` bytes stand before it; `Read`
-    /// where a read failed. After an `Err` the reader isn't `sound`, and some front of what the source had is taken.
+    /// where a read failed. After an `Err` the reader isn't `sound`, and some of the bytes to come are taken.
     pub fn text<S: Source>(
         &mut self,
         alloc: Global,
@@ -339,7 +339,7 @@ impl Parts {
     pub fn byte<S: Source>(&mut self, source: &mut S) -> Result<Option<u8>, Failed>
         requires sound { IsTrue self.old.sound }
         requires at_end { IsTrue self.old.ended → IsTrue (S.told source.old).ended }
-        ensures took { Took self.old.waiting self.new.waiting (S.told source.old) (S.told source.new) (given result) }
+        ensures took { Took self.old.waiting self.new.waiting (S.told source.old) (S.told source.new) (byte_of result) }
         ensures none { IfOk result (λ next. IfNone next ((self.old.waiting ≡ []) × (self.new.waiting ≡ []) × IsTrue self.new.ended)) }
         // It failed while nothing was waiting, and before the end was met.
         ensures alone { OnErr result ((self.old.waiting ≡ []) × (self.new.waiting ≡ []) × (self.old.ended ≡ false)) }
@@ -373,36 +373,6 @@ impl Parts {
         self.start += count;
     }
 
-    // What comes next of the part, where `sound` isn't kept.
-    fn ask<S: Source>(&mut self, source: &mut S) -> Result<Ask, Failed>
-        requires { IsTrue self.old.ended → IsTrue (S.told source.old).ended }
-        ensures asks { (all : List ℕ) → MayGive self.new.ended (S.told source.new) all → IfOk result (λ ask. IfSome (stream self.old (to_come all (S.told source.old))) (λ comes. AsksNext ask self.old.at_line comes self.new.waiting (to_come all (S.told source.new)))) }
-        ensures within { IfOk result (λ ask. IsWithin ask self.new.waiting) }
-        ensures unasked { is_untold self.old.at_line self.old.waiting ≡ false → S.told source.new ≡ S.told source.old }
-        ensures line { IfOk result (λ ask. self.new.at_line ≡ begins_line self.old.at_line ask) }
-        ensures ended { IfOk result (λ ask. ask ≡ Ask.«End» → IsTrue self.new.ended) }
-        ensures goes { Goes self.old self.new (S.told source.old) (S.told source.new) }
-        ensures failed { OnErr result (Rose (S.told source.old).faults (S.told source.new).faults) }
-        ensures most { length self.new.waiting ≤ buffer_bytes }
-    {
-        match self.fill(source) {
-            Ok(()) => {}
-            Err(Failed) => return Err(Failed),
-        }
-        if is_marked_here(self.at_line, self.waiting()) {
-            let len = line_len(self.waiting());
-            self.skip(len + 1);
-            return Ok(Ask::Marker);
-        }
-        if self.waiting().is_empty() {
-            self.at_line = true;
-            return Ok(Ask::End);
-        }
-        Ok(Ask::Bytes {
-            count: plain_len(self.waiting()),
-        })
-    }
-
     /// What comes next of the part: bytes, the marker line that ends it, which is taken, or the end of the input. It takes no
     /// memory. The bytes are the first of those that wait, and `consume` takes them. So a part is what `text` gives of it
     /// (`part_law`), where the calls begin at the part's first byte: the lines that `text` cuts begin where its call begins.
@@ -423,13 +393,25 @@ impl Parts {
         ensures lines { self.new.lines ≡ self.old.lines }
         ensures most { length self.new.waiting ≤ buffer_bytes }
     {
-        match self.ask(source) {
-            Ok(ask) => Ok(ask),
+        match self.fill(source) {
+            Ok(()) => {}
             Err(Failed) => {
                 self.sound = false;
-                Err(Failed)
+                return Err(Failed);
             }
         }
+        if is_marked_here(self.at_line, self.waiting()) {
+            let len = line_len(self.waiting());
+            self.skip(len + 1);
+            return Ok(Ask::Marker);
+        }
+        if self.waiting().is_empty() {
+            self.at_line = true;
+            return Ok(Ask::End);
+        }
+        Ok(Ask::Bytes {
+            count: plain_len(self.waiting()),
+        })
     }
 
     /// Takes the first bytes of those that wait, at least one, as bytes of the part.
@@ -478,7 +460,7 @@ fn may_be_marker(bytes: &[u8]) -> bool
     matches!(bytes, b"" | b"%" | b"%%" | b"%%\r")
 }
 
-// Whether these bytes don't tell yet what comes next of a part, where a line begins or not.
+// Whether these bytes leave open what comes next of a part, where a line begins or not.
 fn is_untold(at_line: bool, bytes: &[u8]) -> bool
     ensures { result ≡ is_untold at_line bytes.now }
 {

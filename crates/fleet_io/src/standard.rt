@@ -11,8 +11,9 @@ use crate::stream::{Failed, Sink, Source};
 use std::io::{Read, Write};
 use std::marker::Model;
 
-/// Any reader of std, with a count of its faults that stays at its type's last value. It tells what it gave. What it has left
-/// is what the reader says that it has left; standard input says nothing of it.
+/// Any reader of std, with a count of its faults that stays at its type's last value. It exposes the bytes that the reader
+/// gave; those still to come only where the reader exposes them, which standard input doesn't. It has met its end where the
+/// last read gave no byte for a non-empty buffer; a later read may give more, as at a terminal.
 #[derive(Drop)]
 pub struct StdSource<R: Read + Drop> {
     reader: R,
@@ -69,7 +70,7 @@ impl<R: Read + Drop> Source for StdSource<R> {
 }
 
 /// Any writer of std, with a count of its faults that stays at its type's last value. A write that takes nothing of
-/// a non-empty piece is a fault. It tells what the writer took of it.
+/// a non-empty piece is a fault. It exposes the bytes that the writer took.
 #[derive(Drop)]
 pub struct StdSink<W: Write + Drop> {
     writer: W,

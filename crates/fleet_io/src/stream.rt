@@ -12,11 +12,11 @@ pub struct Failed;
 
 /// Bytes that come in.
 pub trait Source {
-    /// What it tells of itself: the bytes that it has given, and how often it has failed; and where it tells them, the bytes
-    /// still to come.
+    /// What it exposes of itself: the bytes that its reads gave, whether the last one met the end, how many failed, and,
+    /// where it knows them, the bytes still to come.
     ghost told: { Self → Told };
 
-    /// Takes bytes from the front into `buf`. No byte for a non-empty `buf` is the end.
+    /// Writes the next bytes to the first places of `buf`, and returns how many. No byte for a non-empty `buf` is the end.
     fn read(&mut self, buf: &mut [u8]) -> Result<usize, Failed>
         ensures bound { ReadsAtMost result buf.new }
         ensures reads { Reads (told self.old) (told self.new) result buf.new };
@@ -24,7 +24,7 @@ pub trait Source {
 
 /// Bytes that go out.
 pub trait Sink {
-    /// The bytes that were taken, where the sink tells them.
+    /// The bytes that its writes took, where the sink exposes them.
     ghost written: { Self → Option (List ℕ) };
 
     /// How often it has failed. The count never falls.

@@ -25,4 +25,3 @@ pub use Rattle.link_upload.specs.Steps.{Breaks, Ends, Fails}
 pub use Rattle.link_upload.specs.Uploads.{BeginsWith, EndsGoing, EndsWith, StaysPrompt, StopsAtEnd, Takes, UploadFails, UploadGives, UploadLaw, frame_limit}
 pub use Rattle.fleet_io.proofs.ToldLemmas.{IsInput-now, Took-none, Took-trans, Went-none, Went-trans, at_its_end, back, consumed, nothing_before, of_source}
 pub use Rattle.fleet_io.specs.Told.{IsInput, MayGive, Told, Took, Went, to_come}
-pub use Rattle.fleet_io.specs.Held.{given}

@@ -73,8 +73,8 @@ StaysPrompt s stream left old new =
 abbrev pub IsOver : Link → List Frame → Type 0
 IsOver s frames = (s.ended (events_in s frames) ≡ None → ⊥) ⊎ (length frames ≡ frame_limit)
 
--- No more is read once an upload is over: of what stands after its frames the source has given at most 4,096 bytes, where it
--- tells what it had before and what it has now.
+-- No more is read once an upload is over: of what stands after its frames the source has given at most 4,096 bytes,
+-- where it tells what it had before and what it has now.
 abbrev pub StopsAtEnd : Link → Option (List ℕ) → Option (List ℕ) → Type 0
 StopsAtEnd s stream left =
     (bytes behind : List ℕ) (frames : List Frame) (rest : List ℕ) → stream ≡ Some bytes → left ≡ Some behind → Takes s bytes frames rest → IsOver s frames →

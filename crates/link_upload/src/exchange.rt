@@ -56,8 +56,8 @@ enum Stepped {
     Faulty,
 }
 
-// Takes the next frame, and hands it to the host of an upload that is going: as it stands where the source has given all of
-// it, else byte by byte.
+// Takes the next frame, and hands it to the host of an upload that is going: as it stands where the source has given
+// all of it, else byte by byte.
 fn step<S: Source>(
     parts: &mut Parts,
     source: &mut S,

@@ -1,5 +1,5 @@
--- The lines that the program writes where it refuses: the word `error`, the status that the program ends with, and what is wrong.
--- docs/COMMANDS.md says what to do at each.
+-- The lines that the program writes where it refuses: the word `error`, the status that the program ends with, and what
+-- is wrong. docs/COMMANDS.md says what to do at each.
 use Rattle.std.specs.Prelude.{ℕ, ◌+◌, ◌^◌, ℤ, List, [], ◌∷◌, ◌++◌, codes, decimal}
 use Rattle.std.specs.Fmt.{signed_decimal}
 use Rattle.fleet_io.specs.Words.{hex_word, line}
@@ -37,7 +37,8 @@ faulty_line number kind = show_line number (kind_word kind ∷ [])
 abbrev pub grid_line : GridFault → List ℕ
 grid_line fault = show_line (line_of fault) (grid_word fault ∷ [])
 
--- a number that doesn't fit two bytes when it is rounded, as it is before: in micrometres, or on yaw in tenths of a degree
+-- a number that doesn't fit two bytes when it is rounded, as it is before: in micrometres, or on yaw in tenths of a
+-- degree
 abbrev pub range_line : ℕ → ℕ → ℤ → List ℕ
 range_line number axis value = show_line number (codes "out-of-range" ∷ axis_word axis ∷ signed_decimal value ∷ [])
 
@@ -107,7 +108,8 @@ extra_line version tree = refusal (codes "12") (codes "extra" ∷ codes "line" �
 abbrev pub too_deep_line : Pair → List ℕ
 too_deep_line pair = refusal (codes "12") (codes "too-deep" ∷ pair_words pair)
 
--- a leaf of the tree of the two: its part, its direction by the word of the version, and the first control value that the direction fails to separate
+-- a leaf of the tree of the two: its part, its direction by the word of the version, and the first control value that
+-- the direction fails to separate
 abbrev pub fails_line : Pair → Place → ℕ → ℕ → ℕ → List ℕ
 fails_line pair place version dir control =
     refusal (codes "12") (codes "fails" ∷ pair_words pair
@@ -115,7 +117,8 @@ fails_line pair place version dir control =
 
 -- ---- regions, speeds, accelerations and jumps
 
--- a drone isn't kept from or in a region in this part of a cue; regions and cues count from 0 in the program and from 1 in the line
+-- a drone isn't kept from or in a region in this part of a cue; regions and cues count from 0 in the program and from 1
+-- in the line
 abbrev pub enters_line : ℕ → List ℕ → ℕ → ℕ → ℕ → List ℕ
 enters_line region name cue index depth =
     refusal (codes "15") (codes "region" ∷ decimal (region + 1) ∷ codes "drone" ∷ name ∷ codes "cue" ∷ decimal (cue + 1)
@@ -126,16 +129,18 @@ abbrev pub too_fast_line : List ℕ → ℕ → ℤ → List ℕ
 too_fast_line name axis speed =
     refusal (codes "16") (codes "drone" ∷ name ∷ axis_word axis ∷ codes "speed" ∷ signed_decimal speed ∷ [])
 
--- a number of a drone on an axis is above its limit, from the beginning of this cue on or there; cues count from 0 in the program and from 1
--- in the line
+-- a number of a drone on an axis is above its limit, from the beginning of this cue on or there; cues count from 0 in
+-- the program and from 1 in the line
 abbrev pub excess_line : List ℕ → ℕ → List ℕ → ℕ → ℤ → List ℕ
 excess_line name cue what axis value =
     refusal (codes "18") (codes "drone" ∷ name ∷ codes "cue" ∷ decimal (cue + 1) ∷ what ∷ axis_word axis ∷ signed_decimal value ∷ [])
 
--- the bound on a drone's acceleration on an axis, in what begins with this cue, is above the limit; it is in micrometres per second squared
+-- the bound on a drone's acceleration on an axis, in what begins with this cue, is above the limit; it is in
+-- micrometres per second squared
 abbrev pub accelerates_line : List ℕ → ℕ → ℕ → ℤ → List ℕ
 accelerates_line name cue axis acceleration = excess_line name cue (codes "accel") axis acceleration
 
--- the jump of a drone's speed on an axis, at the beginning of this cue, is above the limit; it is in micrometres per second
+-- the jump of a drone's speed on an axis, at the beginning of this cue, is above the limit; it is in micrometres per
+-- second
 abbrev pub jumps_line : List ℕ → ℕ → ℕ → ℤ → List ℕ
 jumps_line name cue axis speed = excess_line name cue (codes "jump") axis speed

@@ -64,8 +64,8 @@ pub record AreNamed (pair : Pair) : Type 0 where
   pub first : IsWord pair.first.items
   pub second : IsWord pair.second.items
 
--- What a refusal names can be said in a line: names are words, an axis is one of four, or of three where it has a speed or an acceleration,
--- and a direction is one of its version's table.
+-- What a refusal names can be said in a line: names are words, an axis is one of four, or of three where it has a speed
+-- or an acceleration, and a direction is one of its version's table.
 abbrev pub IsSayable : Refusal → Type 0
 IsSayable refused.Usage = Unit {0}
 IsSayable refused.TooLarge = Unit {0}

@@ -45,8 +45,8 @@ pub enum Refusal {
     Grid {
         fault: GridFault,
     },
-    /// A number that doesn't fit two bytes when it is rounded, on the axes 0 to 3: x, y, z and yaw. The value is that before
-    /// rounding, in micrometres, or on yaw in tenths of a degree.
+    /// A number that doesn't fit two bytes when it is rounded, on the axes 0 to 3: x, y, z and yaw. The value is that
+    /// before rounding, in micrometres, or on yaw in tenths of a degree.
     Range {
         line: u32,
         axis: u8,
@@ -110,8 +110,8 @@ pub enum Refusal {
     TooDeep {
         pair: Pair,
     },
-    /// A leaf of the tree of a pair names a direction of the version that doesn't separate its part; the control value is the first
-    /// at which it fails.
+    /// A leaf of the tree of a pair names a direction of the version that doesn't separate its part; the control value
+    /// is the first at which it fails.
     Fails {
         pair: Pair,
         place: Place,
@@ -119,7 +119,8 @@ pub enum Refusal {
         dir: u8,
         control: u8,
     },
-    /// A drone isn't kept from or in a region in a part of a cue: part `index` of `2^depth` equal ones. Regions count from 0.
+    /// A drone isn't kept from or in a region in a part of a cue: part `index` of `2^depth` equal ones. Regions count
+    /// from 0.
     Enters {
         region: u8,
         drone: Name,
@@ -127,22 +128,23 @@ pub enum Refusal {
         index: u16,
         depth: Depth,
     },
-    /// The bound on a drone's speed on the axis 0, 1 or 2, which are x, y and z, is above the limit. It is in micrometres per second.
+    /// The bound on a drone's speed on the axis 0, 1 or 2, which are x, y and z, is above the limit. It is in
+    /// micrometres per second.
     TooFast {
         drone: Name,
         axis: u8,
         speed: i64,
     },
-    /// The bound on a drone's acceleration on the axis 0, 1 or 2 is above the limit, in what it flies from the beginning of this cue on. It is
-    /// in micrometres per second squared.
+    /// The bound on a drone's acceleration on the axis 0, 1 or 2 is above the limit, in what it flies from the
+    /// beginning of this cue on. It is in micrometres per second squared.
     Accelerates {
         drone: Name,
         cue: u16,
         axis: u8,
         acceleration: i64,
     },
-    /// A drone's speed on the axis 0, 1 or 2 jumps at the beginning of this cue by more than the limit, in micrometres per second. The
-    /// last instant is the beginning of the cue after the last one.
+    /// A drone's speed on the axis 0, 1 or 2 jumps at the beginning of this cue by more than the limit, in micrometres
+    /// per second. The last instant is the beginning of the cue after the last one.
     Jumps {
         drone: Name,
         cue: u16,

@@ -56,8 +56,8 @@ fn show_line(line: u32, word: &[u8]) -> ShortLine
     text
 }
 
-// `error 3 line N out-of-range AXIS VALUE`: a number that doesn't fit two bytes when it is rounded. The axes 0 to 3 are x,
-// y, z and yaw; the value is the one before rounding, in micrometres, or on yaw in tenths of a degree.
+// `error 3 line N out-of-range AXIS VALUE`: a number that doesn't fit two bytes when it is rounded. The axes 0 to 3 are
+// x, y, z and yaw; the value is the one before rounding, in micrometres, or on yaw in tenths of a degree.
 pub(crate) fn range_line(line: u32, axis: u8, value: i64) -> ShortLine
     requires { axis ≤ 3 }
     ensures { result ≡ range_line line axis value }
@@ -88,8 +88,8 @@ pub(crate) fn room_line(name: &Name, bytes: u32, room: u32) -> ShortLine
     text
 }
 
-// `error 4 drone NAME segments N`: the drone's trajectory has more segments than one may have, whole holds that follow each other
-// joined.
+// `error 4 drone NAME segments N`: the drone's trajectory has more segments than one may have, whole holds that follow
+// each other joined.
 pub(crate) fn segments_line(name: &Name, segments: u32) -> ShortLine
     requires { IsWord name.now.items }
     ensures { result ≡ segments_line name.now.items segments }
@@ -190,8 +190,8 @@ pub(crate) fn second_too_large_line() -> ShortLine
     one_word(b"11", b"too-large")
 }
 
-// `error 12 extra line N`: a tree of no pair and cue, in a text of this version. Trees count from 0, and stand from the second line on
-// in version 1, from the third in version 2.
+// `error 12 extra line N`: a tree of no pair and cue, in a text of this version. Trees count from 0, and stand from the
+// second line on in version 1, from the third in version 2.
 pub(crate) fn extra_line(version: u8, tree: u32) -> ShortLine
     requires version { IsVersion version }
     requires tree { tree < 2 ^ 31 }

@@ -1,5 +1,5 @@
-//! Each failure once: the row of each command over ends that cut to 16 bytes, with each read failing in turn, and with each
-//! write. What is written then is the line of a failed read, or a prefix of the row's output by arithmetic.
+//! Each failure once: the row of each command over ends that cut to 16 bytes, with each read failing in turn, and with
+//! each write. What is written then is the line of a failed read, or a prefix of the row's output by arithmetic.
 use crate::tests::{APART, CROSSING, FINE, HELP, Manner, PLAN, ROWS, SHOW, START, VERSION, answer};
 use crate::upload_tests::{ANSWERS, DEFINE_AND_END, FIRST};
 use std::alloc::{AllocError, Global};

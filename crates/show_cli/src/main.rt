@@ -1,8 +1,9 @@
-//! The program: it checks, compiles, certifies, plays and reports choreographies of drones, verifies their certificates, and
-//! rehearses and carries their uploads.
+//! The program: it checks, compiles, certifies, plays and reports choreographies of drones, verifies their
+//! certificates, and rehearses and carries their uploads.
 //!
-//! `run` of `show_run` is the program over any source and any sink, and has its contract. `main` is the trusted edge: it hands in the words
-//! and standard input and output, and ends with the status. The tests of the whole program stand here.
+//! `run` of `show_run` is the program over any source and any sink, and has its contract. `main` is the trusted edge:
+//! it hands in the words and standard input and output, and ends with the status. The tests of the whole program stand
+//! here.
 #![tactic(auto)]
 
 use fleet_io::status::{NO_MEMORY, NO_WORDS};

@@ -1,5 +1,5 @@
-//! Rehearsals and uploads with read-back over memory, with results that are known from outside: the frames were written out by
-//! hand from docs/RADIO.md, "Read-back".
+//! Rehearsals and uploads with read-back over memory, with results that are known from outside: the frames were written
+//! out by hand from docs/RADIO.md, "Read-back".
 use crate::tests::{FINE, SHOW, answer};
 use crate::upload_tests::FIRST;
 use std::test::Fail;

@@ -81,8 +81,8 @@ fn each_end_of_an_upload(rt: HostRuntime) -> Result<(), Fail> {
     Ok(())
 }
 
-// What comes after the marker line of an upload of `SHOW` and stands for no answer to a packet of it, or refuses one; and the
-// status to which it leads.
+// What comes after the marker line of an upload of `SHOW` and stands for no answer to a packet of it, or refuses one;
+// and the status to which it leads.
 const STRANGE: [(&[u8], u8); 9] = [
     // Another memory's id, and an address at which no write begins.
     (b"\x50\x01\x07\x4E\x03\x00\x00\x00\x00\x00", 8),

@@ -1,7 +1,10 @@
 -- What status 0 says, from what a run promises.
-use Rattle.show_judge.proofs.Prelude.{◌++◌, ap, told_to_come, told_input, comes, IsInput-now, run_on, Span, Does, common_steps, ◌≡◌, ℕ, Bool, true, false, cond, List, Option, Some, None, IfSome, refl, subst, ◌∙◌, arith, Appends, option_or, between_feeds, has_marker, part_of, ShowLaw, PlainShow, Refusal, Ways, IsSafe, IsSafeBy, IsSafeOutcome, IsVerb, show_refusal, Behaves, Runs, StopsAtMarker, TakesLittle, told, Cut, cut_of, FliesApart, Judges, Outcome, Run, Verb, of_own, outcome, the_input}
+use Rattle.fleet_io.proofs.ToldLemmas.{left_to_come, met_end}
+use Rattle.show_judge.proofs.Prelude.{◌++◌, sym, to_come, run_of, ap, told_to_come, told_input, comes, IsInput-now, run_on, Span, Does, common_steps, ◌≡◌, ℕ, Bool, true, false, cond, List, Option, Some, None, IfSome, refl, subst, ◌∙◌, arith, Appends, option_or, between_feeds, has_marker, part_of, ShowLaw, PlainShow, Refusal, Ways, IsSafe, IsSafeBy, IsSafeOutcome, IsVerb, show_refusal, Behaves, Runs, StopsAtMarker, TakesLittle, told, Cut, cut_of, FliesApart, Judges, Outcome, Run, Verb, of_own, outcome, the_input}
 use Rattle.std.specs.Prelude.{IsTrue}
 use Rattle.std.specs.Io.KnownBytes.{IsAtEnd}
+use Rattle.show_judge.specs.Runs.{reads_all}
+use Rattle.show_judge.specs.Verb.{run_left}
 use Rattle.show_judge.specs.Headline.{FliesText, SaysOf, UploadsText}
 use Rattle.show_judge.proofs.RunLemmas.{completes, some_map, told_is}
 use Rattle.show_judge.proofs.VerbLemmas.{outcomes}
@@ -75,3 +78,19 @@ pub uploads_left : (v : Verb) → v.ways.reads ≡ true → v.judges ≡ the_inp
     Does v m status → m.told.left ≡ Some input → (IsTrue m.told.ended → IsAtEnd m.told.left) → status ≡ 0 → UploadsText (part_of input)
 uploads_left v reads judges promised m status input does told at_end done =
     uploads_of v reads judges promised input (run_on m (m.told.given ++ input)) status (does.behaves (m.told.given ++ input) (told_input m.told m.tells input does.gives told at_end)).runs (told_to_come m.told input) done
+
+-- ---- the end, and bytes that are known beforehand
+
+-- A command that reads its input to the end ends with 0 only where its source has met the end.
+pub read_to_end : (v : Verb) (m : Span) (status : ℕ) → Does v m status → reads_all v ≡ true → status ≡ 0 → IsTrue m.tells.ended
+read_to_end v m status does reads done = met_end m.tells (λ all may. (does.behaves all may).runs.whole done reads)
+
+-- a run over a source that exposes its input is a run on that input, and on nothing else
+pub behaves_left : (v : Verb) (m : Span) (status : ℕ) (input : List ℕ) → Does v m status → m.told.left ≡ Some input → (IsTrue m.told.ended → IsAtEnd m.told.left) → Behaves v (run_left m) status
+behaves_left v m status input does known at_end =
+    let all : List ℕ = m.told.given ++ input in
+    let before : to_come all m.told ≡ m.told.left = told_to_come m.told input ∙ sym known in
+    let after : to_come all m.tells ≡ m.tells.left = left_to_come m.told m.tells input does.gives known in
+    subst (λ (left : Option (List ℕ)). Behaves v (run_of left m.tells.left m.told.faults m.tells.faults m.written m.written_after m.writes_failed m.writes_failed_after) status) before
+    (subst (λ (left : Option (List ℕ)). Behaves v (run_of (to_come all m.told) left m.told.faults m.tells.faults m.written m.written_after m.writes_failed m.writes_failed_after) status) after
+    (does.behaves all (told_input m.told m.tells input does.gives known at_end)))

@@ -60,7 +60,8 @@ abbrev pub IsRefusedBy : Ways → Cut → Refusal → Type 0
 IsRefusedBy c cut r =
     (text_refusal cut.show ≡ Some r) ⊎ ((s : PlainShow) × (length cut.show ≤ most_text) × StandsFor cut.show s × (show_refusal c cut s ≡ Some r))
 
--- The show's text stands for a show that fits, as which it is given, and of which nothing is left to refuse but that two drones aren't kept apart.
+-- The show's text stands for a show that fits, as which it is given, and of which nothing is left to refuse but that
+-- two drones aren't kept apart.
 pub record Fits (c : Ways) (cut : Cut) (f : Fitted) : Type 0 where
   pub s : PlainShow
   pub short : length cut.show ≤ most_text
@@ -70,7 +71,8 @@ pub record Fits (c : Ways) (cut : Cut) (f : Fitted) : Type 0 where
   pub near : KeepsNearShow (grid_of s) (sent_of s)
   pub uploads : FlyApart s.settings (sent_of s) → Uploads (grid_of s) s.settings (sent_of s)
 
--- The show's text stands for a show that fits and that nothing refuses; it is given with the number of nodes of its certificate.
+-- The show's text stands for a show that fits and that nothing refuses; it is given with the number of nodes of its
+-- certificate.
 pub record IsAccepted (c : Ways) (depth : ℕ) (cut : Cut) (a : Accepted) : Type 0 where
   pub searched : c.depth ≡ Some depth
   pub s : PlainShow

@@ -34,7 +34,8 @@ pub record ShowComesTo (v : Verb) (cut : Cut) (o : Outcome) : Type 0 where
   pub stands : StandsFor cut.show s
   pub gives : ShowGives v (show_refusal v.ways cut s) s cut o
 
--- The outcome of a command on an input that is cut so: the show's text is refused, or it stands for a show, which gives it.
+-- The outcome of a command on an input that is cut so: the show's text is refused, or it stands for a show, which gives
+-- it.
 abbrev pub IsOutcomeOf : Verb → Cut → Outcome → Type 0
 IsOutcomeOf v cut o = (option_map (said v) (text_refusal cut.show) ≡ Some o) ⊎ ShowComesTo v cut o
 
@@ -55,8 +56,8 @@ IsOutcome v input o = IsOutcomeBy v v.judges input o
 
 -- ---- what status 0 promises
 
--- The show's text stands for a show, and what its drones are sent keeps near to it at every instant, and to what the command promises of it;
--- nothing refuses the show, and this outcome, of status 0, is what the command gives for it.
+-- The show's text stands for a show, and what its drones are sent keeps near to it at every instant, and to what the
+-- command promises of it; nothing refuses the show, and this outcome, of status 0, is what the command gives for it.
 pub record IsSafe (v : Verb) (cut : Cut) (o : Outcome) : Type 0 where
   pub s : PlainShow
   pub stands : StandsFor cut.show s

@@ -21,7 +21,8 @@ use Rattle.show_plan.specs.Separation.{blocked_part}
 use Rattle.fleet_math.specs.Limits.{most_text}
 use Rattle.show_judge.specs.Shows.{Cut, marker_number, name_at, names_of, trajectories_of}
 
--- A refusal of an input: what it names can be said in a line, and it is neither that the words are no command nor that a read failed.
+-- A refusal of an input: what it names can be said in a line, and it is neither that the words are no command nor that
+-- a read failed.
 pub record IsOfInput (r : Refusal) : Type 0 where
   pub sayable : IsSayable r
   pub command : status_of r ≢ 2
@@ -75,8 +76,8 @@ show_refusal c cut s =
 
 -- ---- the second text
 
--- The refusal of a second text of at most this many bytes, whose first faulty line is this: it is too long, has a faulty line, or a marker line
--- stands after it.
+-- The refusal of a second text of at most this many bytes, whose first faulty line is this: it is too long, has a
+-- faulty line, or a marker line stands after it.
 abbrev pub second_refusal : ℕ → Option ℕ → Cut → Option Refusal
 second_refusal limit faulty_line cut =
     if nat_lt limit (length cut.second) then Some refusal.SecondTooLarge

@@ -24,11 +24,11 @@ reads c = c.ways.reads
 abbrev pub reads_all : Verb → Bool
 reads_all c = c.ways.reads && not c.ways.by_frames
 
--- the input of a run, where it is told; a command that reads nothing needs none
+-- the input of a run, where it is known; a command that reads nothing needs none
 abbrev pub told : Verb → Run → Option (List ℕ)
 told c r = if reads c then r.left else Some []
 
--- These bytes were taken from the source, and those given to the sink; both tell it.
+-- These bytes were taken from the source, and those given to the sink; both are known.
 pub record Carried (r : Run) (taken sent : List ℕ) : Type 0 where
   pub later : List ℕ
   pub old : List ℕ
@@ -39,14 +39,14 @@ pub record Carried (r : Run) (taken sent : List ℕ) : Type 0 where
 
 -- ---- status 6
 
--- The output of a run whose read failed, where the source tells what was taken.
+-- The output of a run whose read failed, where it is known what was taken.
 abbrev pub IsStopped : Verb → Run → List ℕ → Type 0
 IsStopped c r output = IfSome r.left (λ input. (taken later : List ℕ) × (input ≡ taken ++ later) × (r.left_after ≡ Some later) × c.stops taken output)
 
 -- ---- status 7
 
--- What would have been written: the output of an outcome of the input, where the source tells it; or, where the source's count of faults rose
--- too, that of a failed read.
+-- What would have been written: the output of an outcome of the input, where it is known; or, where the source's count
+-- of faults rose too, that of a failed read.
 abbrev pub IsOutput : Verb → Run → List ℕ → Type 0
 IsOutput c r output =
     IfSome (told c r) (λ input. (o : Outcome) × IsOutcome c input o × (output ≡ o.output))
@@ -55,9 +55,11 @@ IsOutput c r output =
 -- ---- a run of a command
 
 pub record Runs (c : Verb) (r : Run) (status : ℕ) : Type 0 where
-  -- Every status but 1, 6 and 7 is that of an outcome of the input, whose output was written whole, whether or not a fault was counted.
+  -- Every status but 1, 6 and 7 is that of an outcome of the input, whose output was written whole, whether or not a
+  -- fault was counted.
   pub outcome : IsJudged status → IfSome (told c r) (λ input. (o : Outcome) × IsOutcome c input o × (status ≡ o.status) × Appends r.written r.written_after o.output)
-  -- With no fault counted the outcome of the input, of which there is one alone, is what comes, whole; or 1, out of memory.
+  -- With no fault counted the outcome of the input, of which there is one alone, is what comes, whole; or 1, out of
+  -- memory.
   pub exact : IsQuiet r → IfSome (told c r) (λ input. (o : Outcome) → IsOutcome c input o → ((status ≡ o.status) × Appends r.written r.written_after o.output) ⊎ (status ≡ 1))
   -- 0: the show is safe, and what the command gives for it was written; the input was read to its end.
   pub safe : status ≡ 0 → IfSome (told c r) (λ input. (o : Outcome) × IsSafeOutcome c input o × Appends r.written r.written_after o.output)
@@ -82,8 +84,8 @@ pub record Runs (c : Verb) (r : Run) (status : ℕ) : Type 0 where
 
 -- ---- how much is read
 
--- A command that wants nothing after a marker line takes no more of its input; nor does one that wants a second text, where the show's is too
--- long.
+-- A command that wants nothing after a marker line takes no more of its input; nor does one that wants a second text,
+-- where the show's is too long.
 abbrev pub TakesLittle : Verb → Run → Type 0
 TakesLittle c r = (c.ways.has_second ≡ false) ⊎ IfSome r.left (λ input. most_text < length (part_of input)) → TakesOneText r.left r.left_after
 
@@ -93,7 +95,8 @@ StopsAtMarker c r status = c.ways.has_second ≡ false → reads c ≡ true → 
 
 -- ---- completeness
 
--- With no fault counted, an input that lacks nothing gives 0, or the program is out of memory. A command that judges nothing needs none.
+-- With no fault counted, an input that lacks nothing gives 0, or the program is out of memory. A command that judges
+-- nothing needs none.
 abbrev pub Completes : Verb → Run → ℕ → Type 0
 Completes c r status =
     IsQuiet r → IfSome (told c r) (λ input. IfSome (judged_text c.judges input) (λ text. IsComplete c (cut_of text)) → (status ≡ 0) ⊎ (status ≡ 1))
@@ -109,8 +112,10 @@ pub record Behaves (c : Verb) (r : Run) (status : ℕ) : Type 0 where
   pub complete : Completes c r status
   pub headline : status ≡ 0 → IfSome (told c r) (λ input. c.headline input r.written r.written_after)
 
--- The same of a source and a sink, whichever they are: so it behaves on all bytes that the source may ever give. These are what it gave, and
--- where it wasn't asked until its end any others after that.
+-- The same of any source and any sink: the command behaves so on every input `all` that the source may have. That is
+-- what it gave until now and any bytes after that, or none where its last read met the end. With `all` as what it gave
+-- until now, `Behaves` speaks of the bytes that were read; with others it says that no byte after those could have
+-- changed the outcome.
 pub record Does (c : Verb) (m : Span) (status : ℕ) : Type 0 where
   pub gives : Gives m.told m.tells
   pub behaves : (all : List ℕ) → IsInput m.tells all → Behaves c (run_on m all) status

@@ -12,8 +12,8 @@ use Rattle.show_plan.specs.Trajectories.{by_cue, sent}
 
 -- ---- the input
 
--- The input, cut at its marker lines: the show's text, whether a marker line stands after it, and all bytes after that line; and of these the
--- second text, and whether a marker line stands after it.
+-- The input, cut at its marker lines: the show's text, whether a marker line stands after it, and all bytes after that
+-- line; and of these the second text, and whether a marker line stands after it.
 pub record Cut : Type 0 where
   pub show : List ℕ
   pub is_marked : Bool

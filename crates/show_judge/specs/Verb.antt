@@ -21,8 +21,8 @@ pub record Outcome : Type 0 where
 abbrev pub outcome : ℕ → List ℕ → Outcome
 outcome status output = record { status = status; output = output }
 
--- What a source and a sink tell before and after a run, where they tell it: the bytes still to come and those that were taken, and how
--- often each failed.
+-- What a source and a sink expose before and after a run: the bytes still to come and those that were taken, where they
+-- are known, and how often each failed.
 pub record Run : Type 0 where
   pub left : Option (List ℕ)
   pub left_after : Option (List ℕ)
@@ -46,7 +46,7 @@ run_of left left_after reads reads_after written written_after writes writes_aft
   writes_failed_after = writes_after;
 }
 
--- What a source and a sink tell before a run and after it.
+-- What a source and a sink expose before a run and after it, all bytes that the source has given so far among it.
 pub record Span : Type 0 where
   pub told : Told
   pub tells : Told
@@ -55,7 +55,7 @@ pub record Span : Type 0 where
   pub writes_failed : ℕ
   pub writes_failed_after : ℕ
 
--- What was read and written between two states of a source and a sink, by the members that tell it.
+-- What was read and written between two states of a source and a sink, by the members that expose it.
 abbrev pub during : {S K : Type 0} → (S → Told) → (K → Option (List ℕ)) → (K → ℕ) → S → S → K → K → Span
 during told written writes source source_after sink sink_after = record {
   told = told source;
@@ -66,9 +66,13 @@ during told written writes source source_after sink sink_after = record {
   writes_failed_after = writes sink_after;
 }
 
--- the run, where these are all bytes that the source ever gives
+-- the run, where `all` is every byte that the source ever gives
 abbrev pub run_on : Span → List ℕ → Run
 run_on m all = run_of (to_come all m.told) (to_come all m.tells) m.told.faults m.tells.faults m.written m.written_after m.writes_failed m.writes_failed_after
+
+-- the run of a source that exposes the bytes still to come
+abbrev pub run_left : Span → Run
+run_left m = run_of m.told.left m.tells.left m.told.faults m.tells.faults m.written m.written_after m.writes_failed m.writes_failed_after
 
 -- the program wasn't out of memory, nor did a read or a write fail
 abbrev pub IsJudged : ℕ → Type 0

@@ -114,8 +114,8 @@ pub fn read_show_text<S: Source>(alloc: Global, source: &mut S) -> Result<Text, 
     next_text(alloc, &mut parts, source, MOST_TEXT)
 }
 
-/// Reads the show's text, and after its marker line a second one of at most `limit` bytes. A text that is too large ends the
-/// reading. `Read` where a read failed.
+/// Reads the show's text, and after its marker line a second one of at most `limit` bytes. A text that is too large
+/// ends the reading. `Read` where a read failed.
 pub fn read_two<S: Source>(alloc: Global, source: &mut S, limit: usize) -> Result<Input, Failure>
     requires { limit ≤ text_limit }
     ensures texts { (all : List ℕ) → IsInput (S.told source.new) all → IfOk result (λ input. ReadsTwo limit (to_come all (S.told source.old)) (to_come all (S.told source.new)) input) }

@@ -81,8 +81,8 @@ fn fit_part(alloc: Global, ways: &Ways, part: &Part) -> Result<Planned, AllocErr
     }
 }
 
-/// The show that a text stands for, where it fits and no marker line stands where the command allows none; else the first reason why
-/// the command refuses it. Separation isn't judged.
+/// The show that a text stands for, where it fits and no marker line stands where the command allows none; else the
+/// first reason why the command refuses it. Separation isn't judged.
 pub fn fit_text(alloc: Global, ways: &Ways, text: &Text) -> Result<Planned, AllocError>
     requires short { IsWithin most_text text.now }
     ensures gives { (cut : Cut) → IsShowText text.now cut → IfOk result (PlanGives ways.now cut) }
@@ -114,9 +114,9 @@ fn separate(alloc: Global, fitted: Fitted, depth: Depth) -> Result<Judged, Alloc
     }
 }
 
-/// The show that a text stands for, where nothing refuses it: it is well-formed, it fits, no marker line stands where the command
-/// allows none, and at this depth any two of its drones are apart at every instant. Else the first reason why the command
-/// refuses it.
+/// The show that a text stands for, where nothing refuses it: it is well-formed, it fits, no marker line stands where
+/// the command allows none, and at this depth any two of its drones are apart at every instant. Else the first reason
+/// why the command refuses it.
 pub fn accept(alloc: Global, ways: &Ways, depth: Depth, text: &Text) -> Result<Judged, AllocError>
     requires depth { ways.now.depth ≡ Some depth }
     requires short { IsWithin most_text text.now }

@@ -1,10 +1,8 @@
 //! `check`: whether a show fits and its drones keep apart.
-ghost use Rattle.std.specs.Prelude.{◌≡◌, ◌≤◌, ◌++◌, ℕ, List, IfOk};
-ghost use Rattle.text_lines.specs.Marker.{part_of};
+ghost use Rattle.std.specs.Prelude.{◌≡◌, ◌≤◌, IfOk};
 ghost use Rattle.choreo_show.specs.Plain.{PlainShow};
 ghost use Rattle.show_plan.specs.Fitting.{IsFitted, IsValidFitted};
 ghost use Rattle.show_judge.specs.Answers.{IsSaid, outcome_of};
-ghost use Rattle.show_judge.specs.Headline.{FliesText, SaysOf};
 ghost use Rattle.show_judge.specs.Runs.{Does};
 ghost use Rattle.show_judge.specs.Shows.{nodes_of};
 ghost use Rattle.show_judge.specs.Verb.{during, outcome};
@@ -42,13 +40,10 @@ impl OneText for CheckVerb {
     }
 }
 
-/// Runs `check` (docs/COMMANDS.md): the numbers of its drones and cues and its milliseconds, or the first reason why it is refused.
+/// Runs `check` (docs/COMMANDS.md): the numbers of its drones and cues and its milliseconds, or the first reason why it
+/// is refused.
 pub fn check<S: Source, K: Sink>(alloc: Global, depth: Depth, source: &mut S, sink: &mut K) -> u8
-    ensures does { Does (check_verb depth) (during S.told K.written K.faults source.old source.new sink.old sink.new) result }
-    // 0: what the source gave is the text of a show, near to which its drones fly and apart, at every instant.
-    ensures flies { (given : List ℕ) → (S.told source.new).given ≡ (S.told source.old).given ++ given → result ≡ 0 → FliesText (part_of given) }
-    // And what was written is what `check` says of it.
-    ensures said { (given : List ℕ) → (S.told source.new).given ≡ (S.told source.old).given ++ given → result ≡ 0 → SaysOf check_text given (K.written sink.old) (K.written sink.new) }
+    ensures { Does (check_verb depth) (during S.told K.written K.faults source.old source.new sink.old sink.new) result }
 {
     run_one(alloc, &CheckVerb { depth }, source, sink)
 }

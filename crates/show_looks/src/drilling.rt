@@ -97,8 +97,8 @@ fn answer_drill(alloc: Global, drones: u8, depth: Depth) -> Result<Answer, Failu
     Ok(answer_text(alloc, drones, depth, &text)?)
 }
 
-/// Runs `drill` (docs/COMMANDS.md): the numbers of the show of this many drones, 1 to 32, or the first reason why it is refused. It reads
-/// nothing.
+/// Runs `drill` (docs/COMMANDS.md): the numbers of the show of this many drones, 1 to 32, or the first reason why it is
+/// refused. It reads nothing.
 pub fn drill<S: Source, K: Sink>(
     alloc: Global,
     drones: u8,

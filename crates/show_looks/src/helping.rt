@@ -25,7 +25,8 @@ pub fn help<S: Source, K: Sink>(lines: &[u8], source: &mut S, sink: &mut K) -> u
     tell(lines, source, sink)
 }
 
-/// Runs `version` (docs/COMMANDS.md): one line, the program's name and its version. It takes no memory and reads nothing.
+/// Runs `version` (docs/COMMANDS.md): one line, the program's name and its version. It takes no memory and reads
+/// nothing.
 pub fn version<S: Source, K: Sink>(source: &mut S, sink: &mut K) -> u8
     ensures { Does version_verb (during S.told K.written K.faults source.old source.new sink.old sink.new) result }
 {

@@ -1,5 +1,5 @@
-//! The commands that look at one show: `check`, `compile`, `certify`, `report` and `play`; `drill`, at one of its own; and `help` and `version`, at none.
-//! The run of each is one fact, `Does`.
+//! The commands that look at one show: `check`, `compile`, `certify`, `report` and `play`; `drill`, at one of its own;
+//! and `help` and `version`, at none. The run of each is one fact, `Does`.
 #![tactic(auto)]
 
 mod certifying;
@@ -11,7 +11,6 @@ mod lines;
 mod numbers;
 mod playing;
 mod reporting;
-mod streaming;
 
 pub use certifying::{CertifyVerb, certify};
 pub use checking::{CheckVerb, check};
@@ -20,4 +19,3 @@ pub use drilling::drill;
 pub use helping::{help, version};
 pub use playing::play;
 pub use reporting::{ReportVerb, report};
-pub use streaming::check_stream;

@@ -79,8 +79,8 @@ fn carry<S: Source, K: Sink>(
     }
 }
 
-/// Runs `play` (docs/COMMANDS.md): the rows of the show's instants, every `step` milliseconds, 1 to 60,000; or the first reason why the
-/// show is refused. All memory is taken before the first row.
+/// Runs `play` (docs/COMMANDS.md): the rows of the show's instants, every `step` milliseconds, 1 to 60,000; or the
+/// first reason why the show is refused. All memory is taken before the first row.
 pub fn play<S: Source, K: Sink>(
     alloc: Global,
     depth: Depth,

@@ -79,7 +79,6 @@ landed curve g e trajs u near apart readback start old new fresh only loaded lis
     record {
       untouched = only;
       started = started;
-      counted = near.drones;
       carried = carries;
       only = λ d t within other. curve.one (new d) e.trajectory_id t (get_or trajs d no_trajectory) other (carries d within).decodes;
       near = near;

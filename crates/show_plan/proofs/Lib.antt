@@ -6,6 +6,7 @@ pub mod Separated
 pub mod SeparationLaws
 pub mod Certified
 pub mod PlanLines
+pub mod PlanTexts
 pub mod Landing
 pub mod Uploading
 pub mod Uploadable

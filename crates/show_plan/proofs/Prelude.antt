@@ -47,7 +47,7 @@ pub use Rattle.traj_codec.specs.declared.traj.Segment.{Segment}
 pub use Rattle.traj_codec.specs.declared.traj.Traj.{Traj}
 unfoldable pub use Rattle.upload_model.specs.Sessions.{packet_at, packet_count, read_count, write_count}
 pub use Rattle.upload_model.specs.Sessions.{IsLoad, IsSession, Upload, drone_count, is_read, load_of, read_start, start_number}
-pub use Rattle.upload_model.specs.Theorem.{IsCase, IsSafe, LastingLaw, TakenLaw, UploadLaw}
+pub use Rattle.upload_model.specs.Theorem.{IsCase, IsSafe, LastingLaw, UploadLaw}
 pub use Rattle.upload_model.specs.declared.loads.Load.{Load}
 pub use Rattle.show_plan.specs.Fitting.{FitGives, IsFitted, IsFlown, IsSendable, IsValidFitted, StandsAsWord, first_unsendable, in_order, plan_fault, room, send_fault, size, unsendable}
 pub use Rattle.show_plan.specs.Flight.{FliesNear, FliesNearOn, KeepsNearShow, no_trajectory, written}

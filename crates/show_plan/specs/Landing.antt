@@ -12,7 +12,7 @@ use Rattle.upload_model.specs.declared.events.WorldEvent.{WorldEvent}
 use Rattle.upload_model.specs.Drones.{DroneState}
 use Rattle.upload_model.specs.Hosts.{progress}
 use Rattle.upload_model.specs.Sessions.{Upload, is_read, load_of, packet_count}
-use Rattle.upload_model.specs.Taking.{IsAccepted, taken}
+use Rattle.upload_model.specs.Taking.{AreOwn, IsAccepted, taken}
 use Rattle.upload_model.specs.Memories.{IsDrone, OnlyLoads}
 use Rattle.upload_model.specs.Theorem.{IsUnaltered}
 use Rattle.upload_model.specs.Worlds.{world}
@@ -40,7 +40,6 @@ pub record IsLanded (g : Grid) (e : Settings) (trajs : List Traj) (readback star
   pub untouched : (d : ℕ) → d < length trajs →
       OnlyLoads (session_for e trajs readback start) (load_of (session_for e trajs readback start) d) (old d) (new d)
   pub started : start ≡ true → (d : ℕ) → d < length trajs → (new d).started ≡ Some e.trajectory_id
-  pub counted : length trajs ≡ length g.starts
   pub carried : (d : ℕ) → d < length trajs → Carries (new d) e.trajectory_id (slice_index_or trajs d no_trajectory)
   pub only : (d : ℕ) (t : Traj) → d < length trajs → DecodesTo (new d) e.trajectory_id t → t ≡ slice_index_or trajs d no_trajectory
   pub near : KeepsNearShow g trajs
@@ -62,7 +61,7 @@ Lands g e trajs =
 abbrev pub LandsInAnyOrder : Grid → Settings → List Traj → Type 0
 LandsInAnyOrder g e trajs =
     (readback start : Bool) (drones : ℕ → DroneState) (order later : ℕ → List ℕ) → ((d : ℕ) → d < length trajs → IsDrone (drones d)) →
-    ((d : ℕ) → d < length trajs → All (λ k. k < packet_count (session_for e trajs readback start) d) (order d ++ later d)) →
+    ((d : ℕ) → d < length trajs → AreOwn (session_for e trajs readback start) d (order d ++ later d)) →
     ((d k : ℕ) → d < length trajs → k < packet_count (session_for e trajs readback start) d → is_read (session_for e trajs readback start) d k ≡ false →
     IsAccepted (session_for e trajs readback start) d (drones d) (order d) k) →
     IsLanded g e trajs readback start drones (λ d. taken (session_for e trajs readback start) d (drones d) (order d ++ later d))

@@ -1,13 +1,13 @@
 -- The texts that say a plan.
-use Rattle.std.specs.Prelude.{ℕ, ◌+◌, ◌==◌, nat_lt, if◌then◌else◌, false, true, List, [], ◌∷◌, ◌++◌, length, map, codes, decimal}
-use Rattle.std.specs.List.{flat_map, range_with_len}
+use Rattle.std.specs.Prelude.{◌≡◌, ℕ, ◌+◌, ◌==◌, nat_lt, if◌then◌else◌, false, true, List, [], ◌∷◌, ◌++◌, length, map, codes, decimal}
+use Rattle.std.specs.List.{All, flat_map, range_with_len}
 use Rattle.fleet_io.specs.Words.{hex_word, line}
-use Rattle.choreo_lines.specs.Name.{Name}
+use Rattle.choreo_lines.specs.Name.{Name, is_name}
 use Rattle.traj_codec.specs.declared.traj.Traj.{Traj}
 use Rattle.traj_codec.specs.Spelling.{spelling, ending}
 use Rattle.upload_model.specs.Sessions.{Upload, packet_at, packet_count, write_count}
 use Rattle.choreo_show.specs.declared.show.Settings.{Settings}
-use Rattle.show_plan.specs.Landing.{session_for}
+use Rattle.show_plan.specs.Landing.{AreUploadable, session_for}
 
 -- a drone of this name, whose trajectory has this many segments and is sent as these bytes
 abbrev pub drone_line : List ℕ → List ℕ → ℕ → List ℕ
@@ -40,3 +40,15 @@ drone_parts s d (name ∷ names) (t ∷ ts) = drone_part s d name.items t ++ dro
 unfoldable pub plan_text : Settings → List Name → List Traj → List ℕ
 plan_text e names ts =
     line (codes "plan") (codes "1" ∷ []) ++ (drone_parts (session_for e ts false true) 0 names ts ++ line (codes "end") [])
+
+-- Drones and trajectories of a plan: each drone has a name of the language and a trajectory, and these can be uploaded.
+pub record IsPlan (e : Settings) (names : List Name) (ts : List Traj) : Type 0 where
+  pub named : All (λ (name : Name). is_name name.items ≡ true) names
+  pub counted : length ts ≡ length names
+  pub uploadable : AreUploadable e ts
+
+-- Plans with one text are of one list of drones and one of trajectories, whatever settings they are made with.
+abbrev pub PlanLaw : Type 0
+PlanLaw =
+    (e f : Settings) (names others : List Name) (ts us : List Traj) → IsPlan e names ts → IsPlan f others us →
+    plan_text e names ts ≡ plan_text f others us → (names ≡ others) × (ts ≡ us)

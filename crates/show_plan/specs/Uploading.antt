@@ -1,6 +1,5 @@
 -- What holds of each upload of a show's trajectories, while it goes on and when it is done.
-use Rattle.std.specs.Prelude.{◌≡◌, ℕ, ◌-◌, ◌<◌, Bool, true, List, ◌++◌, length, take, slice_get, slice_index, slice_index_or, Some, Contains}
-use Rattle.std.specs.List.{All}
+use Rattle.std.specs.Prelude.{◌≡◌, ℕ, ◌-◌, ◌<◌, ◌≤◌, Bool, true, List, ◌++◌, length, take, slice_get, slice_index, slice_index_or, Some, Contains}
 use Rattle.crtp_packets.specs.Commands.{start_of}
 use Rattle.cue_grid.specs.declared.grid.Grid.{Grid}
 use Rattle.traj_codec.specs.declared.traj.Traj.{Traj}
@@ -10,9 +9,9 @@ use Rattle.upload_model.specs.declared.events.WorldEvent.{WorldEvent}
 use Rattle.upload_model.specs.Drones.{DroneState}
 use Rattle.upload_model.specs.Hosts.{progress}
 use Rattle.upload_model.specs.Readback.{WasRight, is_right}
-use Rattle.upload_model.specs.Sessions.{Upload, drone_count, load_count, load_of, packet_count, read_count, read_start, wanted}
-use Rattle.upload_model.specs.Starts.{TakesOneStart, beginnings}
-use Rattle.upload_model.specs.Taking.{IsAccepted, taken}
+use Rattle.upload_model.specs.Sessions.{Upload, drone_count, load_of, read_count, read_start, wanted}
+use Rattle.upload_model.specs.Starts.{TakesOneStart, beginnings, beginnings_in, starts_in}
+use Rattle.upload_model.specs.Taking.{AcceptsLoad, AreOwn, taken}
 use Rattle.upload_model.specs.Memories.{IsDrone, IsInside}
 use Rattle.upload_model.specs.Theorem.{IsSafe, IsUnaltered, TakesStart}
 use Rattle.upload_model.specs.Worlds.{start_world, world}
@@ -29,12 +28,17 @@ pub record FlyTheirOwn (e : Settings) (trajs : List Traj) : Type 0 where
       ((n : ℕ) → n < length trajs → IsDrone (drones n)) → IsUnaltered (events ++ later) → i < length trajs → d < length trajs →
       Contains ((world (session_for e trajs readback start) drones events).sent i) (start_of e.trajectory_id) →
       Carries ((world (session_for e trajs readback start) drones (events ++ later)).drones d) e.trajectory_id (slice_index_or trajs d no_trajectory)
-  -- Whoever sends a drone its packets, in whatever order: once it accepted its writes and its define it carries its own trajectory, then and
-  -- after whatever packets of the session it takes later, starts among them. A start before that starts what the drone carried before.
+  -- Whoever sends a drone its packets, in whatever order and however often: once it accepted its writes and its define it carries its own
+  -- trajectory, then and after whatever packets of the session it takes later, starts among them. A start before that starts what the drone
+  -- carried before.
   pub once_accepted : (readback start : Bool) (drone : DroneState) (order later : List ℕ) (d : ℕ) → IsDrone drone → d < length trajs →
-      All (λ k. k < packet_count (session_for e trajs readback start) d) (order ++ later) →
-      ((k : ℕ) → k < load_count (session_for e trajs readback start) d → IsAccepted (session_for e trajs readback start) d drone order k) →
+      AreOwn (session_for e trajs readback start) d (order ++ later) → AcceptsLoad (session_for e trajs readback start) d drone order →
       Carries (taken (session_for e trajs readback start) d drone (order ++ later)) e.trajectory_id (slice_index_or trajs d no_trajectory)
+  -- And where no start came before that, it begins once for each start that it takes later: exactly once where it takes one.
+  pub begins_once : (readback start : Bool) (drone : DroneState) (order later : List ℕ) (d : ℕ) → IsDrone drone → d < length trajs →
+      AreOwn (session_for e trajs readback start) d (order ++ later) → AcceptsLoad (session_for e trajs readback start) d drone order →
+      starts_in (session_for e trajs readback start) d order ≡ 0 →
+      beginnings_in (session_for e trajs readback start) d drone (order ++ later) ≡ starts_in (session_for e trajs readback start) d later
 
 -- What holds of an upload of this session, to drones that are so at the start, after these events. Only the last field
 -- asks that nobody else alters a byte. A moment of an upload is the end of one of its beginnings, so what holds after
@@ -52,10 +56,13 @@ pub record GoesRight (s : Upload) (drones : ℕ → DroneState) (events : List W
   pub starts_last : (d i k : ℕ) → d < drone_count s → i < drone_count s → k < read_count s i →
       Contains ((world s drones events).sent d) (start_of s.trajectory_id) →
       (is_right s (world s drones events).heard i k ≡ true) × WasRight s drones events i k
-  -- Once all packets are acknowledged, starts among them, each drone has taken a start at some event; nothing bounds
-  -- how often.
-  pub starts_taken : s.start ≡ true → progress s (world s drones events).heard ≡ Done → (d : ℕ) → d < drone_count s →
-      (i : ℕ) × (e : WorldEvent) × (slice_get events i ≡ Some e) × TakesStart s (world s drones (take i events)) d e
+  -- Until a drone takes a start it has started what it had started before.
+  pub unstarted : (d : ℕ) → d < drone_count s →
+      ((i : ℕ) (e : WorldEvent) → slice_get events i ≡ Some e → TakesStart s (world s drones (take i events)) d e → ⊥) →
+      ((world s drones events).drones d).started ≡ (drones d).started
+  -- Once all packets are acknowledged, starts among them, each drone has begun at least once; nothing bounds how often.
+  pub begun : s.start ≡ true → progress s (world s drones events).heard ≡ Done → (d : ℕ) → d < drone_count s →
+      1 ≤ beginnings s (start_world s drones) d events
   -- And a drone to which the link hands one start at most has begun exactly once.
   pub begun_once : s.start ≡ true → progress s (world s drones events).heard ≡ Done → (d : ℕ) → d < drone_count s →
       TakesOneStart s drones events d → beginnings s (start_world s drones) d events ≡ 1

@@ -8,7 +8,8 @@
 //! `certificate` returns what keeps the drones of a show that fits apart, or the first part of a cue in which no direction
 //! separates two of them (`specs/Separation.antt`); `separation_law` says what that first part is (`specs/Laws.antt`).
 //!
-//! `plan_text` returns the text with each drone's bytes and the packets that bring them, byte by byte that of `specs/Texts.antt`.
+//! `plan_text` returns the text with each drone's bytes and the packets that bring them, byte by byte that of `specs/Texts.antt`;
+//! by `plan_law` no other drones or trajectories have that text.
 //! `session` is what is uploaded, `landing_law` says what it leaves in the drones' memories (`specs/Landing.antt`), and
 //! `uploads_law` what holds of each upload of it (`specs/Uploading.antt`).
 //!
@@ -30,5 +31,5 @@ pub use fitting::fit;
 pub use separation::{
     BlockedPart, SeparationFault, certificate, clearance_of, count_nodes, separation_law,
 };
-pub use text::plan_text;
+pub use text::{plan_law, plan_text};
 pub use upload::{landing_law, session, uploadable_law, uploads_law};

@@ -9,7 +9,7 @@ ghost use Rattle.traj_codec.specs.Spelling.{IsEncoding};
 ghost use Rattle.upload_model.specs.Sessions.{Upload};
 ghost use Rattle.show_plan.specs.Fitting.{StandsAsWord, IsSendable, IsValidFitted, size};
 ghost use Rattle.show_plan.specs.Landing.{AreUploadable, session_for};
-ghost use Rattle.show_plan.specs.Texts.{drone_line, drone_part, drone_parts, packet_lines, plan_text};
+ghost use Rattle.show_plan.specs.Texts.{PlanLaw, drone_line, drone_part, drone_parts, packet_lines, plan_text};
 
 use crate::fitted::Fitted;
 use crate::packets::{put_bytes, put_packets};
@@ -18,7 +18,7 @@ use choreo_show::{Name, Settings};
 use crtp_packets::MEMORY_BYTES;
 use fleet_io::Lines;
 use std::alloc::{AllocError, Global};
-use traj_codec::{Segment, Traj, join_law, size_of};
+use traj_codec::{Segment, Traj, join_law, size_of, spelling_law};
 use upload_core::Session;
 
 fn put_head(text: &mut Lines) -> Result<(), AllocError>
@@ -159,4 +159,12 @@ pub fn plan_text(alloc: Global, f: &Fitted) -> Result<Lines, AllocError>
     )?;
     put_end(&mut text)?;
     Ok(text)
+}
+
+/// A law. A plan's text says whose plan it is: two plans with one text are of the same drones and the same trajectories, whatever settings
+/// they were made with.
+pub fn plan_law()
+    ensures { PlanLaw }
+{
+    spelling_law();
 }

@@ -79,7 +79,7 @@ pub fn landing_law()
 /// A law. Each upload of trajectories that can be uploaded, keep near to a show and keep apart goes right, whatever the
 /// link does: with read-back each byte was right when it was read, whoever else alters one, and starts come last. What
 /// is uploaded is stored, as `landing_law` says; and so it is whoever sends the packets, in whatever order. Each start
-/// that comes after a drone's writes and define starts the drone's own trajectory.
+/// that comes after a drone's writes and define starts the drone's own trajectory, once.
 pub fn uploads_law()
     ensures { UploadsLaw }
 {

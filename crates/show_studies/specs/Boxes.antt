@@ -63,9 +63,9 @@ BoxesSucceed depth s cut =
     (regions : List Region) × (second_refusal most_text None cut ≡ None) × (regions_of cut.second ≡ Ok regions)
     × JudgeGives (raised_of (trajectories_of s)) (aside_of s.settings) (upwards_of s.settings) depth regions Kept
 
--- The first text of the input stands for a show, the second one says these regions, and their number was written. At every instant of the
--- show each drone's curve, with what it is sent, is outside of each closed keepout, widened by the extents of its ellipsoid and by how far it
--- may stray, and inside of each volume, narrowed by them.
+-- The first text of the input stands for a show, the second one says these regions, and their number was written. At
+-- every instant of the show each drone's curve, with what it is sent, is outside of each closed keepout, widened by the
+-- extents of its ellipsoid and by how far it may stray, and inside of each volume, narrowed by them.
 pub record StaysInRegions (input : List ℕ) (old new : Option (List ℕ)) : Type 0 where
   pub s : PlainShow
   pub regions : List Region

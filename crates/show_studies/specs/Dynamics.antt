@@ -77,8 +77,8 @@ excess_in limits depth s = first_excess_of limits depth (times_of s) (sent_of s)
 abbrev pub dynamics_of : ℕ → PlainShow → List ℕ
 dynamics_of depth s = dynamics_text depth (times_of s) (sent_of s) (names_of s)
 
--- The input stands for a show, and its accelerations and jumps were written. With what it is sent, each drone keeps to them; and none is above
--- its limit, if there is one.
+-- The input stands for a show, and its accelerations and jumps were written. With what it is sent, each drone keeps to
+-- them; and none is above its limit, if there is one.
 pub record KeepsDynamics (depth : ℕ) (accel jump : Option ℕ) (input : List ℕ) (old new : Option (List ℕ)) : Type 0 where
   pub s : PlainShow
   pub stands : StandsFor input s

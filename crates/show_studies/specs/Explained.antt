@@ -47,9 +47,10 @@ explain_text names depth cues fine blocked closest touch =
 abbrev pub blocked_of : ℕ → PlainShow → Option BlockedPart
 blocked_of depth s = blocked_part s.settings depth (trajectories_of s)
 
--- The text says where two drones of the show are closest and where they touch first, among the instants that cut each cue into 2^fine parts:
--- at a touch that is named the closed ellipsoids around the two share a point, and no two drones touch at an earlier one of these instants;
--- where none is named, any two drones are apart at each of them. One drone alone is closest to none.
+-- The text says where two drones of the show are closest and where they touch first, among the instants that cut each
+-- cue into 2^fine parts: at a touch that is named the closed ellipsoids around the two share a point, and no two drones
+-- touch at an earlier one of these instants; where none is named, any two drones are apart at each of them. One drone
+-- alone is closest to none.
 pub record Explains (depth fine : ℕ) (s : PlainShow) (text : List ℕ) : Type 0 where
   pub closest : Option Closest
   pub touch : Option Touch
@@ -57,10 +58,10 @@ pub record Explains (depth fine : ℕ) (s : PlainShow) (text : List ℕ) : Type 
   pub is_first : MatchOption touch (NoTouch (trajectories_of s) s.settings.r s.settings.h fine) (IsFirstTouch (trajectories_of s) s.settings.r s.settings.h fine)
   pub is : text ≡ explain_text (names_of s) depth (cues_in s) fine (blocked_of depth s) closest touch
 
--- The input stands for a show, and this text was written, which explains it: a touch that it names is an instant at which the closed ellipsoids
--- around two drones that fly exactly share a point, and no earlier listed instant has one; where it names none, any two of these are apart at
--- each listed instant. Where it says that no part is blocked, any two drones keep apart, however far they stray and however late they are by
--- what the show's settings allow.
+-- The input stands for a show, and this text was written, which explains it: a touch that it names is an instant at
+-- which the closed ellipsoids around two drones that fly exactly share a point, and no earlier listed instant has one;
+-- where it names none, any two of these are apart at each listed instant. Where it says that no part is blocked, any
+-- two drones keep apart, however far they stray and however late they are by what the show's settings allow.
 pub record TellsTouches (depth fine : ℕ) (input : List ℕ) (old new : Option (List ℕ)) : Type 0 where
   pub s : PlainShow
   pub text : List ℕ

@@ -47,8 +47,8 @@ speed_text depth [] names = []
 speed_text depth (t ∷ ts) [] = []
 speed_text depth (t ∷ ts) (name ∷ names) = speed_of_drone depth t name ++ speed_text depth ts names
 
--- Between any two of its instants a drone moves on each axis by at most its bound times the time between them, and no bound is above the
--- limit, if there is one.
+-- Between any two of its instants a drone moves on each axis by at most its bound times the time between them, and no
+-- bound is above the limit, if there is one.
 pub record KeepsBounds (limit : Option ℕ) (depth : ℕ) (t : Traj) : Type 0 where
   pub keeps : (axis : ℕ) → axis ≤ 2 → KeepsSpeed t axis (speed depth t axis)
   pub within : IfSome limit (λ most. (axis : ℕ) → axis ≤ 2 → speed depth t axis ≤ most)
@@ -58,8 +58,9 @@ abbrev pub refused_or : Option Refusal → List ℕ → Outcome
 refused_or (Some r) text = refused r
 refused_or None text = outcome 0 text
 
--- The input stands for a show, and the bounds on its drones' speeds were written. With what it is sent, each drone moves on each axis between
--- any two instants by at most its bound times the time between them; and no bound is above the limit, if there is one.
+-- The input stands for a show, and the bounds on its drones' speeds were written. With what it is sent, each drone
+-- moves on each axis between any two instants by at most its bound times the time between them; and no bound is above
+-- the limit, if there is one.
 pub record KeepsSpeeds (limit : Option ℕ) (depth : ℕ) (input : List ℕ) (old new : Option (List ℕ)) : Type 0 where
   pub s : PlainShow
   pub stands : StandsFor input s

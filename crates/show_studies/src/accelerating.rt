@@ -183,9 +183,9 @@ impl AnyText for DynamicsVerb {
     }
 }
 
-/// Runs `dynamics` (docs/COMMANDS.md): how fast each drone's speed changes at most on x, y and z, in micrometres per second squared, and how
-/// much it jumps at most, in micrometres per second, with the cues; or the first reason why the show is refused, or the first of these that
-/// is above its limit, which are in millimetres.
+/// Runs `dynamics` (docs/COMMANDS.md): how fast each drone's speed changes at most on x, y and z, in micrometres per
+/// second squared, and how much it jumps at most, in micrometres per second, with the cues; or the first reason why the
+/// show is refused, or the first of these that is above its limit, which are in millimetres.
 pub fn dynamics<S: Source, K: Sink>(
     alloc: Global,
     depth: Depth,

@@ -131,8 +131,9 @@ impl AnyText for ExplainVerb {
     }
 }
 
-/// Runs `explain` (docs/COMMANDS.md): the first part of a cue in which no direction separates two drones, where two drones come closest and
-/// where they touch first, among the instants that cut each cue into 2^`fine` parts; or the first other reason why the show is refused.
+/// Runs `explain` (docs/COMMANDS.md): the first part of a cue in which no direction separates two drones, where two
+/// drones come closest and where they touch first, among the instants that cut each cue into 2^`fine` parts; or the
+/// first other reason why the show is refused.
 pub fn explain<S: Source, K: Sink>(
     alloc: Global,
     depth: Depth,

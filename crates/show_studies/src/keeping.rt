@@ -172,8 +172,8 @@ pub fn boxes_law()
     ensures { BoxesLaw }
 {}
 
-/// Runs `boxes` (docs/COMMANDS.md): the number of regions, where each drone keeps to each of them throughout the show; or the first
-/// thing that is wrong with either text, or the first part of a cue in which a drone isn't kept.
+/// Runs `boxes` (docs/COMMANDS.md): the number of regions, where each drone keeps to each of them throughout the show;
+/// or the first thing that is wrong with either text, or the first part of a cue in which a drone isn't kept.
 pub fn boxes<S: Source, K: Sink>(alloc: Global, depth: Depth, source: &mut S, sink: &mut K) -> u8
     ensures { Does (boxes_verb depth) (during S.told K.written K.faults source.old source.new sink.old sink.new) result }
 {

@@ -1,5 +1,6 @@
-//! The commands that study a show: whether its drones keep to regions (`boxes`), how fast they are at most (`speed`), where two of them
-//! come close (`explain`), and how fast their speeds change at most and where they jump (`dynamics`). The run of each is one fact, `Behaves`.
+//! The commands that study a show: whether its drones keep to regions (`boxes`), how fast they are at most (`speed`),
+//! where two of them come close (`explain`), and how fast their speeds change at most and where they jump (`dynamics`).
+//! The run of each is one fact, `Behaves`.
 #![tactic(auto)]
 
 mod accelerating;

@@ -161,8 +161,8 @@ impl AnyText for SpeedVerb {
     }
 }
 
-/// Runs `speed` (docs/COMMANDS.md): how fast each drone is at most on x, y and z, in micrometres per second; or the first reason why the
-/// show is refused, or the first drone and axis whose bound is above the limit.
+/// Runs `speed` (docs/COMMANDS.md): how fast each drone is at most on x, y and z, in micrometres per second; or the
+/// first reason why the show is refused, or the first drone and axis whose bound is above the limit.
 pub fn speed<S: Source, K: Sink>(
     alloc: Global,
     depth: Depth,

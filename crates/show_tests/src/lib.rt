@@ -1,5 +1,5 @@
-//! Tests of the show crates by their public calls: the words of a command, the lines of refusals, plans and certificates
-//! whose bytes, trees or blocked parts are known from outside, reports and drills.
+//! Tests of the show crates by their public calls: the words of a command, the lines of refusals, plans and
+//! certificates whose bytes, trees or blocked parts are known from outside, reports and drills.
 //!
 //! They stand above the crates that they test, since a crate with tests is proved twice.
 #![tactic(auto)]

@@ -29,8 +29,8 @@ fn fitted_of(alloc: Global, text: &[u8]) -> Result<Fitted, Option<PlanFault>>
     }
 }
 
-/// What becomes of a text: how many cues it has, its milliseconds, how many bytes its first drone has, and whether they begin
-/// as wanted; a fault; or something else.
+/// What becomes of a text: how many cues it has, its milliseconds, how many bytes its first drone has, and whether they
+/// begin as wanted; a fault; or something else.
 #[derive(Clone, Copy, PartialEq, Eq, Debug)]
 enum Outcome {
     Fits(u16, u32, usize, bool),
@@ -65,7 +65,7 @@ fn outcome_of(alloc: Global, text: &[u8], wanted: &[u8]) -> Outcome {
 }
 
 // Shows, the first bytes of the first drone, or all where as many are given as there are, and what becomes of the show.
-const BYTES_OF_SHOWS: [(&[u8], &[u8], Outcome); 12] = [
+const BYTES_OF_SHOWS: [(&[u8], &[u8], Outcome); 14] = [
     // one move
     (
         b"choreo 1\ndrone solo 0 0 1000000 0\ncue 2000\nsolo move 1000000 0 1000000 0\nend\n",
@@ -131,6 +131,18 @@ const BYTES_OF_SHOWS: [(&[u8], &[u8], Outcome); 12] = [
         b"choreo 1\ndrone solo 1000000 0 1000000 0\ncue 1000\nsolo arc ccw 0 0 0\nend\n",
         b"\xE8\x03\x00\x00\xE8\x03\x00\x00\x0A\xE8\x03\xE8\x03\x28\x02\x00\x00\x28\x02\xE8\x03\xE8\x03\x00\x00\x00",
         Outcome::Fits(1, 1000, 26, true),
+    ),
+    // a quarter circle from rest to rest
+    (
+        b"choreo 1\ndrone solo 1000000 0 1000000 0\ncue 1000\nsolo swing ccw 0 0 0\nend\n",
+        b"\xE8\x03\x00\x00\xE8\x03\x00\x00\x0F\xE8\x03\xE8\x03\xE8\x03\x27\x04\xB9\x02\x00\x00\x00\x00\x00\x00\x00\x00\x00\x00\xB9\x02\x27\x04\xE8\x03\xE8\x03\xE8\x03\x00\x00\x00",
+        Outcome::Fits(1, 1000, 42, true),
+    ),
+    // a quarter circle from an arc to rest, with yaw
+    (
+        b"choreo 1\ndrone solo 1000000 0 1000000 0\ncue 2000\nsolo arc_out ccw 0 0 900\nend\n",
+        b"\xE8\x03\x00\x00\xE8\x03\x00\x00\xCF\xD0\x07\xE8\x03\xE6\x02\xFC\x01\xBB\x00\x72\x00\x00\x00\x00\x00\xD9\x01\x11\x03\xCF\x03\xE2\x03\xE8\x03\xE8\x03\xE8\x03\x01\x01\xD7\x01\x83\x02\x03\x03\x59\x03\x84\x03\x84\x03\x00\x00\x00",
+        Outcome::Fits(1, 2000, 56, true),
     ),
     // a figure in a frame
     (

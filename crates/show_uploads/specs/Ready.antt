@@ -41,8 +41,8 @@ IsSoundReady (ready.Refused r) = IsOfInput r
 abbrev pub TakesMarked : Option (List ℕ) → Option (List ℕ) → Type 0
 TakesMarked old new = (taken : List ℕ) × Consumes old new taken × (has_whole_marker taken ≡ true)
 
--- Where frames are wanted, the bytes after the marker line are still to come; and unless the input's end was met, the marker line had its line
--- feed.
+-- Where frames are wanted, the bytes after the marker line are still to come; and unless the input's end was met, the
+-- marker line had its line feed.
 abbrev pub GoesOnReady : Ready → Held → Option (List ℕ) → Option (List ℕ) → Type 0
 GoesOnReady (ready.Host host) held old new =
     (held.sound ≡ true) × IfSome old (λ all. new ≡ Some (rest_of all)) × (held.ended ≡ false → TakesMarked old new)

@@ -32,8 +32,8 @@ use Rattle.show_uploads.specs.Sessions.{session_of}
 abbrev pub AllDecode : (ℕ → DroneState) → ℕ → List (List ℕ) → Type 0
 AllDecode drones id names = (d : ℕ) → d < length names → (t : Traj) × DecodesTo (drones d) id t
 
--- What a rehearsal says that is done after these events: the text of what the drones of these names hold. Where nobody else alters a byte, all
--- their memories decode; without read-back no schedule alters one (`ScheduleLaw`).
+-- What a rehearsal says that is done after these events: the text of what the drones of these names hold. Where nobody
+-- else alters a byte, all their memories decode; without read-back no schedule alters one (`ScheduleLaw`).
 pub record SaysHeld (events : List WorldEvent) (drones : ℕ → DroneState) (id : ℕ) (names : List (List ℕ)) (text : List ℕ) : Type 0 where
   pub held : IsRehearsalText drones id names text
   pub decoded : IsUnaltered events → AllDecode drones id names

@@ -22,8 +22,8 @@ use Rattle.show_uploads.specs.Sessions.{link_in}
 abbrev pub upload_ways : ℕ → Ways
 upload_ways depth = record { reads = true; has_second = true; by_frames = true; depth = Some depth }
 
--- What `upload` writes where a read failed after these bytes. Without a whole marker line among them, the end frame. Else they hold a show that
--- is accepted, and each whole frame after the marker line was answered.
+-- What `upload` writes where a read failed after these bytes. Without a whole marker line among them, the end frame.
+-- Else they hold a show that is accepted, and each whole frame after the marker line was answered.
 abbrev pub UploadStops : Ways → Bool → Bool → Bool → List ℕ → List ℕ → Type 0
 UploadStops w start readback false taken output = output ≡ end_frame 6
 UploadStops w start readback true taken output =
@@ -35,8 +35,8 @@ UploadsPromptly w start readback r =
     (taken sent : List ℕ) → Carried r taken sent → has_whole_marker taken ≡ true →
     (s : PlainShow) → StandsFor (part_of taken) s → show_refusal w (cut_of taken) s ≡ None → IsPrompt (link_in s start readback) (rest_of taken) sent
 
--- What an upload reads of its input. Where the show is accepted, at most 4,096 bytes were taken of what stands after the frames with which the
--- upload is over; else of what stands after the marker line.
+-- What an upload reads of its input. Where the show is accepted, at most 4,096 bytes were taken of what stands after
+-- the frames with which the upload is over; else of what stands after the marker line.
 pub record UploadStopsReading (w : Ways) (start readback : Bool) (input : List ℕ) (left_after : Option (List ℕ)) : Type 0 where
   pub accepted : (s : PlainShow) → StandsFor (part_of input) s → show_refusal w (cut_of input) s ≡ None → StopsAtEnd (link_in s start readback) (Some (rest_of input)) left_after
   pub refused : ((s : PlainShow) → StandsFor (part_of input) s → show_refusal w (cut_of input) s ≡ None → ⊥) → TakesFewAfter (Some input) left_after
@@ -62,8 +62,8 @@ upload_verb depth start readback = record {
   headline = λ input old new. FliesText (part_of input);
 }
 
--- The upload began, by what was written before and after: first of all the first byte of a packet. Of a refused show, or where no show could be
--- read, the end frame is all that is written.
+-- The upload began, by what was written before and after: first of all the first byte of a packet. Of a refused show,
+-- or where no show could be read, the end frame is all that is written.
 abbrev pub HasBegun : Option (List ℕ) → Option (List ℕ) → Type 0
 HasBegun old new = (before later : List ℕ) × (old ≡ Some before) × (new ≡ Some (before ++ packet_byte ∷ later))
 

@@ -1,5 +1,5 @@
-//! The commands that concern an upload: what it leaves in drones after a schedule (`rehearse`), and the upload itself, through link frames
-//! (`upload`). Each has its laws and one fact of its run, `Behaves`.
+//! The commands that concern an upload: what it leaves in drones after a schedule (`rehearse`), and the upload itself,
+//! through link frames (`upload`). Each has its laws and one fact of its run, `Behaves`.
 #![tactic(auto)]
 
 mod rehearsing;

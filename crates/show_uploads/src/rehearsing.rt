@@ -166,7 +166,8 @@ impl TwoTexts for Rehearsal {
     }
 }
 
-/// A law. A rehearsal of a show and a schedule gives one outcome, and some; and where nothing is lacking, that has status 0.
+/// A law. A rehearsal of a show and a schedule gives one outcome, and some; and where nothing is lacking, that has
+/// status 0.
 pub fn rehearse_law()
     ensures { RehearseLaw }
 {
@@ -174,9 +175,9 @@ pub fn rehearse_law()
     schedule_law();
 }
 
-/// Runs `rehearse` (docs/COMMANDS.md, `rehearse`) at a depth of 0 to 8, with starts or without, with read-back or without: what the drones hold
-/// after the events of a schedule, where the upload is done then. Else the first thing that is wrong with the show,
-/// with the schedule or with how the upload ended. Returns the status.
+/// Runs `rehearse` (docs/COMMANDS.md, `rehearse`) at a depth of 0 to 8, with starts or without, with read-back or
+/// without: what the drones hold after the events of a schedule, where the upload is done then. Else the first thing
+/// that is wrong with the show, with the schedule or with how the upload ended. Returns the status.
 pub fn rehearse<S: Source, K: Sink>(
     alloc: Global,
     depth: Depth,

@@ -157,9 +157,10 @@ pub fn uploading_law()
     upload_law();
 }
 
-/// Runs `upload` (docs/COMMANDS.md): reads the show, and carries its upload, with read-back (docs/RADIO.md, "Read-back") or without,
-/// through link frames (docs/RADIO.md, "Link frames") to an end frame; or writes the end frame alone, with the status of the first reason
-/// why the show is refused. Where the upload began, what holds of each upload of the show is said however this one ended.
+/// Runs `upload` (docs/COMMANDS.md): reads the show, and carries its upload, with read-back (docs/RADIO.md,
+/// "Read-back") or without, through link frames (docs/RADIO.md, "Link frames") to an end frame; or writes the end frame
+/// alone, with the status of the first reason why the show is refused. Where the upload began, what holds of each
+/// upload of the show is said however this one ended.
 pub fn upload<S: Source, K: Sink>(
     alloc: Global,
     depth: Depth,

@@ -29,7 +29,8 @@ abbrev pub IsMarkedBy : List ℕ → Option ℕ → Bool → Type 0
 IsMarkedBy text None is_marked = is_marked ≡ false
 IsMarkedBy text (Some number) is_marked = (is_marked ≡ true) × (number ≡ marker_number text)
 
--- Of the part of the bytes that were to come these were taken, and what is left of it is still to come, where a line begins or not.
+-- Of the part of the bytes that were to come these were taken, and what is left of it is still to come, where a line
+-- begins or not.
 pub record IsFed (all : List ℕ) (at_line : Bool) (now : Option (List ℕ)) (fed : List ℕ) : Type 0 where
   pub rest : List ℕ
   pub now_is : now ≡ Some rest
@@ -58,8 +59,8 @@ pub record Skips (coming : Option (List ℕ)) (n : ℕ) (at_line : Bool) (now : 
   pub count : length fed ≡ n
   pub is_fed : IfSome coming (λ all. IsFed all at_line now fed)
 
--- a part that isn't too long was taken whole: at most 4,096 bytes were taken of what stands after it and its marker line, and where no marker
--- line ends it, it was taken to the end of the input
+-- a part that isn't too long was taken whole: at most 4,096 bytes were taken of what stands after it and its marker
+-- line, and where no marker line ends it, it was taken to the end of the input
 abbrev pub IsTakenWhole : Option (List ℕ) → Option (List ℕ) → Type 0
 IsTakenWhole coming left =
     IfSome coming (λ all. length (part_of all) ≤ certificate_limit → (has_marker (between_feeds all) ≡ false → IsAtEnd left) × TakesFewAfter (Some all) left)

@@ -54,7 +54,8 @@ fn faulty(line: u32) -> Answer
     }
 }
 
-// What a verdict is said as for a show that fits, with a marker line of this number after the certificate's text, or none.
+// What a verdict is said as for a show that fits, with a marker line of this number after the certificate's text, or
+// none.
 fn judge(fitted: &Fitted, curves: &Curves, verdict: Verdict, marker: Option<u32>) -> Answer
     requires valid { IsValidFitted fitted.now }
     requires curves { CurvesStandFor curves.now fitted.now.trajs }
@@ -260,8 +261,8 @@ pub fn verify_law()
     certificate_law();
 }
 
-/// Runs `verify` (docs/COMMANDS.md): the depth and the number of trees of a certificate that is valid for the show, or the first thing
-/// that is wrong with either text.
+/// Runs `verify` (docs/COMMANDS.md): the depth and the number of trees of a certificate that is valid for the show, or
+/// the first thing that is wrong with either text.
 pub fn verify<S: Source, K: Sink>(alloc: Global, source: &mut S, sink: &mut K) -> u8
     ensures { Does verify_verb (during S.told K.written K.faults source.old source.new sink.old sink.new) result }
 {

@@ -8,4 +8,4 @@ returns c =
     let reads = c.readback_law.ensures in
     let curve = c.curve_law.ensures in
     let taking = c.taking_law.ensures in
-    uploads curve c.landing_law.ensures (in_any_order curve taking) upload.safe upload.sent taking upload.taken upload.once reads.cover reads.verified reads.starts
+    uploads curve c.landing_law.ensures (in_any_order curve taking.there) upload.safe upload.unstarted upload.sent taking.there taking.each upload.begins upload.once reads.cover reads.verified reads.starts

@@ -2,7 +2,7 @@ use Rattle.std.proofs.Common.{Some, ap, sym, ◌∙◌}
 use Rattle.fleet_io.proofs.ToldLemmas.{IsInput-now, comes}
 use Rattle.command_words.specs.declared.command.Command.TheVariants.{Boxes, Compile, Drill, Dynamics, Explain, Speed, Upload}
 use Rattle.drill_show.specs.Drill.{drill_text}
-use Rattle.show_judge.proofs.HeadlineLemmas.{flies_own}
+use Rattle.show_judge.proofs.HeadlineLemmas.{behaves_left, flies_own, read_to_end}
 use Rattle.show_judge.proofs.VerbLemmas.{outcomes}
 use Rattle.show_looks.specs.Drilled.{drill_of}
 use Rattle.show_looks.specs.Reports.{report_of}
@@ -84,3 +84,19 @@ returns-in-Some-clause-known g c = known_small _ (c.run_command.ensures.behaves.
 pub returns-in-Some-clause-sink_later : goal.returns-in-Some-clause-sink_later
 returns-in-Some-clause-sink_later g c =
     (c.run_command.ensures.behaves.behaves (g.S.Source.told c.run_command.new.source).given (IsInput-now (g.S.Source.told c.run_command.new.source))).runs.writes_later
+
+pub returns-in-Some-clause-known_input : goal.returns-in-Some-clause-known_input
+returns-in-Some-clause-known_input g c = λ d input is left at_end.
+    behaves_left (verb_of d) _ _ input (does_as c.in-Some.command d _ _ (one_command _ c.in-Some.command d (sym c.command_of.ensures.value ∙ c.in-Some.is) is) c.run_command.ensures.behaves) left at_end
+
+pub returns-in-Some-clause-to_end : goal.returns-in-Some-clause-to_end
+returns-in-Some-clause-to_end g c = λ d is all done.
+    read_to_end (verb_of d) _ _ (does_as c.in-Some.command d _ _ (one_command _ c.in-Some.command d (sym c.command_of.ensures.value ∙ c.in-Some.is) is) c.run_command.ensures.behaves) all done
+
+pub returns-in-Some-clause-six : goal.returns-in-Some-clause-six
+returns-in-Some-clause-six g c = λ six.
+    ((c.run_command.ensures.behaves.behaves (g.S.Source.told c.run_command.new.source).given (IsInput-now (g.S.Source.told c.run_command.new.source))).runs.six six).0
+
+pub returns-in-Some-clause-seven : goal.returns-in-Some-clause-seven
+returns-in-Some-clause-seven g c = λ seven.
+    ((c.run_command.ensures.behaves.behaves (g.S.Source.told c.run_command.new.source).given (IsInput-now (g.S.Source.told c.run_command.new.source))).runs.seven seven).0

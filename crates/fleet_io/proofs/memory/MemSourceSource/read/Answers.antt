@@ -1,4 +1,4 @@
-use Rattle.fleet_io.proofs.Prelude.{common_steps, ◌≡◌, ◌∙◌, ◌-◌, ◌++◌, ap, List, ℕ, length, drop, take, arith, drop-drop, take_rest}
+use Rattle.fleet_io.proofs.Prelude.{common_steps, ◌∙◌, ap, List, ℕ, drop, arith, drop-drop, take_rest}
 use Rattle.fleet_io.proofs.CopiedLemmas.{Reads-copied, given_on}
 use Rattle.fleet_io.proofs.memory.MemSourceSource.read.Goals as goal
 

@@ -1,4 +1,4 @@
-use Rattle.fleet_io.proofs.Prelude.{common_steps, inl, inr, true, [], ◌∷◌, ◌++◌, ◌+◌, take, drop, length, length-append, append-nil, refl, sym, ap, ◌∙◌, arith, length-drop, length-take, given, stream, to_come}
+use Rattle.fleet_io.proofs.Prelude.{common_steps, inl, inr, true, [], ◌∷◌, ◌++◌, ◌+◌, take, drop, length, length-append, append-nil, refl, sym, ap, ◌∙◌, arith, length-drop, length-take, byte_of, stream, to_come}
 use Rattle.fleet_io.proofs.ToldLemmas.{Took-none, Took-runs, Took-trans, back, consumed, kept, nothing_before, took_alone}
 use Rattle.fleet_io.proofs.GoingLemmas.{Goes-trans, Goes-unasked}
 use Rattle.fleet_io.proofs.AskingLemmas.{Asking-runs, Asking-none, Gathers-unmarked, promised, promised_after}
@@ -33,9 +33,9 @@ bytes-preserved g c =
       took = Took-runs _ _ _ _ _ _ _ _ _ _ c.bytes.invariant.took (rw (c.in-Ok.is, c.in-Some.is) at c.next.ensures.took) r.ok;
       goes = Goes-trans _ _ _ _ _ _ (Goes-trans _ _ _ _ _ _ c.bytes.invariant.goes c.next.ensures.goes) (Goes-unasked _ _ _ r.sound r.lines r.ended c.next.ensures.goes.went.at_end);
       at_line = r.at_line ∙ c.next.ensures.at_line ∙ c.bytes.invariant.at_line;
-      asking = Asking-runs _ _ _ (given c.next.result) _ _ _ c.in-Some.byte c.bytes.start _ _ _ c.bytes.invariant.gathers c.bytes.invariant.asking c.next.ensures.unasked c.next.ensures.took c.next.ensures.most (rw (c.in-Ok.is, c.in-Some.is) refl) r.ok;
+      asking = Asking-runs _ _ _ (byte_of c.next.result) _ _ _ c.in-Some.byte c.bytes.start _ _ _ c.bytes.invariant.gathers c.bytes.invariant.asking c.next.ensures.unasked c.next.ensures.took c.next.ensures.most (rw (c.in-Ok.is, c.in-Some.is) refl) r.ok;
       short = r.short;
-      most = omega (arith, c.next.ensures.most, length-append (given c.next.result) c.next.new.self.waiting, ap length r.ok.wait, length-append r.ok.run c.add_run.new.self.waiting);
+      most = omega (arith, c.next.ensures.most, length-append (byte_of c.next.result) c.next.new.self.waiting, ap length r.ok.wait, length-append r.ok.run c.add_run.new.self.waiting);
     }
 
 pub returns-in_err-add_run-in-Some-clause-goes : goal.returns-in_err-add_run-in-Some-clause-goes
@@ -62,28 +62,28 @@ bytes-init g c = grind (arith, common_steps, Gathers-none, Took-none, Goes-unask
 -- ---- how the source was asked
 
 pub returns-in-Err-clause-asks : goal.returns-in-Err-clause-asks
-returns-in-Err-clause-asks g c = (promised_after _ _ _ (given c.next.result) _ c.bytes.start _ _ _ c.bytes.invariant.gathers c.bytes.invariant.asking c.next.ensures.unasked c.next.ensures.took c.next.ensures.most).0
+returns-in-Err-clause-asks g c = (promised_after _ _ _ (byte_of c.next.result) _ c.bytes.start _ _ _ c.bytes.invariant.gathers c.bytes.invariant.asking c.next.ensures.unasked c.next.ensures.took c.next.ensures.most).0
 
 pub returns-in-Err-clause-patient : goal.returns-in-Err-clause-patient
-returns-in-Err-clause-patient g c = (promised_after _ _ _ (given c.next.result) _ c.bytes.start _ _ _ c.bytes.invariant.gathers c.bytes.invariant.asking c.next.ensures.unasked c.next.ensures.took c.next.ensures.most).1
+returns-in-Err-clause-patient g c = (promised_after _ _ _ (byte_of c.next.result) _ c.bytes.start _ _ _ c.bytes.invariant.gathers c.bytes.invariant.asking c.next.ensures.unasked c.next.ensures.took c.next.ensures.most).1
 
 pub returns-then-ends_marker-clause-asks : goal.returns-then-ends_marker-clause-asks
-returns-then-ends_marker-clause-asks g c = (promised_after _ _ _ (given c.next.result) _ c.bytes.start _ _ _ c.bytes.invariant.gathers c.bytes.invariant.asking c.next.ensures.unasked c.next.ensures.took c.next.ensures.most).0
+returns-then-ends_marker-clause-asks g c = (promised_after _ _ _ (byte_of c.next.result) _ c.bytes.start _ _ _ c.bytes.invariant.gathers c.bytes.invariant.asking c.next.ensures.unasked c.next.ensures.took c.next.ensures.most).0
 
 pub returns-then-ends_marker-clause-patient : goal.returns-then-ends_marker-clause-patient
-returns-then-ends_marker-clause-patient g c = (promised_after _ _ _ (given c.next.result) _ c.bytes.start _ _ _ c.bytes.invariant.gathers c.bytes.invariant.asking c.next.ensures.unasked c.next.ensures.took c.next.ensures.most).1
+returns-then-ends_marker-clause-patient g c = (promised_after _ _ _ (byte_of c.next.result) _ c.bytes.start _ _ _ c.bytes.invariant.gathers c.bytes.invariant.asking c.next.ensures.unasked c.next.ensures.took c.next.ensures.most).1
 
 pub returns-in_err-add_run-in-Some-clause-asks : goal.returns-in_err-add_run-in-Some-clause-asks
-returns-in_err-add_run-in-Some-clause-asks g c = (promised_after _ _ _ (given c.next.result) _ c.bytes.start _ _ _ c.bytes.invariant.gathers c.bytes.invariant.asking c.next.ensures.unasked c.next.ensures.took c.next.ensures.most).0
+returns-in_err-add_run-in-Some-clause-asks g c = (promised_after _ _ _ (byte_of c.next.result) _ c.bytes.start _ _ _ c.bytes.invariant.gathers c.bytes.invariant.asking c.next.ensures.unasked c.next.ensures.took c.next.ensures.most).0
 
 pub returns-in_err-add_run-in-Some-clause-patient : goal.returns-in_err-add_run-in-Some-clause-patient
-returns-in_err-add_run-in-Some-clause-patient g c = (promised_after _ _ _ (given c.next.result) _ c.bytes.start _ _ _ c.bytes.invariant.gathers c.bytes.invariant.asking c.next.ensures.unasked c.next.ensures.took c.next.ensures.most).1
+returns-in_err-add_run-in-Some-clause-patient g c = (promised_after _ _ _ (byte_of c.next.result) _ c.bytes.start _ _ _ c.bytes.invariant.gathers c.bytes.invariant.asking c.next.ensures.unasked c.next.ensures.took c.next.ensures.most).1
 
 pub returns-in-None-clause-asks : goal.returns-in-None-clause-asks
-returns-in-None-clause-asks g c = (promised_after _ _ _ (given c.next.result) _ c.bytes.start _ _ _ c.bytes.invariant.gathers c.bytes.invariant.asking c.next.ensures.unasked c.next.ensures.took c.next.ensures.most).0
+returns-in-None-clause-asks g c = (promised_after _ _ _ (byte_of c.next.result) _ c.bytes.start _ _ _ c.bytes.invariant.gathers c.bytes.invariant.asking c.next.ensures.unasked c.next.ensures.took c.next.ensures.most).0
 
 pub returns-in-None-clause-patient : goal.returns-in-None-clause-patient
-returns-in-None-clause-patient g c = (promised_after _ _ _ (given c.next.result) _ c.bytes.start _ _ _ c.bytes.invariant.gathers c.bytes.invariant.asking c.next.ensures.unasked c.next.ensures.took c.next.ensures.most).1
+returns-in-None-clause-patient g c = (promised_after _ _ _ (byte_of c.next.result) _ c.bytes.start _ _ _ c.bytes.invariant.gathers c.bytes.invariant.asking c.next.ensures.unasked c.next.ensures.took c.next.ensures.most).1
 
 pub returns-clause-asks : goal.returns-clause-asks
 returns-clause-asks g c = (promised _ _ _ _ _ c.bytes.invariant.asking).0
@@ -117,19 +117,19 @@ returns-in-None-clause-fed g c =
 
 pub returns-in-Err-clause-few : goal.returns-in-Err-clause-few
 returns-in-Err-clause-few g c =
-    reads_at_most _ _ (c.bytes.bytes.items ++ given c.next.result) _ _ (c.args.limit + 4) (Took-trans _ _ _ _ _ _ _ _ c.bytes.invariant.took c.next.ensures.took) (rw (c.in-Err.is, append-nil c.bytes.bytes.items) c.bytes.invariant.short) (omega (arith, c.next.ensures.most, length-append (given c.next.result) c.next.new.self.waiting))
+    reads_at_most _ _ (c.bytes.bytes.items ++ byte_of c.next.result) _ _ (c.args.limit + 4) (Took-trans _ _ _ _ _ _ _ _ c.bytes.invariant.took c.next.ensures.took) (rw (c.in-Err.is, append-nil c.bytes.bytes.items) c.bytes.invariant.short) (omega (arith, c.next.ensures.most, length-append (byte_of c.next.result) c.next.new.self.waiting))
 
 pub returns-then-ends_marker-clause-few : goal.returns-then-ends_marker-clause-few
 returns-then-ends_marker-clause-few g c =
-    reads_at_most _ _ (c.bytes.bytes.items ++ c.in-Some.byte ∷ []) _ _ (c.args.limit + 4) (Took-trans _ _ _ _ _ _ _ _ c.bytes.invariant.took (rw (c.in-Ok.is, c.in-Some.is) at c.next.ensures.took)) (omega (arith, length-append c.bytes.bytes.items (c.in-Some.byte ∷ []))) (omega (arith, c.next.ensures.most, length-append (given c.next.result) c.next.new.self.waiting))
+    reads_at_most _ _ (c.bytes.bytes.items ++ c.in-Some.byte ∷ []) _ _ (c.args.limit + 4) (Took-trans _ _ _ _ _ _ _ _ c.bytes.invariant.took (rw (c.in-Ok.is, c.in-Some.is) at c.next.ensures.took)) (omega (arith, length-append c.bytes.bytes.items (c.in-Some.byte ∷ []))) (omega (arith, c.next.ensures.most, length-append (byte_of c.next.result) c.next.new.self.waiting))
 
 pub returns-in_err-add_run-in-Some-clause-few : goal.returns-in_err-add_run-in-Some-clause-few
 returns-in_err-add_run-in-Some-clause-few g c =
-    reads_at_most _ _ (c.bytes.bytes.items ++ c.in-Some.byte ∷ []) _ _ (c.args.limit + 4) (Took-trans _ _ _ _ _ _ _ _ c.bytes.invariant.took (rw (c.in-Ok.is, c.in-Some.is) at c.next.ensures.took)) (omega (arith, length-append c.bytes.bytes.items (c.in-Some.byte ∷ []))) (omega (arith, c.next.ensures.most, length-append (given c.next.result) c.next.new.self.waiting))
+    reads_at_most _ _ (c.bytes.bytes.items ++ c.in-Some.byte ∷ []) _ _ (c.args.limit + 4) (Took-trans _ _ _ _ _ _ _ _ c.bytes.invariant.took (rw (c.in-Ok.is, c.in-Some.is) at c.next.ensures.took)) (omega (arith, length-append c.bytes.bytes.items (c.in-Some.byte ∷ []))) (omega (arith, c.next.ensures.most, length-append (byte_of c.next.result) c.next.new.self.waiting))
 
 pub returns-in-None-clause-few : goal.returns-in-None-clause-few
 returns-in-None-clause-few g c =
-    reads_at_most _ _ (c.bytes.bytes.items ++ given c.next.result) _ _ (c.args.limit + 4) (Took-trans _ _ _ _ _ _ _ _ c.bytes.invariant.took c.next.ensures.took) (rw (c.in-Ok.is, c.in-None.is, append-nil c.bytes.bytes.items) c.bytes.invariant.short) (omega (arith, c.next.ensures.most, length-append (given c.next.result) c.next.new.self.waiting))
+    reads_at_most _ _ (c.bytes.bytes.items ++ byte_of c.next.result) _ _ (c.args.limit + 4) (Took-trans _ _ _ _ _ _ _ _ c.bytes.invariant.took c.next.ensures.took) (rw (c.in-Ok.is, c.in-None.is, append-nil c.bytes.bytes.items) c.bytes.invariant.short) (omega (arith, c.next.ensures.most, length-append (byte_of c.next.result) c.next.new.self.waiting))
 
 pub returns-clause-few : goal.returns-clause-few
 returns-clause-few g c = reads_at_most _ _ c.bytes.bytes.items _ _ (c.args.limit + 4) c.bytes.invariant.took c.bytes.invariant.short c.bytes.invariant.most

@@ -1,5 +1,4 @@
-use Rattle.fleet_io.proofs.Prelude.{common_steps, ◌≡◌, [], ◌++◌, ◌-◌, append-nil, sym, ◌∙◌, take, arith, gave}
-use Rattle.fleet_io.proofs.GoingLemmas.{Goes-unasked}
+use Rattle.fleet_io.proofs.Prelude.{common_steps, [], ◌-◌, append-nil, sym, ◌∙◌, take, arith}
 use Rattle.fleet_io.proofs.ToldLemmas.{Took-none}
 use Rattle.fleet_io.proofs.WaitingLemmas.{moved, unmoved}
 use Rattle.fleet_io.proofs.parts.Parts.more.Goals as goal

@@ -1,4 +1,4 @@
-use Rattle.fleet_io.proofs.Prelude.{common_steps, ◌≡◌, ◌∙◌, ◌-◌, ◌++◌, ap, List, ℕ, suc, length, drop, take, arith, refl, take_rest}
+use Rattle.fleet_io.proofs.Prelude.{◌≡◌, ◌∙◌, ◌-◌, ap, List, ℕ, suc, length, drop, take, arith, refl, take_rest}
 use Rattle.fleet_io.proofs.CopiedLemmas.{Reads-copied, sure_on}
 use Rattle.fleet_io.proofs.sure.SureSourceSource.read.Goals as goal
 
