@@ -1,25 +1,51 @@
-/* hemtoghai.h: judges shows of Crazyflie drones, in your own process.
+/* hemtoghai.h: judges shows of Crazyflie drones in your own process.
  *
- * One function answers every command of the program `show`, over bytes in memory: what would be its standard input is `input`,
- * what it would write goes to `output`, and its status is returned. docs/COMMANDS.md has the commands, what they write and each
- * status; docs/LANGUAGE.md has the language of shows.
- *
- * The contract of the function is proved, in Rattle (crates/hemtoghai/src/lib.rt). In its words: where `check`, `compile` and the
- * other commands that judge separation return 0, the text stands for a show, near to which its drones fly, and of any two of them the
- * ellipsoids share no point at any instant, however far the show's `stray` and `late` let drones be from their curves. Not proved,
- * and yours to keep, is what stands under "What a caller owes".
+ * One function answers every command of the program `show`, over bytes in memory. `input` is what the program would
+ * read from standard input, `output` takes what it would write, and its status is returned. docs/COMMANDS.md has the
+ * commands, their output and each status; docs/LANGUAGE.md has the language of shows; docs/CALLING.md has programs in
+ * C, C++, Rust and Python.
  *
  *     char line[256];
  *     size_t size;
  *     uint8_t status = hemtoghai_run("check", 5, text, text_length, line, sizeof line, &size);
  *     if (status == HEMTOGHAI_DONE) puts("the drones keep apart");
  *
- * Threads. A call has no state but its arguments and what it takes from malloc and gives back before it returns, so any number of
- * threads may call at once, each with an `output` and a `size` of its own.
+ * What status 0 says, and what is proved: the contract of hemtoghai_run in crates/hemtoghai/src/lib.rt. Its clauses
+ * stand in brackets here. "The show" is the one whose text stands in `input` before the marker line, if there is one.
  *
- * Memory. What a call holds at most is some times the size of `input` and of the answer. Nothing stays behind.
+ * - 0 of check, compile, certify, play, report, verify, rehearse and upload: the text is that of a show. At every
+ *   instant each drone's curve is within half a millimetre, on each axis, of what the text says. The ellipsoids around
+ *   any two drones share no point at any instant, while each is within the show's `stray` of its curve and no two are
+ *   further apart in time than its `late` (flies). Each upload of that show goes right, with the drone and the link of
+ *   docs/RADIO.md (uploads).
+ * - 0 of compile: the first `*size` bytes of `output` are the plan of trajectories of which that holds (headline).
+ * - upload, whatever the status: once the first byte of a packet stands in `output`, the same holds of the show
+ *   (begun).
+ * - 0 of boxes: each drone keeps to each region at every instant (regions). 0 of speed: on no axis is a drone faster
+ *   than the bound in `output`, and no bound is above the limit (speeds). 0 of explain: a touch that `output` names is
+ *   one, and where it writes `separated` drones keep apart as above (touches). 0 of dynamics: within each segment a
+ *   drone's speed changes by no more than the bound in `output`, no jump of it is greater than the one there, and
+ *   neither is above its limit (motions). **These four return 0 for drones that collide, too.**
+ * - 0 of drill: the show that drill makes flies near and apart, as above (drilled).
+ * - An input has one answer: two calls with the same words and input, neither of which ends with 1, differ in nothing
+ *   but where a room is too small. An input without a fault gets 0, unless that is 1 or 7. Each other status but 17 is
+ *   that of the program's first cause, and `output` has its line (behaves, outcomes, usage).
+ * - 7 only where `output` is too small. Then it has the first `output_length` bytes of the answer. At every other
+ *   status all `*size` bytes of the answer are in `output`, and the bytes after them stay as they were (no_room, whole,
+ *   behaves).
+ * - 17 only where a word isn't UTF-8. At 1 and 17 `*size` is 0 and `output` is as it was (memory, no_words).
+ * - The call returns, and touches no memory of yours but `output` and `*size`.
  *
- * Stack. Every command on every example took at most 60 KiB of it; that was measured and isn't proved. Give a thread 256 KiB.
+ * What is not proved: that memory ran out where the status is 1; how long a call takes; what stands under "Stack" and
+ * "What a caller owes"; and this header. docs/CALLING.md says what else is trusted, and docs/PROMISES.md what is
+ * assumed of drones.
+ *
+ * Threads. A call has no state but its arguments and the blocks that it takes from malloc, all of which it frees before
+ * it returns. So any number of threads may call at once, each with an `output` and a `size` of its own.
+ *
+ * Stack. Every command on every example took at most 60 KiB, measured. Give a thread 256 KiB.
+ *
+ * Processor. x86-64 with the instructions of x86-64-v2.
  */
 #ifndef HEMTOGHAI_H
 #define HEMTOGHAI_H
@@ -35,17 +61,19 @@ extern "C" {
 #define HEMTOGHAI_VERSION_MAJOR 0
 #define HEMTOGHAI_VERSION_MINOR 1
 #define HEMTOGHAI_VERSION_PATCH 0
-#define HEMTOGHAI_VERSION (HEMTOGHAI_VERSION_MAJOR * 65536 + HEMTOGHAI_VERSION_MINOR * 256 + HEMTOGHAI_VERSION_PATCH)
+#define HEMTOGHAI_VERSION \
+    (HEMTOGHAI_VERSION_MAJOR * 65536 + HEMTOGHAI_VERSION_MINOR * 256 + HEMTOGHAI_VERSION_PATCH)
 
-/* The statuses. Two differ from the program's: 7 is below, and 6 never comes, since no read fails. */
+/* The statuses: the program's, but for three. 7 is of a room that is too small, and 17 of words that aren't UTF-8; 6
+ * never comes, since no read fails. */
 enum hemtoghai_status {
-    HEMTOGHAI_DONE = 0,             /* what the command asks for holds, and all of the answer stands in `output` */
-    HEMTOGHAI_NO_MEMORY = 1,        /* malloc gave none; `size` is 0 and `output` as it was */
+    HEMTOGHAI_DONE = 0,             /* what the command asks for holds, and the whole answer is in `output` */
+    HEMTOGHAI_NO_MEMORY = 1,        /* out of memory: `*size` is 0, and `output` is as it was */
     HEMTOGHAI_USAGE = 2,            /* the words are no command */
     HEMTOGHAI_NO_SHOW = 3,          /* the show's text is faulty or too large */
     HEMTOGHAI_TOO_MUCH = 4,         /* a drone's trajectory doesn't fit its memory */
-    HEMTOGHAI_BLOCKED = 5,          /* two drones may come too near: the answer names them, and the part of the cue */
-    HEMTOGHAI_NO_ROOM = 7,          /* the answer has more bytes than `output`: nothing is known of the status but this */
+    HEMTOGHAI_BLOCKED = 5,          /* two drones may come too near: the answer names them and the part of the cue */
+    HEMTOGHAI_NO_ROOM = 7,          /* the answer has more bytes than `output`: its status is not known */
     HEMTOGHAI_ENDED = 8,            /* the schedule or the frames ended before the upload did */
     HEMTOGHAI_GAVE_UP = 9,          /* no drone acknowledged a packet in time */
     HEMTOGHAI_REFUSED = 10,         /* a drone refused a packet */
@@ -55,35 +83,33 @@ enum hemtoghai_status {
     HEMTOGHAI_DIFFERS = 14,         /* read-back found other bytes than were sent */
     HEMTOGHAI_ENTERS = 15,          /* a drone may enter a region */
     HEMTOGHAI_TOO_FAST = 16,        /* a drone may be faster than the limit */
-    HEMTOGHAI_NO_WORDS = 17,        /* a word isn't UTF-8; `size` is 0 and `output` as it was */
+    HEMTOGHAI_NO_WORDS = 17,        /* a word isn't UTF-8: `*size` is 0, and `output` is as it was */
     HEMTOGHAI_TOO_ABRUPT = 18       /* an acceleration or a jump of speed may be above the limit */
 };
 
-/* Answers a command.
+/* Answers a command, and returns the status.
  *
- * words, words_length    the command with its options, as "compile --depth 4". Each byte up to a space parts words: a space, a line
- *                        feed, a zero byte. So a zero byte at the end may be counted or not.
- * input, input_length    what the command reads: a show, and for `verify`, `rehearse`, `boxes` and `upload` a marker line "%%" and
- *                        the second part. `help`, `version` and `drill` read nothing.
- * output, output_length  where the answer goes. No zero byte is put behind it.
- * size                   how many bytes the answer has, also where `output` has fewer.
+ * words, words_length    the command with its options, as "compile --depth 4". Every byte from 0 to 32 separates
+ *                        words, so a zero byte at the end may be counted or not.
+ * input, input_length    what the command reads: a show; for `verify`, `rehearse`, `boxes` and `upload` then a marker
+ *                        line "%%" and the second part. `help`, `version` and `drill` read nothing.
+ * output, output_length  where the answer goes, without a zero byte at its end. It may be uninitialised.
+ * size                   gets the bytes of the answer, also where `output` has room for fewer.
  *
- * Returns the status. Where it is 7, the first `output_length` bytes of the answer stand in `output`: call again with room for
- * `*size` bytes, with the same words and input. The same words and input always have the same answer, unless memory is short. The
- * bytes of `output` behind the answer stay as they were. `check` answers with one line.
+ * At 7 call again, with the same words and input and room for `*size` bytes. `check` answers with one line.
  *
  * What a caller owes:
- * - each pointer is that of as many bytes as its length says, and of `size` one size_t; a length is below 2^63. Where a length is
- *   0 the pointer may be null: tried, but no proof speaks of null;
- * - `output` and `*size` share no byte with each other, nor with `words` and `input`, and nobody else reads or writes them during
- *   the call, nor writes `words` and `input`;
- * - malloc, realloc and free are one allocator's, whose blocks are aligned to 16, as in every C library;
- * - no call from a signal handler, nor in a forked child of a process that has threads.
+ * - Each pointer is to as many bytes as its length says, and `size` to an aligned size_t. A length is below 2^63. Where
+ *   a length is 0 the pointer may be null; that was tried, and no proof speaks of null.
+ * - `output` and `*size` share no byte with each other, nor with `words` or `input`. Nobody else reads or writes them
+ *   during the call, nor writes `words` or `input`. The library keeps no pointer after it.
+ * - malloc, realloc and free are of one allocator, whose blocks are aligned to 16, as in every C library.
+ * - The call isn't made by a signal handler, nor in a forked child of a process that has threads.
  */
 uint8_t hemtoghai_run(const void *words, size_t words_length, const void *input, size_t input_length, void *output,
                       size_t output_length, size_t *size);
 
-/* The version of the library, as HEMTOGHAI_VERSION is of the header. */
+/* The version of the library, as HEMTOGHAI_VERSION is that of the header. */
 uint32_t hemtoghai_version(void);
 
 #ifdef __cplusplus

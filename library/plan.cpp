@@ -12,7 +12,8 @@ static std::pair<int, std::string> answer(std::string_view words, std::string_vi
     std::string output(4096, '\0');
     for (;;) {
         std::size_t size;
-        int status = hemtoghai_run(words.data(), words.size(), input.data(), input.size(), output.data(), output.size(), &size);
+        int status = hemtoghai_run(words.data(), words.size(), input.data(), input.size(), output.data(),
+                                   output.size(), &size);
         bool is_cut = status == HEMTOGHAI_NO_ROOM;
         output.resize(size);
         if (!is_cut) return {status, std::move(output)};

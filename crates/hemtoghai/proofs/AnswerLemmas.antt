@@ -96,6 +96,9 @@ said_seven room bytes status result other says is = elim (cases_lt (length room)
 pub whole_put : (room bytes : List ℕ) → length bytes ≤ length room → take (length bytes) (put_in room bytes) ≡ bytes
 whole_put room bytes le = ap (λ (front : List ℕ). take (length bytes) (front ++ drop (length bytes) room)) (take_all (length room) bytes le) ∙ take-append_seam bytes (drop (length bytes) room)
 
+pub whole_of : (room bytes : List ℕ) (size : ℕ) → size ≡ length bytes → length bytes ≤ length room → take size (put_in room bytes) ≡ bytes
+whole_of room bytes size all le = ap (λ (n : ℕ). take n (put_in room bytes)) all ∙ whole_put room bytes le
+
 -- where nothing is put, the room stays as it was
 pub none_put : (room bytes : List ℕ) → bytes ≡ [] → put_in room bytes ≡ room
 none_put room bytes none = rw none (ap (λ (front : List ℕ). front ++ room) (take_all (length room) [] (omega arith)))

@@ -7,7 +7,8 @@ use Rattle.show_judge.specs.Verb.{Verb, run_of}
 abbrev pub IsNamed : List (List ℕ) → List ℕ → Type 0
 IsNamed words name = slice_get words 0 ≡ Some name
 
--- what stands in the caller's room once these bytes are put there: as many of them as it has room for, and behind them what stood there before
+-- what stands in the caller's room once these bytes are put there: as many of them as it has room for, and behind them
+-- what stood there before
 abbrev pub put_in : List ℕ → List ℕ → List ℕ
 put_in room bytes = take (length room) bytes ++ drop (length bytes) room
 
@@ -27,8 +28,8 @@ pub record RunsOver (v : Verb) (input whole : List ℕ) (status : ℕ) : Type 0 
   pub left : List ℕ
   pub behaves : Behaves v (run_of (Some input) (Some left) 0 0 (Some []) (Some whole) 0 0) status
 
--- The command was run so. The caller gets as much of what it wrote as there is room for, its size, and the status, or 7 where the room doesn't
--- take all.
+-- The command was run so. The caller gets as much of what it wrote as there is room for, its size, and the status, or 7
+-- where the room doesn't take all.
 pub record Answered (v : Verb) (input room room_after : List ℕ) (size result : ℕ) : Type 0 where
   pub whole : List ℕ
   pub status : ℕ

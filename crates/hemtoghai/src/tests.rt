@@ -1,4 +1,5 @@
-//! Calls as C makes them, with answers that are known from outside: the line, the plan and the refusal of docs/COMMANDS.md.
+//! Calls as C makes them, with answers that are known from outside: the line, the plan and the refusal of
+//! docs/COMMANDS.md.
 use crate::{hemtoghai_run, hemtoghai_version};
 use std::test::Fail;
 

@@ -1,4 +1,5 @@
-//! Judges shows of drones in this process. What the C function promises is proved; that this file declares it rightly isn't.
+//! Judges shows of drones in this process. What the C function promises is proved; that this file declares it rightly
+//! isn't.
 
 use std::ffi::c_void;
 
@@ -14,10 +15,11 @@ extern "C" {
     ) -> u8;
 }
 
-/// The answer didn't fit: `NO_ROOM` is the library's own word for it.
+/// The status of an answer for which there is no room.
 const NO_ROOM: u8 = 7;
 
-/// The status of a command, as docs/COMMANDS.md has it, and all that it wrote.
+/// The status of a command, as docs/COMMANDS.md has it, and all that it wrote. It is 1, and nothing is written, where the
+/// library is out of memory.
 #[derive(Clone, Debug, PartialEq, Eq)]
 pub struct Verdict {
     pub status: u8,
@@ -30,8 +32,8 @@ pub fn run(words: &str, input: &[u8]) -> Verdict {
     let mut output = vec![0u8; 4096];
     loop {
         let mut size = 0usize;
-        // SAFETY: each pointer and length are those of one slice that lives for the call; `output` and `size` are borrowed mutably, so they
-        // share no byte with the others; Rust's pointers are never null.
+        // SAFETY: each pointer and length are those of one slice that lives for the call. `output` and `size` are
+        // borrowed mutably, so they share no byte with the others. Rust's pointers are never null.
         let status = unsafe {
             hemtoghai_run(
                 words.as_ptr().cast(),
@@ -56,12 +58,14 @@ pub fn run(words: &str, input: &[u8]) -> Verdict {
 mod tests {
     use super::run;
 
-    const SHOW: &[u8] = b"choreo 1\ndrone solo 0 0 1000000 0\ncue 2000\nsolo move 1000000 0 1000000 0\nend\n";
+    const SHOW: &[u8] =
+        b"choreo 1\ndrone solo 0 0 1000000 0\ncue 2000\nsolo move 1000000 0 1000000 0\nend\n";
 
     #[test]
     fn a_show_is_accepted() {
         let verdict = run("check", SHOW);
-        assert_eq!((verdict.status, verdict.output.as_slice()), (0, b"ok drones 1 cues 1 duration_ms 2000\n".as_slice()));
+        assert_eq!(verdict.status, 0);
+        assert_eq!(verdict.output, b"ok drones 1 cues 1 duration_ms 2000\n");
     }
 
     #[test]
@@ -70,7 +74,10 @@ mod tests {
         assert_eq!(verdict.status, 0);
         assert!(verdict.output.starts_with(b"0 solo 0 0 1000000 0\n"));
         assert!(verdict.output.ends_with(b"2000 solo 1000000 0 1000000 0\n"));
-        assert_eq!(verdict.output.iter().filter(|byte| **byte == b'\n').count(), 2001);
+        assert_eq!(
+            verdict.output.iter().filter(|byte| **byte == b'\n').count(),
+            2001
+        );
     }
 
     #[test]

@@ -1,8 +1,11 @@
-use Rattle.std.proofs.Common.{◌≡◌, Some, ap}
+use Rattle.std.proofs.Common.{◌≡◌, [], Some, ap, refl}
 use Rattle.fleet_io.specs.Memory.{told_sure}
 use Rattle.fleet_io.proofs.ToldLemmas.{IsInput-now}
+use Rattle.command_words.specs.declared.command.Command.TheVariants.{Upload}
 use Rattle.show_run.proofs.TopLemmas.{never_rose, never_seven, never_six}
 use Rattle.hemtoghai.proofs.AnswerLemmas.{headline_over, none_written, not_rose, runs_over, uploads_over}
+use Rattle.show_uploads.specs.Upload.{HasBegun}
+use Rattle.hemtoghai.proofs.BegunLemmas.{begun_over}
 use Rattle.hemtoghai.proofs.answering.answer_of.Goals as goal
 
 pub returns-clause-behaves : goal.returns-clause-behaves
@@ -20,6 +23,14 @@ returns-clause-uploads c = λ name called judges done.
 pub returns-clause-headline : goal.returns-clause-headline
 returns-clause-headline c = λ called done.
     rw c.in_ok-bytes.ensures.ok (headline_over _ c.args.input.now c.run-status.new.sink.written _ called (λ none. (c.run-status.ensures.usage none).0) (λ d is. runs_over _ _ _ c.run-status.new.sink _ c.in_ok-bytes.ensures.quiet (rw (c.make-source.ensures, c.make-sink.ensures) at (c.run-status.ensures.behaves d is))) done)
+
+pub returns-clause-begun : goal.returns-clause-begun
+returns-clause-begun c = λ depth start readback is begun.
+    let wrote : HasBegun (Some []) (Some c.run-status.new.sink.written) = rw c.in_ok-bytes.ensures.ok at begun in
+    begun_over depth start readback c.args.input.now c.run-status.new.source c.run-status.new.sink _ c.in_ok-bytes.ensures.quiet
+    (rw (c.make-source.ensures, c.make-sink.ensures) at (c.run-status.ensures.behaves (Upload depth start readback) is))
+    ((rw (c.make-source.ensures, c.make-sink.ensures) at (c.run-status.ensures.begun depth start readback c.run-status.new.source.given is)) refl wrote)
+    wrote
 
 pub returns-clause-memory : goal.returns-clause-memory
 returns-clause-memory c = λ one.
