@@ -19,13 +19,14 @@ pub record Seen : Type 0 where
   pub checking : Checking
   pub diff : List (Bez 8)
 
--- What is kept is what the definitions keep of these bytes for these curves, and the difference is that of the pair and cue whose tree
--- comes next.
+-- What is kept is what the definitions keep of these bytes for these curves, and the difference is that of the pair and
+-- cue whose tree comes next.
 pub record HasRead (c : Seen) (curves : Raised) (bytes : List ℕ) : Type 0 where
   pub read : c.checking ≡ checked_all c.clearance curves nothing_checked bytes
   pub next : IsNextIn curves c.checking.reading c.diff
 
--- What a verdict names exists: the version, and the fault of a certificate of that version for these curves, with fewer than 2^31 trees.
+-- What a verdict names exists: the version, and the fault of a certificate of that version for these curves, with fewer
+-- than 2^31 trees.
 abbrev pub NamesFault : Raised → Verdict → Type 0
 NamesFault curves (Valid depth trees) = Unit {0}
 NamesFault curves (Line line) = Unit {0}

@@ -19,9 +19,8 @@ use Rattle.sep_certificate.specs.Texts.{is_depth_line, is_digit, is_letter, is_w
 use Rattle.certificate_checker.specs.declared.verdict.Verdict.{Verdict}
 use Rattle.certificate_checker.specs.declared.verdict.Verdict.TheVariants.{Valid, Line, Refused}
 
--- ---- what is judged of the trees
--- The pair and cue whose tree comes next, the places of that tree that are still to be judged, the next one first, and the number of
--- whole trees; or the first fault.
+-- ---- what is judged of the trees The pair and cue whose tree comes next, the places of that tree that are still to be
+-- judged, the next one first, and the number of whole trees; or the first fault.
 pub data Judged : Type 0 where
   Clear : Slot → List Place → ℕ → Judged
   Wrong : CertFault → Judged
@@ -53,10 +52,9 @@ with_tree curves (Wrong fault) = Wrong fault
 with_tree curves (Clear slot places n) =
     if nat_lt slot.b curves.drones then before_tree (following curves.drones curves.cues slot) (suc n) else Wrong (Extra n)
 
--- ---- what is kept of a line
--- In the line of a tree: the version and depth that the lines before the trees say, the number of the line, how many trees are still
--- to come in it, the first digit of a leaf whose second has not come, and what is judged. A line begins with one tree to come; a split
--- puts two in the place of one.
+-- ---- what is kept of a line In the line of a tree: the version and depth that the lines before the trees say, the
+-- number of the line, how many trees are still to come in it, the first digit of a leaf whose second has not come, and
+-- what is judged. A line begins with one tree to come; a split puts two in the place of one.
 pub record TreesRead : Type 0 where
   pub version : ℕ
   pub depth : ℕ
@@ -65,8 +63,8 @@ pub record TreesRead : Type 0 where
   pub digit : Option ℕ
   pub judged : Judged
 
--- The first line, or the one with the depth of version 2, of each the first fifteen bytes; the line of a tree; or the number of the
--- first faulty line.
+-- The first line, or the one with the depth of version 2, of each the first fifteen bytes; the line of a tree; or the
+-- number of the first faulty line.
 pub data Reading : Type 0 where
   FirstLine : List ℕ → Reading
   DepthLine : List ℕ → Reading
@@ -97,7 +95,8 @@ digit_read clearance curves t (suc n) None b =
 digit_read clearance curves t (suc n) (Some first) b =
     if is_wide_leaf first b then node_read clearance curves t (Leaf (two_digits first b)) n else Faulty t.line
 
--- A byte of a line before the trees. A line of more than fourteen bytes is faulty whatever they are, so fifteen tell enough.
+-- A byte of a line before the trees. A line of more than fourteen bytes is faulty whatever they are, so fifteen tell
+-- enough.
 abbrev pub kept : List ℕ → ℕ → List ℕ
 kept head b = if nat_lt (length head) 15 then head ++ b ∷ [] else head
 
@@ -133,9 +132,8 @@ line_read curves (TreeLine t) =
     if t.owed == 0 then TreeLine (record t { line = suc t.line; owed = 1; judged = with_tree curves t.judged }) else Faulty t.line
 line_read curves (Faulty n) = Faulty n
 
--- ---- what is kept of a text
--- A carriage return is part of its line if no line feed follows, so it waits for the next byte (`is_returned`). `is_begun`: the line
--- has a byte.
+-- ---- what is kept of a text A carriage return is part of its line if no line feed follows, so it waits for the next
+-- byte (`is_returned`). `is_begun`: the line has a byte.
 pub record Checking : Type 0 where
   pub reading : Reading
   pub is_returned : Bool

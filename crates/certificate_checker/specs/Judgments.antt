@@ -1,4 +1,5 @@
--- What is kept of the trees of a certificate: what is judged of them, and the curves of the pair and cue whose tree comes next.
+-- What is kept of the trees of a certificate: what is judged of them, and the curves of the pair and cue whose tree
+-- comes next.
 use Rattle.std.specs.Prelude.{◌≡◌, ℕ, ◌+◌, ◌*◌, ◌≤◌, ◌<◌, List, Option, Some, None}
 use Rattle.bezier_core.specs.declared.Bez.{Bez}
 use Rattle.halving.specs.declared.Place.{Place}
@@ -43,7 +44,8 @@ abbrev pub HasAtMost : ℕ → Judged → Type 0
 HasAtMost most (Clear slot places n) = n ≤ most
 HasAtMost most (Wrong fault) = Unit {0}
 
--- In the line of a tree, these are bounds: of the trees that are still to come in it, of its number, and of the whole trees.
+-- In the line of a tree, these are bounds: of the trees that are still to come in it, of its number, and of the whole
+-- trees.
 abbrev pub AreWithin : ℕ → ℕ → ℕ → Reading → Type 0
 AreWithin owed line trees (FirstLine head) = Unit {0}
 AreWithin owed line trees (DepthLine head) = Unit {0}

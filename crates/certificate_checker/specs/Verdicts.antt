@@ -10,8 +10,8 @@ use Rattle.sep_certificate.specs.Texts.{Says, bad_line}
 use Rattle.certificate_checker.specs.declared.verdict.Verdict.{Verdict}
 use Rattle.certificate_checker.specs.declared.verdict.Verdict.TheVariants.{Valid, Line, Refused}
 
--- The verdict is the first faulty line of the text; or the version and the first fault of the certificate that the text spells; or the
--- depth and the number of trees of that certificate, which is valid.
+-- The verdict is the first faulty line of the text; or the version and the first fault of the certificate that the text
+-- spells; or the depth and the number of trees of that certificate, which is valid.
 abbrev pub VerdictGives : Raised → Clearance → List ℕ → Verdict → Type 0
 VerdictGives curves clearance text (Line line) = bad_line (lines text) ≡ Some line
 VerdictGives curves clearance text (Refused version fault) =

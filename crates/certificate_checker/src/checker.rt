@@ -16,8 +16,8 @@ use std::marker::Model;
 /// Judges the text of a certificate in pieces, for a clearance. It allocates nothing,
 /// whatever the text's length: it keeps at most fifteen bytes of a line, a stack of at most nine levels, and counts.
 ///
-/// Contracts see the clearance, what is kept of the bytes that were read, and one difference of curves (`Seen`). Each call takes the
-/// curves of one fleet, the same in all calls.
+/// Contracts see the clearance, what is kept of the bytes that were read, and one difference of curves (`Seen`). Each
+/// call takes the curves of one fleet, the same in all calls.
 #[derive(Drop)]
 pub struct Checker {
     tables: Tables,
@@ -57,14 +57,16 @@ impl Checker {
         self.text.take_all(curves, &self.tables, bytes);
     }
 
-    /// The verdict on the bytes that were read, as a whole text: its first faulty line; or the first fault of the certificate; or that the
-    /// certificate is valid. The curves are those of the earlier calls. Nothing is said of the checker afterwards.
+    /// The verdict on the bytes that were read, as a whole text: its first faulty line; or the first fault of the
+    /// certificate; or that the certificate is valid. The curves are those of the earlier calls. Nothing is said of the
+    /// checker afterwards.
     ///
-    /// Faults come in this order: trees of a pair and cue in order, in each a part before its halves and the first half before the
-    /// second; then the first pair and cue without a tree, or the first tree too many, whose nodes aren't judged.
+    /// Faults come in this order: trees of a pair and cue in order, in each a part before its halves and the first half
+    /// before the second; then the first pair and cue without a tree, or the first tree too many, whose nodes aren't
+    /// judged.
     ///
-    /// If the certificate is valid, whoever made it, any two drones are apart at every instant p / q of the show, for all whole numbers
-    /// p and q and for every list of trajectories that the curves stand for.
+    /// If the certificate is valid, whoever made it, any two drones are apart at every instant p / q of the show, for
+    /// all whole numbers p and q and for every list of trajectories that the curves stand for.
     pub fn end(&mut self, curves: &Curves) -> Verdict
         requires { (bytes : List ℕ) × (length bytes ≤ most_bytes) × HasRead self.old curves.now bytes }
         ensures gives { (bytes : List ℕ) → length bytes ≤ most_bytes → HasRead self.old curves.now bytes → VerdictGives curves.now self.old.clearance bytes result }

@@ -18,8 +18,9 @@ use sep_certificate::CertFault;
 use sep_parts::{Level, Node, Slot, Waiting};
 use std::marker::Model;
 
-/// The pair and cue whose tree comes next, the places of that tree that are still to be judged, with the parts of the curves there,
-/// and the number of whole trees; or the first fault. Contracts see what is judged, and the difference of the pair's curves.
+/// The pair and cue whose tree comes next, the places of that tree that are still to be judged, with the parts of the
+/// curves there, and the number of whole trees; or the first fault. Contracts see what is judged, and the difference of
+/// the pair's curves.
 #[derive(Drop)]
 pub struct Judging {
     slot: Slot,
@@ -119,8 +120,8 @@ impl Judging {
         self.fault = None;
     }
 
-    // Judges a node of the tree that comes next, of a certificate of this version and depth. After the first fault, and in a tree
-    // too many, no node is judged.
+    // Judges a node of the tree that comes next, of a certificate of this version and depth. After the first fault, and
+    // in a tree too many, no node is judged.
     pub fn node(&mut self, curves: &Curves, tables: &Tables, version: u8, depth: Depth, node: Node)
         requires next { IsNext curves.now self.old.judged self.old.diff }
         requires version { IsVersion version }

@@ -18,7 +18,8 @@ use fleet_math::Depth;
 use sep_certificate::depth_of;
 use sep_parts::Node;
 
-/// The line that is read: the first one; the one with the depth of version 2; one of a tree; or none, after a faulty one.
+/// The line that is read: the first one; the one with the depth of version 2; one of a tree; or none, after a faulty
+/// one.
 #[derive(Clone, Copy, PartialEq, Eq)]
 pub enum Stage {
     First,

@@ -11,7 +11,8 @@ use crate::tables::Tables;
 use crate::verdict::Verdict;
 use fleet_curves::Curves;
 
-/// What is kept of a text: its line, whether a carriage return waits for the next byte, and whether the line has a byte.
+/// What is kept of a text: its line, whether a carriage return waits for the next byte, and whether the line has a
+/// byte.
 #[derive(Drop)]
 pub struct TextReader {
     reader: Reader,

@@ -1,4 +1,5 @@
-//! Bounds on acceleration and jumps of velocity that were computed elsewhere, by fractions, from the powers of polynomials.
+//! Bounds on acceleration and jumps of velocity that were computed elsewhere, by fractions, from the powers of
+//! polynomials.
 
 ghost use Rattle.std.specs.Prelude.{◌≡◌, ◌≤◌, ◌∷◌, [], IfOk};
 
@@ -44,9 +45,9 @@ fn segment(ms: u16, on: [Element; 3]) -> Segment
     }
 }
 
-// A start, two segments by their durations and elements on x, y and z, and the depth; the bounds in micrometres per second
-// squared; on each axis the greatest jump in micrometres per second, and the segment at whose beginning it is; and whether it
-// begins and ends at rest.
+// A start, two segments by their durations and elements on x, y and z, and the depth; the bounds in micrometres per
+// second squared; on each axis the greatest jump in micrometres per second, and the segment at whose beginning it is;
+// and whether it begins and ends at rest.
 type Row = (
     [i16; 4],
     (u16, [Element; 3]),

@@ -1,5 +1,6 @@
-//! Tests of the crates of curves, against values from outside: `fleet_math`, `bezier_core`, `halving`, `traj_codec`, `fleet_curves`,
-//! `dynamics_bound` and `integer_player`. They stand in a crate of their own, so that each of these is proved once. It hands nothing out.
+//! Tests of the crates of curves, against values from outside: `fleet_math`, `bezier_core`, `halving`, `traj_codec`,
+//! `fleet_curves`, `dynamics_bound` and `integer_player`. They stand in a crate of their own, so that each of these is
+//! proved once. It hands nothing out.
 #![tactic(auto)]
 
 #[cfg(test)]

@@ -1,5 +1,5 @@
-//! Trajectories whose bytes are known from outside: the two worked examples of docs/TRAJECTORY.md, and one of all kinds;
-//! bytes with a fault; and each header.
+//! Trajectories whose bytes are known from outside: the two worked examples of docs/TRAJECTORY.md, and one of all
+//! kinds; bytes with a fault; and each header.
 ghost use Rattle.std.specs.Prelude.{◌≡◌, ◌<◌, ◌≤◌, IfOk, [], ◌∷◌};
 
 use std::alloc::{AllocError, Global};

@@ -44,10 +44,10 @@ acceleration depth t axis = greatest_below (length t.segments) (acceleration_in 
 abbrev pub after : Traj → ℕ → ℕ → ℕ → ℕ → ℤ
 after t axis cue q x = decoded t axis (record { cue = cue; a = x; c = q * duration t cue })
 
--- Three instants of a segment are x / q, y / q and z / q milliseconds after it began. Between them the mean speed changes by at
--- most a micrometres per second squared times half the time from the first to the last. Three fractions have one
--- denominator, so nothing is lost. Both sides are multiplied by the times (z - y) / q and (y - x) / q, by 2 10^9 (from
--- millimetres per millisecond squared), and by q^3 (q ms)^7.
+-- Three instants of a segment are x / q, y / q and z / q milliseconds after it began. Between them the mean speed
+-- changes by at most a micrometres per second squared times half the time from the first to the last. Three fractions
+-- have one denominator, so nothing is lost. Both sides are multiplied by the times (z - y) / q and (y - x) / q, by 2
+-- 10^9 (from millimetres per millisecond squared), and by q^3 (q ms)^7.
 abbrev pub KeepsAcceleration : Traj → ℕ → ℕ → Type 0
 KeepsAcceleration t axis a =
     (cue q x y z : ℕ) → cue < length t.segments → x ≤ y → y ≤ z → z ≤ q * duration t cue →

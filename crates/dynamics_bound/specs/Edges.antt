@@ -11,8 +11,8 @@ use Rattle.dynamics_bound.specs.declared.velocity.Velocity.{Velocity}
 use Rattle.dynamics_bound.specs.declared.jumping.Jump.{Jump}
 use Rattle.dynamics_bound.specs.Accelerations.{acceleration, after}
 
--- The degree times the first step between control values, and times the last: over the duration it is the velocity at the
--- beginning, and at the end. Degree 0 stays: its step is past the end of the list, times 0.
+-- The degree times the first step between control values, and times the last: over the duration it is the velocity at
+-- the beginning, and at the end. Degree 0 stays: its step is past the end of the list, times 0.
 abbrev pub first_step : List ℤ → ℤ
 first_step b = pos (length b - 1) *ℤ (at b 1 -ℤ at b 0)
 
@@ -29,9 +29,8 @@ last_velocity t axis cue = record { step = last_step (points t cue axis); ms = d
 abbrev pub rest : Velocity
 rest = record { step = pos 0; ms = 1 }
 
--- ---- edges
--- Edge k is the beginning of segment k, from 0, and the last edge is the end of the last segment. A trajectory arrives at
--- its first edge from rest, and departs from its last one to rest.
+-- ---- edges Edge k is the beginning of segment k, from 0, and the last edge is the end of the last segment. A
+-- trajectory arrives at its first edge from rest, and departs from its last one to rest.
 abbrev pub arrival : Traj → ℕ → ℕ → Velocity
 arrival t axis zero = rest
 arrival t axis (suc cue) = last_velocity t axis cue
@@ -39,7 +38,8 @@ arrival t axis (suc cue) = last_velocity t axis cue
 abbrev pub departure : Traj → ℕ → ℕ → Velocity
 departure t axis edge = if nat_lt edge (length t.segments) then first_velocity t axis edge else rest
 
--- how much two velocities differ, in micrometres per second, rounded up: one millimetre per millisecond is 10^6 of these
+-- how much two velocities differ, in micrometres per second, rounded up: one millimetre per millisecond is 10^6 of
+-- these
 unfoldable pub jump_between : Velocity → Velocity → ℕ
 jump_between v w = div_ceil (1000000 * unsigned_abs (w.step *ℤ pos v.ms -ℤ v.step *ℤ pos w.ms)) (v.ms * w.ms)
 
@@ -75,10 +75,9 @@ pub record IsGreatestJump (t : Traj) (axis : ℕ) (j : Jump) : Type 0 where
 abbrev pub is_rest_at : Traj → ℕ → Bool
 is_rest_at t edge = nat_eq (jump t 0 edge) 0 && nat_eq (jump t 1 edge) 0 && nat_eq (jump t 2 edge) 0
 
--- ---- what the velocities promise
--- They are the velocities: x / q milliseconds after a segment began, or before it ends, the position departs from the line
--- with that velocity by at most half the acceleration times the square of the time. Both sides are multiplied by
--- 2 10^9 q^2 (q ms)^7.
+-- ---- what the velocities promise They are the velocities: x / q milliseconds after a segment began, or before it
+-- ends, the position departs from the line with that velocity by at most half the acceleration times the square of the
+-- time. Both sides are multiplied by 2 10^9 q^2 (q ms)^7.
 pub record KeepsTangents (t : Traj) (axis a cue q x : ℕ) : Type 0 where
   pub first : IsWithin ((pos a *ℤ (pos x *ℤ pos x)) *ℤ power (pos (q * duration t cue)) 7)
       (pos (2000000000 * (q * q)) *ℤ

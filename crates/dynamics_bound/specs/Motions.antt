@@ -14,17 +14,20 @@ use Rattle.dynamics_bound.specs.Excesses.{IsWithinLimits}
 
 -- ---- cues
 
--- when the segment with this number begins, in milliseconds after the trajectory does; after the last one, when the trajectory ends
+-- when the segment with this number begins, in milliseconds after the trajectory does; after the last one, when the
+-- trajectory ends
 abbrev pub begins_at : Traj → ℕ → ℕ
 begins_at t segment = sum (durations (take segment t.segments))
 
--- how many cues, which last so long, begin before an instant, in milliseconds: the number, from 0, of the cue that begins then
+-- how many cues, which last so long, begin before an instant, in milliseconds: the number, from 0, of the cue that
+-- begins then
 abbrev pub cue_from : ℕ → List ℕ → ℕ
 cue_from zero times = 0
 cue_from (suc m) [] = 0
 cue_from (suc m) (ms ∷ times) = suc (cue_from (suc m - ms) times)
 
--- the number, from 0, of the cue that begins with a segment; the last instant is the beginning of the cue after the last one
+-- the number, from 0, of the cue that begins with a segment; the last instant is the beginning of the cue after the
+-- last one
 abbrev pub cue_of : List ℕ → Traj → ℕ → ℕ
 cue_of times t segment = cue_from (begins_at t segment) times
 
@@ -50,9 +53,9 @@ motion depth times t = record {
   ends_at_rest = is_rest_at t (length t.segments);
 }
 
--- Within each of its segments a drone's mean speed changes on each axis by at most its bound on acceleration times half the time; the speeds at
--- the ends of segments are those from which its jumps are computed, and none is greater than the greatest; and no bound and no jump is above its
--- limit, if there is one.
+-- Within each of its segments a drone's mean speed changes on each axis by at most its bound on acceleration times half
+-- the time; the speeds at the ends of segments are those from which its jumps are computed, and none is greater than
+-- the greatest; and no bound and no jump is above its limit, if there is one.
 pub record KeepsMotion (limits : Limits) (depth : ℕ) (t : Traj) : Type 0 where
   pub accelerations : (axis : ℕ) → axis ≤ 2 → KeepsAcceleration t axis (acceleration depth t axis)
   pub velocities : (axis : ℕ) → axis ≤ 2 → HasVelocities t axis

@@ -14,13 +14,13 @@ use fleet_curves::formed_law;
 use fleet_math::Depth;
 use traj_codec::Traj;
 
-/// How fast the velocity of a trajectory changes at most within its segments on x, y and z, in micrometres per second squared:
-/// on each axis the greatest over its segments and their 2^`depth` parts of the least whole number that is not below
-/// 42 * 10^9 * 4^depth * m / (5040 * 2^(7 depth) * ms^2). Here ms is how long the segment lasts, and m the widest second
-/// difference of the part's control values.
+/// How fast the velocity of a trajectory changes at most within its segments on x, y and z, in micrometres per second
+/// squared: on each axis the greatest over its segments and their 2^`depth` parts of the least whole number that is not
+/// below 42 * 10^9 * 4^depth * m / (5040 * 2^(7 depth) * ms^2). Here ms is how long the segment lasts, and m the widest
+/// second difference of the part's control values.
 ///
-/// Between any three instants of a segment, whatever fractions they are, the mean velocity changes by at most that number
-/// times half the time between the first and the last. Takes no memory.
+/// Between any three instants of a segment, whatever fractions they are, the mean velocity changes by at most that
+/// number times half the time between the first and the last. Takes no memory.
 pub fn bound(t: &Traj, depth: Depth) -> [i64; 3]
     requires lasting { All HasDuration t.now.segments }
     ensures exact { result ≡ pos (acceleration depth t.now 0) ∷ pos (acceleration depth t.now 1)

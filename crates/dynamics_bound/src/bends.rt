@@ -10,8 +10,9 @@ use bezier_core::Bez;
 use fleet_math::Depth;
 use halving::halve;
 
-/// The widest bend in the 2^`depth` parts of a curve, each at its own scale, or `least` where that is no less. A part that bends
-/// too little is not halved: a half bends at most 32 times as much as its whole, at a scale 128 times as large.
+/// The widest bend in the 2^`depth` parts of a curve, each at its own scale, or `least` where that is no less. A part
+/// that bends too little is not halved: a half bends at most 32 times as much as its whole, at a scale 128 times as
+/// large.
 pub fn widest_above(curve: &Bez<8>, depth: Depth, least: u128) -> u128
     requires values { All (IsWithin (pos (2 ^ (84 - 7 * depth)))) curve.now.b }
     ensures { result ≡ max least (widest_bend_part depth (at curve.now.b)) }

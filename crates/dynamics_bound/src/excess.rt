@@ -32,8 +32,8 @@ pub enum Kind {
 #[derive(Clone, Copy)]
 pub struct Excess {
     pub kind: Kind,
-    /// The segment in which the acceleration is, or at whose beginning the jump is, from 0. As many as there are segments: it is
-    /// at the last instant.
+    /// The segment in which the acceleration is, or at whose beginning the jump is, from 0. As many as there are
+    /// segments: it is at the last instant.
     pub segment: usize,
     /// 0 to 2 for x, y and z.
     pub axis: u8,
@@ -41,8 +41,8 @@ pub struct Excess {
     pub value: i64,
 }
 
-/// The first acceleration or jump above its limit, in the order of segments: in each the bound on its acceleration by parts of
-/// a depth, and then the jump at its beginning; of both x before y before z. Takes no memory.
+/// The first acceleration or jump above its limit, in the order of segments: in each the bound on its acceleration by
+/// parts of a depth, and then the jump at its beginning; of both x before y before z. Takes no memory.
 pub fn first_above(t: &Traj, limits: Limits, depth: Depth) -> Option<Excess>
     requires lasting { All HasDuration t.now.segments }
     ensures exact { result ≡ first_excess limits depth t.now }

@@ -15,15 +15,16 @@ use traj_codec::Traj;
 pub struct Jump {
     /// How much the velocity changes, in micrometres per second, rounded up.
     pub speed: i64,
-    /// The first segment at whose beginning it does, from 0. As many as there are segments: it does at the last instant.
+    /// The first segment at whose beginning it does, from 0. As many as there are segments: it does at the last
+    /// instant.
     pub segment: usize,
 }
 
-/// On x, y and z the greatest jump of the velocity between segments, from rest at the first instant and to rest at the last one.
-/// It is exact but for being rounded up, and 0 just where both velocities are the same.
+/// On x, y and z the greatest jump of the velocity between segments, from rest at the first instant and to rest at the
+/// last one. It is exact but for being rounded up, and 0 just where both velocities are the same.
 ///
-/// That these are the velocities is what `velocities` says: near each of its ends a segment departs from the line with that
-/// velocity by at most half its bound on acceleration times the square of the time. Takes no memory.
+/// That these are the velocities is what `velocities` says: near each of its ends a segment departs from the line with
+/// that velocity by at most half its bound on acceleration times the square of the time. Takes no memory.
 pub fn jumps(t: &Traj) -> [Jump; 3]
     requires lasting { All HasDuration t.now.segments }
     ensures exact { result ≡ greatest_jump t.now 0 ∷ greatest_jump t.now 1 ∷ greatest_jump t.now 2 ∷ [] }

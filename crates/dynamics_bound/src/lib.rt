@@ -1,16 +1,18 @@
 //! How a trajectory accelerates at most, and how much its velocity jumps.
 //!
-//! [`bound`] gives a number for each of the axes x, y and z, in micrometres per second squared. Between any three instants of a
-//! segment the mean velocity changes by at most that number times half the time between the first and the last.
+//! [`bound`] gives a number for each of the axes x, y and z, in micrometres per second squared. Between any three
+//! instants of a segment the mean velocity changes by at most that number times half the time between the first and the
+//! last.
 //!
-//! [`jumps`] gives the greatest jump of the velocity between two segments, in micrometres per second, and [`first_above`] the
-//! first of these numbers that is above a limit. Nothing is sampled: the numbers are computed from control values. Takes no
-//! memory.
+//! [`jumps`] gives the greatest jump of the velocity between two segments, in micrometres per second, and
+//! [`first_above`] the first of these numbers that is above a limit. Nothing is sampled: the numbers are computed from
+//! control values. Takes no memory.
 //!
-//! [`motion_of`] names all of that by the cues of a show, and [`put_motion`] and [`put_extremes`] write the lines that say it.
+//! [`motion_of`] names all of that by the cues of a show, and [`put_motion`] and [`put_extremes`] write the lines that
+//! say it.
 //!
-//! The crate stands on `halving` for the parts of a curve, on `fleet_curves` for the raised curves of a segment, on lemmas of
-//! `speed_bound`, and on `fleet_io` for lines.
+//! The crate stands on `halving` for the parts of a curve, on `fleet_curves` for the raised curves of a segment, on
+//! lemmas of `speed_bound`, and on `fleet_io` for lines.
 #![tactic(auto)]
 
 mod acceleration;

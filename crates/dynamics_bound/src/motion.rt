@@ -20,15 +20,16 @@ pub struct Axes {
     pub z: u64,
 }
 
-/// The greatest accelerations, in micrometres per second squared, and the greatest jumps of velocity, in micrometres per second.
+/// The greatest accelerations, in micrometres per second squared, and the greatest jumps of velocity, in micrometres
+/// per second.
 #[derive(Clone, Copy)]
 pub struct Extremes {
     pub accelerations: Axes,
     pub jumps: Axes,
 }
 
-/// What is found of a drone: its extremes, the cues, from 1, at whose beginnings its greatest jumps are, and whether it is at rest at its
-/// first and at its last instant.
+/// What is found of a drone: its extremes, the cues, from 1, at whose beginnings its greatest jumps are, and whether it
+/// is at rest at its first and at its last instant.
 #[derive(Clone, Copy)]
 pub struct Motion {
     pub most: Extremes,
@@ -103,8 +104,8 @@ fn cue_from(cues: &[Segment], instant: u32) -> u16
     begun
 }
 
-/// The cue, from 0, that begins with a segment of what a drone is sent, where `cues` has a segment for each cue. At the last instant
-/// it is the number of cues. Takes no memory.
+/// The cue, from 0, that begins with a segment of what a drone is sent, where `cues` has a segment for each cue. At the
+/// last instant it is the number of cues. Takes no memory.
 pub fn cue_of(cues: &[Segment], t: &Traj, segment: usize) -> u16
     requires cues { length cues.now ≤ most_cues }
     requires segments { length t.now.segments ≤ most_segments }
@@ -126,7 +127,8 @@ fn axes_of(x: i64, y: i64, z: i64) -> Axes
     }
 }
 
-/// What is found of what a drone is sent, by its parts of a depth, where `cues` has a segment for each cue. Takes no memory.
+/// What is found of what a drone is sent, by its parts of a depth, where `cues` has a segment for each cue. Takes no
+/// memory.
 pub fn motion_of(t: &Traj, cues: &[Segment], depth: Depth) -> Motion
     requires segments { length t.now.segments ≤ most_segments }
     requires lasting { All HasDuration t.now.segments }

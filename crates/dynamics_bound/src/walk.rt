@@ -74,8 +74,8 @@ impl Walk {
         ]
     }
 
-    /// The bounds on the acceleration in the segment with this number, by its parts of a depth, in micrometres per second
-    /// squared; on each axis no less than `most`.
+    /// The bounds on the acceleration in the segment with this number, by its parts of a depth, in micrometres per
+    /// second squared; on each axis no less than `most`.
     pub fn accelerations(&self, t: &Traj, k: usize, depth: Depth, most: &[u64; 3]) -> [u64; 3]
         requires here { self.now ≡ walk_at t.now k }
         requires inside { k < length t.now.segments }

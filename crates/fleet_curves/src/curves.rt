@@ -19,8 +19,8 @@ use std::alloc::{AllocError, Global};
 use std::marker::Model;
 use traj_codec::{Element, Segment, Traj};
 
-/// The raised curves of a fleet: of each drone in each cue the three on x, y and z, each as the eight control values of degree
-/// seven of 5,040 times the curve, in millimetres. A control value is below 2^28, so they are kept in 32 bits.
+/// The raised curves of a fleet: of each drone in each cue the three on x, y and z, each as the eight control values of
+/// degree seven of 5,040 times the curve, in millimetres. A control value is below 2^28, so they are kept in 32 bits.
 #[derive(Drop)]
 pub struct Curves {
     drones: u8,
@@ -40,8 +40,8 @@ impl Model for Curves {
 }
 
 impl Curves {
-    /// The curves of trajectories of one show: 1 to 32 of them, each of the same 1 to 1,000 segments with the same durations, none
-    /// of them 0. Out of memory is the only refusal.
+    /// The curves of trajectories of one show: 1 to 32 of them, each of the same 1 to 1,000 segments with the same
+    /// durations, none of them 0. Out of memory is the only refusal.
     pub fn make(alloc: Global, trajs: &Vec<Traj>) -> Result<Curves, AllocError>
         requires { IsOneShow trajs.now.items }
         ensures stands { IfOk result (λ curves. CurvesStandFor curves trajs.now.items) }
@@ -95,8 +95,8 @@ impl Curves {
         differences(self.rows(b, cue), self.rows(a, cue))
     }
 
-    /// The control values of a drone's raised curves in a cue, both counted from 0: a row for x, one for y and one for z, as
-    /// they are kept. No control value reaches 2^28. Takes no memory.
+    /// The control values of a drone's raised curves in a cue, both counted from 0: a row for x, one for y and one for
+    /// z, as they are kept. No control value reaches 2^28. Takes no memory.
     pub fn rows(&self, drone: usize, cue: usize) -> &[[i32; 8]; 3]
         requires drone { drone < self.now.drones }
         requires cue { cue < self.now.cues }
@@ -106,8 +106,8 @@ impl Curves {
         &self.all[place_of(self.drones, self.cues, drone, cue)]
     }
 
-    /// The raised curves of a drone in a cue, both counted from 0: on x, y and z 5,040 times the curve in millimetres. No
-    /// control value reaches 2^28. Takes no memory.
+    /// The raised curves of a drone in a cue, both counted from 0: on x, y and z 5,040 times the curve in millimetres.
+    /// No control value reaches 2^28. Takes no memory.
     pub fn one(&self, drone: usize, cue: usize) -> [Bez<8>; 3]
         requires drone { drone < self.now.drones }
         requires cue { cue < self.now.cues }
@@ -205,9 +205,9 @@ fn narrowed_segment(x: i16, y: i16, z: i16, s: &Segment) -> [[i32; 8]; 3]
     [narrowed(&on_x), narrowed(&on_y), narrowed(&on_z)]
 }
 
-/// The raised curves of one segment that begins with these values, in millimetres: on x, y and z 5,040 times the curve, as
-/// control values of degree seven. No control value reaches 2^28, and no element has more than seven numbers after its
-/// first value.
+/// The raised curves of one segment that begins with these values, in millimetres: on x, y and z 5,040 times the curve,
+/// as control values of degree seven. No control value reaches 2^28, and no element has more than seven numbers after
+/// its first value.
 pub fn raised_segment(x: i16, y: i16, z: i16, s: &Segment) -> [Bez<8>; 3]
     ensures exact { result ≡ raised_element x (element_on s.now 0) ∷ raised_element y (element_on s.now 1)
         ∷ raised_element z (element_on s.now 2) ∷ [] }
@@ -221,7 +221,8 @@ pub fn raised_segment(x: i16, y: i16, z: i16, s: &Segment) -> [Bez<8>; 3]
     ]
 }
 
-/// The value with which an element ends that begins with the first one, in millimetres or, of yaw, in tenths of a degree.
+/// The value with which an element ends that begins with the first one, in millimetres or, of yaw, in tenths of a
+/// degree.
 pub fn value_after(first: i16, element: Element) -> i16
     ensures { result ≡ value_after first element }
 {

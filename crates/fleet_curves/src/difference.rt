@@ -8,8 +8,8 @@ use crate::widths::{narrowed, widened_rows};
 use bezier_core::Bez;
 use std::marker::Model;
 
-/// Three curves of degree seven, on x, y and z, of which no control value reaches 2^30: such are the raised curves of one drone less
-/// those of another. A contract sees the curves.
+/// Three curves of degree seven, on x, y and z, of which no control value reaches 2^30: such are the raised curves of
+/// one drone less those of another. A contract sees the curves.
 #[derive(Drop)]
 pub struct Difference {
     rows: [[i32; 8]; 3],

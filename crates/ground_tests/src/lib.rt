@@ -11,6 +11,8 @@ mod lists;
 #[cfg(test)]
 mod parts;
 #[cfg(test)]
+mod readers;
+#[cfg(test)]
 mod reading;
 #[cfg(test)]
 mod texts;

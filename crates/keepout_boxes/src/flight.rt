@@ -17,8 +17,8 @@ pub struct Ends {
     high: i128,
 }
 
-/// The box of each drone's flight: on each axis the least of all control values of its cues, and then the greatest. Takes
-/// no memory.
+/// The box of each drone's flight: on each axis the least of all control values of its cues, and then the greatest.
+/// Takes no memory.
 pub fn boxes_of(curves: &Curves) -> Boxes
     ensures { CoverAll curves.now result curves.now.drones }
 {

@@ -96,8 +96,8 @@ fn entry_of_region(
     None
 }
 
-// The first part of a drone that isn't kept: the cue and the index. Where the box of its flight is kept, so is each part,
-// and no cue is looked at.
+// The first part of a drone that isn't kept: the cue and the index. Where the box of its flight is kept, so is each
+// part, and no cue is looked at.
 fn entry_of_drone(
     curves: &Curves,
     drone: usize,

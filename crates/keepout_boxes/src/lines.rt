@@ -4,8 +4,8 @@ ghost use Rattle.keepout_boxes.specs.Lines.{kept_line};
 
 use fleet_io::ShortLine;
 
-/// What is said of a show whose drones keep to this many regions: `kept regions N` (docs/COMMANDS.md, `boxes`). Takes no
-/// memory.
+/// What is said of a show whose drones keep to this many regions: `kept regions N` (docs/COMMANDS.md, `boxes`). Takes
+/// no memory.
 #[tactic(auto, using(fleet_io::proofs::WordLaws::word_adds, fleet_io::proofs::WordLaws::number_adds))]
 pub fn kept_line(regions: u8) -> ShortLine
     ensures { result ≡ kept_line regions }

@@ -43,7 +43,8 @@ AreFlights c flights = HaveFlights c flights c.drones
 abbrev pub IsWider : Extent → Extent → Extent → Type 0
 IsWider first second wide = (a b : List (Bez 8)) → IsExtent a first → IsExtent b second → IsExtent a wide × IsExtent b wide
 
--- what is kept clear on an axis whose half axis has this length: two half axes, two strays and the way of a drone that is late
+-- what is kept clear on an axis whose half axis has this length: two half axes, two strays and the way of a drone that
+-- is late
 abbrev pub room_on : Clearance → ℕ → ℕ → ℕ
 room_on c half axis = 2 * half + 2 * c.stray + reach_on c axis
 

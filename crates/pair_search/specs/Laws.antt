@@ -46,9 +46,9 @@ pub record IsLargest (first : Place → Option ℕ) (place : Place) (way : List 
   pub here : first (part_on place way) ≡ Some dir
   pub none_larger : (k : ℕ) → k < length way → first (part_on place (take k way)) ≡ None
 
--- `first_direction`, `blocked_place` and `best_tree` are what their names say, whatever the curves and the table. There is a
--- best tree exactly where each part of the depth has a direction; it is valid at the depth, and its leaves are exactly the
--- largest parts of at most that depth that have a direction, each with its first.
+-- `first_direction`, `blocked_place` and `best_tree` are what their names say, whatever the curves and the table. There
+-- is a best tree exactly where each part of the depth has a direction; it is valid at the depth, and its leaves are
+-- exactly the largest parts of at most that depth that have a direction, each with its first.
 pub record SearchLaw : Type 0 where
   pub first : (c : Clearance) (diff : List (Bez 8)) (dirs : List (List ℤ)) (place : Place) (dir : ℕ) →
       (first_direction c diff dirs place ≡ Some dir) ↔ IsFirstDirection c diff dirs place dir

@@ -24,7 +24,8 @@ IsSmallHigh high = IsWithin (pos 1000000000) high
 abbrev pub AreSmallHighs : List ℤ → Type 0
 AreSmallHighs high = (i : ℕ) → i < 56 → IsSmallHigh (at high i)
 
--- the lanes have the directions of a ruler, each in the first half with the one that stands as far from the end of the table
+-- the lanes have the directions of a ruler, each in the first half with the one that stands as far from the end of the
+-- table
 pub record AreOpposites (m : Measure) (s : Opposites) : Type 0 where
   pub lanes : AreLanes m s.lanes
   pub small : AreSmallHighs s.high

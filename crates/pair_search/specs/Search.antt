@@ -1,5 +1,5 @@
--- What a search finds: the first direction that separates a place, the tree with the largest possible leaves, and the first
--- place of the greatest depth that no direction separates.
+-- What a search finds: the first direction that separates a place, the tree with the largest possible leaves, and the
+-- first place of the greatest depth that no direction separates.
 use Rattle.std.specs.Prelude.{◌≡◌, ℕ, zero, suc, ◌^◌, ◌<◌, ℤ, List, [], length, position, Option, Some, None, is_none, if◌then◌else◌, Result, Ok, Err}
 use Rattle.std.specs.Option.{option_map, option_or}
 use Rattle.std.specs.declared.alloc.AllocError.{AllocError}
@@ -19,8 +19,8 @@ use Rattle.pair_search.specs.declared.walk.Found.TheVariants.{Clear, Blocked}
 abbrev pub place_at : ℕ → ℕ → Place
 place_at depth index = record { depth = depth; index = index }
 
--- The number of the first direction of a table that separates a place: along it none of the eight control values is below the
--- threshold.
+-- The number of the first direction of a table that separates a place: along it none of the eight control values is
+-- below the threshold.
 unfoldable pub first_direction : Clearance → List (Bez 8) → List (List ℤ) → Place → Option ℕ
 first_direction c diff dirs place = position (λ n. is_none (low_value c diff place n)) dirs
 
@@ -61,9 +61,8 @@ first_without f (suc n) k = if is_none (f k) then Some k else first_without f n 
 unfoldable pub blocked_place : (Place → Option ℕ) → ℕ → Option ℕ
 blocked_place first depth = first_without (λ index. first (place_at depth index)) (2 ^ depth) 0
 
--- ---- what a search gives
--- Clear: no part of the depth is blocked, and the nodes are those of the best tree. Blocked: the first part that is, and no
--- node. Out of memory: no node.
+-- ---- what a search gives Clear: no part of the depth is blocked, and the nodes are those of the best tree. Blocked:
+-- the first part that is, and no node. Out of memory: no node.
 abbrev pub SearchGives : (Place → Option ℕ) → ℕ → Result Found AllocError → List Node → Type 0
 SearchGives first depth (Ok Clear) nodes = (blocked_place first depth ≡ None) × (option_map preorder (best_tree first depth root) ≡ Some nodes)
 SearchGives first depth (Ok (Blocked index)) nodes = (blocked_place first depth ≡ Some index) × (nodes ≡ [])

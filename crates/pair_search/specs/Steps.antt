@@ -20,7 +20,8 @@ use Rattle.pair_search.specs.declared.fleet.SearchFault.TheVariants as fault
 use Rattle.pair_search.specs.Search.{HasDirection, best_tree, blocked_place}
 use Rattle.pair_search.specs.Fleets.{StopsBy, best_nodes, direction_at, nodes_of}
 
--- The node of a place: a leaf with its first direction, else a split where the place is less deep than the greatest depth.
+-- The node of a place: a leaf with its first direction, else a split where the place is less deep than the greatest
+-- depth.
 abbrev pub node_for : (Place → Option ℕ) → ℕ → Place → Option Node
 node_for first depth place = option_or (option_map Leaf (first place)) (if nat_lt place.depth depth then Some Split else None)
 

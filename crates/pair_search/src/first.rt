@@ -49,7 +49,8 @@ pub(crate) fn points_of(diff: &Difference, level: &Level) -> (Point, Point)
     (point_at(diff, level, 0), point_at(diff, level, 7))
 }
 
-// The same where the ends of the part are these. Lanes are weighed 16 at a time, since the first direction mostly comes early.
+// The same where the ends of the part are these. Lanes are weighed 16 at a time, since the first direction mostly comes
+// early.
 fn first_near<const M: usize>(
     diff: &Difference,
     level: &Level,

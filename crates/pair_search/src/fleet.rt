@@ -24,8 +24,8 @@ use std::alloc::{AllocError, Global};
 /// Why a search of a fleet finds no trees.
 #[derive(Clone, Copy, Debug, PartialEq, Eq)]
 pub enum SearchFault {
-    /// The first part of a cue in which no direction separates two drones, in the order pair, cue, part: part `index` of as many
-    /// equal parts as the depth gives. Parts count from 0.
+    /// The first part of a cue in which no direction separates two drones, in the order pair, cue, part: part `index`
+    /// of as many equal parts as the depth gives. Parts count from 0.
     Blocked { slot: Slot, index: u16 },
     /// Out of memory.
     Memory,
@@ -50,7 +50,8 @@ fn difference_of(curves: &Curves, slot: Slot) -> Difference
     curves.diff(slot.a as usize, slot.b as usize, slot.cue as usize)
 }
 
-// The nodes of a slot's tree, put into `nodes`, which is empty before; or the first part of its cue that no direction separates.
+// The nodes of a slot's tree, put into `nodes`, which is empty before; or the first part of its cue that no direction
+// separates.
 fn tree_of<const M: usize>(
     curves: &Curves,
     ruler: &Ruler<M>,
@@ -71,12 +72,12 @@ fn tree_of<const M: usize>(
     }
 }
 
-/// The trees of a fleet, one for each pair of drones and each cue, in the order of slots: the nodes, in preorder, of the tree with
-/// the largest possible leaves, each with the first direction of the ruler that separates its part. `depth` is the greatest depth
-/// of a part, 0 to 8.
+/// The trees of a fleet, one for each pair of drones and each cue, in the order of slots: the nodes, in preorder, of
+/// the tree with the largest possible leaves, each with the first direction of the ruler that separates its part.
+/// `depth` is the greatest depth of a part, 0 to 8.
 ///
-/// `Blocked` exactly where some part of that depth has no separating direction, for some pair and cue: the first, in the order
-/// pair, cue, part. `Memory` is out of memory, and the only other refusal.
+/// `Blocked` exactly where some part of that depth has no separating direction, for some pair and cue: the first, in
+/// the order pair, cue, part. `Memory` is out of memory, and the only other refusal.
 pub fn search_all<const M: usize>(
     alloc: Global,
     curves: &Curves,
@@ -113,8 +114,8 @@ fn is_far<const M: usize>(curves: &Curves, extents: &[Extent], ruler: &Ruler<M>,
     are_far(&first, &second, &clearance)
 }
 
-// Whether all cues of a slot's pair are to come, and the whole flights of the two are so far apart on an axis that its direction
-// separates each of these cues. `axes` says that the ruler has the directions of the axes.
+// Whether all cues of a slot's pair are to come, and the whole flights of the two are so far apart on an axis that its
+// direction separates each of these cues. `axes` says that the ruler has the directions of the axes.
 fn is_pair_far<const M: usize>(
     curves: &Curves,
     flights: &[Extent; 32],
@@ -144,8 +145,8 @@ fn is_pair_far<const M: usize>(
     )
 }
 
-// How many nodes a slot's tree has, or the first part of its cue that no direction separates. `axes` says that the ruler has the
-// directions of the axes, and `hint` and `waiting` are as of `count_with`.
+// How many nodes a slot's tree has, or the first part of its cue that no direction separates. `axes` says that the
+// ruler has the directions of the axes, and `hint` and `waiting` are as of `count_with`.
 fn count_of<const M: usize>(
     curves: &Curves,
     extents: &[Extent],
@@ -175,8 +176,8 @@ fn count_of<const M: usize>(
     }
 }
 
-/// How many nodes the trees of a fleet have: what [`search_all`] returns, counted. No tree is kept, and no direction is looked for
-/// where another one separates the part. Condition and refusals as [`search_all`].
+/// How many nodes the trees of a fleet have: what [`search_all`] returns, counted. No tree is kept, and no direction is
+/// looked for where another one separates the part. Condition and refusals as [`search_all`].
 pub fn count_all<const M: usize>(
     alloc: Global,
     curves: &Curves,

@@ -154,8 +154,8 @@ fn floor_short(value: i64, times: u32) -> i64
     value >> times
 }
 
-/// How far above what they have to reach the lower of two points is, in 16 lanes from one on; and the most of these. Below 0 one of
-/// the points is too low.
+/// How far above what they have to reach the lower of two points is, in 16 lanes from one on; and the most of these.
+/// Below 0 one of the points is too low.
 pub fn fill(lanes: &Lanes, p: &Point, q: &Point, begin: usize, near: &mut [i32; 16]) -> i32
     requires begin { begin ≤ 96 }
     requires lanes { AreSmallLanes lanes.now }

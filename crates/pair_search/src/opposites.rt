@@ -9,8 +9,8 @@ ghost use Rattle.pair_search.specs.Opposites.{AreOpposites, AreSmallHighs, Cance
 use crate::lanes::{Lanes, Point, lane_at, lanes_of};
 use sep_parts::Ruler;
 
-/// The lanes of a ruler. For each direction of the first half of its table, `high` says above what a point is too low along the
-/// opposite direction, which stands as far from the end of the table.
+/// The lanes of a ruler. For each direction of the first half of its table, `high` says above what a point is too low
+/// along the opposite direction, which stands as far from the end of the table.
 #[derive(Drop)]
 pub struct Opposites {
     pub lanes: Lanes,
@@ -35,8 +35,8 @@ fn front_of(count: usize) -> usize
     count - count / 2
 }
 
-// Above what a point is too low along the opposite of each direction of the first half of a table. Each point reaches the other ones,
-// which are so never asked for.
+// Above what a point is too low along the opposite of each direction of the first half of a table. Each point reaches
+// the other ones, which are so never asked for.
 fn highs_of(lanes: &Lanes, count: usize) -> [i32; 56]
     requires count { count ≤ 98 }
     requires lanes { AreSmallLanes lanes.now }
@@ -99,8 +99,9 @@ fn negated(low: i32) -> i32
     -low
 }
 
-/// Of each of 28 directions from one on, a number that is below 0 only where one of two points is too low along it, and one along its
-/// opposite. What is returned is below 0 only where all of them are. Of these numbers only the sign is of use.
+/// Of each of 28 directions from one on, a number that is below 0 only where one of two points is too low along it, and
+/// one along its opposite. What is returned is below 0 only where all of them are. Of these numbers only the sign is of
+/// use.
 pub fn weigh(opposites: &Opposites, p: &Point, q: &Point, begin: usize, near: &mut [i32; 28]) -> i32
     requires begin { begin ≤ 28 }
     requires lanes { AreSmallLanes opposites.now.lanes }

@@ -13,9 +13,9 @@ use fleet_curves::Difference;
 use fleet_math::Depth;
 use sep_parts::{Level, Node, Ruler, Waiting};
 
-/// How many nodes the best tree of a cue has, or the first part that no direction separates. `hint` is the number of a direction that
-/// is tried first, and becomes that of the last one that separated a part; it changes nothing of what is found. `waiting` is
-/// empty, and so it is left where there is a tree.
+/// How many nodes the best tree of a cue has, or the first part that no direction separates. `hint` is the number of a
+/// direction that is tried first, and becomes that of the last one that separated a part; it changes nothing of what is
+/// found. `waiting` is empty, and so it is left where there is a tree.
 pub fn count_with<const M: usize>(
     diff: &Difference,
     ruler: &Ruler<M>,
@@ -50,7 +50,8 @@ pub fn count_with<const M: usize>(
     Ok(count)
 }
 
-// The node of a part, with no direction named: a leaf where some direction separates it, else a split above the greatest depth.
+// The node of a part, with no direction named: a leaf where some direction separates it, else a split above the
+// greatest depth.
 fn shape_for<const M: usize>(
     diff: &Difference,
     level: &Level,

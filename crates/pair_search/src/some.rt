@@ -103,8 +103,8 @@ fn some_from<const M: usize>(
     None
 }
 
-// A direction of the first half of a table or its opposite, where one separates a part. Neither is asked where `near` is below 0,
-// which says that none does.
+// A direction of the first half of a table or its opposite, where one separates a part. Neither is asked where `near`
+// is below 0, which says that none does.
 #[inline(always)]
 fn some_of<const M: usize>(
     diff: &Difference,

@@ -22,18 +22,18 @@ use std::alloc::AllocError;
 pub enum Found {
     /// Each part of the greatest depth has a separating direction.
     Clear,
-    /// The part `index` of the 2^depth parts of the greatest depth has no separating direction, and each part before it has
-    /// one. Parts count from 0.
+    /// The part `index` of the 2^depth parts of the greatest depth has no separating direction, and each part before it
+    /// has one. Parts count from 0.
     Blocked { index: u16 },
 }
 
-/// Searches the tree of a pair of drones in a cue, for a clearance. `diff` has the raised curves of the second drone less those of the
-/// first, `dirs` the table of directions, and `nodes` is empty.
+/// Searches the tree of a pair of drones in a cue, for a clearance. `diff` has the raised curves of the second drone
+/// less those of the first, `dirs` the table of directions, and `nodes` is empty.
 ///
-/// `Clear` exactly where each of the 2^`depth` parts of the cue has a separating direction. Then `nodes` is, in preorder, the
-/// tree with the largest possible leaves, each with the first direction in the order of the table that separates its part.
-/// `Blocked` exactly where some part of that depth has no separating direction: the first such part; `nodes` is empty then. Out of
-/// memory is the only refusal, and leaves `nodes` empty.
+/// `Clear` exactly where each of the 2^`depth` parts of the cue has a separating direction. Then `nodes` is, in
+/// preorder, the tree with the largest possible leaves, each with the first direction in the order of the table that
+/// separates its part. `Blocked` exactly where some part of that depth has no separating direction: the first such
+/// part; `nodes` is empty then. Out of memory is the only refusal, and leaves `nodes` empty.
 pub fn search<const M: usize>(
     diff: &Difference,
     dirs: &Dirs<M>,
@@ -51,8 +51,8 @@ pub fn search<const M: usize>(
     search_with(diff, &Ruler::make(dirs, clearance), depth, nodes)
 }
 
-/// As [`search`], with a ruler made before: for who searches many pairs and cues, since working the thresholds out takes longer
-/// than most searches.
+/// As [`search`], with a ruler made before: for who searches many pairs and cues, since working the thresholds out
+/// takes longer than most searches.
 pub fn search_with<const M: usize>(
     diff: &Difference,
     ruler: &Ruler<M>,
@@ -88,8 +88,8 @@ pub fn search_by<const M: usize>(
     answer
 }
 
-// The nodes of the parts in preorder, up to the first part that is blocked. Most cues are told by one direction: for them no
-// stack is made.
+// The nodes of the parts in preorder, up to the first part that is blocked. Most cues are told by one direction: for
+// them no stack is made.
 fn walk<const M: usize>(
     diff: &Difference,
     ruler: &Ruler<M>,
@@ -193,10 +193,11 @@ fn put(
     Ok(())
 }
 
-/// A law. The definitions that the contract of [`search`] cites are what their names say: the first direction of a place separates
-/// it, and none before it in the table does; no part is blocked exactly where each has a separating direction, and a blocked
-/// part is the first that has none. There is a best tree exactly where each part of the depth has a separating direction; it is
-/// valid at that depth, and its leaves are the largest parts with a direction, each with its first.
+/// A law. The definitions that the contract of [`search`] cites are what their names say: the first direction of a
+/// place separates it, and none before it in the table does; no part is blocked exactly where each has a separating
+/// direction, and a blocked part is the first that has none. There is a best tree exactly where each part of the depth
+/// has a separating direction; it is valid at that depth, and its leaves are the largest parts with a direction, each
+/// with its first.
 pub fn search_law()
     ensures { SearchLaw }
 {}

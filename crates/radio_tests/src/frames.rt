@@ -14,8 +14,8 @@ use std::test::Fail;
 /// An answer to a write at address 24, in the frame of drone 1.
 const ANSWER: [u8; 10] = [0x50, 1, 7, 0x4E, 2, 0x18, 0, 0, 0, 0];
 
-// Takes one byte more, and puts what it gives into `out`: `T` for a tick; for a packet `P`, the drone, the packet and `;`; for
-// a byte without a place `K`, `D` or `L`, and then the answer is false.
+// Takes one byte more, and puts what it gives into `out`: `T` for a tick; for a packet `P`, the drone, the packet and
+// `;`; for a byte without a place `K`, `D` or `L`, and then the answer is false.
 fn takes(frames: &mut Frames, byte: u8, out: &mut Vec<u8>) -> Result<bool, AllocError>
     requires { IsBegun frames.old }
     ensures { IfOk result (λ going. going ≡ true → IsBegun frames.new) }
@@ -126,7 +126,8 @@ fn written_frames(rt: HostRuntime) {
     );
 }
 
-// The frame with which bytes begin, and how many bytes it has: `T` for a tick; for a packet `P`, the drone and the packet.
+// The frame with which bytes begin, and how many bytes it has: `T` for a tick; for a packet `P`, the drone and the
+// packet.
 fn front(alloc: Global, bytes: &[u8]) -> Result<(Vec<u8>, usize), AllocError> {
     let mut out = Vec::new(alloc);
     let Some(view) = whole_frame(bytes) else {

@@ -365,7 +365,8 @@ fn windows_of_four_drones_come_in_reverse(rt: HostRuntime) -> Result<(), Fail> {
     let alloc = rt.alloc();
     let names = four_names(alloc)?;
     let mut fleet = four_world(alloc)?;
-    // Writes 1 to 4; writes 6 and 5, which were sent when the fourth and the third were acknowledged; the define; the start.
+    // Writes 1 to 4; writes 6 and 5, which were sent when the fourth and the third were acknowledged; the define; the
+    // start.
     let windows: [(&[u8], Progress); 4] = [
         (
             b"take ? 1\ntake ? 1\ntake ? 2\ntake ? 2\ntake ? 3\ntake ? 3\ntake ? 4\ntake ? 4\nhear ? 8\nhear ? 7\nhear ? 6\nhear ? 5\nhear ? 4\nhear ? 3\nhear ? 2\nhear ? 1\n",

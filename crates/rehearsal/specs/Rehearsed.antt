@@ -7,8 +7,8 @@ use Rattle.upload_model.specs.Drones.{DroneState}
 use Rattle.upload_model.specs.Sessions.{Upload}
 use Rattle.upload_model.specs.Worlds.{World, world}
 
--- A drone before a rehearsal: of the session's memory id, each of its 4,096 bytes `FF`, none of its ten entries, nothing
--- started.
+-- A drone before a rehearsal: of the session's memory id, each of its 4,096 bytes `FF`, none of its ten entries,
+-- nothing started.
 abbrev pub blank_drone : Upload → DroneState
 blank_drone s =
     record { memory_id = s.memory_id; memory = replicate MEMORY_BYTES 255; table = replicate TABLE_ENTRIES None; started = None }

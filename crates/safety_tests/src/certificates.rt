@@ -1,6 +1,6 @@
-//! Certificates judged by their texts, with ellipsoids of half axes 120, 120 and 300 mm. Of two
-//! drones in three cues of three seconds one waits, goes 1 m along x, and waits; the other rises by 1 m, goes the other way above it, and sinks.
-//! Of three drones all stay.
+//! Certificates judged by their texts, with ellipsoids of half axes 120, 120 and 300 mm. Of two drones in three cues of
+//! three seconds one waits, goes 1 m along x, and waits; the other rises by 1 m, goes the other way above it, and
+//! sinks. Of three drones all stay.
 
 ghost use Rattle.std.specs.Prelude.{◌≤◌, length};
 ghost use Rattle.sep_parts.specs.Directions.{IsClearance};
@@ -28,8 +28,8 @@ fn two(alloc: Global) -> Result<Curves, AllocError> {
     Curves::of_slice(alloc, trajs.as_slice())
 }
 
-// The second 1 m along x from the first and the third 1 m along y. So (1, 0, 0), `v`, separates the first two, (0, 1, 0), `p`, the
-// first and the third, and (-1, 0, 0), `e`, the last two; none of them does for another pair.
+// The second 1 m along x from the first and the third 1 m along y. So (1, 0, 0), `v`, separates the first two, (0, 1,
+// 0), `p`, the first and the third, and (-1, 0, 0), `e`, the last two; none of them does for another pair.
 fn three(alloc: Global) -> Result<Curves, AllocError> {
     let first = three_legs(alloc, [[0, 0, 1000]; 4])?;
     let second = three_legs(alloc, [[1000, 0, 1000]; 4])?;
@@ -268,8 +268,8 @@ fn the_version_of_a_fault(rt: HostRuntime) -> Result<(), Fail> {
     Ok(())
 }
 
-// In the first cue the second drone is 1,000 mm along x from the first. Along (1, 0, 0) that is 300,000, where the ellipsoids ask for 72,001,
-// 379 mm of stray for 227,400 and 1 mm of reach on x for 300.
+// In the first cue the second drone is 1,000 mm along x from the first. Along (1, 0, 0) that is 300,000, where the
+// ellipsoids ask for 72,001, 379 mm of stray for 227,400 and 1 mm of reach on x for 300.
 const BY_CLEARANCE: [(u16, [u32; 3], bool); 7] = [
     (0, [0, 0, 0], true),
     (379, [0, 65_536, 65_536], true),

@@ -1,5 +1,5 @@
-//! Drones that stay, with ellipsoids of half axes 120, 120 and 300 mm, as near as they are still told apart. Which of the 98 directions is
-//! the first was computed from the definitions by exact sums, apart from the program.
+//! Drones that stay, with ellipsoids of half axes 120, 120 and 300 mm, as near as they are still told apart. Which of
+//! the 98 directions is the first was computed from the definitions by exact sums, apart from the program.
 
 ghost use Rattle.std.specs.Prelude.{◌≤◌};
 
@@ -12,9 +12,10 @@ use sep_parts::{Node, Ruler, WIDE, table_law};
 use std::alloc::{AllocError, Global};
 use std::test::Fail;
 
-// Where the second drone is from the first, in millimetres on x, y and z; the first direction; and a place a millimetre nearer, where no
-// direction tells the two apart. At each place its first direction is the only one. Lanes are weighed 16 at a time, and 28 at a time with
-// their opposites, so the directions are the first and the last ones of these groups.
+// Where the second drone is from the first, in millimetres on x, y and z; the first direction; and a place a millimetre
+// nearer, where no direction tells the two apart. At each place its first direction is the only one. Lanes are weighed
+// 16 at a time, and 28 at a time with their opposites, so the directions are the first and the last ones of these
+// groups.
 const PLACES: [([i16; 3], u8, [i16; 3]); 18] = [
     ([-158, -164, -196], 0, [-157, -163, -195]),
     ([-157, -167, 188], 1, [-156, -166, 187]),
@@ -79,7 +80,8 @@ fn staying(alloc: Global, first: [i16; 3], second: [i16; 3]) -> Result<Curves, A
     Curves::of_slice(alloc, trajs.as_slice())
 }
 
-// Where it is only asked whether there is a direction, the opposite one is looked at with each: so either drone is the first.
+// Where it is only asked whether there is a direction, the opposite one is looked at with each: so either drone is the
+// first.
 #[test]
 fn counted_at_the_edge(rt: HostRuntime) -> Result<(), Fail> {
     table_law();

@@ -1,6 +1,6 @@
-//! Tests of the crates that judge separation, against values from outside: `sep_parts`, `sep_certificate`, `certificate_checker`,
-//! `pair_search`, `keepout_boxes`, `touch_witness` and `speed_bound`. They stand in a crate of their own, so that each of these is proved
-//! once. It hands nothing out.
+//! Tests of the crates that judge separation, against values from outside: `sep_parts`, `sep_certificate`,
+//! `certificate_checker`, `pair_search`, `keepout_boxes`, `touch_witness` and `speed_bound`. They stand in a crate of
+//! their own, so that each of these is proved once. It hands nothing out.
 #![tactic(auto)]
 
 #[cfg(test)]

@@ -1,4 +1,5 @@
-//! Parts of a cue, judged along one direction at its threshold, their halves, and the order of pairs and cues: values from outside.
+//! Parts of a cue, judged along one direction at its threshold, their halves, and the order of pairs and cues: values
+//! from outside.
 
 ghost use Rattle.std.specs.Prelude.{◌^◌, All};
 ghost use Rattle.fleet_math.specs.Numbers.{IsBelow};
@@ -38,8 +39,8 @@ fn aside(millimetres: i16, dip: i16) -> [Bez<8>; 3]
     [row(scaled(millimetres), scaled(dip)), row(0, 0), row(0, 0)]
 }
 
-// A distance along x, that of one control value, the height, the threshold and the depth; and whether the direction separates the part.
-// 241 times the height of 1 mm is the threshold itself.
+// A distance along x, that of one control value, the height, the threshold and the depth; and whether the direction
+// separates the part. 241 times the height of 1 mm is the threshold itself.
 const AT_THE_THRESHOLD: [(i16, i16, u16, i128, u8, bool); 6] = [
     (241, 241, 300, 72001, 0, true),
     (240, 240, 300, 72001, 0, false),
@@ -66,7 +67,8 @@ fn a_direction_at_its_threshold(rt: HostRuntime) -> Result<(), Fail> {
     Ok(())
 }
 
-// The difference of 241 mm along x dips to 240 mm at the control value 3: 241 times 300 is 72,300, and 240 times 300 is 72,000.
+// The difference of 241 mm along x dips to 240 mm at the control value 3: 241 times 300 is 72,300, and 240 times 300 is
+// 72,000.
 #[test]
 fn the_first_control_value_that_is_too_low(rt: HostRuntime) -> Result<(), Fail> {
     let along_x = [1, 0, 0];

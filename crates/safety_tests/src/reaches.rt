@@ -1,5 +1,5 @@
-//! How far trajectories move while one drone is late against another, by hand: the greatest of their speeds times the lateness, in
-//! millimetres, rounded up.
+//! How far trajectories move while one drone is late against another, by hand: the greatest of their speeds times the
+//! lateness, in millimetres, rounded up.
 
 ghost use Rattle.std.specs.Prelude.{◌≤◌, IfOk};
 ghost use Rattle.speed_bound.specs.Reach.{IsMoving};
@@ -60,7 +60,8 @@ const DOWN: Flight = (
     [STAYS, STAYS, Element::Linear { v: 0 }],
 );
 
-// A metre along x in two seconds from rest to rest: at most 1.09375 m/s by parts of the depth 6, and 3.5 m/s by the whole.
+// A metre along x in two seconds from rest to rest: at most 1.09375 m/s by parts of the depth 6, and 3.5 m/s by the
+// whole.
 const MOVE: Flight = ([0, 0, 1000, 0], 2000, [METRE, STAYS, STAYS]);
 
 // A millimetre down in 3 ms: at most 333,334 micrometres per second.

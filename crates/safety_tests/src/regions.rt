@@ -86,7 +86,8 @@ macro_rules! part {
     };
 }
 
-// The corners of a keepout and the depth; what is judged. A box beside the way, one nearer, and at the very limit, where one millimetre decides.
+// The corners of a keepout and the depth; what is judged. A box beside the way, one nearer, and at the very limit,
+// where one millimetre decides.
 const KEEPOUTS: [([i32; 3], [i32; 3], u8, Judged); 5] = [
     ([400, 200, 0], [600, 400, 2000], 6, Judged::Kept),
     ([400, 100, 0], [600, 300, 2000], 6, part!(25)),
@@ -251,8 +252,8 @@ fn the_second_drone_in_the_second_cue(rt: HostRuntime) -> Result<(), Fail> {
     Ok(())
 }
 
-// Where the way of the one drone ends 120 mm before a keepout, any stray makes it enter; and a volume bears as much stray as it leaves room.
-// The extents are those of the ellipsoid and the stray together.
+// Where the way of the one drone ends 120 mm before a keepout, any stray makes it enter; and a volume bears as much
+// stray as it leaves room. The extents are those of the ellipsoid and the stray together.
 const BY_STRAY: [(i32, u16, bool); 6] = [
     (1121, 0, true),
     (1121, 1, false),

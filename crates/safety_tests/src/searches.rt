@@ -1,5 +1,5 @@
-//! Pairs of drones with ellipsoids of half axes 120, 120 and 300 mm. Directions, parts and counts were computed from the definitions by exact
-//! sums, apart from the program.
+//! Pairs of drones with ellipsoids of half axes 120, 120 and 300 mm. Directions, parts and counts were computed from
+//! the definitions by exact sums, apart from the program.
 
 ghost use Rattle.std.specs.Prelude.{◌≡◌, ◌∷◌, [], ◌^◌, ◌≤◌, All, IfOk};
 ghost use Rattle.fleet_math.specs.Numbers.{IsBelow};
@@ -87,8 +87,8 @@ const ASIDE: [i16; 8] = [100, 241, 300, 300, 400, 400, 0, 0];
 
 const ABOVE: [i16; 8] = [620, 300, 620, 0, 0, 0, 300, 620];
 
-// Where the second drone is from the first, on x, y and z; the depth; what is found, and the nodes. One drone waits 1 m beside the other and
-// rises; they cross with 1 m between them; it sinks; they meet; and they pass part by part.
+// Where the second drone is from the first, on x, y and z; the depth; what is found, and the nodes. One drone waits 1 m
+// beside the other and rises; they cross with 1 m between them; it sinks; they meet; and they pass part by part.
 const SEARCHES: [([i16; 8], [i16; 8], [i16; 8], u8, Found, &[Node]); 7] = [
     (
         [1000; 8],
@@ -194,8 +194,9 @@ fn all_nodes(trees: &Forest) -> u64 {
     count
 }
 
-// The place of the second drone, a stray, the reach on x, y and z, and how many nodes two cues have, or none where they are blocked. Drones on
-// one axis are apart exactly where they are farther than two half axes, two strays and the reach of that axis.
+// The place of the second drone, a stray, the reach on x, y and z, and how many nodes two cues have, or none where they
+// are blocked. Drones on one axis are apart exactly where they are farther than two half axes, two strays and the reach
+// of that axis.
 const ON_ONE_AXIS: [([i16; 3], u16, [u32; 3], Result<u64, u16>); 14] = [
     ([241, 0, 0], 0, [0, 0, 0], Ok(2)),
     ([240, 0, 0], 0, [0, 0, 0], Err(0)),

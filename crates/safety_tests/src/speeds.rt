@@ -92,9 +92,9 @@ const DECIMETRE: Element = Element::Seven {
     v: [1000, 1000, 1000, 1100, 1100, 1100, 1100],
 };
 
-// A start, two segments by their durations and elements on x, y and z, and the depth; the bounds in micrometres per second: from rest to rest;
-// a quarter arc; a quotient that is rounded up; the widest numbers; two segments that differ; and parts that are fastest in either half, in
-// either segment.
+// A start, two segments by their durations and elements on x, y and z, and the depth; the bounds in micrometres per
+// second: from rest to rest; a quarter arc; a quotient that is rounded up; the widest numbers; two segments that
+// differ; and parts that are fastest in either half, in either segment.
 type Row = (
     [i16; 4],
     (u16, [Element; 3]),

@@ -1,12 +1,13 @@
-//! Thresholds by exact square roots, apart from the program. With half axes 120 and 300 mm the ellipsoids ask for 72,001 along (1, 0, 0)
-//! and (0, 0, 1), the least numbers whose squares are above 4 r^2 h^2, and for 124,708 along (1, 1, 1), where that is three times as much.
+//! Thresholds by exact square roots, apart from the program. With half axes 120 and 300 mm the ellipsoids ask for
+//! 72,001 along (1, 0, 0) and (0, 0, 1), the least numbers whose squares are above 4 r^2 h^2, and for 124,708 along (1,
+//! 1, 1), where that is three times as much.
 
 use crate::flights::clearance;
 use sep_parts::{DIRECTIONS, table_law, thresholds};
 use std::test::Fail;
 
-// A stray and a reach on each axis, and the thresholds along (1, 0, 0), (0, 0, 1) and (1, 1, 1). The strays of two drones take away
-// 600, 240 and 881.8 a millimetre, rounded up, and each millimetre of reach 300, 120 and 720.
+// A stray and a reach on each axis, and the thresholds along (1, 0, 0), (0, 0, 1) and (1, 1, 1). The strays of two
+// drones take away 600, 240 and 881.8 a millimetre, rounded up, and each millimetre of reach 300, 120 and 720.
 const BY_STRAY_AND_REACH: [(u16, u32, [i128; 3]); 12] = [
     (0, 0, [72001, 72001, 124708]),
     (0, 1, [72301, 72121, 125428]),
@@ -36,7 +37,8 @@ fn by_stray_and_reach(rt: HostRuntime) -> Result<(), Fail> {
     Ok(())
 }
 
-// Directions with one, two and three entries that aren't 0, and a reach that differs on each axis: 15 mm on x and 20 mm on z.
+// Directions with one, two and three entries that aren't 0, and a reach that differs on each axis: 15 mm on x and 20 mm
+// on z.
 #[test]
 fn by_entries(rt: HostRuntime) -> Result<(), Fail> {
     table_law();
@@ -55,8 +57,8 @@ fn by_entries(rt: HostRuntime) -> Result<(), Fail> {
     Ok(())
 }
 
-// The widest ellipsoids that a show may have, 2,000 mm to the side or up and down, alone and with the greatest stray and reach: half axes, stray,
-// reach, and the thresholds along (1, 0, 0), (0, 0, 1) and (1, 1, 1).
+// The widest ellipsoids that a show may have, 2,000 mm to the side or up and down, alone and with the greatest stray
+// and reach: half axes, stray, reach, and the thresholds along (1, 0, 0), (0, 0, 1) and (1, 1, 1).
 const AT_THE_WIDEST: [(u16, u16, u16, u32, [i128; 3]); 6] = [
     (2000, 2000, 0, 0, [8000001, 8000001, 13856407]),
     (2000, 2000, 1000, 65536, [143072001, 143072001, 414000611]),

@@ -57,8 +57,8 @@ fn closest_of(found: Option<Closest>) -> Option<(u16, u8, u8, u8, u64)> {
     Some((cue, at, a, b, level))
 }
 
-// The second drone waits and then exchanges places with the first at one height; rises by a metre before, and goes the other way above it; stays
-// beside the first, just apart; and then comes nearer.
+// The second drone waits and then exchanges places with the first at one height; rises by a metre before, and goes the
+// other way above it; stays beside the first, just apart; and then comes nearer.
 const EXCHANGED: [[i16; 3]; 3] = [[1000, 0, 1000], [1000, 0, 1000], [0, 0, 1000]];
 
 const ABOVE: [[i16; 3]; 3] = [[1000, 0, 1000], [1000, 0, 2000], [0, 0, 2000]];

@@ -20,8 +20,8 @@ use Rattle.fleet_curves.specs.Raised.{Raised, difference}
 use Rattle.sep_parts.specs.Trees.{IsKnown, IsTree, IsValidTree, Tree, preorder, spelled_tree}
 use Rattle.sep_parts.specs.Trees.Tree.{leaf, split}
 
--- A certificate is whole among this many directions: its depth is at most 8, it has fewer than 2^31 trees, each of them is one whole
--- tree in preorder, and each leaf names one of the directions.
+-- A certificate is whole among this many directions: its depth is at most 8, it has fewer than 2^31 trees, each of them
+-- is one whole tree in preorder, and each leaf names one of the directions.
 pub record IsWholeIn (m : ℕ) (cert : Certificate) : Type 0 where
   pub depth : cert.depth ≤ 8
   pub few : length cert.trees < 2 ^ 31

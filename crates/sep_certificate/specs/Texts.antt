@@ -9,7 +9,8 @@ use Rattle.sep_certificate.specs.declared.certificate.Certificate.{Certificate}
 use Rattle.sep_certificate.specs.Certificates.{IsWhole}
 use Rattle.sep_parts.specs.Trees.{IsKnown, Tree, preorder, spelled_tree}
 
--- `.` is a split, and a leaf is the word of its direction in the version: a letter in version 1, two digits in version 2
+-- `.` is a split, and a leaf is the word of its direction in the version: a letter in version 1, two digits in version
+-- 2
 abbrev pub node_text : ℕ → Node → List ℕ
 node_text version Split = 46 ∷ []
 node_text version (Leaf dir) = direction_word version dir
@@ -101,8 +102,8 @@ abbrev pub bad_from : ℕ → ℕ → List (List ℕ) → Option ℕ
 bad_from version n [] = Some n
 bad_from version n (line ∷ more) = if is_depth_line line then bad_tree version (suc n) more else Some n
 
--- The first faulty line. A text whose first line is `version 2` is one of version 2; every other one, an empty one too, is judged as
--- one of version 1.
+-- The first faulty line. A text whose first line is `version 2` is one of version 2; every other one, an empty one too,
+-- is judged as one of version 1.
 abbrev pub bad_line : List (List ℕ) → Option ℕ
 bad_line [] = Some 1
 bad_line (line ∷ more) = if bytes_eq line version_line then bad_from 2 2 more else bad_from 1 1 (line ∷ more)

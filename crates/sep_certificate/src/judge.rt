@@ -15,15 +15,16 @@ use fleet_math::Depth;
 use halving::Place;
 use sep_parts::{Level, Node, Ruler, Slot};
 
-/// The law of certificates, by any table of directions. With a valid one the ellipsoids around any two different drones share no point, for
-/// every list of trajectories that the curves stand for and that move within the reach; and where the entries of the table are from -2 to 2,
-/// they are apart by the margin. A whole certificate, whose leaves name directions of the table, is valid exactly where it has no first fault.
+/// The law of certificates, by any table of directions. With a valid one the ellipsoids around any two different drones
+/// share no point, for every list of trajectories that the curves stand for and that move within the reach; and where
+/// the entries of the table are from -2 to 2, they are apart by the margin. A whole certificate, whose leaves name
+/// directions of the table, is valid exactly where it has no first fault.
 pub fn certificate_law()
     ensures { CertificateLaw }
 {}
 
-/// What is wrong with a node at a level of the differences `diff`, by the directions of a ruler: a split at the depth, or a leaf whose
-/// direction has a control value below its threshold. Takes no memory.
+/// What is wrong with a node at a level of the differences `diff`, by the directions of a ruler: a split at the depth,
+/// or a leaf whose direction has a control value below its threshold. Takes no memory.
 pub fn node_fault<const M: usize>(
     diff: &Difference,
     level: &Level,

@@ -1,9 +1,9 @@
 //! Certificate texts, as they are written.
 //!
-//! In version 1 the first line is `certificate` and the depth. Each further line is one tree in preorder: `.` is a split, a letter
-//! from `a` to `z` a leaf with the direction of that number. In version 2 the line `version 2` stands before, and a leaf is two digits,
-//! from `00` to `97`. Lines end with a line feed, which the last may lack; one carriage return
-//! before a line feed is dropped.
+//! In version 1 the first line is `certificate` and the depth. Each further line is one tree in preorder: `.` is a
+//! split, a letter from `a` to `z` a leaf with the direction of that number. In version 2 the line `version 2` stands
+//! before, and a leaf is two digits, from `00` to `97`. Lines end with a line feed, which the last may lack; one
+//! carriage return before a line feed is dropped.
 
 ghost use Rattle.std.specs.Prelude.{◌≡◌, ◌↔◌, ◌<◌, ◌++◌, ◌∷◌, [], flat_map, All, IfOk, OnOk, MatchOption, IsFalse, IsTrue};
 ghost use Rattle.sep_parts.specs.Versions.{IsVersion, direction_word, known_in};

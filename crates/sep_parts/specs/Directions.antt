@@ -19,8 +19,8 @@ IsAxis r = (1 ≤ r) × (r ≤ 2000)
 abbrev pub reach_on : Clearance → ℕ → ℕ
 reach_on c axis = slice_index_or c.reach axis 0
 
--- A clearance as shows have it: half axes of 1 to 2,000 mm, a stray of at most 1,000 mm, and a reach of at most 65,536 mm on each axis, which is
--- farther than two positions can be from one another.
+-- A clearance as shows have it: half axes of 1 to 2,000 mm, a stray of at most 1,000 mm, and a reach of at most 65,536
+-- mm on each axis, which is farther than two positions can be from one another.
 pub record IsClearance (c : Clearance) : Type 0 where
   pub across : IsAxis c.r
   pub upwards : IsAxis c.h
@@ -142,7 +142,8 @@ stray_limit c n = pos (4 * (c.stray * c.stray)) *ℤ length_squared (weights n c
 abbrev pub for_ellipsoids : Clearance → List ℤ → ℤ
 for_ellipsoids c n = pos (root_above (limit_along c.r c.h n))
 
--- what the strays of two drones take away along it, at most: the least whole number whose square is at least 4 stray^2 (w . w)
+-- what the strays of two drones take away along it, at most: the least whole number whose square is at least 4 stray^2
+-- (w . w)
 abbrev pub for_strays : Clearance → List ℤ → ℤ
 for_strays c n = pos (root_reaching (stray_limit c n))
 
@@ -151,7 +152,8 @@ abbrev pub for_reach : Clearance → List ℤ → ℤ
 for_reach c n =
     pos (unsigned_abs (at n 0 *ℤ pos c.h) * reach_on c 0 + unsigned_abs (at n 1 *ℤ pos c.h) * reach_on c 1 + unsigned_abs (at n 2 *ℤ pos c.r) * reach_on c 2)
 
--- The threshold of a direction: how far apart along it two curves must be, so that the ellipsoids around two drones share no point.
+-- The threshold of a direction: how far apart along it two curves must be, so that the ellipsoids around two drones
+-- share no point.
 abbrev pub threshold : Clearance → List ℤ → ℤ
 threshold c n = for_ellipsoids c n +ℤ for_strays c n +ℤ for_reach c n
 
@@ -172,8 +174,8 @@ pub record IsStill (c : Clearance) : Type 0 where
   pub stray : c.stray ≡ 0
   pub reach : (axis : ℕ) → reach_on c axis ≡ 0
 
--- The first two parts of a threshold are these least numbers, whatever the clearance and the direction, and where nobody strays or is late it is
--- its first part.
+-- The first two parts of a threshold are these least numbers, whatever the clearance and the direction, and where
+-- nobody strays or is late it is its first part.
 pub record ThresholdLaw : Type 0 where
   pub ellipsoids : (c : Clearance) (n : List ℤ) → IsLeastRoot (limit_along c.r c.h n) (for_ellipsoids c n)
   pub strays : (c : Clearance) (n : List ℤ) → IsLeastReaching (stray_limit c n) (for_strays c n)

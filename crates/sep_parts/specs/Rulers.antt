@@ -13,7 +13,8 @@ pub record Measure : Type 0 where
 abbrev pub rules_by : Measure → ℕ → Rules
 rules_by m depth = record { clearance = m.clearance; depth = depth }
 
--- What a ruler keeps: at most 98 directions with small entries, the threshold of each, and a clearance as shows have it.
+-- What a ruler keeps: at most 98 directions with small entries, the threshold of each, and a clearance as shows have
+-- it.
 pub record IsRuler (directions : List (List ℤ)) (thresholds : List ℤ) (c : Clearance) : Type 0 where
   pub few : length directions ≤ 98
   pub entries : All AreSmall directions

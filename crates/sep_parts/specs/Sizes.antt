@@ -11,8 +11,8 @@ use Rattle.sep_parts.specs.declared.clearance.Clearance.{Clearance}
 use Rattle.sep_parts.specs.Directions.{AreSmall, IsClearance, threshold}
 use Rattle.sep_parts.specs.Separates.{least_value, part_along}
 
--- At a place and along a direction: the control values of the part, their weighted sums, the threshold, and what each sum
--- must be at least.
+-- At a place and along a direction: the control values of the part, their weighted sums, the threshold, and what each
+-- sum must be at least.
 pub record HasSmallNumbers (c : Clearance) (diff : List (Bez 8)) (place : Place) (n : List ℤ) : Type 0 where
   pub parts : (axis k : ℕ) → axis ≤ 2 → k ≤ 7 → IsBelow (2 ^ 86) (part_value place.depth place.index (at (controls diff axis)) k)
   pub sums : (k : ℕ) → k ≤ 7 → IsBelow (2 ^ 104) (part_along c.r c.h diff place n k)

@@ -2,8 +2,8 @@
 
 ghost use Rattle.sep_parts.specs.Apart.{ApartLaw, ExactLaw, SentLaw};
 
-/// A law: drones that are apart are so however their curves are cut into segments; so what flies apart does with its holds joined. What flies
-/// apart with strays and late starts flies apart exactly.
+/// A law: drones that are apart are so however their curves are cut into segments; so what flies apart does with its
+/// holds joined. What flies apart with strays and late starts flies apart exactly.
 pub fn apart_law()
     ensures lifts { ApartLaw }
     ensures sent { SentLaw }

@@ -1,6 +1,7 @@
 //! What is kept clear around drones.
 
-/// What is kept clear around drones that stray from their curves and are late against one another. Lengths are millimetres.
+/// What is kept clear around drones that stray from their curves and are late against one another. Lengths are
+/// millimetres.
 #[derive(Clone, Copy)]
 pub struct Clearance {
     /// The half axis of the ellipsoids on x and y.

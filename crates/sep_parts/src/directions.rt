@@ -15,8 +15,8 @@ pub struct Dirs<const M: usize> {
     pub n: [[i8; 3]; M],
 }
 
-/// The directions with entries -1, 0 and 1 that aren't all 0, in lexicographic order. In certificates they have the letters `a`
-/// to `z`.
+/// The directions with entries -1, 0 and 1 that aren't all 0, in lexicographic order. In certificates they have the
+/// letters `a` to `z`.
 pub const DIRECTIONS: Dirs<26> = Dirs {
     n: [
         [-1, -1, -1],
@@ -152,9 +152,9 @@ pub const WIDE: Dirs<98> = Dirs {
     ],
 };
 
-/// A law: `DIRECTIONS` has each direction with entries -1, 0 and 1 that aren't all 0, and `WIDE` each with entries from -2 to 2 whose
-/// greatest common divisor is 1; in both each stands before the next one in lexicographic order, so that no two are the same, and
-/// with each the opposite one is there.
+/// A law: `DIRECTIONS` has each direction with entries -1, 0 and 1 that aren't all 0, and `WIDE` each with entries from
+/// -2 to 2 whose greatest common divisor is 1; in both each stands before the next one in lexicographic order, so that
+/// no two are the same, and with each the opposite one is there.
 pub fn table_law()
     ensures whole { DIRECTIONS.n ≡ directions }
     ensures rising { IsTrue (is_rising DIRECTIONS.n) }
@@ -166,14 +166,15 @@ pub fn table_law()
     ensures wide_small { All AreSmall WIDE.n }
 {}
 
-/// A law: what a threshold asks for the ellipsoids and for the strays are the least numbers that are enough, and where nobody strays or is late
-/// it asks for the ellipsoids alone.
+/// A law: what a threshold asks for the ellipsoids and for the strays are the least numbers that are enough, and where
+/// nobody strays or is late it asks for the ellipsoids alone.
 pub fn threshold_law()
     ensures { ThresholdLaw }
 {}
 
-/// The threshold of each direction for a clearance: what the ellipsoids ask for, the least number that is not negative and whose square is above
-/// 4 r^2 h^2 (n . n); what the strays of two drones take away; and what the way of a late one does. None gives 2^30.
+/// The threshold of each direction for a clearance: what the ellipsoids ask for, the least number that is not negative
+/// and whose square is above 4 r^2 h^2 (n . n); what the strays of two drones take away; and what the way of a late one
+/// does. None gives 2^30.
 pub fn thresholds<const M: usize>(dirs: &Dirs<M>, clearance: Clearance) -> [i128; M]
     requires size { IsTableSize M }
     requires entries { All AreSmall dirs.now.n }

@@ -7,8 +7,8 @@ use crate::node::Node;
 use std::alloc::{AllocError, Global};
 use std::marker::Model;
 
-/// Trees, each the list of its nodes: one after another in one list, so that no tree takes memory of its own. A contract
-/// sees the lists.
+/// Trees, each the list of its nodes: one after another in one list, so that no tree takes memory of its own. A
+/// contract sees the lists.
 #[derive(Debug, Drop)]
 pub struct Forest {
     nodes: Vec<Node>,

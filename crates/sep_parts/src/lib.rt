@@ -1,10 +1,10 @@
-//! What certificates of separation are made of: the directions with their thresholds, the parts of a cue and the trees that
-//! name them, and the order in which pairs and cues come.
+//! What certificates of separation are made of: the directions with their thresholds, the parts of a cue and the trees
+//! that name them, and the order in which pairs and cues come.
 //!
-//! Drones are told apart along directions: where along one of them every control value of a part of the difference of two
-//! curves is at least that direction's threshold, the ellipsoids around the two drones share no point anywhere in that part.
-//! `sep_certificate`, which judges certificates and passes its public calls on, and `pair_search`, which finds their
-//! trees, stand on it.
+//! Drones are told apart along directions: where along one of them every control value of a part of the difference of
+//! two curves is at least that direction's threshold, the ellipsoids around the two drones share no point anywhere in
+//! that part. `sep_certificate`, which judges certificates and passes its public calls on, and `pair_search`, which
+//! finds their trees, stand on it.
 #![tactic(auto)]
 
 mod apart;

@@ -18,8 +18,8 @@ pub(crate) const NARROW_DEPTH: u8 = 2;
 /// The greatest depth of a part whose control values are kept in 64 bits.
 pub(crate) const SHORT_DEPTH: u8 = 4;
 
-/// What `separates` returns, of a part that is halved at most twice. Its control values are below 2^46, so that 64 bits hold each
-/// weighted sum.
+/// What `separates` returns, of a part that is halved at most twice. Its control values are below 2^46, so that 64 bits
+/// hold each weighted sum.
 #[inline(always)]
 pub(crate) fn separates_narrow(
     diff: &[Bez<8>; 3],
@@ -114,8 +114,8 @@ fn weighted(weight: i64, value: i128) -> i64
     weight * (value as i64)
 }
 
-/// What `separates` returns, of a part that is halved at most four times. Its control values are below 2^58, so that 64 bits hold
-/// each, and a weighted sum is that of three products of numbers of 64 bits.
+/// What `separates` returns, of a part that is halved at most four times. Its control values are below 2^58, so that 64
+/// bits hold each, and a weighted sum is that of three products of numbers of 64 bits.
 #[inline(always)]
 pub(crate) fn separates_short(
     diff: &[Bez<8>; 3],

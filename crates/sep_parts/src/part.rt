@@ -14,8 +14,9 @@ use bezier_core::{Bez, along, along_at};
 use fleet_math::Depth;
 use halving::{halve, halve_short};
 
-/// Whether the direction `n` separates a part of the given depth: whether each control value of n_x h dx + n_y h dy + n_z r dz is
-/// at least the threshold, at the scale of raised curves and of the depth. `diff` has the part's control values on x, y and z.
+/// Whether the direction `n` separates a part of the given depth: whether each control value of n_x h dx + n_y h dy +
+/// n_z r dz is at least the threshold, at the scale of raised curves and of the depth. `diff` has the part's control
+/// values on x, y and z.
 pub fn separates(
     diff: &[Bez<8>; 3],
     n: [i8; 3],
@@ -46,7 +47,8 @@ macro_rules! each_reaches {
     };
 }
 
-// Whether each weighted sum is at least so much. The ends of the curves come first: where a direction fails, it mostly fails there.
+// Whether each weighted sum is at least so much. The ends of the curves come first: where a direction fails, it mostly
+// fails there.
 fn all_reach(diff: &[Bez<8>; 3], w: [i128; 3], least: i128) -> bool
     requires values { All (λ curve. All (IsBelow (2 ^ 86)) curve.b) diff.now }
     requires weights { All (IsBelow 4001) w }
@@ -66,8 +68,8 @@ fn reaches(diff: &[Bez<8>; 3], w: [i128; 3], least: i128, k: usize) -> bool
     least <= along_at(diff, w, k)
 }
 
-/// The place, 0 to 7, of the first control value along the direction that is below the threshold; none where the direction
-/// separates the part. Conditions as [`separates`].
+/// The place, 0 to 7, of the first control value along the direction that is below the threshold; none where the
+/// direction separates the part. Conditions as [`separates`].
 #[tactic(auto, unfolding(crate::specs::Separates::first_low))]
 pub fn low_control(
     diff: &[Bez<8>; 3],
@@ -88,7 +90,8 @@ pub fn low_control(
     first_below(&projected(diff, n, r, h), threshold, depth)
 }
 
-/// Three curves along a direction: the weighted sums n_x h dx + n_y h dy + n_z r dz of their control values. None reaches 2^104.
+/// Three curves along a direction: the weighted sums n_x h dx + n_y h dy + n_z r dz of their control values. None
+/// reaches 2^104.
 pub fn projected(diff: &[Bez<8>; 3], n: [i8; 3], r: u16, h: u16) -> Bez<8>
     requires values { All (λ curve. All (IsBelow (2 ^ 86)) curve.b) diff.now }
     requires entries { AreSmall n }
@@ -110,8 +113,8 @@ pub fn first_below(curve: &Bez<8>, threshold: i128, depth: Depth) -> Option<usiz
     curve.b.iter().position(|v| *v < least)
 }
 
-/// Whether each of the eight control values is at least the threshold, at the scale of raised curves and of the depth. Of three
-/// curves along a direction, as [`projected`] gives them, it says whether the direction separates their part.
+/// Whether each of the eight control values is at least the threshold, at the scale of raised curves and of the depth.
+/// Of three curves along a direction, as [`projected`] gives them, it says whether the direction separates their part.
 pub fn above(p: &Bez<8>, threshold: i128, depth: Depth) -> bool
     requires positive { pos 0 ≤ℤ threshold }
     requires small { threshold <ℤ pos (2 ^ 30) }

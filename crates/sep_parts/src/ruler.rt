@@ -17,8 +17,8 @@ use fleet_curves::Difference;
 use fleet_math::Depth;
 use std::marker::Model;
 
-/// A table of directions with the threshold of each for a clearance. Contracts see the directions and the clearance, which determine the
-/// thresholds.
+/// A table of directions with the threshold of each for a clearance. Contracts see the directions and the clearance,
+/// which determine the thresholds.
 #[derive(Drop)]
 pub struct Ruler<const M: usize> {
     directions: Dirs<M>,
@@ -37,8 +37,8 @@ impl<const M: usize> Model for Ruler<M> {
 }
 
 impl<const M: usize> Ruler<M> {
-    /// The ruler of a table for a clearance. Working the thresholds out takes longer than most searches, so it is made once for all pairs
-    /// and cues.
+    /// The ruler of a table for a clearance. Working the thresholds out takes longer than most searches, so it is made
+    /// once for all pairs and cues.
     pub fn make(directions: &Dirs<M>, clearance: Clearance) -> Ruler<M>
         requires size { IsTableSize M }
         requires entries { All AreSmall directions.now.n }
@@ -102,8 +102,8 @@ impl<const M: usize> Ruler<M> {
         self.directions.n.as_slice().len()
     }
 
-    /// Whether the direction with the number `dir` separates a part of the differences `diff` of raised curves: whether along it no
-    /// control value of the part is below the threshold.
+    /// Whether the direction with the number `dir` separates a part of the differences `diff` of raised curves: whether
+    /// along it no control value of the part is below the threshold.
     #[inline(always)]
     pub fn separates(&self, diff: &Difference, level: &Level, dir: usize) -> bool
         requires level { IsLevel diff.now level.now }
@@ -137,8 +137,9 @@ impl<const M: usize> Ruler<M> {
         separates_rows(diff.rows(), directions[dir], r, h, thresholds[dir])
     }
 
-    /// The place, 0 to 7, of the first control value of a part that is below the threshold along the direction with the number
-    /// `dir`; none where the direction separates the part. `diff` are the differences of raised curves whose part it is.
+    /// The place, 0 to 7, of the first control value of a part that is below the threshold along the direction with the
+    /// number `dir`; none where the direction separates the part. `diff` are the differences of raised curves whose
+    /// part it is.
     pub fn low_control(&self, diff: &Difference, level: &Level, dir: usize) -> Option<usize>
         requires level { IsLevel diff.now level.now }
         requires dir { dir < length self.now.directions }

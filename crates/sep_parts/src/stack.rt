@@ -19,8 +19,8 @@ pub struct Level {
     pub part: [Bez<8>; 3],
 }
 
-/// The parts of the two halves of a level, without their places, of the differences `diff` of raised curves. No control value
-/// of a part reaches 2^86. Where those of the halves are below 2^58 they are made in 64 bits.
+/// The parts of the two halves of a level, without their places, of the differences `diff` of raised curves. No control
+/// value of a part reaches 2^86. Where those of the halves are below 2^58 they are made in 64 bits.
 #[inline(always)]
 pub fn parts_below(diff: &Difference, level: &Level) -> ([Bez<8>; 3], [Bez<8>; 3])
     requires level { IsLevel diff.now level.now }

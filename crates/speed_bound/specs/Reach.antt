@@ -10,8 +10,8 @@ use Rattle.speed_bound.specs.Speed.{greatest_below, speed}
 abbrev pub farthest : ℕ
 farthest = 65536
 
--- How many millimetres a trajectory moves on an axis in so many milliseconds at most: the bound on its speed by its parts of a depth, times the
--- time, rounded up.
+-- How many millimetres a trajectory moves on an axis in so many milliseconds at most: the bound on its speed by its
+-- parts of a depth, times the time, rounded up.
 unfoldable pub reach : ℕ → ℕ → Traj → ℕ → ℕ
 reach depth late t axis = min farthest (div_ceil (late * speed depth t axis) 1000000)
 
@@ -29,7 +29,8 @@ pub record IsMoving (t : Traj) : Type 0 where
   pub some : 1 ≤ length t.segments
   pub lasting : All HasDuration t.segments
 
--- Each of these trajectories moves on each axis by at most the reach of all, between any two instants that are at most so far apart.
+-- Each of these trajectories moves on each axis by at most the reach of all, between any two instants that are at most
+-- so far apart.
 abbrev pub ReachLaw : Type 0
 ReachLaw =
     (depth late : ℕ) (trajs : List Traj) → All IsMoving trajs →

@@ -11,8 +11,8 @@ use traj_codec::Traj;
 /// No two positions are farther apart on an axis, in millimetres.
 const FARTHEST: u64 = 65_536;
 
-/// How far trajectories move at most on x, y and z in `late` milliseconds, in millimetres: on each axis the greatest over all of them of the
-/// bound on the speed by parts of the depth, times the time, rounded up. Takes no memory.
+/// How far trajectories move at most on x, y and z in `late` milliseconds, in millimetres: on each axis the greatest
+/// over all of them of the bound on the speed by parts of the depth, times the time, rounded up. Takes no memory.
 pub fn reach(trajs: &[Traj], late: u16, depth: Depth) -> [u32; 3]
     requires moving { All IsMoving trajs.now }
     requires late { late ≤ 1000 }
@@ -47,8 +47,8 @@ pub fn reach_law()
     ensures { ReachLaw }
 {}
 
-/// A law: where nobody strays or is late, trajectories that fly apart exactly fly apart. So a show without these settings promises no more and no
-/// less than that its drones fly apart exactly.
+/// A law: where nobody strays or is late, trajectories that fly apart exactly fly apart. So a show without these
+/// settings promises no more and no less than that its drones fly apart exactly.
 pub fn still_law()
     ensures { StillLaw }
 {}

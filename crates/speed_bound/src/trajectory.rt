@@ -33,8 +33,8 @@ pub fn bound(t: &Traj, depth: Depth) -> [i64; 3]
     [fastest[0] as i64, fastest[1] as i64, fastest[2] as i64]
 }
 
-/// On each of the axes x, y and z the greater of a given speed and of the bound on that of a trajectory, by its parts of the depth. What can't
-/// be faster than the given speeds isn't looked at more closely.
+/// On each of the axes x, y and z the greater of a given speed and of the bound on that of a trajectory, by its parts
+/// of the depth. What can't be faster than the given speeds isn't looked at more closely.
 pub fn faster(t: &Traj, depth: Depth, least: [u64; 3]) -> [u64; 3]
     requires lasting { All HasDuration t.now.segments }
     requires least { (axis : ℕ) → axis ≤ 2 → slice_index_or least axis 0 < 2 ^ 50 }
@@ -60,8 +60,8 @@ pub fn faster(t: &Traj, depth: Depth, least: [u64; 3]) -> [u64; 3]
     [fastest_x, fastest_y, fastest_z]
 }
 
-// The greater of a given speed and of the bound of an element that begins with this value and lasts `ms` milliseconds. One that stays at it
-// isn't raised.
+// The greater of a given speed and of the bound of an element that begins with this value and lasts `ms` milliseconds.
+// One that stays at it isn't raised.
 fn element_speed(first: i16, element: Element, ms: u16, depth: Depth, least: u64) -> u64
     requires lasting { 1 ≤ ms }
     requires least { least < 2 ^ 50 }
@@ -75,8 +75,8 @@ fn element_speed(first: i16, element: Element, ms: u16, depth: Depth, least: u64
     }
 }
 
-// The greater of a given speed and of the greatest on the parts of a segment that lasts `ms` milliseconds, in micrometres per second. The
-// speed of the whole curve, as its own part, bounds those of all parts.
+// The greater of a given speed and of the greatest on the parts of a segment that lasts `ms` milliseconds, in
+// micrometres per second. The speed of the whole curve, as its own part, bounds those of all parts.
 fn segment_speed(curve: &Bez<8>, ms: u16, depth: Depth, least: u64) -> u64
     requires values { All (IsBelow (2 ^ 28)) curve.now.b }
     requires lasting { 1 ≤ ms }

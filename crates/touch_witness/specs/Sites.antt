@@ -61,9 +61,9 @@ pub record SharePoint (t u : Traj) (r h p q : ℕ) : Type 0 where
   pub in_first : IsInEllipsoid t r h p q x y z d
   pub in_second : IsInEllipsoid u r h p q x y z d
 
--- The closed ellipsoids of half axes r, r, h around the decoded positions of two drones share no point at the instant p / q, however little is
--- between them: h^2 (dX^2 + dY^2) + r^2 dZ^2 is above 4 r^2 h^2 (c1 c2)^14, where dX, dY and dZ are the gaps. `AreApart`, which accepted shows keep,
--- asks for a margin as well.
+-- The closed ellipsoids of half axes r, r, h around the decoded positions of two drones share no point at the instant p
+-- / q, however little is between them: h^2 (dX^2 + dY^2) + r^2 dZ^2 is above 4 r^2 h^2 (c1 c2)^14, where dX, dY and dZ
+-- are the gaps. `AreApart`, which accepted shows keep, asks for a margin as well.
 pub record AreDisjoint (t u : Traj) (r h p q : ℕ) : Type 0 where
   pub above :
       (pos (4 * (r * r) * (h * h)) *ℤ power (pos (own t p q).c *ℤ pos (own u p q).c) 14)

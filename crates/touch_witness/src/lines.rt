@@ -1,5 +1,5 @@
-//! Lines on where two drones come close (docs/COMMANDS.md, `explain`). Drones are named by words; a cue counts from 1 in its
-//! line, and a fraction of a cue or a part of it from 0.
+//! Lines on where two drones come close (docs/COMMANDS.md, `explain`). Drones are named by words; a cue counts from 1
+//! in its line, and a fraction of a cue or a part of it from 0.
 
 ghost use Rattle.std.specs.Prelude.{◌≡◌, ◌≤◌, ◌+◌, ◌*◌, ◌^◌, ◌++◌, ◌∷◌, [], true, codes, decimal, OnOk};
 ghost use Rattle.fleet_math.specs.Limits.{most_depth, most_fine};

@@ -15,11 +15,11 @@ use crate::site::Touch;
 use fleet_math::{Fine, MOST_DRONES};
 use traj_codec::Traj;
 
-/// The first of the listed instants and pairs at which two drones touch, for ellipsoids of these half
-/// axes: that of the first cue, in it of the first of the fractions 0 / 2^`fine` to 2^`fine` / 2^`fine`, then
-/// of the first drone, then of the second. At it the two closed ellipsoids share a point. None exactly where at each of
-/// these instants the closed ellipsoids of any two drones share no point, and so always where drones are apart throughout
-/// the show. The trajectories are those of one show, each with a segment a cue. Takes no memory.
+/// The first of the listed instants and pairs at which two drones touch, for ellipsoids of these half axes: that of the
+/// first cue, in it of the first of the fractions 0 / 2^`fine` to 2^`fine` / 2^`fine`, then of the first drone, then of
+/// the second. At it the two closed ellipsoids share a point. None exactly where at each of these instants the closed
+/// ellipsoids of any two drones share no point, and so always where drones are apart throughout the show. The
+/// trajectories are those of one show, each with a segment a cue. Takes no memory.
 pub fn first_touch(trajs: &Vec<Traj>, axes: Axes, fine: Fine) -> Option<Touch>
     requires show { IsOneShow trajs.now.items }
     ensures exact { MatchOption result (NoTouch trajs.now.items axes.r axes.h fine)

@@ -120,8 +120,8 @@ impl Host {
         }
     }
 
-    /// What the upload has come to with an answer of these 1 to 31 bytes that came up from a drone, without a copy of them:
-    /// see `event`.
+    /// What the upload has come to with an answer of these 1 to 31 bytes that came up from a drone, without a copy of
+    /// them: see `event`.
     pub fn hear(&mut self, drone: u8, packet: &[u8], out: &mut Out) -> Progress
         requires not_empty { 1 ≤ length packet.now }
         requires fits { length packet.now ≤ PACKET_BYTES }

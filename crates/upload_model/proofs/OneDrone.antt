@@ -292,7 +292,7 @@ good_start_answer s d j status l plain g =
           absurd (false≢true (sym (ap (λ (p : List ℕ). bytes_eq (5 ∷ 0 ∷ 0 ∷ []) (take 3 (drop 1 p))) (packet_at-define s d j e)) ∙ same))
       by_kind (a_start e b) not_write same z = (e, z)
 
-has_entry_from : (table : List (Option Def)) (id : ℕ) (entry : Def) → slice_get table id ≡ Some (Some entry) → has_entry table id ≡ true
+pub has_entry_from : (table : List (Option Def)) (id : ℕ) (entry : Def) → slice_get table id ≡ Some (Some entry) → has_entry table id ≡ true
 has_entry_from table id entry h = rw h refl
 
 module _ (s : Upload) (d k : ℕ) (start x : DroneState) (small : s.trajectory_id < 10) (offset_fits : s.offset < 4096)

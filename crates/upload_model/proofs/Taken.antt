@@ -1,8 +1,9 @@
 -- At Done each drone has taken a start, whoever else alters a byte: only a start is answered as one.
-use Rattle.upload_model.proofs.Prelude.{common_steps, ◌≡◌, ℕ, ◌+◌, ◌*◌, ◌^◌, ◌<◌, true, false, not, cond, eqb, ltb, List, [], ◌∷◌, ◌++◌, take, drop, refl, ap, sym, ◌∙◌, arith, Some, inl, inr, subst, IfSome, slice_get, cases_eq, cond_both, false≢true, le-ltb, take-append-le, slice_get_within, chunk_of, write_answer_of, read_answer_of, up_of, define_of, start_of, answer_of, Event, WorldEvent, Take, DroneState, Handled, answers, write_taken, handled, Upload, IsSession, drone_count, load_of, start_number, packet_at, read_address, status_in, reply_to, is_good, acked, World, happens, world, IsCase, TakesStart, TakenLaw}
+use Rattle.upload_model.proofs.Prelude.{common_steps, ◌≡◌, ℕ, ◌+◌, ◌*◌, ◌^◌, ◌<◌, true, false, not, ◌&&◌, cond, eqb, ltb, List, [], ◌∷◌, ◌++◌, take, drop, refl, ap, sym, ◌∙◌, arith, None, Some, inl, inr, subst, Bool, IfSome, slice_get, cases_Bool, cases_eq, cond_both, false≢true, le-ltb, take-append-le, slice_get_within, chunk_of, write_answer_of, read_answer_of, up_of, define_of, start_of, answer_of, Event, WorldEvent, Take, DroneState, Handled, answers, has_entry, write_taken, handled, Upload, IsSession, drone_count, load_of, write_count, start_number, packet_at, read_address, status_in, reply_to, is_good, acked, progress, Done, World, happens, world, IsCase, TakesStart, TakenLaw}
+use Rattle.std.specs.Str.{bytes_eq}
 use Rattle.upload_model.specs.declared.events.Event.TheVariants as event
 use Rattle.upload_model.proofs.Readings.{Kind, a_write, a_define, a_read, a_start, packet_kind, packet_at-define, packet_at-read, packet_at-start, is_read-past, count-start, up_of-write_answer, up_of-read_answer}
-use Rattle.upload_model.proofs.OneDrone.{accepts, handled-write, handled-define, length-chunk_of, write_count-below}
+use Rattle.upload_model.proofs.OneDrone.{accepts, handled-write, handled-define, handled-start, length-chunk_of, write_count-below}
 use Rattle.upload_model.proofs.OneRead.{read-fits, reads}
 use Rattle.upload_model.proofs.Taking.{if_some}
 use Rattle.upload_model.proofs.Answers.{reply-plain, status-good, good-heard}
@@ -51,6 +52,27 @@ other-no_start s d k x session l (a_read j m e) other =
     (no_start-read s d s.memory_id (read_address s j) y.status y.bytes (omega arith))
 other-no_start s d k x session l (a_start e f) other = absurd (other e)
 
+-- a start that is refused
+bad : (b : Bool) → accepts (cond b (Some 2) None) ≡ false
+bad true = refl
+bad false = refl
+
+no_start-refused : (s : Upload) (d : ℕ) → NoStart s d (answer_of (start_of s.trajectory_id) 2)
+no_start-refused s d = bad (not (ltb (start_number s d) (write_count s d)) && bytes_eq (5 ∷ 0 ∷ 0 ∷ []) (take 3 (drop 1 (packet_at s d (start_number s d)))))
+
+-- a drone that accepts a start has an entry
+accepted_listed : (s : Upload) (d : ℕ) (x : DroneState) (packet a : List ℕ) → IsSession s → packet ≡ start_of s.trajectory_id → (handled x packet).answer ≡ Some a →
+    accepts (status_in s d (start_number s d) (up_of a)) ≡ true → has_entry x.table s.trajectory_id ≡ true
+accepted_listed s d x packet a session is answers good =
+    let step = ap (handled x) is ∙ handled-start x s.trajectory_id session.id_fits in
+    elim (cases_Bool (has_entry x.table s.trajectory_id)) [
+      | inl has ↦ has
+      | inr lacks ↦
+          let refused : (handled x packet).answer ≡ Some (answer_of (start_of s.trajectory_id) 2) = ap (λ (y : Handled). y.answer) step ∙ rw lacks refl in
+          let same : a ≡ answer_of (start_of s.trajectory_id) 2 = cc in
+          absurd (false≢true (sym (no_start-refused s d) ∙ ap (λ (b : List ℕ). accepts (status_in s d (start_number s d) (up_of b))) (sym same) ∙ good))
+    ]
+
 -- a packet that was sent and answered as a start is one
 answered_start : (s : Upload) (h : List Event) (d : ℕ) (x : DroneState) (packet a : List ℕ) → IsSession s → d < drone_count s → IsSent s h d packet →
     (handled x packet).answer ≡ Some a → accepts (status_in s d (start_number s d) (up_of a)) ≡ true → packet ≡ start_of s.trajectory_id
@@ -82,12 +104,13 @@ accepted s d i a g =
 
 -- ---- every list of events
 
--- at event i of these the drone takes a start
-record HasTaken (s : Upload) (drones : ℕ → DroneState) (events : List WorldEvent) (d : ℕ) : Type 0 where
-  i : ℕ
-  e : WorldEvent
-  is : slice_get events i ≡ Some e
-  takes : TakesStart s (world s drones (take i events)) d e
+-- at event i of these the drone takes a start, and has an entry
+pub record HasTaken (s : Upload) (drones : ℕ → DroneState) (events : List WorldEvent) (d : ℕ) : Type 0 where
+  pub i : ℕ
+  pub e : WorldEvent
+  pub is : slice_get events i ≡ Some e
+  pub takes : TakesStart s (world s drones (take i events)) d e
+  pub listed : has_entry ((world s drones (take i events)).drones d).table s.trajectory_id ≡ true
 
 HasTaken-more : (s : Upload) (drones : ℕ → DroneState) (events : List WorldEvent) (e : WorldEvent) (d : ℕ) →
     HasTaken s drones events d → HasTaken s drones (events ++ e ∷ []) d
@@ -116,6 +139,7 @@ module _ (s : Upload) (drones : ℕ → DroneState) (case : IsCase s drones) whe
         e = Take d g.m;
         is = g.takes;
         takes = (g.m, refl, g.named ∙ ap (λ (p : List ℕ). Some p) start);
+        listed = accepted_listed s d ((world s drones (take g.given_at es)).drones d) g.packet a case.session start g.answers r.good;
       }
 
   taken_before : (es : List WorldEvent) (e : WorldEvent) → AllHaveTaken s drones es → (d : ℕ) → d < drone_count s →
@@ -145,8 +169,12 @@ module _ (s : Upload) (drones : ℕ → DroneState) (case : IsCase s drones) whe
       by_last (AllHaveTaken s drones) none_taken
       (λ es e before d l a. HasTaken-more s drones es e d (taken_before es e before d l a)) events
 
+pub done_has_taken : (s : Upload) (drones : ℕ → DroneState) → IsCase s drones → (events : List WorldEvent) (d : ℕ) → d < drone_count s →
+    s.start ≡ true → progress s (world s drones events).heard ≡ Done → HasTaken s drones events d
+done_has_taken s drones case events d l starts done =
+    let c = count-start s d starts in
+    all_have_taken s drones case events d l (acked-done s (world s drones events).heard done d (start_number s d) l (omega arith))
+
 pub taken_law : TakenLaw
 taken_law s drones case events d l starts done =
-    let c = count-start s d starts in
-    let t = all_have_taken s drones case events d l (acked-done s (world s drones events).heard done d (start_number s d) l (omega arith)) in
-    (t.i, t.e, t.is, t.takes)
+    let t = done_has_taken s drones case events d l starts done in (t.i, t.e, t.is, t.takes)

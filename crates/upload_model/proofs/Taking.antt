@@ -8,11 +8,11 @@ use Rattle.upload_model.proofs.HostSteps.{slice_get-before}
 -- ---- one packet
 
 -- what any packet of the session leaves
-record Leaves (s : Upload) (d : ℕ) (start x : DroneState) (y : Handled) : Type 0 where
-  course : OnCourse s d start y.drone
-  kept : (j : ℕ) → Effect s d j x → Effect s d j y.drone
+pub record Leaves (s : Upload) (d : ℕ) (start x : DroneState) (y : Handled) : Type 0 where
+  pub course : OnCourse s d start y.drone
+  pub kept : (j : ℕ) → Effect s d j x → Effect s d j y.drone
 
-leaves : (s : Upload) (d k : ℕ) (start x : DroneState) → IsSession s → d < drone_count s → k < packet_count s d → OnCourse s d start x →
+pub leaves : (s : Upload) (d k : ℕ) (start x : DroneState) → IsSession s → d < drone_count s → k < packet_count s d → OnCourse s d start x →
     Leaves s d start x (handled x (packet_at s d k))
 leaves s d k start x session inside below course = by_kind (packet_kind s d k below) where
   plainly : is_read s d k ≡ false → Leaves s d start x (handled x (packet_at s d k))
@@ -38,7 +38,7 @@ accepted-command s d k packet past is good =
     ap (λ (b : Bool). accepts (status_in s d k (up_of (cond b (write_answer_of s.memory_id (s.offset + 24 * k) 0) (answer_of (packet_at s d k) 0))))) (le-ltb k (write_count s d) past)
     ∙ ap (λ (p : List ℕ). accepts (status_in s d k (up_of (answer_of p 0)))) is ∙ good
 
-accepted-define : (s : Upload) (d k : ℕ) → k ≡ write_count s d → accepts (status_in s d k (up_of (accepting s d k))) ≡ true
+pub accepted-define : (s : Upload) (d k : ℕ) → k ≡ write_count s d → accepts (status_in s d k (up_of (accepting s d k))) ≡ true
 accepted-define s d k e = grind (arith, common_steps, accepted-command, packet_at-define, accepts, cond, not, ltb, take, drop, le-ltb, eq-eqb)
 
 accepted-start : (s : Upload) (d k : ℕ) → k ≡ start_number s d → accepts (status_in s d k (up_of (accepting s d k))) ≡ true
@@ -56,7 +56,7 @@ module _ (s : Upload) (d : ℕ) (start : DroneState) (session : IsSession s) (in
   abbrev AreOwn : List ℕ → Type 0
   AreOwn ks = All IsOwn ks
 
-  course-taken : (x : DroneState) (ks : List ℕ) → AreOwn ks → OnCourse s d start x → OnCourse s d start (taken s d x ks)
+  pub course-taken : (x : DroneState) (ks : List ℕ) → AreOwn ks → OnCourse s d start x → OnCourse s d start (taken s d x ks)
   course-taken x [] own course = course
   course-taken x (k ∷ ks) own course =
       course-taken (handled x (packet_at s d k)).drone ks (All-tail IsOwn k ks own) (leaves s d k start x session inside (All-head IsOwn k ks own) course).course
@@ -68,7 +68,7 @@ module _ (s : Upload) (d : ℕ) (start : DroneState) (session : IsSession s) (in
       effect-taken (handled x (packet_at s d k)).drone ks (All-tail IsOwn k ks own) step.course j (step.kept j effect)
 
   -- what is accepted once is there from then on
-  accepted-there : (x : DroneState) (ks : List ℕ) → AreOwn ks → OnCourse s d start x → (k : ℕ) → is_read s d k ≡ false →
+  pub accepted-there : (x : DroneState) (ks : List ℕ) → AreOwn ks → OnCourse s d start x → (k : ℕ) → is_read s d k ≡ false →
       accepts (status_in s d k (up_of (accepting s d k))) ≡ true → IsAccepted s d x ks k → Effect s d k (taken s d x ks)
   accepted-there x ks own course k plain good a = at ks x own course a.0 a.1 a.2 where
     at : (ks : List ℕ) (x : DroneState) → AreOwn ks → OnCourse s d start x → (i : ℕ) → slice_get ks i ≡ Some k →
@@ -91,8 +91,8 @@ accepted_later s d x ks later k a = grind (arith, common_steps, slice_get_within
 -- ---- the law
 
 -- a drone is on its course from its own state
-begins : (s : Upload) (d : ℕ) (x : DroneState) → IsDrone x → OnCourse s d x x
-begins s d x drone = grind (arith, common_steps)
+pub on_course : (s : Upload) (d : ℕ) (x : DroneState) → IsDrone x → OnCourse s d x x
+on_course s d x drone = grind (arith, common_steps)
 
 pub taking_law : TakingLaw
 taking_law s d x ks session inside drone own = record {
@@ -106,7 +106,7 @@ taking_law s d x ks session inside drone own = record {
       (there (start_number s d) (is_read-past s d (start_number s d) (omega arith)) (accepted-start s d (start_number s d) refl) accepted).starts refl;
 } where
   course : OnCourse s d x x
-  course = begins s d x drone
+  course = on_course s d x drone
 
   there : (k : ℕ) → is_read s d k ≡ false → accepts (status_in s d k (up_of (accepting s d k))) ≡ true → IsAccepted s d x ks k → Effect s d k (taken s d x ks)
   there = accepted-there s d x session inside x ks own course

@@ -7,7 +7,11 @@ use Rattle.crtp_packets.specs.Packets.{write_answer_of}
 use Rattle.upload_model.specs.declared.limits.TheConstants.{ACCEPTED}
 use Rattle.upload_model.specs.Drones.{DroneState, handled}
 use Rattle.upload_model.specs.Memories.{IsDrone, OnlyLoads, HasEntry, HasLoad}
-use Rattle.upload_model.specs.Sessions.{Upload, IsSession, drone_count, load_of, write_count, start_number, packet_count, packet_at}
+use Rattle.upload_model.specs.Sessions.{Upload, IsSession, drone_count, load_count, load_of, write_count, start_number, packet_count, packet_at}
+
+-- These are numbers of packets of drone d.
+abbrev pub AreOwn : Upload → ℕ → List ℕ → Type 0
+AreOwn s d ks = All (λ k. k < packet_count s d) ks
 
 -- Drone d after it took these of its packets, by their numbers, one after the other.
 abbrev pub taken : Upload → ℕ → DroneState → List ℕ → DroneState
@@ -25,6 +29,10 @@ abbrev pub IsAccepted : Upload → ℕ → DroneState → List ℕ → ℕ → T
 IsAccepted s d x ks k =
     (i : ℕ) × (slice_get ks i ≡ Some k) × ((handled (taken s d x (take i ks)) (packet_at s d k)).answer ≡ Some (accepting s d k))
 
+-- Among these packets drone d, which was x, accepted each of its writes and its define.
+abbrev pub AcceptsLoad : Upload → ℕ → DroneState → List ℕ → Type 0
+AcceptsLoad s d x ks = (k : ℕ) → k < load_count s d → IsAccepted s d x ks k
+
 -- What holds of drone d, which was x, after it took these of its packets.
 pub record IsTaken (s : Upload) (d : ℕ) (x : DroneState) (ks : List ℕ) : Type 0 where
   -- Only its load is written.
@@ -38,5 +46,5 @@ pub record IsTaken (s : Upload) (d : ℕ) (x : DroneState) (ks : List ℕ) : Typ
 -- any number of times or never.
 abbrev pub TakingLaw : Type 0
 TakingLaw =
-    (s : Upload) (d : ℕ) (x : DroneState) (ks : List ℕ) → IsSession s → d < drone_count s → IsDrone x → All (λ k. k < packet_count s d) ks →
+    (s : Upload) (d : ℕ) (x : DroneState) (ks : List ℕ) → IsSession s → d < drone_count s → IsDrone x → AreOwn s d ks →
     IsTaken s d x ks

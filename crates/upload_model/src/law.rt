@@ -2,7 +2,7 @@
 
 ghost use Rattle.std.specs.Prelude.{◌≡◌};
 ghost use Rattle.upload_model.specs.Theorem.{UploadLaw, StartLaw, UnstartedLaw, TakenLaw, LastingLaw, StaysSentLaw};
-ghost use Rattle.upload_model.specs.Starts.{BeginLaw, OnceLaw};
+ghost use Rattle.upload_model.specs.Starts.{BeginLaw, EachLaw, OnceLaw};
 ghost use Rattle.upload_model.specs.Readback.{ReadsCover, VerifiedLaw, StartsLastLaw};
 ghost use Rattle.upload_model.specs.Taking.{TakingLaw};
 
@@ -30,9 +30,10 @@ pub fn readback_law()
 {}
 
 /// Whoever sends them, in whatever order and however often: once a drone's writes, its define and its start are accepted, it has its load
-/// and its entry and has started. Nothing but the load is written.
+/// and its entry and has started. Nothing but the load is written. Where no start came before its define, it begins once for each start.
 pub fn taking_law()
-    ensures { TakingLaw }
+    ensures there { TakingLaw }
+    ensures each { EachLaw }
 {}
 
 /// A law. The numbers of the drone's model and of the upload, which the definitions cite by their names

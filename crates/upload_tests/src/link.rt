@@ -102,7 +102,8 @@ fn run(
     })
 }
 
-// Whether an upload of this input, cut into reads in four ways, ends with this status, after this output and the end frame.
+// Whether an upload of this input, cut into reads in four ways, ends with this status, after this output and the end
+// frame.
 fn ends(
     alloc: Global,
     start: bool,

@@ -155,7 +155,8 @@ fn alter(address: u16, value: u8) -> WorldEvent {
     }
 }
 
-// Whether a rehearsal with read-back is done, in which two events follow the answers to all reads, and its text ends so.
+// Whether a rehearsal with read-back is done, in which two events follow the answers to all reads, and its text ends
+// so.
 fn ends_with(alloc: Global, last: [WorldEvent; 2], end: &[u8]) -> Result<bool, AllocError> {
     let events = [
         take(0),
