@@ -11,7 +11,7 @@ sys.path.insert(0, os.path.join(TOP, "tools"))
 import choreo
 import separation
 
-# Two drones form a row across, leave it on other sides, and form it again.
+# Two drones form a row across, change sides, and form it again.
 TWICE = """choreo 1
 drone a 0 0 1000000 0
 drone b 1000000 0 1000000 0
@@ -23,8 +23,8 @@ cue 3000
 form f move # first
 end
 cue 3000
-a curve 500000 1500000 1000000 500000 1500000 1000000 1000000 2000000 1000000 0
-b curve 500000 -1500000 1000000 500000 -1500000 1000000 0 -2000000 1000000 0
+b curve 500000 1500000 1000000 500000 1500000 1000000 1000000 2000000 1000000 0
+a curve 500000 -1500000 1000000 500000 -1500000 1000000 0 -2000000 1000000 0
 end
 cue 3000
   form f line # again
@@ -33,6 +33,68 @@ end
 SECOND = """formation f_2 # row
   at a 1000000 500000 1000000 9 # right
 at b 0 500000 1000000 0
+end
+"""
+# A figure and acts after a formation whose ways cross, with a comment and blanks that stay.
+ALONG = """choreo 1
+drone a 0 0 1000000 0
+drone b 1000000 0 1000000 0
+drone c 3000000 0 1000000 0
+formation f
+at a 1000000 500000 1000000 0
+at b 0 500000 1000000 0
+end
+figure bow left right
+cue 2000
+left move 1000000 1500000 1000000 0
+end
+end
+cue 3000
+form f move
+c hold
+end
+cue 2000
+  a   move 1000000  500000 1600000 0 # a goes up
+c turn 900
+b hold
+end
+perform bow none 0 0 0 0 a   b
+cue 2000
+b move 0 500000 400000 0
+end
+"""
+# Two layers change places, and come together halfway; each place is nearest to the drone that is there already.
+LAYERS = """choreo 1
+drone a 0 0 1000000 0
+drone b 0 0 2000000 0
+formation f
+at a 0 0 2000000 0
+at b 0 0 1000000 0
+end
+cue 3000
+form f move
+end
+"""
+# After a formation of three whose ways cross, a formation has places for two of them.
+SOME = """choreo 1
+drone a 0 0 1000000 0
+drone b 1000000 0 1000000 0
+drone c 2000000 0 1000000 0
+formation f
+at a 1000000 1000000 1000000 0
+at b 2000000 1000000 1000000 0
+at c 0 1000000 1000000 0
+end
+formation g
+at a 1000000 2000000 1000000 0
+at c 0 2000000 1000000 0
+end
+cue 3000
+form f move
+end
+cue 3000
+form g move
+b move 2000000 3000000 1000000 0
 end
 """
 # The first two cross; the other two are as far from one place as from the other.
@@ -80,18 +142,50 @@ class Deal(unittest.TestCase):
             "at b 0 500000 1000000 0", "at b 1000000 500000 1000000 9")
         wanted = first.replace("end\ncue 3000\nform", "end\n" + SECOND + "cue 3000\nform")
         wanted = wanted.replace("form f line", "form f_2 line")
+        wanted = wanted.replace("b curve", "x curve").replace("a curve", "b curve").replace("x curve", "a curve")
         self.assertEqual((status, said), (0, wanted), told)
         # Straight over a way of 0.5 m each, in place of the diagonals: 2 times 0.25 m2, and 2 times 1.25.
         self.assertIn("f, line 9: 2 of 2 places dealt anew; the squared ways sum to 0.50 m2, before 2.50", told)
-        # From (1, 2) to (1, 0.5) and from (0, -2) to (0, 0.5).
-        self.assertIn("f, line 16: 0 of 2 places dealt anew; the squared ways sum to 8.50 m2, before 8.50", told)
-        self.assertIn("look at line 16, 17 of the new text", told)
+        # From (1, 2) to (1, 0.5) and from (0, -2) to (0, 0.5); before both went a metre to the side, too.
+        self.assertIn("f, line 16: 0 of 2 places dealt anew; the squared ways sum to 8.50 m2, before 10.50", told)
+        self.assertIn("lines 16, 17 of the new text: the acts go with their places", told)
         # Once dealt, nothing is left to deal.
         self.assertEqual(run("deal", text=said)[1], said)
 
+    def test_acts_go_along(self):
+        """Acts up to the next formation are flown by the drone at the place for which they were written."""
+        status, said, told = run("deal", text=ALONG)
+        wanted = ALONG.replace("at a 1000000", "at x 1000000").replace("at b 0", "at b 1000000").replace(
+            "at x 1000000", "at a 0").replace("  a   move", "  b   move").replace("b hold", "a hold").replace(
+            "0 a   b", "0 b   a").replace("b move 0", "a move 0")
+        self.assertEqual((status, said), (0, wanted), told)
+        self.assertIn("lines 19, 21, 23, 25 of the new text: the acts go with their places", told)
+        self.assertEqual(run("deal", text=said)[1], said)  # once dealt, nothing is left to deal
+
+    def test_some_of_them(self):
+        """The places of a formation that has some of the drones go to the drones that stand there now."""
+        status, said, told = run("deal", text=SOME)
+        wanted = SOME.replace("at a 1000000 1000000", "at a 0 1000000").replace(
+            "at b 2000000 1000000", "at b 1000000 1000000").replace("at c 0 1000000", "at c 2000000 1000000").replace(
+            "at a 1000000 2000000", "at b 1000000 2000000").replace("at c 0 2000000", "at a 0 2000000").replace(
+            "b move", "c move")
+        self.assertEqual((status, sorted(said.split("\n"))), (0, sorted(wanted.split("\n"))), told)
+
+    def test_nobody_moves(self):
+        """Where each place would go to the drone that is already there the places stay, with a status of its own."""
+        status, said, told = run("deal", text=LAYERS)
+        self.assertEqual((status, said), (71, LAYERS), told)
+        self.assertIn("f, line 9: nobody would move", told)
+        self.assertNotIn("deal", run("explain", text=LAYERS)[1])  # it would not help
+        # Two of three stay, which is said, too.
+        text = LAYERS.replace("formation", "drone c 5000000 0 1000000 0\nformation").replace(
+            "end\ncue", "at c 5000000 900000 1000000 0\nend\ncue")
+        status, said, told = run("deal", text=text)
+        self.assertIn("; 2 drones stay where they are", told)
+
     def test_one_block_for_one_way(self):
         # Formed twice in the same way: the block is changed once, and none is added.
-        text = TWICE[:TWICE.index("a curve")] + "form f line\nend\n"
+        text = TWICE[:TWICE.index("b curve")] + "form f line\nend\n"
         said = run("deal", text=text)[1]
         self.assertEqual((said.count("formation"), said.count("form f ")), (1, 2), said)
 
@@ -157,14 +251,14 @@ class Cured(unittest.TestCase):
             text = file.read()
         status, said, new = self.cured(text)
         self.assertEqual(new[new.index("\ncue"):], """
-cue 3000
+cue 2000
 a move 0 0 1700000 0
 end
 cue 3000
 b move       0 0 1000000 0
 a move 1000000 0 1700000 0
 end
-cue 3000
+cue 2000
 a move 1000000 0 1000000 0
 end
 """)

@@ -156,6 +156,49 @@ class Flown(unittest.TestCase):
         status, _, error = common.run("tools/flown", self.show, self.log(leave=["b"]))
         self.assertEqual((status, "of b" in error), (70, True))
 
+    def spoiled(self, change):
+        """The path of a log of an exact flight, after a function changed its rows."""
+        path = self.log()
+        with open(path) as file:
+            rows = file.read().split("\n")
+        with open(path, "w") as file:
+            file.write("\n".join(change(rows)))
+        return path
+
+    def test_too_little(self):
+        # A log that doesn't cover the show is never KEPT, however good its samples are: one sample, none in the first or
+        # the last second, a gap, and four samples of one drone.
+        def of(name, keep):
+            return lambda rows: [row for row in rows if ",%s," % name not in row or keep(float(row.split(",")[0]))]
+        end = self.flown.milliseconds / 1000
+        for change, said in ((of("b", lambda t: t == 4.0), "b has no sample from [0-9.]+ to [0-9.]+ s"),
+                             (of("b", lambda t: t > 1.2), "b has no sample from 0.00 to 1.25 s"),
+                             (of("b", lambda t: t < end - 1.2), "b has no sample from [0-9.]+ to %.2f s" % end),
+                             (of("b", lambda t: not 3 < t < 4.1), "b has no sample from 3.00 to 4.10 s")):
+            status, _, out = self.judged(self.spoiled(change), "--stray", "5", "--late", "5")
+            self.assertEqual((status, "NOT KNOWN: " in out), (1, True), out)
+            self.assertRegex(out, "the log doesn't cover the show: %s\n" % said)
+        path = self.spoiled(of("b", lambda t: t == int(t) and int(t) % 3 == 0))
+        status, _, out = self.judged(path, "--stray", "5", "--late", "5", "--gap", "4000")
+        self.assertEqual((status, "b has 4 samples in all" in out), (1, True), out)
+        self.assertEqual(self.judged(self.log(every=500), "--stray", "5", "--late", "5")[0], 0)
+
+    def test_no_numbers(self):
+        # A number that isn't finite, or no place of any room, makes a log none.
+        for column, word in ((0, "nan"), (2, "nan"), (3, "inf"), (4, "-inf"), (2, "1e30"), (0, "1e300")):
+            def change(rows, column=column, word=word):
+                cells = rows[50].split(",")
+                cells[column] = word
+                return [*rows[:50], ",".join(cells), *rows[51:]]
+            status, out, error = common.run("tools/flown", "--stray", "50", self.show, self.spoiled(change))
+            self.assertEqual((status, out), (70, ""), word)
+            self.assertIn("row 50 of the samples isn't time,drone,x,y,z in seconds and metres", error)
+        path = self.spoiled(lambda rows: [*rows[:50], "x" * 200000, *rows[50:]])
+        status, out, error = common.run("tools/flown", self.show, path)
+        self.assertEqual((status, "this is no CSV file" in error), (70, True), error)
+        for words in (("--stray", "nan"), ("--late", "inf"), ("--gap", "nan"), ("--stray", "-1")):
+            self.assertEqual(common.run("tools/flown", *words, self.show, self.log())[0], 2, words)
+
     def test_strangers(self):
         path = self.log()
         with open(path, "a") as file:

@@ -16,8 +16,22 @@ import unittest
 import common
 
 SHOW = os.path.join("examples", "crossing_cured.choreo")
-AT_ONCE = 8
-WORDS = ["--simulate", "--sim", "speed=6", "--silence", "3"]
+AT_ONCE = 6
+
+
+def faster(most):
+    """How many times faster than real a flight may run: on a machine that is busy less, or simulated links are lost."""
+    return max(1, int(most * min(1.0, 2 * os.cpu_count() / max(0.1, os.getloadavg()[0]))))
+
+
+def as_if_idle(out):
+    """An output without the lines that commands and answers were late, as they are on a machine that is busy."""
+    return re.sub("OUTSIDE OF WHAT WAS JUDGED: .*\n", "", out)
+
+
+WORDS = ["--simulate", "--sim", "speed=%d" % faster(4), "--silence", "3"]
+# Two that hover so high, and so long, that no signal comes too late: up they take 8 s and down 10 s.
+HIGH = "choreo 1\ndrone a 0 0 4000000 0\ndrone b 1500000 0 4000000 0\ncue 60000\nend\n"
 ON_THE_FLOOR = """choreo 1
 drone a 0 0 0 0
 drone b 1000000 0 0 0
@@ -61,9 +75,9 @@ def wide_show():
     return "\n".join(rows) + "\n"
 
 
-def fly(words, show=SHOW, text="yes\nyes\nyes\n", signals=()):
+def fly(words, show=SHOW, text="yes\nyes\nyes\nleave\n", signals=()):
     """The status, the output and the log of a simulated flight. Each signal is sent when a line with its words has
-    come."""
+    come, and the input stays open then, so that a question waits."""
     with tempfile.TemporaryDirectory() as room:
         log = os.path.join(room, "log.csv")
         if "\n" in show:
@@ -73,23 +87,25 @@ def fly(words, show=SHOW, text="yes\nyes\nyes\n", signals=()):
         process = subprocess.Popen(
             [os.path.join(common.TOOLS, "fly"), *WORDS, "--log", log, *words, show], cwd=common.TOP, stdin=subprocess.PIPE,
             stdout=subprocess.PIPE, stderr=subprocess.STDOUT, universal_newlines=True)
+        out, left = "", list(signals)
         try:
             process.stdin.write(text)
-            process.stdin.close()
+            process.stdin.flush()
+            if not left:
+                process.stdin.close()
         except BrokenPipeError:
             pass
-        out, left = "", list(signals)
         for line in process.stdout:
             out += line
-            while left and left[0][0] in line:
-                time.sleep(0.05)
+            if left and left[0][0] in line:
                 process.send_signal(left.pop(0)[1])
         status, rows = process.wait(), ""
+        process.stdin.close()
         process.stdout.close()
         if os.path.exists(log):
             with open(log) as file:
                 rows = file.read()
-        judged = common.run("tools/flown", show, log) if "started" in out else None
+        judged = common.run("tools/flown", "--gap", "10000", show, log) if "started" in out else None
         return status, out, rows, judged
 
 
@@ -97,15 +113,17 @@ def terminal_gone():
     """A flight whose terminal is closed after the start: its status, what it told on standard error, and its log."""
     with tempfile.TemporaryDirectory() as room:
         log = os.path.join(room, "log.csv")
-        process = subprocess.Popen([os.path.join(common.TOOLS, "fly"), *WORDS, "--yes", "--log", log, SHOW], cwd=common.TOP,
+        show = os.path.join(room, "show.choreo")
+        with open(show, "w") as file:
+            file.write(HIGH)
+        process = subprocess.Popen([os.path.join(common.TOOLS, "fly"), *WORDS, "--yes", "--log", log, show], cwd=common.TOP,
                                    stdout=subprocess.PIPE, stderr=subprocess.PIPE, universal_newlines=True)
         for line in process.stdout:
             if line.startswith("started"):
                 break
         process.stdout.close()
-        time.sleep(0.1)
         process.send_signal(signal.SIGHUP)
-        time.sleep(0.1)
+        time.sleep(0.1)  # in the landing or after it: neither may stop a motor
         process.send_signal(signal.SIGTERM)
         told, status = process.stderr.read(), process.wait()
         process.stderr.close()
@@ -118,12 +136,12 @@ def b(fault):
     return ["--fault", "b:" + fault]
 
 
-INT = signal.SIGINT
+INT, YES = signal.SIGINT, "yes\nyes\nyes\nleave\n"
 FLIGHTS = {
-    "twelve": (["--yes", "--sim", "speed=3", "--sim", "stray=40", "--sim", "late=80"], wide_show()),
+    "twelve": (["--yes", "--sim", "speed=%d" % faster(2), "--sim", "stray=40", "--sim", "late=80"], wide_show()),
     "whole": (["--sim", "stray=30", "--sim", "late=40"],),
     "lossy": (["--sim", "loss=20", "--sim", "seed=3", "--late", "200"],),
-    "unicast": (["--unicast"],), "copies": (["--copies", "3"],),
+    "unicast": (["--unicast"],), "copies": (["--copies", "3", "--late", "500"],),
     "floor": ([], ON_THE_FLOOR), "above": ([], ABOVE), "passing": ([], PASSING), "passing falls": (b("falls:4.6"), PASSING),
     "stray": (["--sim", "stray=100"],), "look": (["--only", "look"],), "upload": (["--only", "upload"],),
     "old": (["--fault", "a:old", *b("old"), "--only", "upload"],),
@@ -132,13 +150,13 @@ FLIGHTS = {
     "jumps": (["--only", "look"], "examples/every_act.choreo"),
     "let through": (["--only", "upload", "--jump", "9", *(word for name in "abc" for word in ("--fault", name + ":memory"))],
                     "examples/every_act.choreo"),
-    "early Ctrl-C": ([], SHOW, "yes\nyes\nyes\n", [("check:", INT)]),
-    "Ctrl-C": ([], SHOW, "yes\nyes\nyes\n", [("started", INT)]),
-    "Ctrl-C on the way up": ([], SHOW, "yes\nyes\nyes\n", [("taking off", INT)]),
-    "two Ctrl-C": ([], SHOW, "yes\nyes\nyes\n", [("started", INT), ("Ctrl-C: landing", INT)]),
-    "two Ctrl-C, deaf": (b("deaf") + ["--unicast"], SHOW, "yes\nyes\nyes\n", [("started", INT), ("Ctrl-C: landing", INT)]),
-    "Ctrl-C in a landing": (b("falls:1.2"), SHOW, "yes\nyes\nyes\n", [("FAULT", INT)]),
-    "two in a landing": (b("falls:1.2"), SHOW, "yes\nyes\nyes\n", [("FAULT", INT), ("FAULT", INT)]),
+    "early Ctrl-C": ([], SHOW, "", [("check:", INT)]),
+    "Ctrl-C": ([], HIGH, YES, [("started", INT)]),
+    "Ctrl-C on the way up": ([], SHOW, "yes\nyes\n", [("taking off", INT)]),
+    "two Ctrl-C": ([], HIGH, YES, [("started", INT), ("Ctrl-C: landing", INT)]),
+    "two Ctrl-C, deaf": (b("deaf") + ["--unicast"], HIGH, YES, [("started", INT), ("Ctrl-C: landing", INT)]),
+    "Ctrl-C in a landing": (b("falls:1.2"), HIGH, YES, [("; landing all", INT)]),
+    "two in a landing": (b("falls:1.2"), HIGH, YES, [("; landing all", INT), ("the landing goes on", INT)]),
     **{fault: (b(fault),) for fault in (
         "dead", "outdated", "empty", "unsettled", "astray", "memory", "locked", "deaf", "lost", "forgets", "unarmed", "stays",
         "stuck", "deafens", "refuses", "wanders:2", "falls:4", "drains:2", "hovers")},
@@ -180,10 +198,11 @@ class Flights(unittest.TestCase):
         end: by name the end of the line that says so."""
         came, out, rows, judged = begun(name).result()
         self.assertEqual(came, status, name + ":\n" + out)
+        said = as_if_idle(out)
         for line in lines:
-            self.assertRegex(out, line, name)
+            self.assertRegex(said, line, name)
         for line in without:
-            self.assertNotIn(line, out, name)
+            self.assertNotIn(line, said, name)
         for drone, end in (ends or {}).items():
             self.assertRegex(out, "simulated: %s at .*%s( after [0-9]+ ms)?\n" % (drone, end), name + ":\n" + out)
         return out, rows, judged
@@ -224,9 +243,9 @@ class Flights(unittest.TestCase):
         self.flown("above", 1, "not flown: no way up: a and b come too near: pads 0 mm apart from above, places 0; put their pads",
                    without=["taking off", "uploaded", "firmware"])
         self.flown("passing", 0, "taking off, 2 drones: b a, 3.0 s\n", "landed\n")
-        # a is below b: it doesn't land there, but flies on until b's curve has left.
-        self.flown("passing falls", 1, r"FAULT: b has tumbled; flying on to [67]\.[0-9] s: a landing of all now isn't shown apart "
-                   r"\(a and b\)\n(.*\n)*FAULT: b has tumbled; landing all", without=["flown:"])
+        # b falls onto the floor below a: a doesn't land on it, but flies on, and goes to its own pad.
+        self.flown("passing falls", 1, r"FAULT: b has tumbled; flying on: a landing of all now isn't shown apart \(a and b\)\n",
+                   "NOT JUDGED beside b", without=["flown:"])
 
     def test_only(self):
         self.flown("look", 0, "firmware", without=["uploaded", "Upload?"])
@@ -275,7 +294,7 @@ class Flights(unittest.TestCase):
         # It isn't disarmed, since it would fall.
         self.flown("hovers", 1, "FAULT: not seen to be down: b; landing all\nNOT SEEN TO BE DOWN: b.*\nNOT SEEN TO BE DOWN: b.*\n.*landed, but for b: not disarmed; "
                    "--only land and --only stop still reach them",
-                   ends={"a": r", 0.00\) m, disarmed, 1 start", "b": r", 1.76\) m, armed, 1 start"})
+                   ends={"a": r", 0.00\) m, disarmed, 1 start", "b": r", 1.00\) m, armed, 1 start"})
 
     def test_deaf(self):
         self.flown("deaf unicast", 0, "landed\n")
@@ -288,12 +307,13 @@ class Flights(unittest.TestCase):
 
     def test_interrupted(self):
         self.flown("early Ctrl-C", 1, "Ctrl-C: not flown", without=["taking off"])
-        self.flown("Ctrl-C", 1, "Ctrl-C: landing all; once more stops the motors\nlanded\n", without=["flown:"],
+        self.flown("Ctrl-C", 1, "Ctrl-C: landing all; once more stops the motors\nlanded\n", without=["flown:", "MOTORS"],
                    ends={"a": r", 0.0[0-9]\) m, disarmed, 1 start", "b": r", 0.0[0-9]\) m, disarmed, 1 start"})
         self.flown("Ctrl-C on the way up", 1, "Ctrl-C: landing all; once more stops the motors\nlanded\n", without=["started"],
                    ends={"a": r", 0.0[0-9]\) m, disarmed, 0 starts", "b": r", 0.0[0-9]\) m, disarmed, 0 starts"})
-        # One Ctrl-C means landing, also where all land already: motors stop at the second one alone.
-        self.flown("Ctrl-C in a landing", 1, "FAULT: b has tumbled; landing all", "landed\n", without=["MOTORS"], ends={"a": "disarmed, 1 start"})
+        # One Ctrl-C means landing, also where the landing goes on: motors stop at the second one alone.
+        self.flown("Ctrl-C in a landing", 1, "FAULT: b has tumbled; landing all\n(.*\n)*the landing goes on; Ctrl-C stops all motors\n(.*\n)*landed\n",
+                   without=["MOTORS"], ends={"a": "disarmed, 1 start"})
         for name in ("two Ctrl-C", "two Ctrl-C, deaf", "two in a landing"):
             self.flown(name, 60, "MOTORS STOPPED: emergency stop sent to all", without=["landed"], ends={"a": "cut, 1 start", "b": "cut, 1 start"})
 
@@ -302,7 +322,7 @@ class Flights(unittest.TestCase):
         status, told, rows = begun("terminal").result()
         self.assertEqual((status, told), (1, ""))
         self.assertTrue(all(height < 0.15 for height in last_heights(rows).values()), rows[-200:])
-        self.assertLess(float(rows.split("\n")[-2].split(",")[0]), 6.9)
+        self.assertLess(float(rows.split("\n")[-2].split(",")[0]), 50)
 
     def test_refused(self):
         status, out, error = common.run("tools/fly", "--simulate", "examples/crossing.choreo")

@@ -7,16 +7,19 @@ import concurrent.futures
 import os
 import pty
 import re
+import resource
 import select
 import signal
 import subprocess
 import sys
 import tempfile
+import threading
 import time
 import unittest
 
 import common
-from test_fly import SHOW, b, fly
+import crew
+from test_fly import HIGH, PASSING, SHOW, as_if_idle, b, faster, fly, last_heights
 
 AT_ONCE = 4
 # b flies through below a's place, so that a must not come down there before b has passed.
@@ -30,7 +33,7 @@ end
 cue 4000
 b move 1500000 0 800000 0
 end
-cue 2000
+cue 12000
 end
 """
 # Two that are fast: 2.2 m/s halfway.
@@ -46,6 +49,8 @@ a move 0 0 1000000 0
 b move 1500000 0 1000000 0
 end
 """
+SHORT = HIGH.replace("60000", "3000")
+WIDE = SHORT.replace("drone b 1500000", "drone b 3000000")
 JUMPY = """choreo 1
 drone a 0 0 1000000 0
 cue 500
@@ -65,9 +70,14 @@ end
 """
 LAYERS = "choreo 1\n" + "".join("drone d%d %d 0 %d 0\n" % (k, 1000000 * k, 3500000 - 320000 * k) for k in range(10)) + "cue 2000\nend\n"
 PADS = "a 0 0 0\nb 1000000 0 500000\n"
+# b wanders off towards a third one, above whose column nothing keeps it.
+BESIDE = "choreo 1\nstray 40\nlate 50\n" + "".join("drone %s %d 0 1000000 0\n" % (name, 1000000 * k) for k, name in enumerate("abc")) + \
+         "cue 8000\nend\n"
 # Two whose places are above each other, from pads beside each other.
-STACK, ASIDE = "choreo 1\ndrone a 0 0 500000 0\ndrone b 0 0 1500000 0\ncue 3000\nend\n", "a 700000 0 0\nb 0 0 0\n"
+STACK, ASIDE = "choreo 1\ndrone a 0 0 500000 0\ndrone b 0 0 1500000 0\ncue 6000\nend\n", "a 700000 0 0\nb 0 0 0\n"
 TWO = ["--sim", "dongles=2", "--late", "300"]
+GONE = TWO + ["--silence", "2"]
+SLOW = ["--sim", "speed=%d" % faster(2)]  # where a machine that stands still for a moment would change what is seen
 INT, TERM = signal.SIGINT, signal.SIGTERM
 
 
@@ -85,12 +95,12 @@ def with_pads(words, pads, show=SHOW, *more):
         return fly([*words, "--pads", path], show, *more)
 
 
-def typed(lines, wait_for, show=SHOW, seconds=20, words=()):
-    """A flight at a terminal of its own, where lines are typed at once when some words have come: the status, or None
-    where it still waits, and the output."""
+def typed(lines, wait_for, then, show=SHOW, seconds=90):
+    """A flight at a terminal of its own, where lines are typed at once when some words have come, and that is looked at
+    for two seconds more after others have: the status, or None where it still waits, and the output."""
     master, slave = pty.openpty()
     process = subprocess.Popen(
-        [os.path.join(common.TOOLS, "fly"), "--simulate", "--sim", "speed=8", "--silence", "4", *words, show], cwd=common.TOP,
+        [os.path.join(common.TOOLS, "fly"), "--simulate", "--sim", "speed=%d" % faster(4), "--silence", "4", show], cwd=common.TOP,
         stdin=slave, stdout=subprocess.PIPE, stderr=subprocess.STDOUT)
     os.close(slave)
     os.set_blocking(process.stdout.fileno(), False)
@@ -100,7 +110,9 @@ def typed(lines, wait_for, show=SHOW, seconds=20, words=()):
             out += (process.stdout.read() or b"").decode()
         if not sent and wait_for in out:
             os.write(master, lines.encode())
-            sent, until = True, min(until, time.monotonic() + 4)
+            sent = True
+        if then in out:
+            until = min(until, time.monotonic() + 2)
     status = process.poll()
     process.kill()
     process.wait()
@@ -113,29 +125,32 @@ def typed(lines, wait_for, show=SHOW, seconds=20, words=()):
 def piped():
     """A flight that gets three lines in one write, by a pipe that stays open: its status, and the output."""
     process = subprocess.Popen(
-        [os.path.join(common.TOOLS, "fly"), "--simulate", "--sim", "speed=8", "--silence", "4", SHOW], cwd=common.TOP,
+        [os.path.join(common.TOOLS, "fly"), "--simulate", "--sim", "speed=%d" % faster(4), "--silence", "4", SHOW], cwd=common.TOP,
         stdin=subprocess.PIPE, stdout=subprocess.PIPE, stderr=subprocess.STDOUT)
     os.write(process.stdin.fileno(), b"yes\nyes\nno\n")
     try:
         with process.stdout:
             out = process.stdout.read().decode()
-        return process.wait(60), out
+        return process.wait(120), out
     finally:
         process.stdin.close()
 
 
-def pressed(words, trigger, signals, show=FAST, after=0.1, every=0.5):
-    """A flight in which signals are sent, the first so long after some words have come: the status, the output, and by
-    signal the real seconds until the next line came."""
+def pressed(words, *signals, show=HIGH, after=0.0, speed=4):
+    """A flight in which signals are sent: each as soon as its words have come since the one before, the first so many
+    simulated seconds later. The status, the output, and by signal the real seconds until the next line came."""
     with tempfile.TemporaryDirectory() as room:
         path = os.path.join(room, "show.choreo")
         with open(path, "w") as file:
             file.write(show)
+        speed = faster(speed)
         process = subprocess.Popen(
-            [os.path.join(common.TOOLS, "fly"), "--simulate", "--sim", "speed=4", "--silence", "3", "--yes", *words, path],
-            cwd=common.TOP, stdin=subprocess.DEVNULL, stdout=subprocess.PIPE, stderr=subprocess.STDOUT)
+            [os.path.join(common.TOOLS, "fly"), "--simulate", "--sim", "speed=%d" % speed, "--silence", "3", "--yes", *words, path],
+            cwd=common.TOP, stdin=subprocess.PIPE, stdout=subprocess.PIPE, stderr=subprocess.STDOUT)
+        process.stdin.write(b"leave\n")  # who can't be reached is left, or the flight would go on as long as a battery
+        process.stdin.close()
         os.set_blocking(process.stdout.fileno(), False)
-        out, until, at, waits, left, sent = "", time.monotonic() + 40, None, [], list(signals), None
+        out, until, seen, waits, left, sent = "", time.monotonic() + 200, 0, [], list(signals), None
         while process.poll() is None and time.monotonic() < until:
             if select.select([process.stdout], [], [], 0.02)[0]:
                 came = (process.stdout.read() or b"").decode()
@@ -143,11 +158,11 @@ def pressed(words, trigger, signals, show=FAST, after=0.1, every=0.5):
                     waits.append(time.monotonic() - sent)
                     sent = None
                 out += came
-            if at is None and trigger in out:
-                at = time.monotonic() + after
-            if at is not None and left and time.monotonic() >= at:
-                process.send_signal(left.pop(0))
-                sent, at = time.monotonic(), time.monotonic() + every
+            if left and sent is None and left[0][0] in out[seen:]:
+                time.sleep(0 if waits else after / speed)
+                seen = len(out)
+                process.send_signal(left.pop(0)[1])
+                sent = time.monotonic()
         status = process.poll()
         process.kill()
         process.wait()
@@ -156,31 +171,153 @@ def pressed(words, trigger, signals, show=FAST, after=0.1, every=0.5):
         return status, out, waits
 
 
-YES = "yes\nyes\nyes\n"
+def going_up(*signals):
+    """The same, where the first signal comes 5 s after the words: at take-off two are 3 m high then."""
+    return pressed([], *signals, after=5.0)
+
+
+def blocked(*signals):
+    """The same, where the first signal comes 2 s after the words, and a's dongle is gone 0.5 s after the start."""
+    return pressed(TWO + ["--sim", "blocks=0.5"], *signals, after=2.0)
+
+
+def coming_down(*signals):
+    """The same with a short show, so that the way down is flown."""
+    return pressed([], *signals, show=SHORT)
+
+
+# tools/fly with another program in the place of the proved one, which says when the first drone is told to land.
+TOLD = """
+import runpy, sys
+sys.path[:0] = sys.argv[1:3]
+import choreo, crew
+from cflib import air
+choreo.PROGRAM, told, commanded = sys.argv[3], [], air.Drone.commanded
+def noted(drone, data, at=None):
+    if data[0] == 8 and not told:
+        told.append(crew.say("simulated: one is told to land"))
+    return commanded(drone, data, at)
+air.Drone.commanded = noted
+sys.argv[:4] = [sys.argv[1] + "/fly"]
+runpy.run_path(sys.argv[0], run_name="__main__")
+"""
+
+
+def while_check_is_slow(trigger, after, show, pads, speed=4):
+    """A flight in which `check` takes three seconds from when some words have come, and so many simulated seconds later
+    Ctrl-C is pressed: the status, the output, and the real seconds until one is told to land, or a line says that the
+    stage goes to its end."""
+    with tempfile.TemporaryDirectory() as room:
+        def file(name, text):
+            with open(os.path.join(room, name), "w") as out:
+                out.write(text)
+            return out.name
+        program = file("program", "#!/bin/sh\n[ \"$1\" = check ] && [ -e %s/slow ] && sleep 3\nexec %s \"$@\"\n" % (
+            room, common.choreo.PROGRAM))
+        os.chmod(program, 0o755)
+        process = subprocess.Popen(
+            [sys.executable, "-c", TOLD, common.TOOLS, os.path.join(common.TOOLS, "simulated"), program, "--simulate", "--sim",
+             "speed=%d" % faster(speed), "--silence", "3", "--yes", "--pads", file("pads", pads), file("show.choreo", show)],
+            cwd=common.TOP, stdin=subprocess.DEVNULL, stdout=subprocess.PIPE, stderr=subprocess.STDOUT, universal_newlines=True)
+        out, pressed_at, wait = "", None, None
+        for line in process.stdout:
+            out += line
+            if pressed_at is None and trigger in line:
+                file("slow", "")
+                time.sleep(after / faster(speed))
+                process.send_signal(INT)
+                pressed_at = time.monotonic()
+            if pressed_at and wait is None and ("told to land" in line or "goes to its end first" in line):
+                wait = time.monotonic() - pressed_at
+        process.stdout.close()
+        return process.wait(), out, wait
+
+
+def stays(seconds=14):
+    """Whether a flight still runs where one hovers in the end and nobody answers, and the output."""
+    process = subprocess.Popen(
+        [os.path.join(common.TOOLS, "fly"), "--simulate", "--sim", "speed=%d" % faster(4), "--silence", "4", "--yes", *b("hovers"), SHOW],
+        cwd=common.TOP, stdin=subprocess.DEVNULL, stdout=subprocess.PIPE, stderr=subprocess.STDOUT)
+    os.set_blocking(process.stdout.fileno(), False)
+    out, until = "", time.monotonic() + 150
+    while process.poll() is None and time.monotonic() < until:
+        if select.select([process.stdout], [], [], 0.05)[0]:
+            out += (process.stdout.read() or b"").decode()
+        if "NOBODY ANSWERS" in out:
+            until = min(until, time.monotonic() + seconds)
+    status = process.poll()
+    process.kill()
+    process.wait()
+    process.stdout.close()
+    return status, out
+
+
+def limited(words, size):
+    """A flight in which no file gets longer than this: its status, the output, and the rows of the log."""
+    with tempfile.TemporaryDirectory() as room:
+        log = os.path.join(room, "log.csv")
+        done = subprocess.run(
+            [os.path.join(common.TOOLS, "fly"), "--simulate", "--sim", "speed=%d" % faster(4), "--silence", "4", "--yes", "--log", log, *words, SHOW],
+            cwd=common.TOP, stdin=subprocess.DEVNULL, stdout=subprocess.PIPE, stderr=subprocess.STDOUT, universal_newlines=True,
+            preexec_fn=lambda: resource.setrlimit(resource.RLIMIT_FSIZE, (size, size)))
+        with open(log) as file:
+            return done.returncode, done.stdout, file.read()
+
+
+def unread():
+    """A flight whose output nobody reads, so that writing stands still: its status, and the rows of its log."""
+    with tempfile.TemporaryDirectory() as room:
+        log = os.path.join(room, "log.csv")
+        reading, writing = os.pipe()
+        os.set_blocking(writing, False)
+        try:
+            while True:
+                os.write(writing, bytes(4096))
+        except BlockingIOError:
+            os.set_blocking(writing, True)
+        process = subprocess.Popen([os.path.join(common.TOOLS, "fly"), "--simulate", "--sim", "speed=%d" % faster(4), "--silence", "4", "--yes", "--log", log,
+                                    SHOW], cwd=common.TOP, stdin=subprocess.DEVNULL, stdout=writing, stderr=writing)
+        os.close(writing)
+        status = process.wait(240)
+        os.close(reading)
+        with open(log) as file:
+            return status, file.read()
+
+
+YES = "yes\nyes\nyes\n"  # before what is answered for one that doesn't come down
 FLIGHTS = {
     "silent": (fly, b("silent:0.8"), UNDER), "silent lands": (fly, b("silent:0.8") + ["--on-silence", "land"], UNDER),
-    "gap": (fly, b("gap:1") + ["--silence", "1.5"]), "sag": (fly, b("sag:1")), "drains": (fly, b("drains:1")),
+    "gap": (fly, b("gap:1") + ["--silence", "1.5", *SLOW]), "sag": (fly, b("sag:1")), "drains": (fly, b("drains:1")),
     "high": (fly, b("high:0.9")), "riser": (fly, b("riser")), "pads": (with_pads, b("riser"), PADS),
     "stack": (with_pads, [], ASIDE, STACK), "stack no": (with_pads, [], ASIDE, STACK, "yes\nyes\nno\n"),
     "stack refuses": (with_pads, b("refuses"), ASIDE, STACK), "stack falls": (with_pads, b("drains:0.2"), ASIDE, STACK),
     "auto": (fly, b("auto")), "timeout": (fly, ["--fault", "d9:timeout"], LAYERS), "reboots": (fly, b("reboots")),
     "turned": (fly, b("turned")), "flying": (fly, b("flying")),
-    "blocks": (fly, TWO + ["--sim", "blocks=1"], FAST), "dies": (fly, TWO + ["--sim", "dies=1"], FAST),
-    "blocks lands": (fly, TWO + ["--sim", "blocks=1", "--on-silence", "land"], FAST),
-    "falls at speed": (fly, b("falls:1.4"), FAST),
+    "blocks": (fly, GONE + ["--sim", "blocks=0.5"], FAST), "dies": (fly, GONE + ["--sim", "dies=0.5"], FAST),
+    "blocks lands": (fly, GONE + ["--sim", "blocks=0.5", "--on-silence", "land"], FAST),
+    "falls at speed": (fly, b("falls:1.4") + SLOW, FAST),
     "too fast": (fly, [], JUMPY), "low": (fly, [], BELOW), "let through": (fly, ["--accel", "70", "--only", "look"], JUMPY),
     "height 90": (fly, [], strays(90000)), "height 199": (fly, [], strays(199000)), "height 250": (fly, [], strays(250000)),
     "stray": (fly, ["--sim", "stray=75"], strays()), "stray void": (fly, ["--sim", "stray=75", "--stray", "250"], strays()),
-    "copies late": (fly, ["--copies", "3", "--late", "100"], strays(line="stray 60\nlate 0\n")),
+    "copies late": (fly, ["--copies", "3", "--late", "500"], strays(line="stray 60\nlate 0\n")),
     "hovers": (fly, b("hovers"), SHOW, YES + "land\nleave\n"), "hovers stop": (fly, b("hovers"), SHOW, YES + "stop\n"),
     "only land": (fly, ["--only", "land"]), "only stop": (fly, ["--only", "stop"]),
-    "type-ahead": (typed, "yes\nyes\nyes\n", "Type yes"), "one write": (piped,),
-    "Ctrl-C blocked": (pressed, TWO + ["--sim", "blocks=0.5"], "started", (INT,)),
-    "two blocked": (pressed, TWO + ["--sim", "blocks=0.5"], "started", (INT, INT)),
-    "TERM blocked": (pressed, TWO + ["--sim", "blocks=0.5"], "started", (TERM,)),
-    "Ctrl-C going up": (pressed, [], "taking off", (INT,)), "two going up": (pressed, [], "taking off", (INT, INT)),
-    "TERM": (pressed, [], "started", (TERM,)), "TERM twice": (pressed, [], "started", (TERM, TERM)),
-    "Ctrl-C coming down": (pressed, [], "landing, 2", (INT,)),
+    "type-ahead": (typed, "yes\nyes\nyes\n", "Type yes", "Take off? Type yes: "), "one write": (piped,),
+    "Ctrl-C blocked": (blocked, ("started", INT)),
+    "two blocked": (blocked, ("started", INT), ("Ctrl-C: landing", INT)),
+    "TERM blocked": (blocked, ("started", TERM)),
+    "Ctrl-C going up": (going_up, ("taking off", INT)),
+    "two going up": (going_up, ("taking off", INT), ("Ctrl-C: landing", INT)),
+    "TERM": (pressed, [], ("started", TERM)), "TERM twice": (pressed, [], ("started", TERM), ("Ctrl-C: landing", TERM)),
+    "Ctrl-C coming down": (coming_down, ("landing, 2", INT)),
+    "two coming down": (coming_down, ("landing, 2", INT), ("the landing goes on; Ctrl-C stops all motors", INT)),
+    "QUIT": (pressed, [], ("started", signal.SIGQUIT)), "TSTP": (coming_down, ("started", signal.SIGTSTP)),
+    "slow going up": (while_check_is_slow, "taking off", 5.0, HIGH, "a 0 0 0\nb 1500000 0 0\n"),
+    "slow coming down": (while_check_is_slow, "flown: ", 1.0, WIDE, "a 1000000 0 0\nb 4000000 0 0\n"),
+    "slow and below": (while_check_is_slow, "taking off", 4.4, STACK, ASIDE),
+    "senseless": (fly, b("senseless")), "volts": (fly, b("volts")), "loses": (fly, b("loses:1.5"), SHOW, YES + "leave\n"),
+    "short": (fly, b("short")), "wreck": (fly, b("falls:4.6"), PASSING), "wanders": (fly, b("wanders:1"), BESIDE),
+    "hovers unasked": (stays,), "disk": (limited, [], 1500), "unread": (unread,),
 }
 POOL, BEGUN = concurrent.futures.ThreadPoolExecutor(AT_ONCE), {}
 AGAIN = False
@@ -218,23 +355,63 @@ def end(out, name):
     return float(found.group(1)), found.group(2)
 
 
+class Signals(unittest.TestCase):
+    """The watch by itself, with signals of this process."""
+
+    def setUp(self):
+        for number in (INT, TERM, signal.SIGHUP, signal.SIGQUIT, signal.SIGTSTP, signal.SIGTTIN, signal.SIGTTOU):
+            self.addCleanup(signal.signal, number, signal.getsignal(number))
+        self.watch, self.cut = crew.Watch(), threading.Event()
+        self.watch.stop_motors = self.cut.set
+        self.watch.take_off()
+        self.watch.land()
+
+    def press(self, number):
+        """A signal to this process."""
+        os.kill(os.getpid(), number)
+
+    def test_before_the_end(self):
+        # The second one stops the motors whatever the flight does, and the end of the flight says so.
+        self.press(INT)
+        self.assertFalse(self.cut.wait(0.1))
+        self.press(INT)
+        self.assertTrue(self.cut.wait(10))
+        self.assertRaises(crew.Cut, self.watch.look)
+        self.assertRaises(crew.Cut, self.watch.end)
+
+    def test_after_the_end(self):
+        # Once all are said to have landed none is stopped any more.
+        self.press(INT)
+        self.watch.end()
+        self.press(INT)
+        self.assertFalse(self.cut.wait(0.1))
+        self.watch.look()
+
+    def test_other_signals_stop_none(self):
+        for number in (INT, TERM, signal.SIGHUP, signal.SIGQUIT, TERM):
+            self.press(number)
+        self.assertFalse(self.cut.wait(0.1))
+        self.watch.end()
+
+
 @common.wants_program
 class Hard(unittest.TestCase):
     def flown(self, name, status, *lines, without=()):
         """The output of a flight, after a look at its status and at lines that it has or hasn't."""
-        said, out = begun(name).result()[:2]
-        self.assertEqual(said, status, name + ":\n" + out)
+        came, out = begun(name).result()[:2]
+        self.assertEqual(came, status, name + ":\n" + out)
+        said = as_if_idle(out)
         for line in lines:
-            self.assertRegex(out, line, name)
+            self.assertRegex(said, line, name)
         for line in without:
-            self.assertNotRegex(out, line, name)
+            self.assertNotRegex(said, line, name)
         return out
 
     # ---- who is silent
 
     def test_silent(self):
         # The others fly on, and nobody comes down through b's curve.
-        out = self.flown("silent", 1, "b is silent for 3.[0-9] s: it flies its curve on, as is assumed, and all fly on", "flown: 10.0 s",
+        out = self.flown("silent", 1, "b is silent for 3.[0-9] s: it flies its curve on, as is assumed, and all fly on", "flown: 20.0 s",
                          "silent, and hovering at the end of its curve, as is assumed: b", "NO ANSWER to the landing: b",
                          "NOT SEEN TO BE DOWN: b; nothing from here reaches them", without=["FAULT"])
         self.assertGreater(nearest(out), 0.8)
@@ -255,7 +432,7 @@ class Hard(unittest.TestCase):
         for name in ("blocks", "dies"):
             out = self.flown(name, 1, "a is silent", "flown: 6.0 s", "NOT SEEN TO BE DOWN: a; nothing from here reaches them")
             self.assertEqual((end(out, "b")[0], "disarmed" in end(out, "b")[1]), (0.0, True), name)
-        out = self.flown("blocks lands", 1, "FAULT: a is silent for 3.[0-9] s; landing all", without=["flown:"])
+        out = self.flown("blocks lands", 1, "FAULT: a is silent for 2.[0-9] s; landing all", without=["flown:"])
         self.assertEqual(end(out, "b")[0], 0.0)
 
     def test_above_each_other(self):
@@ -263,8 +440,9 @@ class Hard(unittest.TestCase):
         # down.
         back = r"a landing of all isn't shown apart \(a and b\): all come down the way that they came\nlanded\n"
         for name, status, words in (
-                ("stack", 0, "flown: 3.0 s.*\n(.*\n)*landed\n"), ("stack no", 1, "FAULT: nobody said yes; " + back),
-                ("stack refuses", 1, "FAULT: b refuses the start with status 16; " + back),
+                ("stack", 0, "flown: 6.0 s.*\n(.*\n)*landed\n"), ("stack no", 1, "FAULT: nobody said yes; " + back),
+                ("stack refuses", 1, "FAULT: b refuses the start with status 16; a landing of all now isn't shown apart [(]a and b[)]: all go "
+                 "back to their first places(, which is NOT JUDGED: `check` didn't answer in time)?\nFAULT: b refuses the start with status 16; " + back),
                 ("stack falls", 1, r"FAULT: b has 3.00 V left; flying on: a landing of all now isn't shown apart \(a and b\)\n")):
             out = self.flown(name, status, words, without=["THIS LANDING"])
             self.assertGreater(nearest(out), 0.6, name)
@@ -312,13 +490,13 @@ class Hard(unittest.TestCase):
 
     def test_landing_from_speed(self):
         # a is carried on by what was judged, at most.
-        out = self.flown("falls at speed", 1, "FAULT: b has tumbled; landing all", without=["flying on"])
+        out = self.flown("falls at speed", 1, "FAULT: b has tumbled; landing all", without=["isn't shown apart [(]a and b"])
         self.assertEqual(end(out, "a")[0], 0.0)
 
     def test_promise(self):
         # The show's own stray is where all land; a larger one is an option, and it says since when the promise is void.
         self.flown("stray", 1, "OUTSIDE OF THE PROMISE since [0-9.]+ s: [ab] is 7[0-9] mm from its curve, and the show's `stray` is 60\n",
-                   "FAULT: [ab] is 7[0-9] mm from its curve; landing all", without=["flown:"])
+                   "FAULT: [ab] is 7[0-9] mm from its curve(; b is 7[0-9] mm from its curve)?; landing all", without=["flown:"])
         self.flown("stray void", 0, "the promise is for 60 mm of stray: from there to 250 mm it is void", "OUTSIDE OF THE PROMISE since",
                    "flown:")
         self.flown("copies late", 0, "NOTHING IS PROMISED of drones that are late",
@@ -341,20 +519,101 @@ class Hard(unittest.TestCase):
         self.flown("only land", 0, "heard: a, b\ntold to land, in 5 s", without=["firmware"])
         self.flown("only stop", 60, "Drones in the air fall[.] Type yes: MOTORS STOPPED", without=["firmware"])
 
+    def test_no_numbers(self):
+        # A drone whose estimate is no number isn't flown, and in flight is never counted as down.
+        for name in ("senseless", "volts"):
+            self.flown(name, 1, "b: sends a place, a yaw or a voltage that is no number|b: sends no samples", without=["Upload[?]", "taking off"])
+        out = self.flown("loses", 1, "FAULT: b sends a place that is no number; landing all", "NOT SEEN TO BE DOWN: b",
+                         "end: a: down, it says, .*disarmed", "end: b: NOT KNOWN: sends a place that is no number, and was at .* [0-9.]+ s ago: IT MAY BE IN THE AIR")
+        self.assertIn("armed", end(out, "b")[1])
+
+    def test_answers_that_are_cut_off(self):
+        # They answer nothing: a line, and no traceback.
+        self.flown("short", 1, "b doesn't answer a question on port [0-9]+", without=["Traceback", "taking off"])
+
+    def test_where_it_is_and_not_on_its_curve(self):
+        # b falls into a's column: a doesn't land on it, but goes to its own pad.
+        out = self.flown("wreck", 1, "FAULT: b has tumbled; flying on: a landing of all now isn't shown apart [(]a and b[)]",
+                         "NOT JUDGED beside b", "landing, 1 drone: a")
+        self.assertRegex(out, r"end: a: down, it says, at [(]-?0[.]0[0-9], -?0[.]0[0-9], 0[.]0[0-9][)]")
+        # b leaves its curve towards c: a landing is judged from where b is.
+        out = self.flown("wanders", 1, "FAULT: b is [0-9]+ mm from its curve; (landing all|flying on: a landing of all now isn't shown apart [(]b and c[)])")
+
+    def test_never_ends_in_the_air(self):
+        status, out = begun("hovers unasked").result()
+        self.assertEqual(status, None, out)
+        self.assertIn("NOBODY ANSWERS: b are told to land every 5 s", out)
+
+    def test_logs(self):
+        # A log that can't be written is refused before the link; a disk that is full later changes nothing but the log.
+        status, out, error = common.run("tools/fly", "--simulate", "--yes", "--log", "/dev/full", SHOW)
+        self.assertEqual((status, "firmware" in out, "No space left" in error), (70, False, True), out + error)
+        status, out, error = common.run("tools/fly", "--simulate", "--yes", "--log", "/no/such/folder/log", SHOW)
+        self.assertEqual((status, "firmware" in out), (70, False), out + error)
+        status, out, rows = begun("disk").result()
+        self.assertEqual(status, 0, out)
+        self.assertRegex(out, "THE LOG CAN'T BE WRITTEN any more: .*; all else goes on\n")
+        self.assertNotIn("places are in", out)
+        self.assertLessEqual(len(rows), 1500)
+
+    def test_output_that_nobody_reads(self):
+        status, rows = begun("unread").result()
+        self.assertEqual(status, 0)
+        self.assertTrue(rows and all(height < 0.15 for height in last_heights(rows).values()), rows[-200:])
+
+    def test_options_that_are_no_numbers(self):
+        for word in ("jump", "silence", "stray", "accel", "battery", "wander"):
+            for number in ("nan", "inf", "-1", "0", "1e99"):
+                status, _, error = common.run("tools/fly", "--simulate", "--" + word, number, SHOW)
+                self.assertEqual(status, 2, (word, number))
+                self.assertIn("a number from", error)
+        for words in (("--sim", "stray=nan"), ("--sim", "speed=inf"), ("--fault", "b:silent:nan"), ("--copies", "1.5"), ("--ceiling", "nan")):
+            self.assertEqual(common.run("tools/fly", "--simulate", *words, SHOW)[0], 2, words)
+
+    def test_small(self):
+        # Millimetres for micrometres: all of it within 40 mm.
+        with tempfile.TemporaryDirectory() as room:
+            path = os.path.join(room, "show.choreo")
+            with open(path, "w") as file:
+                file.write("choreo 1\ndrone a 0 0 1000 0\ncue 2000\na move 1000 0 1000 0\nend\n")
+            status, out, _ = common.run("tools/fly", "--simulate", "--yes", path)
+        self.assertEqual((status, "not flown: all places lie within 40 mm of the origin" in out), (1, True), out)
+
+    def test_other_signals(self):
+        # Ctrl-\\ lands as SIGTERM does; Ctrl-Z does nothing.
+        self.flown("QUIT", 1, "Ctrl-C: landing all(.*\n)*landed\n", without=["MOTORS"])
+        self.flown("TSTP", 0, "flown: 3.0 s(.*\n)*landed\n", without=["Ctrl-C"])
+
     def test_acts_within_a_second(self):
+        landed = "Ctrl-C: landing all; once more stops the motors(.*\n)*landed\n"
         for name, status, words in (
                 ("Ctrl-C blocked", 1, "Ctrl-C: landing all"), ("two blocked", 60, "MOTORS STOPPED"), ("TERM blocked", 1, "Ctrl-C: landing all"),
-                ("Ctrl-C going up", 1, "Ctrl-C: landing all(.*\n)*landed"), ("two going up", 60, "MOTORS STOPPED"),
-                ("TERM", 1, "Ctrl-C: landing all(.*\n)*landed\n"), ("TERM twice", 1, "Ctrl-C: landing all(.*\n)*landed\n"),
-                ("Ctrl-C coming down", 0, "landed\n")):
-            self.flown(name, status, words, without=[] if status == 60 else ["MOTORS"])
+                ("Ctrl-C going up", 1, landed), ("two going up", 60, "MOTORS STOPPED"),
+                ("TERM", 1, landed), ("TERM twice", 1, landed),
+                ("Ctrl-C coming down", 0, "the landing goes on; Ctrl-C stops all motors\nlanded\n"),
+                ("two coming down", 60, "the landing goes on; Ctrl-C stops all motors\nMOTORS STOPPED")):
+            out = self.flown(name, status, words, without=["\nlanded"] if status == 60 else ["MOTORS"])
             waits = begun(name).result()[2]
-            self.assertTrue(name == "Ctrl-C coming down" or waits and waits[0] < 1, (name, waits))
-            if status == 60:
+            self.assertTrue(waits and waits[0] < 1, (name, waits))
+            if status == 60:  # the line comes half a second after the packets
                 self.assertTrue(len(waits) > 1 and waits[1] < 1.2, (name, waits))
+                self.assertEqual(end(out, "b")[1][:3], "cut", name)
         for name in ("Ctrl-C blocked", "TERM blocked"):
             out = self.flown(name, 1)
             self.assertEqual(end(out, "b")[0], 0.0, name)
+
+
+    def test_check_is_slow(self):
+        # A landing on the ways is judged beforehand: it doesn't wait for `check`.
+        for name, words in (("slow going up", "Ctrl-C: landing all; once more stops the motors\n"),
+                            ("slow coming down", "Ctrl-C: landing all; once more stops the motors\n"),
+                            ("slow and below", "Ctrl-C")):
+            status, out, wait = begun(name).result()
+            self.assertEqual(status, 1, out)
+            self.assertRegex(as_if_idle(out), words, name)
+            self.assertTrue(wait is not None and wait < 1, (name, wait, out))
+        for name in ("slow going up", "slow coming down"):
+            self.assertNotIn("goes to its end first", begun(name).result()[1], name)
 
 
 if __name__ == "__main__":

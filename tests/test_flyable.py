@@ -6,6 +6,7 @@ import unittest
 sys.dont_write_bytecode = True
 TOP = os.path.dirname(os.path.dirname(os.path.abspath(__file__)))
 sys.path.insert(0, os.path.join(TOP, "tools"))
+import choreo
 import flyable
 
 STAND_IN = os.path.join(TOP, ".ci", "stand_in")
@@ -44,7 +45,8 @@ class Warnings(unittest.TestCase):
 
     def test_millimetres_for_micrometres(self):
         text = b"choreo 1\ndrone a 0 0 1000 0\ncue 2000\na move 1000 0 1000 0\nend\n"
-        self.assertEqual(flyable.warning(STAND_IN, text), "all is within 10 mm of the origin: lengths are micrometres")
+        self.assertEqual(flyable.warning(STAND_IN, text), "all places lie within 40 mm of the origin: lengths are "
+                         "micrometres, so a metre is 1000000")
 
     def test_above_each_other(self):
         rows = ["choreo 1", "drone a 0 0 1000000 0", "drone b 100000 0 2000000 0", "cue 1000", "end", ""]
@@ -56,7 +58,16 @@ class Warnings(unittest.TestCase):
     def test_several(self):
         text = b"choreo 1\ndrone a 0 0 -1000 0\ncue 1\na line 1000 0 -1000 0\nend\n"
         self.assertEqual(flyable.warning(STAND_IN, text), "line 3, cue 1: a jumps by 1.00 m/s on x, more than 0.3; "
-                         "line 3, cue 1: a goes below z 0; all is within 10 mm of the origin: lengths are micrometres")
+                         "line 3, cue 1: a goes below z 0; all places lie within 40 mm of the origin: lengths are "
+                         "micrometres, so a metre is 1000000")
+
+    def test_no_answer(self):
+        # A program that doesn't answer isn't one that finds nothing: who flies has to know it.
+        flown = choreo.flown_of(b"choreo 1\ndrone a 0 0 1000000 0\ncue 1000\nend\n")
+        for program in ("/bin/false", "/no/such/program"):
+            with self.assertRaises(flyable.NoAnswer):
+                flyable.motion(program, flown, b"")
+            self.assertIsNone(flyable.motion_if_known(program, flown, b""))
 
     def test_what_is_refused(self):
         self.assertIsNone(flyable.warning(STAND_IN, b"choreo 2\n"))

@@ -1,8 +1,10 @@
 """tools/import: what it reads, that its bound holds, and what it keeps. No file here was written by another program:
 all are made from memory of the formats."""
+import io
 import math
 import random
 import unittest
+import zipfile
 from fractions import Fraction
 
 import foreign_files as files
@@ -11,6 +13,75 @@ import paths
 from foreign_files import Case, squared
 
 ROOT = Fraction(1733, 1000)  # above the root of three
+
+
+ROWS = ["0;0,5;0;1", "2;1,5;0,25;1", "3;1,5;0,25;1,125"]
+
+
+class Forms(Case):
+    """The same flight in the forms that programs and spreadsheets write."""
+
+    def body(self, *words):
+        """The show's lines but the first comment, and what is said."""
+        status, out, said = self.run_tool("import", *words)
+        self.assertEqual(status, 0, said)
+        return out.split("\n", 1)[1], said
+
+    def test_separators(self):
+        plain = "".join(row.replace(",", ".").replace(";", ",") + "\n" for row in ROWS)
+        wanted, _ = self.body("--waypoints", self.file("a.csv", plain))
+        self.assertIn("\na line 1500000 250000 1000000 0\n", wanted)
+        for text in ("".join(row + "\r\n" for row in ROWS), "t;x;y;z\n" + "\n".join(ROWS),
+                     "\ufefft;x;y;z\n" + "\n".join(ROWS),
+                     "# a; comment, first\n" + plain, "\n".join(row.replace(";", "\t") for row in ROWS),
+                     "\n".join(row.replace(",", ".") for row in ROWS)):
+            self.assertEqual(self.body("--waypoints", self.file("a.csv", text.encode()))[0], wanted, text)
+        # A head that names t, x, y and z is that of waypoints.
+        self.assertEqual(self.body(self.file("a.csv", "t,x,y,z\n" + plain))[0], wanted)
+
+    def test_zip_of_csv(self):
+        one, two = "t,x,y,z\n0,0,0,1\n2,1,0,1\n", "Time [msec];x [m];y [m];z [m];Red\n0;0;2,5;1;255\n2000;1;2,5;1;255\n"
+        names = [self.file("one.csv", one), self.file("two.csv", two)]
+        wanted, _ = self.body(*names)
+        self.assertIn("\ndrone two 0 2500000 1000000 0\n", wanted)
+        data = io.BytesIO()
+        with zipfile.ZipFile(data, "w", zipfile.ZIP_DEFLATED) as archive:
+            archive.writestr("show/", "")
+            archive.writestr("show/one.csv", one)
+            archive.writestr("show/two.CSV", two)
+            archive.writestr("show/read me.txt", "no drone")
+        self.assertEqual(self.body(self.file("a.zip", data.getvalue()))[0], wanted)
+        # A zip with a show.json is Skybrush's, whatever its name.
+        skyc = files.skyc([[[0, [0, 0, 1], []], [2, [1, 0, 1], []]]])
+        self.assertEqual(self.body(self.file("b.zip", skyc))[0], self.body(self.file("b.skyc", skyc))[0])
+
+    def test_left_out(self):
+        points, none = [[0, [0, 0, 1], []], [2, [1, 0, 1], []]], {"version": 1, "data": ""}
+
+        def show(**more):
+            return self.file("a.skyc", files.archive({"show.json": files.show([files.drone("a", points, **more)])}))
+        out, said = self.body(show(lights=none, yawControl={"version": 1, "setpoints": [[0, 0]], "autoYaw": False}))
+        self.assertIn("(yaw 0.00 degrees)", out)
+        self.assertNotIn("left out", (out + said).lower())
+        out, said = self.body(show(lights={"version": 1, "data": "Bv//AA=="}))
+        self.assertIn("LEFT OUT: lights, of 1 drone\n", said)
+        self.assertIn("\n# Left out: lights.\n", out)
+        out, said = self.body(show(yawControl={"version": 1, "setpoints": [], "autoYaw": True}))
+        self.assertIn("LEFT OUT: automatic yaw, of 1 drone; drones turn by the setpoints alone", said)
+        self.assertIn("\n# Left out: automatic yaw.\n", out)
+        self.assertNotIn("(yaw 0.00 degrees)", out)  # nothing is claimed of it
+        self.assertIn("its automatic yaw is left out", out)
+
+    def test_one_place(self):
+        # Two that begin in one place: what --starts is. With it, and where they begin apart, nothing is said.
+        zero, away = "2," + ",".join(["0"] * 32) + "\n", "2,1," + ",".join(["0"] * 31) + "\n"
+        names = [self.file("a.csv", zero), self.file("b.csv", zero)]
+        said = self.body(*names)[1]
+        self.assertIn("all 2 drones begin in one place", said)
+        self.assertIn("--starts FILE adds it", said)
+        starts = self.file("starts.csv", "a,0,0,1\nb,1,0,1\n")
+        for words in (["--starts", starts, *names], names[:1], [names[0], self.file("c.csv", away)]):
+            self.assertNotIn("--starts", self.body(*words)[1])
 
 
 class Bound(Case):

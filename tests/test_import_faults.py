@@ -6,6 +6,7 @@ import os
 import random
 import re
 import struct
+import time
 import unittest
 import zipfile
 
@@ -134,6 +135,31 @@ class Faults(Case):
             archive.writestr("show.json", " " * 601)
         self.assertIn("larger than 600 bytes", self.refused(self.file("a.skyc", packed.getvalue())))
         self.assertIn("more than 600 bytes", self.refused(self.file("a.csv", DURATION * 20)))
+
+    def test_packed_numbers(self):
+        # 40 KB hold twenty million numbers, or as much text; no show does. It is refused before it is read.
+        def packed(text):
+            data = io.BytesIO()
+            with zipfile.ZipFile(data, "w", zipfile.ZIP_DEFLATED) as archive:
+                archive.writestr("show.json", text)
+            return data.getvalue()
+        front = '{"version":1,"swarm":{"drones":[{"settings":{"trajectory":{"points":['
+        for text in (front + "1," * 15000000, "[" + "{}," * 9000000, " " * 40000000):
+            data = packed(text)
+            self.assertLess(len(data), 60000)
+            begun = time.process_time()
+            self.assertIn("larger than", self.refused(self.file("a.skyc", data)))
+            self.assertLess(time.process_time() - begun, 2)  # 90 s before
+        # As many numbers as bytes are taken, and no more.
+        said = self.refused(self.file("a.skyc", packed(front + "1," * 60000)))
+        self.assertRegex(said, "more than 20[0-9]{3} numbers")
+        self.assertIn("more than 1000000 numbers", self.refused(self.file("a.csv", "1," * 1000001)))
+
+    def test_zips(self):
+        self.assertIn("a zip without a CSV file", self.refused(self.file("a.zip", members({"a.txt": "1,2"}))))
+        said = self.refused("--waypoints", self.file("a.zip", members({"a.csv": "0,0,0,1\n", "b.csv": "0,0,x,1\n"})))
+        self.assertRegex(said, r"a\.zip, b\.csv: line 1: 'x' is no number")
+        self.assertIn("no zip", self.refused(self.file("a.zip", b"PK nothing")))
 
     def test_words(self):
         for words in (["--tolerance", "0"], ["--tolerance", "nan"], ["--tolerance", "1e9"], ["--least", "0"],

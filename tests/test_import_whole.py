@@ -13,6 +13,7 @@ from fractions import Fraction
 import common
 import foreign_files as files
 import choreo
+import program
 import foreign
 from foreign_files import Case, squared
 
@@ -189,8 +190,8 @@ class Judged(Case):
         self.assertEqual((status, out.count("check, from"), "APART" in out), (0, 2, True), out)
 
     def test_no_program(self):
-        before, choreo.PROGRAM = choreo.PROGRAM, self.file("none")
-        self.addCleanup(setattr, choreo, "PROGRAM", before)
+        before, program.PROGRAM = program.PROGRAM, self.file("none")
+        self.addCleanup(setattr, program, "PROGRAM", before)
         status, out = self.judged(self.crossing(1))
         self.assertEqual((status, "APART" in out), (70, False))
 

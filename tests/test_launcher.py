@@ -1,9 +1,12 @@
 """./show with a stand-in for rt and one for the program: what is built and when, what signals leave, words and files.
 The real rt is not run here."""
 import contextlib
+import hashlib
+import json
 import os
 import pty
 import re
+import resource
 import shutil
 import signal
 import subprocess
@@ -136,6 +139,21 @@ class Place(unittest.TestCase):
         done = subprocess.run(["./show", *words], cwd=place, input=text, stdout=subprocess.PIPE, stderr=subprocess.PIPE,
                               universal_newlines=True, timeout=60, env=self.settings(place, **more))
         return done.returncode, done.stdout, done.stderr
+
+    def program(self, text):
+        """Puts another program in the place of the one that was built, with a record that it is the built one."""
+        self.file("crates/show_cli/out/show_cli", text, 0o755)
+        self.remember()
+
+    def remember(self):
+        """Has the record be that of the program as it is now."""
+        path = self.path("crates/show_cli/out/show_cli")
+        with open(path + ".built") as file:
+            note = json.load(file)
+        with open(path, "rb") as file:
+            note["sha256"] = hashlib.sha256(file.read()).hexdigest()
+        with open(path + ".built", "w") as file:
+            json.dump(note, file)
 
     def calls(self):
         """What rt was called for since the last time."""
@@ -493,17 +511,198 @@ class Words(Processes):
     def test_told_while_it_runs(self):
         # Told to end while the program waits for its input: neither stays.
         self.file("crates/show_cli/out/show_cli", "#!/bin/sh\necho $$ > started\nexec sleep 300\n", 0o755)
-        with open(self.path("remember.py"), "w") as file:
-            file.write("import json, hashlib\npath = 'crates/show_cli/out/show_cli'\n"
-                       "note = json.load(open(path + '.built'))\n"
-                       "note['sha256'] = hashlib.sha256(open(path, 'rb').read()).hexdigest()\n"
-                       "json.dump(note, open(path + '.built', 'w'))\n")
-        subprocess.run([sys.executable, "remember.py"], cwd=self.place, check=True)
+        self.remember()
         started = self.begin("./show", "check", "good")
         process = self.started()
         started.send_signal(signal.SIGTERM)
         self.assertEqual(started.wait(30), 128 + signal.SIGTERM)
         self.assertTrue(self.gone(process[0]))
+
+
+class Edges(Place):
+    """What a hostile shell, disk or neighbour does to the launcher."""
+
+    def setUp(self):
+        super().setUp()
+        self.show("check", "good")
+
+    def shell(self, line, most=None, **more):
+        """The status, standard output and standard error of a line of a shell in the place; with so many bytes of
+        memory at most."""
+        def limit():
+            resource.setrlimit(resource.RLIMIT_AS, (most, most))
+        done = subprocess.run(["sh", "-c", line], cwd=self.place, stdin=subprocess.DEVNULL, stdout=subprocess.PIPE,
+                              stderr=subprocess.PIPE, universal_newlines=True, timeout=120,
+                              env=self.settings(self.place), preexec_fn=limit if most else None, **more)
+        return done.returncode, done.stdout, done.stderr
+
+    def test_closed_streams(self):
+        # What is said goes nowhere, and never into the output.
+        self.assertEqual(self.shell("./show chek good 2>&-"), (2, "error 2 usage\n", ""))
+        self.assertEqual(self.shell("./show check bad 2>&-"), (3, "error 3 line 2 bad-number\n", ""))
+        self.program("#!/bin/sh\necho mine >&2\necho ours\n")
+        self.assertEqual(self.shell("./show check good 2>&-"), (0, "ours\n", ""))
+        for words in ("--help", "--version", "check --help"):
+            status, said, told = self.shell("./show %s >&-" % words)
+            self.assertEqual((status, said, told.count("\n")), (70, "", 1), told)
+            self.assertIn("show: Bad file descriptor", told)
+        # A program whose input or output is closed sees that, as it would without the launcher.
+        self.program("#!/bin/sh\nread -r line || echo no line\n")
+        self.assertEqual(self.shell("./show check <&-")[:2], (0, "no line\n"))
+        self.program("#!/bin/sh\necho line || exit 7\n")
+        self.assertEqual(self.shell("./show check good >&-")[:2], (7, ""))
+
+    def test_full_disk(self):
+        if not os.path.exists("/dev/full"):
+            self.skipTest("there is no /dev/full")
+        status, said, told = self.shell("./show --help >/dev/full")
+        self.assertEqual((status, told), (70, "show: No space left on device\n"))
+
+    def test_files_without_end(self):
+        # 300 MB of memory are enough: nothing is read beyond what the program reads and a text may have.
+        self.program("#!/bin/sh\necho error 3 too-large\nexit 3\n")
+        for words in ("check /dev/zero", "check < /dev/zero", "verify /dev/zero good", "verify good /dev/zero"):
+            status, said, told = self.shell("./show " + words, 300 << 20)
+            self.assertEqual((status, said), (3, "error 3 too-large\n"), told)
+            self.assertNotIn("Traceback", told)
+        self.program("#!/bin/sh\nhead -c 2000003 | tail -c 6\nexit 11\n")
+        self.assertEqual(self.shell("./show verify good /dev/zero | tr '\\0' 0", 300 << 20)[1], "000000")
+
+    def test_files_that_may_not_grow(self):
+        # The signal for it is ignored, so a write fails, and the program says so by its status.
+        self.program("#!%s\nimport os, sys\ntry:\n    [os.write(1, b'x' * 4096) for _ in range(99)]\n"
+                     "except OSError:\n    sys.exit(7)\n" % sys.executable)
+        self.assertEqual(self.shell("ulimit -f 8; ./show check good > out")[:2], (7, ""))
+
+    def test_damaged_places(self):
+        for words, name in (("--version", "VERSION"), ("check good", "crates.txt"), ("check good", "crates/low")):
+            os.rename(self.path(name), self.path("away"))
+            status, said, told = self.shell("./show " + words)
+            self.assertEqual((status, said, told.count("\n")), (70, "", 1), told)
+            self.assertIn(os.path.basename(name), told)
+            os.rename(self.path("away"), self.path(name))
+        self.file("crates.txt", "low:\n")
+        self.assertIn("crates.txt: it has no line for the crate show_cli", self.shell("./show check good")[2])
+
+    def test_damaged_records(self):
+        # A record whose other words are no texts is read as far as it goes.
+        path = self.path("crates/show_cli/out/show_cli.built")
+        with open(path) as file:
+            note = json.load(file)
+        with open(path, "w") as file:
+            json.dump({"sha256": note["sha256"], "stamp": note["stamp"], "commit": 7, "rests_on": None}, file)
+        status, said, told = self.shell("./show --version")
+        self.assertEqual((status, told), (0, ""))
+        self.assertIn("\ncommit ?\n", said)
+        self.assertIn("its last line was not kept", said)
+        with open(path, "wb") as file:
+            file.write(b"\xff" * 99)
+        status, said, told = self.shell("./show --version")
+        self.assertEqual((status, "nothing is known" in said, told), (70, True, ""))
+        self.file("crates/show_cli/out/show_cli.seen", "\0\0\0 no note")
+        self.assertEqual(self.shell("./show check good")[0], 0)
+
+    def test_marks_of_editors(self):
+        # A link that leads nowhere, as an editor marks a file that it has open, is no source.
+        os.symlink("somebody@somewhere.1234", self.path("crates/low/src/.#lib.rt"))
+        self.calls()
+        self.assertEqual(self.show("check", "good"), (0, GOOD, ""))
+        self.file("crates/low/src/lib.rt", "fn f() {}\n")
+        self.assertEqual(self.show("check", "good")[:2], (0, GOOD))
+        self.assertEqual(len(self.calls()), 4)
+
+    def test_linked_folders(self):
+        os.mkdir(self.path("apart"))
+        self.file("apart/more.rt", "fn f() {}\n")
+        os.symlink(self.path("apart"), self.path("crates/low/src/linked"))
+        for text, calls in (("fn f() {}\n", 4), ("fn f() {}\n", 0), ("fn g() {}\n", 4)):
+            self.file("apart/more.rt", text)
+            self.calls()
+            status, said, told = self.show("check", "good")
+            self.assertEqual((status, said, len(self.calls())), (0, GOOD, calls), told)
+
+    def test_may_not_be_written(self):
+        # As somebody to whom nothing here belongs: what is built runs, and what isn't can't be built.
+        if os.getuid():
+            self.skipTest("only root can be somebody else")
+        for folder, _, _ in os.walk(os.path.dirname(self.place)):
+            os.chmod(folder, 0o755)
+        path = "PATH=%s:/usr/bin:/bin " % self.path("bin")
+        try:
+            seen = self.shell(path + "python3 -c 'import sys; open(%s); sys.exit(sys.version_info < (3, 9))'" % repr(
+                os.path.join(TOP, "tools", "streams.py")).replace("'", '"'), user=65534, extra_groups=[])
+        except OSError:
+            self.skipTest("root can't be somebody else here")
+        if seen[0]:
+            self.skipTest("the repository or Python can be read by its owner alone")
+        self.assertEqual(self.shell(path + "./show check good", user=65534, extra_groups=[]), (0, GOOD, ""))
+        self.file("crates/low/src/lib.rt", "fn f() {}\n")
+        status, said, told = self.shell(path + "./show check good", user=65534, extra_groups=[])
+        self.assertEqual((status, said), (70, ""), told)
+        self.assertNotIn("Traceback", told)
+        self.assertIn("Permission denied", told)
+
+    def test_exchanged(self):
+        # What was hashed runs, also where another program takes its name, or its file, before it starts.
+        path = self.path("crates/show_cli/out/show_cli")
+        code = ("import sys; sys.path[:0] = ['tools']\nimport program, subprocess\nfile = program.runs()\n"
+                "with open(%r, 'w') as other:\n    other.write('#!/bin/sh\\necho theirs\\n')\n"
+                "print(subprocess.run([file], stdout=subprocess.PIPE).stdout.decode(), program.fault())" % path)
+        self.program("#!/bin/sh\necho ours\n")
+        done = subprocess.run([sys.executable, "-c", code], cwd=self.place, stdout=subprocess.PIPE,
+                              universal_newlines=True)
+        wanted = "ours\n the program isn't the one of show_cli.built: ./show check FILE builds it\n"
+        self.assertEqual(done.stdout, wanted)
+
+
+class Speed(Place):
+    def test_nothing_is_read_twice(self):
+        # Once files are some seconds old, what stat says of them is enough: no source is opened, nothing is hashed, and
+        # no module is imported that takes long.
+        self.show("check", "good")
+        self.program("#!/bin/sh\ncat\n")
+        seen = self.path("crates/show_cli/out/show_cli.seen")
+        for _ in range(60):
+            self.show("check", "good")
+            if os.path.exists(seen):
+                break
+            time.sleep(1)
+        with open(seen, encoding="utf-8") as file:
+            self.assertIn(self.path("crates/low/src/lib.rt"), file.read())
+        done = subprocess.run([sys.executable, "-IS", "-X", "importtime", "show", "play", "good"], cwd=self.place,
+                              stdout=subprocess.PIPE, stderr=subprocess.PIPE, universal_newlines=True, timeout=60,
+                              env=self.settings(self.place))
+        self.assertEqual((done.returncode, done.stdout), (0, "a\n"), done.stderr)
+        imported = {line.split("|")[2].strip() for line in done.stderr.splitlines() if line.count("|") == 2}
+        self.assertLessEqual({"commands", "running", "seen"}, imported)
+        slow = {"hashlib", "json", "re", "subprocess", "tempfile", "typing", "records", "collections"}
+        self.assertEqual(imported & slow, set())
+
+    def test_each_change_is_seen(self):
+        self.show("check", "good")
+        code = "import sys; sys.path[:0] = ['tools']\nimport program, seen\nprint(seen.is_as_seen(program.PROGRAM))"
+        note = ("import sys; sys.path[:0] = ['tools']\nimport program, seen\nseen.SETTLED = -99\n"
+                "print(seen.is_known_current(program.PROGRAM))")
+
+        def said(text):
+            return subprocess.run([sys.executable, "-c", text], cwd=self.place, stdout=subprocess.PIPE,
+                                  universal_newlines=True, check=True).stdout.strip()
+        self.assertEqual((said(code), said(note), said(code)), ("False", "True", "True"))
+        source, program = "crates/low/src/lib.rt", "crates/show_cli/out/show_cli"
+        times = os.stat(self.path(source)).st_mtime_ns, os.stat(self.path(program)).st_mtime_ns
+        for change in (lambda: self.file("crates/low/src/new.rt", ""),
+                       lambda: os.remove(self.path("crates/low/src/new.rt")),
+                       lambda: self.file(source, "a"), lambda: self.file(source, ""),
+                       lambda: os.utime(self.path(source), ns=(times[0], times[0])),
+                       lambda: os.rename(self.path("crates/low/specs"), self.path("crates/low/spec")),
+                       lambda: os.rename(self.path("crates/low/spec"), self.path("crates/low/specs"))):
+            change()
+            self.assertEqual(said(code), "False")
+            said(note)
+        self.assertEqual(said(code), "True")
+        self.file(program, "#!/bin/sh\n", 0o755)
+        os.utime(self.path(program), ns=(times[1], times[1]))
+        self.assertEqual((said(code), said(note)), ("False", "False"))
 
 
 class Unproved(Place):

@@ -107,9 +107,9 @@ class Legs(unittest.TestCase):
                         [0 in stage.to for stage in leg.stages].index(True))
 
     def test_crossed_pads(self):
-        # Each stands below the other's place at one height: one is lifted over the other, and comes down last.
+        # Each stands below the other's place at one height: one waits above its pad, over all places, and comes down last.
         leg = self.good(up([(0, 0, 0), (1000, 0, 0)], [(1000, 0, 1000), (0, 0, 1000)]), False)
-        self.assertEqual([stage.kind for stage in leg.stages], ["take-off", "go-to", "take-off", "go-to", "go-to"])
+        self.assertEqual([stage.kind for stage in leg.stages], ["take-off", "take-off", "go-to", "go-to", "go-to"])
         self.assertTrue(all(len(stage.to) == 1 for stage in leg.stages))
 
     def test_pads_have_a_rule_of_their_own(self):
@@ -120,17 +120,31 @@ class Legs(unittest.TestCase):
         self.assertEqual([sorted(stage.to) for stage in leg.stages], [[0, 1]] * 2)
         self.assertFalse(leg.whole)
         self.assertNotEqual(check(legs.text_of(leg.names, leg.places(1), leg.yaws, leg.stages[1:], leg.rules)), 0)
-        with self.assertRaisesRegex(legs.NoWay, "pads of d0 and d1 are 100 mm apart, and 150 are wanted"):
+        with self.assertRaisesRegex(legs.NoWay, "d0 and d1 come too near: pads 100 mm apart from above, places 700; put their pads 396 mm apart"):
             up([(100 * k, 0, 0) for k in range(3)], [(700 * k, 0, 1000) for k in range(3)])
         # 250 mm aside of one that stands a drone with this ellipsoid and stray can't go up
         with self.assertRaisesRegex(legs.NoWay, "come too near.*put their pads [0-9]+ mm apart"):
             up([(250 * k, 0, 0) for k in range(3)], [(700 * k, 0, 1000) for k in range(3)])
 
-    def test_an_exchange_is_named(self):
-        # Three in a row whose pads go round: with two of them exchanged all can go.
-        pads, firsts = [(0, 0, 0), (500, 0, 0)], [(500, 0, 1000), (0, 0, 1000)]
-        planner = legs.Planner(["a", "b"], pads, firsts, [0, 0], rules())
-        self.assertTrue(planner.swapped(0, 1))
+    def test_dealt_over_the_pads(self):
+        # Each has a pad below its own place once the drones change pads: two are exchanged, and three go round.
+        for pads, firsts, said in (
+                ([(0, 0, 0), (500, 0, 0)], [(500, 0, 1000), (0, 0, 1000)], "exchange d0 and d1 on their pads"),
+                ([(0, 0, 0), (500, 0, 0), (1000, 0, 0)], [(500, 0, 1000), (1000, 0, 1000), (0, 0, 1000)],
+                 "deal the drones over the pads: d0 to that of d1, d1 to that of d2, d2 to that of d0")):
+            planner = legs.Planner(["d0", "d1", "d2"][:len(pads)], pads, firsts, [0] * len(pads), rules())
+            self.assertEqual(planner.dealt(), said)
+
+    def test_thirty_two_shuffled(self):
+        # Pads in rows of eight, and the places above them in another order: every drone gets to its own.
+        at = [(600 * (k % 8), 600 * (k // 8), 1000) for k in range(32)]
+        pads = legs.below(at)
+        random.Random(0).shuffle(pads)
+        leg = self.good(up(pads, at), False)
+        self.assertEqual(leg.places(), dict(enumerate(at)))
+        self.assertLess(leg.milliseconds(), 300000)
+        self.assertIsNone(leg.reversed().judge(dict(enumerate(pads))))
+        self.assertRegex(leg.hint, "^deal the drones over the pads: ")
 
     def test_heights(self):
         # Between the floor and 200 mm above it there is no first place; on the floor a drone has to stand at it.
@@ -153,7 +167,7 @@ class Legs(unittest.TestCase):
             "ellipsoid": (120, 300), "stray": (30,), "late": (40,)}
         leg = up(pads, firsts, legs.Rules(settings, ceiling=1900))
         self.assertEqual(leg.top(), 1820)
-        with self.assertRaisesRegex(legs.NoWay, "exchange the two on their pads"):
+        with self.assertRaisesRegex(legs.NoWay, "exchange d0 and d1 on their pads"):
             up(pads, firsts, legs.Rules(settings, ceiling=1800))
 
     def test_risers(self):
@@ -205,13 +219,13 @@ class AllLand(unittest.TestCase):
         return landings.Landings(flown, [0] * len(flown.names), legs.Rules(flown.show.settings), **words)
 
     def test_below_each_other(self):
-        # b flies through a's column from 5.5 to 6.4 s: there all fly on.
+        # b flies through a's column from 5.5 to 6.2 s: there all fly on.
         it = self.of(UNDER)
-        self.assertEqual([it.now(t) is None for t in (0, 4000, 5000, 5800, 6000, 6200, 7000, 10000)],
+        self.assertEqual([it.now(t) is None for t in (0, 4000, 5000, 5800, 6000, 6100, 7000, 10000)],
                          [True, True, True, False, False, False, True, True])
-        self.assertEqual(it.next(5900), 6400)
+        self.assertEqual(it.next(5900), 6200)
         self.assertEqual(list(it.lines()), [
-            "cue 1, 0.0 to 4.0 s: land now", "cue 2, 4.0 to 8.0 s: land now, but from 5.5 to 6.3 s fly on to 6.4 s: a and b",
+            "cue 1, 0.0 to 4.0 s: land now", "cue 2, 4.0 to 8.0 s: land now, but from 5.5 to 6.2 s fly on to 6.2 s: a and b",
             "cue 3, 8.0 to 10.0 s: land now"])
         self.assertEqual(self.of(ABOVE).next(0), None)
         self.assertIn("fly on to the way down", "".join(self.of(ABOVE).lines()))
@@ -223,8 +237,9 @@ class AllLand(unittest.TestCase):
         it = self.of(text)
         middle, far = it.reach(0, 1500)
         at = it.curves[0].at(1500)
-        self.assertTrue(240 < middle[0] - at[0] < 360 and 360 < far < 480, (middle, far))
-        self.assertLess(it.reach(0, 3000)[1], 1)
+        # from 50 ms before to 150 ms after it, 0.4 m and what it is carried on, 0.6 m at most: the middle of a metre
+        self.assertTrue(340 < middle[0] - at[0] < 460 and 430 < far < 520, (middle, far))
+        self.assertLess(it.reach(0, 3050)[1], 1)
 
     def test_speed_widens(self):
         # Two that meet head on at 400 mm are apart where they hover so, and not at speed.
@@ -234,10 +249,11 @@ class AllLand(unittest.TestCase):
         self.assertEqual([it.now(t) is None for t in (0, 1500, 3000)], [True, False, True])
 
     def test_side_by_side_at_speed(self):
-        # Side by side at one speed they are carried on alike: half of it is stray, and not all.
-        text = "choreo 1\n" + "".join("drone d%d %d 0 1000000 0\n" % (k, 1000000 * k) for k in range(3)) + "cue 3000\n" + "".join(
+        # Side by side at one speed they are carried on alike: half of it is stray, and not all. 1.3 m/s: 200 ms of it and 0.3 m
+        # to brake are 0.56 m, of which 0.28 are stray. With 0.12 m for the ellipsoid that is 0.80 m of two of them.
+        text = "choreo 1\n" + "".join("drone d%d %d 0 1000000 0\n" % (k, 1000000 * k) for k in range(3)) + "cue 4200\n" + "".join(
             "d%d move %d 2500000 1000000 0\n" % (k, 1000000 * k) for k in range(3)) + "end\n"
-        self.assertIsNone(self.of(text).now(1500))
+        self.assertIsNone(self.of(text).refusal(2100))
 
     def test_silent(self):
         # b is silent and flies on below a: while b is still to come, a must not land; once b is past, it may.
@@ -285,6 +301,36 @@ class AllLand(unittest.TestCase):
         self.assertGreater(looked, 50000)
         self.assertGreater(nearest, 1)
 
+    def test_landings_from_the_ways(self):
+        # b is above a's place in the end, and from there all may not land; on the pads they may. Landings by chance from
+        # each stage at instants that are said to be good: commands up to 300 ms apart, and the drones carried on.
+        leg, chance, looked, nearest = up([(700, 0, 0), (0, 0, 0)], [(0, 0, 500), (0, 0, 1500)]), random.Random(6), 0, math.inf
+        rows = [landings.StageLandings(leg, number, [0, 0]) for number in range(len(leg.stages))]
+        self.assertIsNone(rows[0].now(0))
+        self.assertIsNotNone(rows[-1].now(rows[-1].end))
+        for row in rows:
+            good = [t for t, why in row.table() if why is None and t <= row.end]
+            for t in good * 3:
+                fly, late = [k for k in range(2) if k not in row.standing], [chance.uniform(0, 300) for _ in range(2)]
+                told = [t + chance.uniform(0, 300) for _ in range(2)]
+
+                def at(k, now):
+                    curve = row.curves[k]
+                    if now < told[k] or k not in fly:
+                        return curve.at(now - late[k])
+                    first, before = curve.at(told[k] - late[k]), curve.at(told[k] - late[k] - 1)
+                    speed, seconds = [1000 * (v - w) for v, w in zip(first, before)], (now - told[k]) / 1000
+                    size, down = math.hypot(*speed), common.air.smooth(seconds / 4)
+                    on = common.air.carried_on(size / 1000, seconds) / (size / 1000) if size > 1 else 0.0
+                    return [v + on * w for v, w in zip((*first[:2], first[2] * (1 - down)), speed)]
+                for now in range(int(t), int(t) + 4600, 50):
+                    a, b = at(0, now), at(1, now)
+                    looked += 1
+                    if max(a[2], b[2]) > 50:
+                        nearest = min(nearest, math.hypot((a[0] - b[0]) / 240, (a[1] - b[1]) / 240, (a[2] - b[2]) / 600))
+        self.assertGreater(looked, 1000)
+        self.assertGreater(nearest, 1)
+
     def test_curves_that_are_cut(self):
         # What is judged of a silent drone is its curve, as far as the stray is larger for it; also where cues are short.
         short = "choreo 1\ndrone a 0 0 1000000 0\ndrone b 0 3000000 1000000 0\n" + "".join(
@@ -306,7 +352,7 @@ class AllLand(unittest.TestCase):
         self.assertIsNone(it.with_silent(100, {1}))
 
     def test_examples(self):
-        for name in ("wave", "ring", "grid_to_ring_dealt"):
+        for name in ("ring", "grid_to_ring_dealt"):
             it = self.of(common.example(name)[0])
             self.assertTrue(all(why is None for _, why in it.table()), name)
 
@@ -322,7 +368,7 @@ class Tool(unittest.TestCase):
                     self.assertEqual(check(file.read()), 0)
             self.assertIn("way up: 2 stages, 4.0 s; judged as a whole; ", out)
             self.assertIn("way down: 5 stages, 11.6 s; judged stage by stage", out)
-            self.assertIn("cue 2, 2.0 to 5.0 s: land now, but from 3.1 to 3.8 s fly on to 3.8 s: a and b", out)
+            self.assertIn("cue 2, 2.0 to 5.0 s: land now, but from 3.0 to 3.8 s fly on to 3.8 s: a and b", out)
             pads = os.path.join(room, "pads")
             with open(pads, "w") as file:
                 file.write("# a on a riser\na 100000 0 300000\nb 1000000 -50000 0\n")

@@ -1,24 +1,50 @@
-"""The library for C, as tools/library makes it: from C, C++ and Python, by many threads at once, and with each malloc failing in turn. It is
-skipped where crates/hemtoghai isn't built or a compiler is missing. What is expected is the program's own answer, or that of docs/COMMANDS.md."""
+"""The library for C, as tools/library made it in library/out: from C, C++, Rust and Python, by many threads at once,
+and with each malloc failing in turn; hemtoghai.py with the library and with the program; and the programs of
+docs/CALLING.md. What is expected is the program's own answer, or that of the documents. What needs a compiler or a
+build that isn't there, or isn't of these sources, is skipped."""
 import concurrent.futures
 import ctypes
+import importlib.util
+import json
 import os
+import re
 import shutil
 import subprocess
 import sys
 import tempfile
 import unittest
+from unittest import mock
 
 sys.dont_write_bytecode = True
 sys.path.insert(0, os.path.dirname(os.path.abspath(__file__)))
 from common import TOP, wants_program
+import built
 import choreo
 
-ARCHIVE = os.path.join(TOP, "crates", "hemtoghai", "out", "libhemtoghai.a")
-TOOLS = ["rt", "cc", "c++", "ld", "ar", "nm", "objcopy", "size"]
+OUT = os.path.join(TOP, "library", "out")
+MODULE = os.path.join(TOP, "library", "hemtoghai.py")
+CALLING = os.path.join(TOP, "docs", "CALLING.md")
+STRICT = ["-O2", "-Wall", "-Wextra", "-pedantic", "-Werror"]
 SHOWS = ["solo", "crossing", "crossing_cured", "grid_to_ring_dealt", "every_act"]
 WORDS = ["check", "compile", "certify", "play --step 500", "report", "speed", "explain", "dynamics", "boxes", "verify",
-         "rehearse", "upload --start", "check --depth 9", "help", "version", "drill 4", ""]
+         "rehearse", "upload --start", "check --depth 9", "help", "version", "drill 4", "", "\tcheck\n--depth  2 "]
+ACCEPTED = 0, b"ok drones 1 cues 1 duration_ms 2000\n"
+# Each command with an input, and the status that docs/COMMANDS.md has for it.
+CERTIFICATE = b"%%\ncertificate 6\nr\nn\na\n"
+TAKEN = b"%%\n" + b"".join(b"%s solo %d\n" % it for it in [
+    (b"take", 2), (b"take", 1), (b"take", 1), (b"hear", 1), (b"hear", 1), (b"hear", 2), (b"take", 3), (b"hear", 4)])
+ALTERED = b"%%\n" + b"".join(it + b"\n" for it in [
+    b"take solo 1", b"take solo 2", b"hear solo 1", b"hear solo 2", b"take solo 3", b"hear solo 3", b"alter solo 3 7",
+    b"take solo 4", b"take solo 5", b"hear solo 4", b"hear solo 5"])
+FRAMES = b"%%\nP\1\7N\2\0\0\0\0\0P\1\7N\2\30\0\0\0\0P\1\5\214\6\0\1\0"
+EVERY = [("help", None, b"", 0), ("version", None, b"", 0), ("drill 4", None, b"", 0), ("chek", None, b"", 2),
+         ("check", "crossing_cured", b"", 0), ("compile --depth 3", "crossing_cured", b"", 0),
+         ("certify", "crossing_cured", b"", 0), ("play --step 500", "crossing_cured", b"", 0),
+         ("report", "crossing_cured", b"", 0), ("verify", "crossing_cured", CERTIFICATE, 0),
+         ("rehearse", "solo", TAKEN, 0), ("rehearse --readback", "solo", ALTERED, 14), ("upload", "solo", FRAMES, 0),
+         ("boxes", "shelf", b"%%\n", 0), ("speed", "solo", b"", 0), ("speed --limit 1000000", "solo", b"", 16),
+         ("explain", "crossing", b"", 0), ("dynamics", "crossing_cured", b"", 0), ("check", "crossing", b"", 5),
+         ("upload", "crossing", FRAMES, 5), ("check", "solo", b"%%\n", 11), ("verify", "solo", b"", 11)]
 
 
 def path_of(show):
@@ -26,49 +52,90 @@ def path_of(show):
     return os.path.join(TOP, "examples", show + ".choreo")
 
 
-def said(*words, text=b""):
+def text_of(show):
+    """The bytes of an example."""
+    with open(path_of(show), "rb") as file:
+        return file.read()
+
+
+def version():
+    """The version of these files."""
+    with open(os.path.join(TOP, "VERSION")) as file:
+        return file.read().strip()
+
+
+def said(*words, text=b"", place=None, **more):
     """The status and the output of a command. Its input is a file, since some commands read nothing."""
     with tempfile.TemporaryFile() as source:
         source.write(text)
         source.seek(0)
-        done = subprocess.run(words, stdin=source, stdout=subprocess.PIPE, stderr=subprocess.STDOUT, timeout=600)
+        done = subprocess.run(words, stdin=source, stdout=subprocess.PIPE, stderr=subprocess.STDOUT, timeout=600,
+                              cwd=place, env={**os.environ, **more})
     return done.returncode, done.stdout
 
 
-@unittest.skipUnless(os.path.exists(ARCHIVE), "the library isn't built: tools/library builds it")
-@unittest.skipUnless(all(map(shutil.which, TOOLS)), "a compiler or the toolchain is missing")
-class Library(unittest.TestCase):
+def module_by(path=MODULE, **named):
+    """hemtoghai.py, loaded anew with the judge that these variables name, or without any."""
+    spec = importlib.util.spec_from_file_location("hemtoghai_by", path)
+    module = importlib.util.module_from_spec(spec)
+    with mock.patch.dict(os.environ, named):
+        for name in {"HEMTOGHAI_LIBRARY", "HEMTOGHAI_PROGRAM"} - set(named):
+            os.environ.pop(name, None)
+        spec.loader.exec_module(module)
+    return module
+
+
+def blocks_of(language):
+    """The programs in a language in docs/CALLING.md, each with the output that stands after it."""
+    with open(CALLING) as file:
+        page = file.read()
+    return re.findall(r"^```%s\n(.*?)^```\n.*?^```text\n(.*?)^```\n" % language, page, re.M | re.S)
+
+
+def is_made():
+    """Whether library/out is what tools/library makes of these sources."""
+    try:
+        with open(os.path.join(OUT, "MANIFEST.json")) as file:
+            record = json.load(file)
+    except (OSError, ValueError):
+        return False
+    show = built.launcher()
+    return record.get("stamp") == show.stamp(show.crates_below("hemtoghai"))
+
+
+class Room(unittest.TestCase):
+    """The library that was made, and a folder for what is built with it."""
+    room, lib, include = None, os.path.join(OUT, "lib"), os.path.join(OUT, "include")
+
     @classmethod
     def setUpClass(cls):
-        room = tempfile.TemporaryDirectory()
-        cls.addClassCleanup(room.cleanup)
-        cls.room, cls.lib = room.name, os.path.join(room.name, "lib")
-        status, text = said(os.path.join(TOP, "tools", "library"), "--out", room.name)
-        assert status == 0, text.decode()
-        sys.path.insert(0, os.path.join(room.name, "python"))
-        import hemtoghai
-        cls.python = hemtoghai
+        if Room.room is None:
+            if not is_made():
+                raise unittest.SkipTest("the library isn't the one of these sources: tools/library makes it")
+            if not shutil.which("cc"):
+                raise unittest.SkipTest("there is no C compiler")
+            Room.room = tempfile.mkdtemp()
+            unittest.addModuleCleanup(shutil.rmtree, Room.room)
 
     def built(self, source, *flags, compiler="cc"):
         """A program of a C file with the static library."""
         program = os.path.join(self.room, os.path.basename(source).split(".")[0])
-        status, text = said(compiler, "-O2", "-Wall", "-Wextra", "-pedantic", "-Werror", "-I" + os.path.join(self.room, "include"),
-                            os.path.join(TOP, source), os.path.join(self.lib, "libhemtoghai.a"), *flags, "-o", program)
+        status, text = said(compiler, *STRICT, "-I" + self.include, os.path.join(TOP, source),
+                            os.path.join(self.lib, "libhemtoghai.a"), *flags, "-o", program)
         self.assertEqual((status, text), (0, b""))
         return program
 
-    def stress(self):
-        """The program that stresses it."""
-        return self.built("tests/library_stress.c", "-std=gnu11", "-pthread", "-Wl,--wrap=malloc,--wrap=realloc,--wrap=free")
+    def by_library(self):
+        """hemtoghai.py by the library."""
+        return module_by(HEMTOGHAI_LIBRARY=os.path.join(self.lib, "libhemtoghai.so.0"))
 
-    @wants_program
-    def test_answers_as_the_program(self):
-        for show in SHOWS:
-            with open(path_of(show), "rb") as file:
-                text = file.read()
-            for words in WORDS:
-                status, answer = said(choreo.PROGRAM, *words.split(), text=text)
-                self.assertEqual(tuple(self.python.run(words, text)), (status, answer), (words, show))
+
+class InC(Room):
+    def stress(self):
+        """The program that stresses the library."""
+        program = os.path.join(self.room, "library_stress")
+        return program if os.path.exists(program) else self.built(
+            "tests/library_stress.c", "-std=gnu11", "-pthread", "-Wl,--wrap=malloc,--wrap=realloc,--wrap=free")
 
     def test_c(self):
         status, text = said(self.built("library/check.c", "-std=c99"), path_of("crossing_cured"), path_of("crossing"))
@@ -76,50 +143,247 @@ class Library(unittest.TestCase):
                          (5, "crossing_cured.choreo: 0: ok drones 2 cues 3 duration_ms 7000\n"
                              "crossing.choreo: 5: error 5 pair a b cue 1 part 28 of 64\n"))
 
+    @unittest.skipUnless(shutil.which("c++"), "there is no C++ compiler")
     def test_cpp(self):
         program = self.built("library/plan.cpp", "-std=c++17", compiler="c++")
         with open(os.path.join(TOP, "crates", "show_cli", "stdin"), "rb") as show, open(
                 os.path.join(TOP, "crates", "show_cli", "stdout"), "rb") as plan:
             self.assertEqual(said(program, text=show.read()), (0, plan.read()))
 
-    def test_room(self):
-        library = self.python._library
-        output, size = ctypes.create_string_buffer(b"?" * 40), ctypes.c_size_t()
-        for room, status, stands in ((36, 0, b"ok drones 1 cues 1 duration_ms 2000\n????"), (5, 7, b"ok dr" + b"?" * 35), (0, 7, b"?" * 40)):
-            output.value = b"?" * 40
-            with open(path_of("solo"), "rb") as file:
-                text = file.read()
-            self.assertEqual(library.hemtoghai_run(b"check", 5, text, len(text), output if room else None, room, ctypes.byref(size)), status)
-            self.assertEqual((size.value, output.raw[:40]), (36, stands))
+    @unittest.skipUnless(shutil.which("cargo"), "there is no cargo")
+    def test_rust(self):
+        place = os.path.join(self.room, "rust")
+        shutil.copytree(os.path.join(TOP, "library", "rust"), place, ignore=shutil.ignore_patterns("target"))
+        status, text = said("cargo", "test", "--offline", "--quiet", place=place, HEMTOGHAI_LIB=self.lib)
+        self.assertEqual((status, text.count(b"test result: ok. 3 passed")), (0, 1), text.decode())
+
+    def test_shared(self):
+        flags = ["-I" + self.include, "-L" + self.lib, "-lhemtoghai"]
+        program = os.path.join(self.room, "by_shared")
+        self.assertEqual(said("cc", *STRICT, os.path.join(TOP, "library", "check.c"), *flags, "-o", program), (0, b""))
+        self.assertEqual(said(program, path_of("solo"), LD_LIBRARY_PATH=self.lib),
+                         (0, path_of("solo").encode() + b": 0: " + ACCEPTED[1]))
 
     def test_threads(self):
         self.assertEqual(said(self.stress(), "threads", "8", "1000", *map(path_of, SHOWS)), (0, b"wrong 0 out 0\n"))
-        with open(path_of("solo"), "rb") as file:
-            show = self.python.Show(file.read())
+        show = self.by_library().Show(text_of("solo"))
         with concurrent.futures.ThreadPoolExecutor(8) as threads:
-            verdicts = set(threads.map(lambda _: show.check(), range(1000)))
-        self.assertEqual(verdicts, {self.python.Verdict(0, b"ok drones 1 cues 1 duration_ms 2000\n")})
+            verdicts = set(threads.map(lambda _: tuple(show.check()), range(1000)))
+        self.assertEqual(verdicts, {ACCEPTED})
+
+    def inputs(self):
+        """Each command with the file of its input, and the status of its answer."""
+        for number, (words, show, second, status) in enumerate(EVERY):
+            text = text_of(show) if show else b""
+            if words == "boxes":
+                with open(os.path.join(TOP, "examples", "shelf.regions"), "rb") as file:
+                    second += file.read()
+            path = os.path.join(self.room, "input%d" % number)
+            with open(path, "wb") as file:
+                file.write(text + second)
+            yield words, path, status
+
+    def test_every_command(self):
+        shows = [word for words, path, _ in self.inputs() for word in (words, path)]
+        status, text = said(self.stress(), "calls", "3", *shows)
+        self.assertEqual(status, 0, text)
+        self.assertRegex(text, rb"^calls %d asks \d+ wrong 0 out 0\n$" % (3 * len(EVERY)))
+        for words, path, wanted in self.inputs():
+            with open(path, "rb") as file:
+                self.assertEqual(self.by_library().run(words, file.read()).status, wanted, words)
 
     def test_memory(self):
-        for show in SHOWS[:3]:
-            status, text = said(self.stress(), "failing", path_of(show))
-            self.assertEqual(status, 0, (show, text))
+        for words, path, wanted in self.inputs():
+            status, text = said(self.stress(), "failing", words, path)
+            self.assertEqual(status, 0, (words, text))
+            self.assertTrue(text.startswith(b"status %d after " % wanted), (words, text))
 
-    def test_python(self):
-        with open(path_of("crossing")) as file:
-            show = self.python.Show(file.read())
-        self.assertEqual((show.check().accepted, show.check().line), (False, "error 5 pair a b cue 1 part 28 of 64"))
-        with self.assertRaises(self.python.Refused):
-            show.compile()
-        with open(os.path.join(TOP, "VERSION")) as file:
-            self.assertEqual(".".join(map(str, self.python.VERSION)), file.read().strip())
-        self.assertEqual(self.python.run("check \ud7ff").status, 2)
+    @unittest.skipUnless(shutil.which("valgrind"), "there is no valgrind")
+    def test_valgrind(self):
+        shows = [word for words, path, _ in self.inputs() for word in (words, path)]
+        for tool, words in (("memcheck", ["calls", "1", *shows]),
+                            ("helgrind", ["threads", "4", "6", path_of("solo"), path_of("crossing")])):
+            checked = ["valgrind", "--tool=" + tool, "--error-exitcode=9"]
+            if tool == "memcheck":
+                checked += ["--leak-check=full", "--errors-for-leak-kinds=definite"]
+            status, text = said(*checked, self.stress(), *words)
+            self.assertEqual(status, 0, text.decode())
+
+    def test_room(self):
+        library = ctypes.CDLL(os.path.join(self.lib, "libhemtoghai.so.0"))
+        output, size, text = ctypes.create_string_buffer(b"?" * 40), ctypes.c_size_t(), text_of("solo")
+        for room, status, stands in ((40, 0, ACCEPTED[1] + b"????"), (36, 0, ACCEPTED[1] + b"????"),
+                                     (35, 7, ACCEPTED[1][:35] + b"?????"), (5, 7, b"ok dr" + b"?" * 35),
+                                     (0, 7, b"?" * 40)):
+            output.value = b"?" * 40
+            found = library.hemtoghai_run(b"check", ctypes.c_size_t(5), text, ctypes.c_size_t(len(text)),
+                                          output if room else None, ctypes.c_size_t(room), ctypes.byref(size))
+            self.assertEqual((found & 255, size.value, output.raw[:40]), (status, 36, stands))
+        for words, status in ((b"check \xff", 17), (b"check \xc3\xa9", 2)):  # no UTF-8, and a word of it
+            output.value = b"?" * 40
+            found = library.hemtoghai_run(words, ctypes.c_size_t(len(words)), None, ctypes.c_size_t(0), output,
+                                          ctypes.c_size_t(40), ctypes.byref(size))
+            line = b"error 2 usage\n" if status == 2 else b""
+            self.assertEqual((found & 255, size.value, output.raw[:40]), (status, len(line), line.ljust(40, b"?")))
 
     def test_header_has_the_version(self):
-        with open(os.path.join(TOP, "VERSION")) as file, open(os.path.join(TOP, "library", "hemtoghai.h")) as header:
-            numbers, text = file.read().strip().split("."), header.read()
-        for name, number in zip(("MAJOR", "MINOR", "PATCH"), numbers):
+        with open(os.path.join(TOP, "library", "hemtoghai.h")) as header:
+            text = header.read()
+        for name, number in zip(("MAJOR", "MINOR", "PATCH"), version().split(".")):
             self.assertIn("#define HEMTOGHAI_VERSION_%s %s\n" % (name, number), text)
+        with open(os.path.join(TOP, "library", "rust", "Cargo.toml")) as file:
+            self.assertIn('\nversion = "%s"\n' % version(), file.read())
+
+    def test_manifest(self):
+        with open(os.path.join(OUT, "MANIFEST.json")) as file:
+            manifest = json.load(file)
+        self.assertEqual(sorted(manifest["files"]), [
+            "include/hemtoghai.h", "lib/libhemtoghai.a", "lib/libhemtoghai.so." + version(),
+            "lib/pkgconfig/hemtoghai.pc", "python/hemtoghai.py"])
+        self.assertRegex(manifest["rests_on"], "^logic=proved .* axioms=3 ")
+        self.assertEqual(self.by_library().proof(), manifest["rests_on"])
+
+
+class Judges(Room):
+    """hemtoghai.py: the same answers, whichever judge it takes."""
+
+    def judges(self):
+        """The module by the library and by the program."""
+        return self.by_library(), module_by(HEMTOGHAI_PROGRAM=choreo.PROGRAM)
+
+    @wants_program
+    def test_same_answers(self):
+        library, program = self.judges()
+        self.assertEqual((library.VERSION, type(library.judge).__name__, type(program.judge).__name__),
+                         (program.VERSION, "Library", "Program"))
+        for show in SHOWS:
+            text = text_of(show)
+            for words in WORDS:
+                status, answer = said(choreo.PROGRAM, *words.split(), text=text)
+                for module in (library, program):
+                    self.assertEqual(tuple(module.run(words, text)), (status, answer), (words, show))
+
+    @wants_program
+    def test_names(self):
+        for module in self.judges():
+            with open(path_of("crossing")) as file:
+                show = module.Show(file.read())
+            self.assertEqual(".".join(map(str, module.VERSION)), version())
+            self.assertEqual((show.check().accepted, show.check().line),
+                             (False, "error 5 pair a b cue 1 part 28 of 64"))
+            with self.assertRaises(module.Refused) as refused:
+                show.compile()
+            self.assertEqual((refused.exception.verdict.status, str(refused.exception)),
+                             (5, "error 5 pair a b cue 1 part 28 of 64"))
+            for text in (text_of("solo"), bytearray(text_of("solo")), memoryview(text_of("solo"))):
+                self.assertEqual(tuple(module.run("check", text)), ACCEPTED)
+                self.assertEqual(tuple(module.Show(text).check(2)), ACCEPTED)
+            self.assertEqual(module.Show(text_of("solo")).compile(0).split(b"\n")[0], b"plan 1")
+            self.assertEqual(module.run("check \ud7ff").status, 2)
+            for wrong in (-1, 9, 2.5, float("nan"), "6"):
+                with self.assertRaises(ValueError):
+                    show.check(wrong)
+            for wrong in (5, None, "text"):
+                with self.assertRaises(TypeError):
+                    module.run("check", wrong)
+
+
+class Found(unittest.TestCase):
+    """Which judge hemtoghai.py takes; the program is a script."""
+
+    def setUp(self):
+        room = tempfile.TemporaryDirectory()
+        self.addCleanup(room.cleanup)
+        self.place = os.path.realpath(room.name)
+        none = mock.patch("ctypes.CDLL", side_effect=OSError("none"))  # whatever library the system may have
+        none.start()
+        self.addCleanup(none.stop)
+        self.module = self.file("library/hemtoghai.py", "")
+        shutil.copy(MODULE, self.module)
+
+    def file(self, name, text, mode=0o644):
+        """The path of a file that is written."""
+        path = os.path.join(self.place, name)
+        os.makedirs(os.path.dirname(path), exist_ok=True)
+        with open(path, "w") as file:
+            file.write(text)
+        os.chmod(path, mode)
+        return path
+
+    def test_none(self):
+        with self.assertRaises(ImportError):
+            module_by(self.module)
+        for name in ("HEMTOGHAI_LIBRARY", "HEMTOGHAI_PROGRAM"):
+            with self.assertRaises(ImportError):
+                module_by(self.module, **{name: os.path.join(self.place, "none")})
+
+    def test_places(self):
+        path = self.file("crates/show_cli/out/show_cli", "#!/bin/sh\necho hemtoghai 7.8.9\n", 0o755)
+        for name in ("library/out/python/hemtoghai.py", "library/hemtoghai.py"):
+            shutil.copy(MODULE, self.file(name, ""))
+            self.assertEqual(module_by(os.path.join(self.place, name)).judge.path, path)
+        shutil.copy(MODULE, self.file("library/python/hemtoghai.py", ""))  # whatever stands further up isn't its own
+        with self.assertRaises(ImportError):
+            module_by(os.path.join(self.place, "library/python/hemtoghai.py"))
+
+    def test_program(self):
+        path = self.file("crates/show_cli/out/show_cli", "#!/bin/sh\necho hemtoghai 7.8.9\n[ $1 = version ]\n", 0o755)
+        module = module_by(self.module)
+        self.assertEqual((module.judge.path, module.VERSION), (path, (7, 8, 9)))
+        self.assertIsNone(module.proof())
+        record = {"sha256": "0" * 64, "rests_on": "logic=proved"}
+        self.file("crates/show_cli/out/show_cli.built", json.dumps(record))
+        self.assertIsNone(module.proof())
+        record["sha256"] = "c3d5b8f4" * 8
+        with mock.patch("hashlib.sha256") as digest:
+            digest.return_value.hexdigest.return_value = record["sha256"]
+            self.file("MANIFEST.json", json.dumps(record))
+            self.assertEqual(module.proof(), "logic=proved")
+        with self.assertRaises(MemoryError):  # the script ends every other command with 1
+            module.run("check")
+
+    def test_no_program(self):
+        for text in ("#!/bin/sh\necho something else\n", "#!/bin/sh\nkill -9 $$\n"):
+            with self.assertRaises(ImportError):
+                module_by(self.module, HEMTOGHAI_PROGRAM=self.file("script", text, 0o755))
+
+
+class Page(Room):
+    """The programs of docs/CALLING.md, run as they stand."""
+
+    def written(self, name, text):
+        """The path of a file of a program."""
+        path = os.path.join(self.room, name)
+        os.makedirs(os.path.dirname(path), exist_ok=True)
+        with open(path, "w") as file:
+            file.write(text)
+        return path
+
+    def test_c(self):
+        for language, compiler, standard in (("c", "cc", "c99"), ("cpp", "c++", "c++17")):
+            if not shutil.which(compiler):
+                continue
+            (source, output), = blocks_of(language)
+            program = self.built(self.written("page/%s.%s" % (language, language), source), "-std=" + standard,
+                                 compiler=compiler)
+            self.assertEqual(said(program, place=TOP), (0, output.encode()), language)
+
+    def test_python(self):
+        (source, output), = blocks_of("python")
+        found = said(sys.executable, self.written("page/page.py", source), place=TOP,
+                     PYTHONPATH=os.path.join(OUT, "python"))
+        self.assertEqual(found, (0, output.encode()))
+
+    @unittest.skipUnless(shutil.which("cargo"), "there is no cargo")
+    def test_rust(self):
+        (source, output), = blocks_of("rust")
+        self.written("page/rust/src/main.rs", source)
+        self.written("page/rust/Cargo.toml", '[package]\nname = "page"\nversion = "0.1.0"\nedition = "2021"\n'
+                     '[dependencies]\nhemtoghai = { path = "%s" }\n' % os.path.join(TOP, "library", "rust"))
+        place = os.path.join(self.room, "page", "rust")
+        status, text = said("cargo", "build", "--offline", "--quiet", place=place, HEMTOGHAI_LIB=self.lib)
+        self.assertEqual((status, text), (0, b""))
+        self.assertEqual(said(os.path.join(place, "target", "debug", "page"), place=TOP), (0, output.encode()))
 
 
 if __name__ == "__main__":

@@ -1,11 +1,13 @@
-"""tools/release, the manual page and the completion; ./show and tools of a release, unpacked where there is no rt and
-no repository. A repository is made for it with the files of this one, a single small crate, and the built program;
-where none is built here, with .ci/stand_in in its place. Machines other than this one weren't tried."""
+"""tools/release, the manual page and the completion; ./show, tools and library of a release, unpacked where there is
+no rt and no repository. A repository is made for it with the files of this one, two small crates, and the program and
+library that were built. Where the program isn't built here .ci/stand_in is in its place, and where the library isn't,
+files of a few bytes are. Machines other than this one weren't tried."""
 import hashlib
-import importlib.machinery
 import importlib.util
 import json
+import marshal
 import os
+import platform
 import re
 import resource
 import shutil
@@ -31,6 +33,9 @@ echo error 2 usage
 exit 2
 """ % (sys.executable, os.path.join(TOP, ".ci", "stand_in"))
 IS_BUILT = os.access(choreo.PROGRAM, os.X_OK)
+LIBRARY = os.path.join(TOP, "library", "out")
+HAS_LIBRARY = os.path.exists(os.path.join(LIBRARY, "MANIFEST.json"))
+LIB = ["library/out/lib/libhemtoghai.so", "library/out/lib/libhemtoghai.so.0", "library/out/lib/libhemtoghai.so.7.8.9"]
 NAME = "hemtoghai-7.8.9%s-x86_64-linux"
 
 
@@ -41,19 +46,27 @@ def done(words, place, **more):
     return ended.returncode, ended.stdout, ended.stderr
 
 
+def digest(path):
+    """A file's SHA-256."""
+    with open(path, "rb") as file:
+        return hashlib.sha256(file.read()).hexdigest()
+
+
 class Repository:
     """A repository from which a release can be made."""
 
     def __init__(self, room):
         self.place = os.path.join(room, "repository")
-        for name in ("docs", "examples", "tools"):
-            shutil.copytree(os.path.join(TOP, name), self.path(name), ignore=shutil.ignore_patterns("__pycache__"))
-        for name in ("README.md", "show"):
-            shutil.copy(os.path.join(TOP, name), self.place)
+        for name in ("docs", "examples", "tools", "library"):
+            shutil.copytree(os.path.join(TOP, name), self.path(name),
+                            ignore=shutil.ignore_patterns("__pycache__", "out", "target"))
+        shutil.copy(os.path.join(TOP, "show"), self.place)
+        self.file("README.md", "of the repository\n")
         self.file("VERSION", "7.8.9\n")
-        self.file("crates.txt", "show_cli:\n")
+        self.file("crates.txt", "show_cli:\nhemtoghai staticlib:\n")
         self.file(".gitignore", "out/\n")
         self.file("crates/show_cli/src/lib.rt", "fn f() {}\n")
+        self.file("crates/hemtoghai/src/lib.rt", "fn h() {}\n")
         self.file("bin/rt", "#!/bin/sh\n[ \"$1\" = version ] && echo a toolchain\n", 0o755)
         self.program = self.path("crates/show_cli/out/show_cli")
         self.file(self.program, STAND_IN, 0o755)
@@ -62,6 +75,7 @@ class Repository:
         self.git("init", "-q")
         self.commit()
         self.record()
+        self.library()
 
     def path(self, name):
         """The path of a file."""
@@ -90,17 +104,34 @@ class Repository:
         """An environment in which rt is the stand-in of the place."""
         return {**os.environ, "PATH": self.path("bin") + os.pathsep + os.environ["PATH"]}
 
+    def said(self, code):
+        """What an expression over the records of ./show of the place is, as text."""
+        code = "import sys; sys.dont_write_bytecode = True; sys.path[:0] = ['tools']\nimport records\nprint(%s)" % code
+        return subprocess.run([sys.executable, "-c", code], cwd=self.place, check=True, stdout=subprocess.PIPE,
+                              env=self.settings()).stdout.decode().strip()
+
+    def library(self, said=PROVED):
+        """Makes the files of the library, and notes their build, as tools/library does."""
+        out = self.path("library/out")
+        for name, source in (("include/hemtoghai.h", "library/hemtoghai.h"),
+                             ("python/hemtoghai.py", "library/hemtoghai.py")):
+            self.file(os.path.join(out, name), "")
+            shutil.copy(self.path(source), os.path.join(out, name))
+        for name, built in (("lib/libhemtoghai.a", "lib/libhemtoghai.a"),
+                            ("lib/libhemtoghai.so.7.8.9", "lib/libhemtoghai.so"),
+                            ("lib/pkgconfig/hemtoghai.pc", "lib/pkgconfig/hemtoghai.pc")):
+            self.file(os.path.join(out, name), name)
+            if HAS_LIBRARY:
+                shutil.copy(os.path.join(LIBRARY, built), os.path.join(out, name))
+        files = [os.path.join(folder, name) for folder, _, names in os.walk(out) for name in names]
+        sums = {os.path.relpath(path, out): digest(path) for path in files if not path.endswith(".json")}
+        self.file(os.path.join(out, "MANIFEST.json"), json.dumps({
+            "version": "7.8.9", "rests_on": said, "files": sums,
+            "stamp": self.said("records.stamp(records.crates_below('hemtoghai'))")}))
+
     def record(self, said=PROVED):
         """Has the launcher note a build of the program as it is."""
-        loader = importlib.machinery.SourceFileLoader("launcher_of_place", self.path("show"))
-        show = importlib.util.module_from_spec(importlib.util.spec_from_loader("launcher_of_place", loader))
-        loader.exec_module(show)
-        before = os.environ["PATH"]
-        try:
-            os.environ["PATH"] = self.settings()["PATH"]
-            show.write_record(said, show.stamp(show.crates_below("show_cli")))
-        finally:
-            os.environ["PATH"] = before
+        self.said("records.write_record(%r, records.stamp(records.crates_below('show_cli')))" % said)
 
     def release(self, *words):
         """The status, standard output and standard error of tools/release."""
@@ -146,6 +177,24 @@ class Refusals(unittest.TestCase):
         self.repository.record("nothing of a proof")
         self.refused("hasn't its last line")
 
+    def test_another_library(self):
+        out = self.repository.path("library/out")
+        for path in ("lib/libhemtoghai.a", "lib/libhemtoghai.so.7.8.9", "include/hemtoghai.h"):
+            with open(os.path.join(out, path), "ab") as file:
+                file.write(b"\n")
+            self.refused("the library isn't the one of these sources", "--changed")
+            self.repository.library()
+        self.repository.file("library/hemtoghai.h", "/* another */\n")
+        self.refused("the library isn't the one of these sources", "--changed")
+        self.repository.git("checkout", "library/hemtoghai.h")
+        self.repository.file("crates/hemtoghai/src/lib.rt", "fn i() {}\n")
+        self.refused("the library isn't the one of these sources", "--changed")
+        self.repository.git("checkout", "crates/hemtoghai/src/lib.rt")
+        self.repository.library("nothing of a proof")
+        self.refused("the library's manifest hasn't the last line")
+        shutil.rmtree(out)
+        self.refused("the library isn't the one of these sources")
+
     def test_files(self):
         self.repository.file("docs/more.md", "more\n")
         self.refused("files differ from the commit")
@@ -190,7 +239,7 @@ class Release(unittest.TestCase):
 
     def test_no_rt(self):
         self.assertIsNone(shutil.which("rt", path=self.bin))
-        for name in (".git", "crates.txt", "crates/show_cli/src", "tests", "bin"):
+        for name in (".git", "crates.txt", "crates/show_cli/src", "crates/hemtoghai", "tests", "bin"):
             self.assertFalse(os.path.exists(os.path.join(self.top, name)), name)
 
     def test_manifest(self):
@@ -200,7 +249,9 @@ class Release(unittest.TestCase):
             found += [os.path.relpath(os.path.join(folder, name), self.top) for name in names]
         self.assertEqual(sorted([*manifest["files"], "MANIFEST.json"]), sorted(found))
         for path in ("README.md", "show", "docs/COMMANDS.md", "examples/solo.choreo", "tools/simulated/cflib/air.py",
-                     "share/show.1", "share/show.bash", "crates/show_cli/out/show_cli"):
+                     "share/show.1", "share/show.bash", "crates/show_cli/out/show_cli", "library/check.c",
+                     "library/out/lib/libhemtoghai.a", *LIB, "library/out/include/hemtoghai.h",
+                     "library/out/lib/pkgconfig/hemtoghai.pc", "library/out/python/hemtoghai.py"):
             self.assertIn(path, found)
         for path, wanted in manifest["files"].items():
             with open(os.path.join(self.top, path), "rb") as file:
@@ -212,8 +263,40 @@ class Release(unittest.TestCase):
         self.assertEqual(manifest["sha256"], manifest["files"]["crates/show_cli/out/show_cli"])
         # One source and crates.txt, each by its own digest and name, in order.
         lines = ["%s  %s\n" % (hashlib.sha256(text).hexdigest(), name)
-                 for name, text in (("crates.txt", b"show_cli:\n"), ("crates/show_cli/src/lib.rt", b"fn f() {}\n"))]
+                 for name, text in (("crates.txt", b"show_cli:\nhemtoghai staticlib:\n"),
+                                    ("crates/show_cli/src/lib.rt", b"fn f() {}\n"))]
         self.assertEqual(manifest["stamp"], hashlib.sha256("".join(lines).encode()).hexdigest())
+
+    def test_library(self):
+        for path in LIB[:2]:
+            self.assertEqual(os.readlink(os.path.join(self.top, path)), os.path.basename(LIB[2]))
+        with open(os.path.join(self.top, "library", "out", "MANIFEST.json")) as file:
+            files = json.load(file)["files"]
+        everything = self.manifest()["files"]
+        for path, digest in files.items():
+            self.assertEqual(everything["library/out/" + path], digest)
+        for path in LIB[:2]:
+            self.assertEqual(everything[path], everything[LIB[2]])
+
+    def asked(self, module, **named):
+        """What hemtoghai.py of the release says of a show: which judge answers, its proof, and the answer."""
+        ask = ("import hemtoghai as h\nwith open('examples/solo.choreo') as file:\n    show = h.Show(file.read())\n"
+               "print(type(h.judge).__name__, h.proof(), show.check().line)\n")
+        return done([os.path.join(self.bin, "python3"), "-c", ask], self.top,
+                    env={"PATH": self.bin, "LANG": "C", "PYTHONPATH": os.path.join(self.top, module),
+                         "PYTHONDONTWRITEBYTECODE": "1", **named})
+
+    @unittest.skipUnless(IS_BUILT, "the program isn't built: ./show check FILE builds it")
+    def test_module_by_program(self):
+        program = os.path.join(self.top, "crates", "show_cli", "out", "show_cli")
+        wanted = 0, "Program %s ok drones 1 cues 1 duration_ms 2000\n" % PROVED, ""
+        self.assertEqual(self.asked("library", HEMTOGHAI_PROGRAM=program), wanted)
+
+    @unittest.skipUnless(HAS_LIBRARY, "the library isn't built: tools/library builds it")
+    def test_module_by_library(self):
+        for place in ("library", "library/out/python"):
+            wanted = 0, "Library %s ok drones 1 cues 1 duration_ms 2000\n" % PROVED, ""
+            self.assertEqual(self.asked(place), wanted)
 
     def test_version(self):
         status, out, error = self.run_there("show", "--version")
@@ -229,6 +312,125 @@ class Release(unittest.TestCase):
         with open(page, "rb+") as file:
             file.truncate(os.path.getsize(page) - 5)
         self.assertEqual(self.run_there("show", "--version")[1], out)
+
+    def test_its_own_readme(self):
+        with open(os.path.join(self.top, "README.md")) as file:
+            text = file.read()
+        self.assertTrue(text.startswith("# Hemtoghai 7.8.9\n"), text[:99])
+        for word in ("rt check", "bench/", "@VERSION@", "of the repository"):
+            self.assertNotIn(word, text)
+        for path in re.findall(r"\]\(([^)#]*)\)", text) + re.findall(r"`((?:share|docs|tools)/[a-z_.0-9]+)", text):
+            self.assertTrue(os.path.exists(os.path.join(self.top, path)), path)
+        self.assertFalse(os.path.exists(os.path.join(self.top, "tools", "release.md")))
+
+    def differing(self):
+        """What --version says of files that aren't as released."""
+        status, out, error = self.run_there("show", "--version")
+        self.assertEqual((status, error), (0, ""))
+        return [line for line in out.splitlines() if line.startswith("not ")]
+
+    def test_one_byte_of_any_file(self):
+        # The program and the manifest are judged by themselves.
+        names = [name for name in self.manifest()["files"] if not os.path.islink(os.path.join(self.top, name))]
+        fronts = ("docs/F", "examples/so", "share/", "VERSION", "README", "tools/f", "library/out/lib/libhemtoghai.a")
+        chosen = [name for name in sorted(names) if name.startswith(fronts)]
+        self.assertGreater(len(chosen), 15)
+        for name in chosen:
+            path = os.path.join(self.top, name)
+            with open(path, "rb") as file:
+                before = file.read()
+            with open(path, "wb") as file:
+                file.write(bytes([before[0] ^ 1]) + before[1:])
+        try:
+            found = self.differing()
+        finally:
+            self.unpack_again()
+        wanted = {"not as released: " + name for name in chosen}
+        shared = "library/out/lib/libhemtoghai.so"
+        self.assertEqual({line for line in found if shared not in line}, wanted)
+        self.assertEqual(self.differing(), [])
+
+    def unpack_again(self):
+        """Has all files be as they were released."""
+        with tarfile.open(self.repository.packed()) as tar:
+            tar.extractall(os.path.dirname(self.top))
+
+    def added(self, name, text, mode=0o644):
+        """Adds a file to the release until the test ends."""
+        path = os.path.join(self.top, name)
+        folder = os.path.dirname(path)
+        if not os.path.isdir(folder):
+            os.makedirs(folder)
+            self.addCleanup(shutil.rmtree, folder, ignore_errors=True)
+        with open(path, "wb") as file:
+            file.write(text)
+        os.chmod(path, mode)
+        self.addCleanup(lambda: os.path.exists(path) and os.remove(path))
+
+    def test_added_files_are_named_and_never_run(self):
+        # Each would leave a mark. Modules of Python and of the tools, as files, folders, kept bytecode and libraries.
+        mark = os.path.join(self.top, "mark")
+        code = ("open(%r, 'a').write(__name__ + '\\n')\n" % mark).encode()
+        names = ["fcntl.py", "os.py", "json.py", "site.py", "sitecustomize.py", "commands.py", "records/__init__.py"]
+        names += ["tools/" + name for name in (
+            "json.py", "re.py", "math.py", "argparse.py", "hashlib.py", "_sha2.py", "choreo/__init__.py",
+            "companion/__init__.py", "program/__init__.py", "usercustomize.py", "__init__.py")]
+        tag = sys.implementation.cache_tag
+        for name in names:
+            self.added(name, code)
+        for name in ("choreo", "commands", "separation"):
+            source = os.path.join(self.top, "tools", name + ".py")
+            found = os.stat(source)
+            head = importlib.util.MAGIC_NUMBER + bytes(4) + int(found.st_mtime).to_bytes(4, "little") + (
+                found.st_size & 0xFFFFFFFF).to_bytes(4, "little")
+            kept = "tools/__pycache__/%s.%s.pyc" % (name, tag)
+            self.added(kept, head + marshal.dumps(compile(code, name, "exec")))
+            names.append(kept)
+            self.added("tools/%s.abi3.so" % name, b"no library")
+            names.append("tools/%s.abi3.so" % name)
+        self.added("crates/show_cli/out/more", b"")
+        os.symlink("nowhere", os.path.join(self.top, "docs", "link"))
+        self.addCleanup(os.remove, os.path.join(self.top, "docs", "link"))
+        names += ["crates/show_cli/out/more", "docs/link"]
+        self.assertEqual(self.differing(), ["not in the release: " + name for name in sorted(names)])
+        for words, statuses in ((("show", "check", "examples/crossing.choreo"), (5,)), (("show", "chek"), (2,)),
+                                (("tools/explain", "examples/crossing.choreo"), (5,)),
+                                (("tools/summary", "examples/solo.choreo"), (0,)),
+                                (("tools/deal", "examples/grid_to_ring.choreo"), (0,)),
+                                (("tools/without", "examples/crossing_cured.choreo", "a"), (0,)),
+                                (("tools/picture", "examples/solo.choreo"), (0,)), (("tools/export", "x", "y"), (70,)),
+                                (("tools/import", "examples/relay.csv"), (0, 1)), (("tools/release",), (70,)),
+                                (("tools/export_skyc", "examples/solo.choreo", "/dev/null"), (0,)),
+                                (("tools/judge_certificate", "a", "b", "c"), (70,)),
+                                (("tools/bridge", "examples/solo.choreo"), (0,))):
+            status, out, error = self.run_there(*words)
+            self.assertIn(status, statuses, (words, out[-300:], error))
+            self.assertFalse(os.path.exists(mark), words)
+        # They would be run, if anything did import them.
+        done([os.path.join(self.bin, "python3"), "-B", "-c", "import choreo"], os.path.join(self.top, "tools"))
+        self.assertTrue(os.path.exists(mark))
+        os.remove(mark)
+
+    def test_damaged_manifest(self):
+        path = os.path.join(self.top, "MANIFEST.json")
+        with open(path, "rb") as file:
+            before = file.read()
+        self.addCleanup(self.unpack_again)
+        for text in (b"", b"{", b"[]", b"{}", before[:200], b'{"files": 7}', b'{"sha256": 7, "files": {}}'):
+            with open(path, "wb") as file:
+                file.write(text)
+            for words in (("show", "check", "examples/solo.choreo"), ("tools/explain", "examples/solo.choreo")):
+                status, out, error = self.run_there(*words)
+                self.assertEqual((status, out, error.count("\n")), (70, "", 1), (text, words, error))
+                self.assertNotIn("Traceback", error)
+
+    def test_missing_module(self):
+        os.rename(os.path.join(self.top, "tools", "running.py"), os.path.join(self.top, "away"))
+        self.addCleanup(os.rename, os.path.join(self.top, "away"), os.path.join(self.top, "tools", "running.py"))
+        for words in (("show", "check", "examples/solo.choreo"), ("tools/explain", "examples/solo.choreo")):
+            status, out, error = self.run_there(*words)
+            self.assertEqual((status, out, error.count("\n")), (70, "", 1), error)
+            self.assertIn("tools/running.py is missing: unpack the release anew", error)
 
     def test_commands(self):
         self.assertEqual(self.run_there("show", "check", "examples/solo.choreo"),
@@ -305,12 +507,14 @@ class Machine(unittest.TestCase):
                 ("x86_64", ("glibc", "3.0"), None), ("x86_64", ("glibc", "2.31"), "x86_64, glibc 2.31"),
                 ("x86_64", ("glibc", "2.4"), "x86_64, glibc 2.4"), ("x86_64", ("", ""), "x86_64, no glibc "),
                 ("aarch64", ("glibc", "2.36"), "aarch64, glibc 2.36")):
-            with mock.patch("os.path.exists", return_value=True), mock.patch("platform.libc_ver", return_value=library), \
-                    mock.patch("platform.machine", return_value=processor):
+            with mock.patch("os.path.exists", return_value=True), \
+                    mock.patch("machine.library", return_value=library), \
+                    mock.patch("os.uname", return_value=mock.Mock(machine=processor)):
                 line = "this release needs an x86-64 machine with glibc 2.34 or later; here: %s"
                 self.assertEqual(machine.fault(), wanted and line % wanted)
-        with mock.patch("platform.libc_ver", return_value=("glibc", "2.31")):
+        with mock.patch("machine.library", return_value=("glibc", "2.31")):
             self.assertIsNone(machine.fault())  # here is no release
+        self.assertEqual(machine.library(), platform.libc_ver())
 
 
 class Manual(unittest.TestCase):

@@ -8,20 +8,39 @@ import json
 import os
 import re
 import shutil
+import statistics
 import subprocess
 import sys
+import tempfile
 import time
 import unittest
 
 sys.dont_write_bytecode = True
 sys.path.insert(0, os.path.dirname(os.path.abspath(__file__)))
-from test_studio import GOOD, NEAR, TOP, Running, example
+from test_studio import GOOD, NEAR, STAND_IN, WAIT, Running, choreo, example
 
 CHROMIUM = shutil.which("chromium") or shutil.which("chromium-browser") or shutil.which("google-chrome")
 DRIVER = shutil.which("chromedriver")
 ELEMENT = "element-6066-11e4-a52e-4f735466cecf"  # the word of the protocol for an element
 CONTROL, DELETE, TAB = "\uE009", "\uE017", "\uE004"
-WAIT = 20
+SOON = 5.0  # seconds in which a key has to be on the screen, on a machine that has much else to do
+
+
+def large_show():
+    """32 drones and 1,000 cues; in each cue four of them fly half a metre there or back."""
+    lines = ["choreo 1", "memory 2 0"]
+    places = [(1500000 * (k % 8), 1500000 * (k // 8)) for k in range(32)]
+    lines += ["drone d%d %d %d 1000000 0" % (k + 1, x, y) for k, (x, y) in enumerate(places)]
+    for cue in range(1000):
+        lines.append("cue 1000")
+        lines += ["d%d move %d %d 1000000 0" % (k + 1, places[k][0] + 500000 * (1 - cue // 8 % 2), places[k][1])
+                  for k in range(cue % 8, 32, 8)]
+        lines.append("end")
+    return "\n".join(lines) + "\n"
+
+
+class NoBrowser(Exception):
+    """Chromium can't be begun here."""
 
 
 class Browser:
@@ -30,6 +49,15 @@ class Browser:
     def __init__(self):
         self.driver = subprocess.Popen([DRIVER, "--port=0"], stdout=subprocess.PIPE, stderr=subprocess.DEVNULL,
                                        universal_newlines=True)
+        try:
+            self.begin()
+        except (AssertionError, OSError, TypeError, ValueError) as error:
+            self.driver.kill()
+            self.driver.communicate(timeout=WAIT)
+            raise NoBrowser("Chromium doesn't begin: %s" % error)
+
+    def begin(self):
+        """Begins a session, once the driver says at which port it listens."""
         for line in self.driver.stdout:
             found = re.search(r"successfully on port (\d+)", line)
             if found:
@@ -40,10 +68,11 @@ class Browser:
             "browserName": "chrome", "goog:chromeOptions": {"binary": CHROMIUM, "args": words},
             "goog:loggingPrefs": {"browser": "ALL"}}}})
         self.path = "/session/" + made["sessionId"]
+        self.ask("POST", "/timeouts", {"script": 1000 * WAIT})
 
     def ask(self, method, path, body=None):
         """The value of an answer."""
-        link = http.client.HTTPConnection("127.0.0.1", self.port, timeout=60)
+        link = http.client.HTTPConnection("127.0.0.1", self.port, timeout=180)
         link.request(method, self.path + path, None if body is None else json.dumps(body))
         value = json.loads(link.getresponse().read())["value"]
         link.close()
@@ -73,6 +102,14 @@ class Browser:
         """Types into an element, at its cursor, key by key."""
         self.ask("POST", self.element(css) + "/value", {"text": words})
 
+    def drag(self, begin, end):
+        """Presses the mouse at a point of the page, moves it in steps, and lets it go; a click where both are the same."""
+        steps = [[round(a + (b - a) * k / 4) for a, b in zip(begin, end)] for k in range(1, 5)] if begin != end else []
+        moves = [{"type": "pointerMove", "duration": 20, "x": x, "y": y} for x, y in steps]
+        self.ask("POST", "/actions", {"actions": [{"type": "pointer", "id": "mouse", "actions": [
+            {"type": "pointerMove", "duration": 0, "x": round(begin[0]), "y": round(begin[1])},
+            {"type": "pointerDown", "button": 0}, *moves, {"type": "pointerUp", "button": 0}]}]})
+
     def faults(self):
         """What the browser complained of."""
         return [row["message"] for row in self.ask("POST", "/se/log", {"type": "browser"}) if row["level"] == "SEVERE"]
@@ -82,23 +119,28 @@ class Browser:
         try:
             self.ask("DELETE", "")
         finally:
-            self.driver.terminate()
-            self.driver.communicate(timeout=20)
+            self.driver.kill()
+            self.driver.communicate(timeout=WAIT)
 
 
 @unittest.skipUnless(CHROMIUM and DRIVER, "no Chromium with chromedriver")
 class Page(unittest.TestCase):
     @classmethod
     def setUpClass(cls):
-        cls.browser = Browser()
-
-    @classmethod
-    def tearDownClass(cls):
-        cls.browser.end()
+        try:
+            cls.browser = Browser()
+        except NoBrowser as error:
+            raise unittest.SkipTest(str(error))
+        cls.addClassCleanup(cls.browser.end)
+        cls.program = STAND_IN
+        if os.access(choreo.PROGRAM, os.X_OK):  # a copy has no record, and so the page says the same of both
+            folder = tempfile.TemporaryDirectory()
+            cls.addClassCleanup(folder.cleanup)
+            cls.program = shutil.copy(choreo.PROGRAM, folder.name)
 
     def open(self, text, *words, size=(1280, 800)):
         """A studio, whose page is open."""
-        studio = Running(text, ("--program", os.path.join(TOP, ".ci", "stand_in"), *words))
+        studio = Running(text, ("--program", self.program, *words))
         self.addCleanup(studio.end)
         self.studio = studio
         self.browser.size(*size)
@@ -141,9 +183,23 @@ class Page(unittest.TestCase):
         return float(self.browser.run("return document.getElementById('slider').value"))
 
     def put_cursor(self, words):
-        """Puts the cursor behind these words."""
-        self.browser.run("const it = document.getElementById('text'), [words] = arguments; it.focus();"
-                         "const at = it.value.indexOf(words) + words.length; it.setSelectionRange(at, at)", words)
+        """Puts the cursor behind these words, and waits until the page says in which line it is."""
+        line = self.browser.run(
+            "const it = document.getElementById('text'), [words] = arguments; it.focus();"
+            "const at = it.value.indexOf(words) + words.length; it.setSelectionRange(at, at);"
+            "return it.value.slice(0, at).split('\\n').length", words)
+        self.wait(lambda: re.match(r"line %d\b" % line, self.words("where")), "the cursor isn't in line %d" % line)
+
+    def press(self, words):
+        """Presses the button of the menu that begins with these words."""
+        self.wait(lambda: self.browser.run(
+            "const it = [...document.querySelectorAll('#menu button')].find(it => it.textContent.startsWith(arguments[0]));"
+            "if (it) it.click(); return Boolean(it)", words), "no %r in the menu" % words)
+
+    def number(self):
+        """The words, the number and the unit of the field of numbers, or None where it is hidden."""
+        return self.browser.run("const it = document.getElementById('number'); return it.hidden ? null :"
+                                "[it.firstElementChild.innerText, it.querySelector('input').value, it.lastElementChild.innerText]")
 
     def test_write_a_show(self):
         """A show is typed, refused, looked at, mended and saved."""
@@ -218,16 +274,18 @@ class Page(unittest.TestCase):
         studio = self.open(GOOD)
         self.says("accepted")
         self.browser.click("#end")
-        self.assertEqual(studio.process.wait(20), 0)
+        self.assertEqual(studio.process.wait(WAIT), 0)
         self.wait(lambda: "has ended" in self.words("verdict"), "it doesn't say so")
         self.assertEqual(self.text(), GOOD)
 
     def test_plays(self):
-        self.open(GOOD)
+        self.open(GOOD.replace("2000", "60000"))
         self.says("accepted")
+        self.browser.run("document.getElementById('speed').value = '0.1'")  # ten minutes: it doesn't end meanwhile
         self.browser.click("#go")
-        self.wait(lambda: self.at() > 300, "it doesn't play")
+        self.wait(lambda: self.at() > 50, "it doesn't play")
         self.browser.click("#go")
+        self.wait(lambda: self.words("go") == "Play", "it doesn't stop")
         at = self.at()
         time.sleep(0.3)
         self.assertEqual(self.at(), at)
@@ -280,7 +338,7 @@ class Page(unittest.TestCase):
         self.browser.type("# mine\n")
         studio.write("choreo 1\n# theirs\n")
         self.browser.click("#save")
-        self.wait(lambda: re.search("by somebody else|on disk", self.words("told")), "no warning")
+        self.wait(lambda: "by another program" in self.words("told"), "no warning")
         self.assertEqual(studio.read(), b"choreo 1\n# theirs\n")
 
     def test_kept(self):
@@ -301,10 +359,206 @@ class Page(unittest.TestCase):
         self.open(GOOD)
         self.says("accepted")
         self.put_cursor(GOOD)
+        self.browser.run(
+            "const bar = document.getElementById('verdict');"
+            "document.getElementById('text').addEventListener('input', () => { window.typedAt = performance.now(); });"
+            "new MutationObserver(() => { if (!window.saidAt && bar.innerText.includes('bad-'))"
+            "window.saidAt = performance.now(); }).observe(bar, {childList: true, subtree: true})")
         self.browser.type("c")
-        time.sleep(0.15)
-        self.assertNotIn("bad-", self.words("verdict"))
         self.says("line 7: bad-")
+        self.assertGreater(self.browser.run("return saidAt - typedAt"), 400)
+
+    def test_older_result(self):
+        """A result of an older text that comes after a key isn't shown for the newer one, not even until its pause ends."""
+        self.open(GOOD)
+        self.says("accepted")
+        # The next answer waits until it is let go.
+        self.browser.run("window.own = window.fetch; window.fetch = async (...words) => { const answer = await own(...words);"
+                         "if (words[0] === 'judge') { const body = await answer.text(); window.arrived = true;"
+                         "await new Promise(go => { window.letGo = go; }); return new Response(body); } return answer; }")
+        self.put_cursor(GOOD)
+        self.browser.type("cue 500\nend\n")
+        self.wait(lambda: self.browser.run("return window.arrived"), "no answer")
+        said = self.browser.run(
+            "const it = document.getElementById('text'); window.fetch = own; it.value += 'cue 2.5\\nend\\n';"
+            "it.dispatchEvent(new InputEvent('input')); letGo();"
+            "return new Promise(go => setTimeout(() => { const bar = document.getElementById('verdict');"
+            "go([bar.classList.contains('old'), bar.innerText]); }, 20))")
+        self.assertEqual((said[0], "2 cues" in said[1]), (True, False), said)
+        self.says("line 9: bad-number")
+
+    def test_closed_tab(self):
+        """What was typed in a tab that is closed at once is there in the next one, and isn't in the file."""
+        studio = self.open(GOOD)
+        self.says("accepted")
+        self.put_cursor(GOOD)
+        self.browser.type("# typed in a tab that is closed\n")
+        old = self.browser.ask("GET", "/window")
+        new = self.browser.ask("POST", "/window/new", {"type": "tab"})["handle"]
+        self.browser.ask("POST", "/window", {"handle": old})
+        self.browser.ask("DELETE", "/window")
+        self.browser.ask("POST", "/window", {"handle": new})
+        self.browser.size(1280, 800)
+        self.browser.ask("POST", "/url", {"url": "http://127.0.0.1:%s/%s/" % (studio.port, studio.token)})
+        self.wait(lambda: "wasn't saved" in self.words("told"), "not kept")
+        self.assertEqual(self.text(), GOOD + "# typed in a tab that is closed\n")
+        self.assertEqual(studio.read(), GOOD.encode())
+
+    def test_kept_while_typing(self):
+        """The browser keeps the text also while keys come without a pause."""
+        self.open(GOOD)
+        self.says("accepted")
+        self.put_cursor(GOOD)
+        kept = self.browser.run(
+            "const it = document.getElementById('text'); let count = 0;"
+            "return new Promise(go => { const timer = setInterval(() => { it.setRangeText('# x\\n', it.value.length,"
+            "it.value.length, 'end'); it.dispatchEvent(new InputEvent('input')); count += 1;"
+            "if (count === 12) { clearInterval(timer); go(localStorage.getItem(file.key)); } }, 100); })")
+        self.assertTrue(kept and json.loads(kept)["text"].startswith(GOOD + "# x\n"), kept)
+
+    def test_two_saves(self):
+        """Saving twice at once is no conflict, and the last letter is in the file."""
+        studio = self.open(GOOD)
+        self.says("accepted")
+        self.put_cursor(GOOD)
+        self.browser.type("# one\n" + CONTROL + "s" + "\uE000# two\n" + CONTROL + "s")
+        self.wait(lambda: studio.read() == (GOOD + "# one\n# two\n").encode(), "not saved")
+        self.wait(lambda: self.words("state") == "saved", "it doesn't say so")
+        self.assertEqual(self.words("told"), "")
+
+    def test_stale_cure(self):
+        """A cure of an older text isn't offered, since it would take letters away."""
+        self.open(NEAR)
+        self.says("TOO NEAR")
+        # The answer waits until it is let go.
+        self.browser.run("window.own = window.fetch; window.fetch = async (...words) => { const answer = await own(...words);"
+                         "if (words[0] === 'cure') await new Promise(go => { window.letGo = go; }); return answer; };"
+                         "document.getElementById('cure').click()")
+        self.wait(lambda: self.browser.run("return Boolean(window.letGo)"), "no answer")
+        self.put_cursor(NEAR)
+        self.browser.type("# typed meanwhile\n")
+        self.browser.run("letGo()")
+        self.wait(lambda: "changed meanwhile" in self.words("told"), "it doesn't say so")
+        self.assertFalse(self.browser.run("return document.getElementById('offer').open"))
+        self.assertEqual(self.text(), NEAR + "# typed meanwhile\n")
+
+    def test_touch_is_proved(self):
+        """TOO NEAR says where the program's own `explain` names the touch."""
+        with tempfile.TemporaryDirectory() as folder:
+            program = os.path.join(folder, "program")
+            with open(program, "w") as file:
+                file.write("#!/bin/sh\nif [ $1 = explain ]; then cat > /dev/null; echo touch pair a b cue 1 at 15 of 32\n"
+                           "else exec %s \"$@\"; fi\n" % STAND_IN)
+            os.chmod(program, 0o755)
+            self.open(NEAR, "--program", program)
+            self.wait(lambda: "they touch at 1.41 s (explain)" in self.verdict(), "no touch")
+            self.assertIn("TOO NEAR: a and b in cue 1", self.verdict())
+
+    def test_menu(self):
+        """A cue with a line for each drone, with the numbers of where they are; then a drone, by keys."""
+        self.open(GOOD)
+        self.says("accepted")
+        self.put_cursor(GOOD)
+        self.browser.click("#insert")
+        self.press("cue of 3 s with")
+        cue = "\ncue 3000\na move 0 1000000 1000000 0\nb move 1000000 0 1000000 0\nend\n"
+        self.wait(lambda: self.text() == GOOD + cue, "nothing was written")
+        self.assertEqual(self.number(), ["length of cue", "3", "s"])
+        self.says("2 cues")
+        self.put_cursor("drone b 1000000 0 1000000 0\n")
+        self.browser.type(CONTROL + " ")
+        self.press("drone")
+        self.wait(lambda: "drone b 1000000 0 1000000 0\ndrone c 1500000 0 1000000 0\n" in self.text(), "no drone")
+        # In a cue those without a line are offered.
+        self.put_cursor("b move 1000000 0 1000000 0")
+        self.browser.click("#insert")
+        self.press("c")
+        self.wait(lambda: "b move 1000000 0 1000000 0\nc move 1500000 0 1000000 0\nend" in self.text(), "no act")
+        self.assertEqual(self.number(), ["x of c", "1.5", "m"])
+        self.says("3 drones, 2 cues")
+        for _ in range(3):
+            self.browser.run("document.execCommand('undo')")
+        self.assertEqual(self.text(), GOOD)
+        self.assertEqual(self.browser.faults(), [])
+
+    def test_acts_of_menu(self):
+        """Another act in the menu: a quarter circle around the middle of all drones. Then the field of numbers waits for
+        the length of the cue, in seconds, and Ctrl-Z there takes the cue away."""
+        self.open(GOOD)
+        self.says("accepted")
+        for undone in (True, False):
+            self.put_cursor(GOOD)
+            self.browser.click("#insert")
+            self.wait(lambda: self.browser.run(
+                "const it = document.querySelector('#menu select'); if (!it) return false; it.value = 'swing cw';"
+                "it.dispatchEvent(new Event('change')); return true"), "no acts in the menu")
+            self.press("cue of 3 s with a line of each drone: swing cw")
+            cue = "\ncue 3000\na swing cw 500000 500000 0\nb swing cw 500000 500000 0\nend\n"
+            self.wait(lambda: self.text() == GOOD + cue, "nothing was written")
+            self.assertEqual(self.browser.run("return document.activeElement.id"), "number-value")
+            self.browser.type(CONTROL + "z" if undone else "5\uE007", "#number-value")
+            self.wait(lambda: self.text() == GOOD + ("" if undone else cue.replace("3000", "5000")), "another text")
+            self.assertEqual(self.browser.run("return document.activeElement.id"), "text")
+        self.says("2 cues, 7.0 s")
+        self.assertEqual(self.browser.faults(), [])
+
+    def test_number(self):
+        """The number under the cursor in metres and seconds, written back in micrometres and milliseconds."""
+        self.open(GOOD)
+        self.says("accepted")
+        self.put_cursor("drone b 1000")
+        self.wait(lambda: self.number() == ["x of b", "1", "m"], "no number")
+        self.browser.click("#number-value")
+        self.browser.type(CONTROL + "a" + "\uE000" + "1.25", "#number-value")
+        self.assertIn("drone b 1250000 0 1000000 0\n", self.text())
+        self.browser.type("\uE007", "#number-value")  # Enter: the next number
+        self.wait(lambda: self.number() == ["y of b", "0", "m"], "not the next one")
+        self.browser.type("\uE013\uE013\uE015", "#number-value")  # up, up, down
+        self.assertIn("drone b 1250000 100000 1000000 0\n", self.text())
+        self.browser.type(CONTROL + "a" + "\uE000" + "x", "#number-value")
+        self.assertIn("drone b 1250000 100000 1000000 0\n", self.text())  # that is no number
+        self.put_cursor("cue 2")
+        self.wait(lambda: self.number() == ["length of cue", "2", "s"], "no number")
+        self.put_cursor("1000000 1000000 0\ne")
+        self.wait(lambda: self.number() is None, "a number")
+        self.says("accepted")
+        self.assertEqual(self.browser.faults(), [])
+
+    def test_stretch(self):
+        """The end of a cue is dragged: its number stands in the text, and one undo takes it back."""
+        self.open(GOOD)
+        self.says("accepted")
+        self.wait(lambda: self.browser.run("return Boolean(found.notes)"), "no notes")
+        where = ("const box = document.querySelector('#heights .grip').getBoundingClientRect();"
+                 "const chart = document.getElementById('heights').getBoundingClientRect();"
+                 "return [box.left + box.width / 2, box.top + box.height / 2, chart.width - 60]")
+        x, y, wide = self.browser.run(where)
+        self.browser.drag((x, y), (x - wide / 2, y))
+        self.wait(lambda: "cue 2000" not in self.text(), "nothing was written")
+        length = int(re.search("cue ([0-9]+)", self.text())[1])
+        self.assertAlmostEqual(length, 1000, delta=30)
+        self.assertEqual(self.text(), GOOD.replace("2000", str(length)))
+        self.says("1 cue, %.1f" % (length / 1000))
+        self.browser.run("document.execCommand('undo')")
+        self.assertEqual(self.text(), GOOD)
+        self.browser.drag((x, y), (x, y))
+        self.assertEqual(self.text(), GOOD)
+        self.assertEqual(self.browser.faults(), [])
+
+    def test_pick(self):
+        """A click on a drone in space marks its lines, a click beside all takes the marks away."""
+        self.open(GOOD)
+        self.says("accepted")
+        self.wait(lambda: self.browser.run("return Boolean(found.notes)"), "no notes")
+        x, y = self.browser.run("const box = document.getElementById('space').getBoundingClientRect();"
+                                "const [x, y] = view.to(placeAt(0, now)); return [box.left + x, box.top + y]")
+        self.browser.drag((x, y), (x, y))
+        own = "return [...document.querySelectorAll('#paper .own .words')].map(it => it.innerText)"
+        self.assertEqual(self.browser.run(own), ["drone a 0 0 1000000 0", "a move 0 1000000 1000000 0"])
+        self.assertEqual(self.browser.run("return document.querySelectorAll('#legend [aria-pressed=true]').length"), 1)
+        self.browser.drag((x - 60, y - 90), (x - 60, y - 90))
+        self.assertEqual(self.browser.run(own), [])
+        self.assertEqual(self.text(), GOOD)
 
     def test_watch(self):
         studio = self.open(NEAR, "--watch")
@@ -329,6 +583,41 @@ class Page(unittest.TestCase):
         self.says("accepted")
         size = self.browser.run("const it = document.documentElement; return [it.scrollWidth, it.scrollHeight]")
         self.assertEqual(size, [1280, 800])
+
+    def test_room(self):
+        """The view in space is as high as its room, also after the bar and the lists have got their words."""
+        self.open(example("formation_change"))
+        self.says("accepted")
+        same = "const room = document.getElementById('room'); return room.clientHeight ===" \
+               "document.getElementById('space').clientHeight && room.clientHeight > 250"
+        self.wait(lambda: self.browser.run(same), "another height")
+        self.browser.run("tell('words '.repeat(400))")
+        self.wait(lambda: self.browser.run(same.replace("> 250", "> 0")), "another height")
+        self.assertEqual(self.browser.faults(), [])
+
+    def test_large(self):
+        """32 drones by 1,000 cues: only lines that can be seen are drawn, and each key is soon on the screen."""
+        text = large_show()
+        with tempfile.TemporaryDirectory() as folder:
+            program = os.path.join(folder, "program")
+            with open(program, "w") as file:
+                file.write("#!/bin/sh\ncat > /dev/null\n[ $1 = check ] || exit 2\n"
+                           "echo ok drones 32 cues 1000 duration_ms 1000000\n")
+            os.chmod(program, 0o755)
+            self.open(text, "--program", program)
+            self.says("32 drones, 1,000 cues")
+            self.put_cursor("cue 1000\n" + text.partition("cue 1000\n")[2][:4])
+            self.browser.run(
+                "let at = 0; window.took = []; addEventListener('keydown', event => { at = event.timeStamp; }, true);"
+                "document.getElementById('text').addEventListener('input', () => requestAnimationFrame(() => setTimeout("
+                "() => took.push(performance.now() - at))))")
+            for key in "# 1234567":
+                self.browser.type(key)
+            self.wait(lambda: len(self.browser.run("return took")) == 9, "not drawn")
+            self.assertLess(statistics.median(self.browser.run("return took")), 1000 * SOON)
+            self.assertLess(self.browser.run("return document.querySelectorAll('#paper > div').length"), 100)
+            self.says("32 drones, 1,000 cues")
+            self.assertEqual(self.browser.faults(), [])
 
 
 if __name__ == "__main__":

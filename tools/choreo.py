@@ -23,6 +23,7 @@ ALLOWED = bytes([9, 13, *range(32, 127)])
 COORDINATE, YAW = (-100000000, 100000000), (-32768, 32767)
 POINT = [COORDINATE] * 3
 AXES = ["x", "y", "z", "yaw"]
+ARCS = ["arc", "swing", "arc_in", "arc_out"]
 # The slots of a line after its first word: a name, one or more names, the limits of a number, or a set of fixed words.
 LINES = {
     "memory": [(0, 255), (0, 4095)], "trajectory": [(0, 9)], "ellipsoid": [(1, 2000), (1, 2000)],
@@ -33,7 +34,7 @@ LINES = {
     "form": ["name", {"line", "move"}], "end": [],
 }
 ACTS = {"hold": [], "line": [*POINT, YAW], "move": [*POINT, YAW], "turn": [YAW],
-        "arc": [{"ccw", "cw"}, COORDINATE, COORDINATE, YAW], "curve": [*POINT * 3, YAW]}
+        "curve": [*POINT * 3, YAW], **{act: [{"ccw", "cw"}, COORDINATE, COORDINATE, YAW] for act in ARCS}}
 SETTINGS = ["memory", "trajectory", "ellipsoid", "stray", "late"]
 PLAYED = ["cue", "repeat", "perform"]
 PLACES = {"top": [*SETTINGS, "drone", "formation", "figure", *PLAYED], "formation": ["at", "end"],
@@ -291,7 +292,7 @@ def goal(frame, act, numbers):
         return None
     if act == "turn":
         return put(frame, 0, 0, 0, numbers[0])[3:]
-    if act == "arc":
+    if act in ARCS:
         x, y, _, yaw = put(frame, numbers[1], numbers[2], 0, numbers[3])
         other = {"cw": "ccw", "ccw": "cw"}
         return numbers[0] if frame[0] == "none" else other[numbers[0]], x, y, yaw
@@ -343,9 +344,46 @@ def rounded(micrometres):
     return (micrometres + 500) // 1000
 
 
-def handle(s):
-    """The length of a quarter circle's handle, rounded."""
-    return (552285 * s + 500000) // 1000000
+# The millionths of the ways to the start and to the end in each of the eight control points of an eased quarter circle.
+TO_START = {"swing": [1000000, 1000000, 1000000, 1063179, 696647, 0, 0, 0],
+            "arc_in": [1000000, 1000000, 1000144, 993507, 974935, 785073, 473387, 0],
+            "arc_out": [1000000, 1000000, 741519, 507934, 186897, 114406, 0, 0]}
+TO_END = {"swing": [0, 0, 0, 696647, 1063179, 1000000, 1000000, 1000000],
+          "arc_in": [0, 0, 114406, 186897, 507934, 741519, 1000000, 1000000],
+          "arc_out": [0, 473387, 785073, 974935, 993507, 1000144, 1000000, 1000000]}
+
+
+def millionths(share, s):
+    """Millionths of a number, rounded."""
+    return (share * s + 500000) // 1000000
+
+
+def ways(at, to):
+    """The ways from the centre of a quarter circle to its start and to its end, on x and y."""
+    vx, vy = at[0] - to[1], at[1] - to[2]
+    return (vx, vy), (-vy, vx) if to[0] == "ccw" else (vy, -vx)
+
+
+def yaws(act, begin, end):
+    """The yaw's control values of an eased quarter circle."""
+    turn = end - begin
+    if act == "arc_in":
+        return [begin + (turn * k * (k - 1) + 21) // 42 for k in range(8)]
+    if act == "arc_out":
+        return [end - (turn * (7 - k) * (6 - k) + 21) // 42 for k in range(8)]
+    return [begin] * 4 + [end] * 4
+
+
+def round_controls(act, at, to):
+    """The control values of a quarter circle."""
+    start, end = ways(at, to)
+    if act == "arc":
+        rows = [[a, a + millionths(552285, w), c + w + millionths(552285, v), c + w]
+                for a, c, v, w in zip(at, to[1:3], start, end)]
+        return [*rows, [at[2]], [at[3], to[3]]]
+    rows = [[c + millionths(a, v) + millionths(b, w) for a, b in zip(TO_START[act], TO_END[act])]
+            for c, v, w in zip(to[1:3], start, end)]
+    return [*rows, [at[2]], yaws(act, at[3], to[3])]
 
 
 def controls(act, at, to):
@@ -358,12 +396,8 @@ def controls(act, at, to):
         return [[a] * 4 + [b] * 4 for a, b in zip(at, to)]
     if act == "turn":
         return [[at[0]], [at[1]], [at[2]], [at[3]] * 4 + [to[0]] * 4]
-    if act == "arc":
-        sense, cx, cy, yaw = to
-        vx, vy = at[0] - cx, at[1] - cy
-        wx, wy = (-vy, vx) if sense == "ccw" else (vy, -vx)
-        return [[at[0], at[0] + handle(wx), cx + wx + handle(vx), cx + wx],
-                [at[1], at[1] + handle(wy), cy + wy + handle(vy), cy + wy], [at[2]], [at[3], yaw]]
+    if act in ARCS:
+        return round_controls(act, at, to)
     first, second, third, yaw = to
     return [[at[k], first[k], second[k], third[k]] for k in range(3)] + [[at[3], yaw]]
 

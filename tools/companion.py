@@ -3,15 +3,16 @@ import argparse
 import os
 import re
 import signal
-import subprocess
 import sys
-import tempfile
+import types
 
 sys.dont_write_bytecode = True  # so that importing leaves no file beside the tools
 import choreo
-import machine
+import program as proved
+import texts
 from choreo import Refused
 from cures import print_cure
+from streams import tell
 
 signal.signal(signal.SIGPIPE, signal.SIG_DFL)  # so that `| head` ends a tool without a trace
 TOOL = os.path.basename(sys.argv[0])
@@ -20,7 +21,7 @@ NO_ANSWER = 70
 
 def stop(text, status=NO_ANSWER):
     """Ends the tool with a line on standard error."""
-    print("%s: %s" % (TOOL, text), file=sys.stderr)
+    tell(TOOL, text)
     sys.exit(status)
 
 
@@ -42,22 +43,29 @@ def depth(word):
     return int(word)
 
 
-def read_file(path):
-    """The bytes of a file; `-` is standard input."""
+def read_file(path, most=texts.LOG):
+    """The bytes of a file that has at most so many; `-` is standard input."""
     try:
-        if path == "-":
-            return sys.stdin.buffer.read()
-        with open(path, "rb") as file:
-            return file.read()
-    except OSError as error:
-        return stop("%s: %s" % (path, error.strerror or error))
+        return texts.whole_of(path, most)
+    except texts.TooLong as fault:
+        return stop("%s: %s" % (path, fault))
+    except (OSError, ValueError) as error:
+        return stop("%s: %s" % (path, getattr(error, "strerror", None) or error))
+
+
+def read_show(path):
+    """The bytes of a show's text, to one more than it may have."""
+    try:
+        return texts.front_of(path, choreo.LONGEST_TEXT + 1)
+    except (OSError, ValueError) as error:
+        return stop("%s: %s" % (path, getattr(error, "strerror", None) or error))
 
 
 def flown_of(path):
     """What the drones of a show's file fly; a faulty show ends the tool with the program's status and line."""
-    text = read_file(path)
+    text = read_show(path)
     try:
-        if choreo.parts_of(text)[2]:
+        if len(text) <= choreo.LONGEST_TEXT and choreo.parts_of(text)[2]:
             stop("%s: a tool reads a show alone, without a marker line" % path)
         return text, choreo.flown_of(text)
     except Refused as refusal:
@@ -67,39 +75,35 @@ def flown_of(path):
 
 
 def no_program(program=None):
-    """Why the program can't be run, or None: it isn't built, or this machine isn't one for the release's."""
-    program = program or choreo.PROGRAM
-    if not os.path.isfile(program) or not os.access(program, os.X_OK):
-        return "the program isn't built; ./show check FILE builds it"
-    return machine.fault() if program == choreo.PROGRAM else None
+    """Why the program can't be run, or None: it isn't built, it isn't the one of its record, or this machine isn't one
+    for the release's."""
+    return proved.fault(program)
 
 
 def ask_check(text, deep=choreo.DEPTH):
     """The status and the line of the proved program's `check` on a show, or None where it can't be run."""
-    if no_program():
+    try:
+        status, output = proved.ask(["check", "--depth", str(deep)], text)
+    except proved.Unusable:
         return None
-    done = subprocess.run([choreo.PROGRAM, "check", "--depth", str(deep)], input=text, stdout=subprocess.PIPE)
-    return done.returncode, done.stdout.decode(errors="replace").strip()
+    return status, output.decode(errors="replace").strip()
 
 
-MOTION = re.compile(r"^dynamics (\S+) acceleration (\d+) (\d+) (\d+) jump (\d+) cue (\d+) (\d+) cue (\d+) (\d+) cue (\d+) ",
-                    re.M)
+MOTION = re.compile(r"^dynamics (\S+) acceleration (\d+) (\d+) (\d+) "
+                    r"jump (\d+) cue (\d+) (\d+) cue (\d+) (\d+) cue (\d+) ", re.M)
 
 
 def ask_dynamics(text, program=None):
     """What the proved program's `dynamics` says of a show's drones, by name: bounds on acceleration in m/s^2, jumps of
     speed in m/s and their cues, each on x, y and z; or None where the program can't be run or refuses the show."""
-    program = program or choreo.PROGRAM
-    if no_program(program):
+    try:
+        status, output = proved.ask(["dynamics"], text, program)
+    except proved.Unusable:
         return None
-    with tempfile.TemporaryFile() as source:  # and no pipe: an older program ends without reading it
-        source.write(text)
-        source.seek(0)
-        done = subprocess.run([os.path.abspath(program), "dynamics"], stdin=source, stdout=subprocess.PIPE)
-    if done.returncode:
+    if status:
         return None
     found = {}
-    for name, *numbers in MOTION.findall(done.stdout.decode()):
+    for name, *numbers in MOTION.findall(output.decode(errors="replace")):
         numbers = [int(number) for number in numbers]
         found[name] = ([v / 1e6 for v in numbers[:3]], [v / 1e6 for v in numbers[3::2]], numbers[4::2])
     return found
@@ -107,7 +111,7 @@ def ask_dynamics(text, program=None):
 
 def missing(program=None):
     """What to do where the program can't be run."""
-    return "`check` was not asked: %s" % no_program(program)
+    return "`check` was not asked: %s" % (no_program(program) or "it gave no answer")
 
 
 def value(row, u):
@@ -115,6 +119,15 @@ def value(row, u):
     while len(row) > 1:
         row = [a + (b - a) * u for a, b in zip(row, row[1:])]
     return row[0]
+
+
+def tool(name):
+    """Another tool as a module, from its source, and never from kept bytecode."""
+    path = os.path.join(choreo.TOP, "tools", name)
+    module = types.ModuleType(name)
+    module.__file__ = path
+    exec(compile(read_file(path, texts.PAGE), path, "exec"), module.__dict__)
+    return module
 
 
 def place(flown, drone, cue, u):
@@ -152,8 +165,13 @@ def many(number, word):
 
 
 def plan_of(path):
-    """The drones of a plan's text: name, bytes and number of pieces each; anything else ends the tool."""
-    lines = read_file(path).decode(errors="replace").split("\n")
+    """The drones of a plan's file: name, bytes and number of pieces each; anything else ends the tool."""
+    return plan_in(read_file(path, texts.PLAN), path)
+
+
+def plan_in(text, path):
+    """The same of a plan's text, which comes from this file."""
+    lines = text.decode(errors="replace").split("\n")
     drones, name = [], None
     if lines[:1] != ["plan 1"]:
         stop("%s, line 1: a plan begins with `plan 1`; ./show compile FILE writes one" % path)
@@ -180,8 +198,8 @@ def plan_of(path):
 
 
 def decoded(data, pieces):
-    """A trajectory's start and its segments as (milliseconds, elements), from its bytes; or None where they aren't one of
-    this many segments and the three zero bytes."""
+    """A trajectory's start and its segments as (milliseconds, elements), from its bytes; or None where they aren't one
+    of this many segments and the three zero bytes."""
     def number(at, signed=True):
         return int.from_bytes(data[at:at + 2], "little", signed=signed)
     last, at, segments = [number(k) for k in (0, 2, 4, 6)], 8, []

@@ -24,6 +24,7 @@ import random
 import re
 import threading
 import time
+from typing import Any, Callable, Dict, Iterable, List, Optional, Sequence, Tuple
 
 import clock
 import firmware
@@ -36,13 +37,16 @@ LOOK = 0.05  # seconds between two looks at who is silent
 BROADCAST = (0xFF, 0xE7, 0xE7, 0xE7, 0xE7)
 RATES = {"250K": 0, "1M": 1, "2M": 2}
 URI = re.compile("radio://[0-9]+/[0-9]+/(250K|1M|2M)/[0-9A-Fa-f]{10}")
-LIMIT = 0.3  # real seconds in which a dongle has sent a broadcast, or counts as gone
+LIMIT = 0.8  # real seconds in which a dongle has sent a broadcast, or counts as gone
 CLOSES = 3.0  # real seconds in which all is closed, or left open
 MANY = 15  # drones of one dongle above which somebody is to know
 
+Work = Callable[[], None]
+Sent = List[Any]  # when the first copy of a broadcast went, and when the last had, or what failed
 
-def addresses(path, names):
-    """The drones' URIs, in the order of their names, from a text of lines `NAME URI`."""
+
+def everybody(path: str) -> Dict[str, str]:
+    """The drones' URIs by their names, from a text of lines `NAME URI`; raises ValueError where that is none."""
     found = {}
     with open(path, encoding="utf-8") as lines:
         for number, line in enumerate(lines, 1):
@@ -55,6 +59,12 @@ def addresses(path, names):
             if words and not URI.fullmatch(words[1]):
                 raise ValueError("%s, line %d: %s isn't radio://DONGLE/CHANNEL/RATE/ADDRESS with 250K, 1M or 2M" % (
                     path, number, words[1]))
+    return found
+
+
+def addresses(path: str, names: Sequence[str]) -> List[str]:
+    """The URIs of these drones, in their order."""
+    found = everybody(path)
     missing = [name for name in names if name not in found]
     if missing:
         raise ValueError("%s has no address for %s" % (path, ", ".join(missing)))
@@ -69,12 +79,12 @@ class Dongle:
     """A dongle with a channel and a rate, opened once more for broadcasts. It is used by a thread of its own: where it
     was pulled out, the library's calls may never return."""
 
-    def __init__(self, number, channel, rate):
+    def __init__(self, number: str, channel: str, rate: str) -> None:
         self.name, self.shared, self.jobs = "dongle %s" % number, None, queue.Queue()
         self.thread = threading.Thread(target=self.run, args=(int(number), int(channel), RATES[rate]), daemon=True)
         self.thread.start()
 
-    def run(self, number, channel, rate):
+    def run(self, number: int, channel: int, rate: int) -> None:
         """Opens it, and sends what is to be sent."""
         from cflib.crtp.radiodriver import RadioManager
         while True:
@@ -98,14 +108,14 @@ class Dongle:
                 row.append(error)
             done.set()
 
-    def send(self, raw, copies):
+    def send(self, raw: bytes, copies: int) -> Tuple[Sent, threading.Event]:
         """Has a packet sent; a list that gets when the first copy went and when the last had, and an event once it
         has."""
         row, done = [], threading.Event()
         self.jobs.put((raw, copies, row, done))
         return row, done
 
-    def close(self):
+    def close(self) -> None:
         """Closes it."""
         self.jobs.put(None)
         self.thread.join(LIMIT)
@@ -117,10 +127,10 @@ class Silence:
     """For how many seconds nothing was heard of each drone. A machine that itself stands still hears nobody: of each
     step between two looks only the first part counts."""
 
-    def __init__(self, count, most=4 * LOOK):
+    def __init__(self, count: int, most: float = 4 * LOOK) -> None:
         self.most, self.looked, self.rows = most, clock.now(), [(0.0, None)] * count
 
-    def look(self, heard):
+    def look(self, heard: Sequence[Optional[float]]) -> List[float]:
         """The seconds for each drone, by when each was heard last."""
         now = clock.now()
         step, self.looked = min(now - self.looked, self.most), now
@@ -129,13 +139,14 @@ class Silence:
 
 
 class Radio:
-    """The drivers of all drones, with two threads each: one sends what waits, one hands on what comes.
+    """The drivers of all drones, with two threads each: one sends what waits, one hands on what comes. Neither ends
+    where a driver or a listener fails: the fault is noted, and the next packet is tried.
 
     `listeners` are functions of a drone and a packet, called from any thread. `faults` has by drone what its driver
     complained of last, and `last` when it was last heard.
     """
 
-    def __init__(self, names, uris, all_wanted=True):
+    def __init__(self, names: Sequence[str], uris: Sequence[str], all_wanted: bool = True) -> None:
         try:
             import cflib.crtp  # only here, so that all else runs without the library
             from cflib.crtp.crtpstack import CRTPPacket
@@ -155,7 +166,7 @@ class Radio:
             self.close()
             raise
 
-    def connect(self, driver_of):
+    def connect(self, driver_of: Callable[..., Any]) -> None:
         """Opens a driver for each drone and starts its threads."""
         for drone, uri in enumerate(self.uris):
             driver = driver_of(uri, None, lambda words, drone=drone: self.faults.update({drone: words}))
@@ -168,71 +179,92 @@ class Radio:
                 self.threads.append(thread)
                 thread.start()
 
-    def wait_for_all(self, all_wanted=True):
-        """Waits until each drone was heard, and names those that weren't within two seconds; raises where all are
-        wanted, and where none was heard."""
+    def wait_for_all(self, all_wanted: bool = True) -> None:
+        """Waits until each drone was heard, but not for longer than two seconds; raises where all are wanted, and names
+        those that weren't."""
         silence = Silence(len(self.names), LOOK)
         while None in self.last:
             quiet = silence.look(self.last)
             self.nudge([drone for drone, last in enumerate(self.last) if last is None])
             if max(quiet) > QUIET:
                 dead = [name for name, last in zip(self.names, self.last) if last is None]
-                if not all_wanted and len(dead) < len(self.names):
+                if not all_wanted:
                     return
                 raise Dead("no answer from %s: on, charged, in reach, on its channel?" % ", ".join(dead))
             clock.wait(LOOK)
 
-    def nudge(self, drones):
+    def nudge(self, drones: Iterable[int]) -> None:
         """Asks drones something, where nothing else waits for them: one that has nothing to say may send nothing."""
         for drone in drones:
             if self.waiting[drone].empty():
                 self.send(drone, firmware.packet(firmware.MEMORY, 0, firmware.COUNT_MEMORIES))
 
-    def send_all(self, drone):
+    def send_all(self, drone: int) -> None:
         """Sends what waits for a drone."""
         while True:
             work = self.waiting[drone].get()
             if work is None:
                 return
             raw, before, after = work
-            before()
-            self.drivers[drone].send_packet(self.packet_of(raw[0], raw[1:]))
-            after()
+            try:
+                before()
+                self.drivers[drone].send_packet(self.packet_of(raw[0], raw[1:]))
+                after()
+            except Exception as error:
+                self.faults[drone] = "its packets can't be sent: %s" % error
 
-    def hear_all(self, drone):
+    def hear_all(self, drone: int) -> None:
         """Hands on what comes from a drone."""
         while self.open:
-            came = self.drivers[drone].receive_packet(0.05)
+            try:
+                came = self.drivers[drone].receive_packet(0.05)
+            except Exception as error:
+                self.faults[drone] = "nothing can be received from it: %s" % error
+                time.sleep(0.05)
+                continue
             if came is None:
                 continue
             raw = bytes([came.header]) + bytes(came.data)
             self.last[drone] = clock.now()
-            port, channel, data = firmware.parts(raw)
-            with self.changed:
-                for (asked, *where, length, front), found in self.answers.items():
-                    if (asked, where) == (drone, [port, channel]) and data.startswith(front) and (
-                            length in (None, len(data))):
-                        found.append(data)
-                        self.changed.notify_all()
+            self.hand_on(drone, raw)
             for listener in list(self.listeners):
-                listener(drone, raw)
+                try:
+                    listener(drone, raw)
+                except Exception as error:
+                    self.faults[drone] = "a packet of it can't be read: %r" % error
 
-    def send(self, drone, raw, before=lambda: None, after=lambda: None):
+    def hand_on(self, drone: int, raw: bytes) -> None:
+        """Hands a packet on to those who wait for an answer like it."""
+        port, channel, data = firmware.parts(raw)
+        with self.changed:
+            for (asked, *where, length, least, front), found in self.answers.items():
+                if (asked, where) == (drone, [port, channel]) and data.startswith(front) and (
+                        length in (None, len(data))) and len(data) >= least:
+                    found.append(data)
+                    self.changed.notify_all()
+
+    def send(self, drone: int, raw: bytes, before: Work = lambda: None, after: Work = lambda: None) -> None:
         """Takes a packet for a drone; the functions are called when it goes to the driver and when that has it."""
         self.waiting[drone].put((raw, before, after))
 
-    def ask(self, drone, port, channel, data, same=None, seconds=PATIENCE, length=None):
-        """The answer to a question, which is put again until it comes: one that begins with the first `same` bytes of
-        the question's data, all where it is None, and has so many bytes where a length is given."""
-        key, found = (drone, port, channel, length, bytes(data[:same])), []
+    def ask(self, drone: int, port: int, channel: int, data: bytes, same: Optional[int] = None,
+            seconds: float = PATIENCE, length: Optional[int] = None, least: int = 0, every: float = ANSWER) -> bytes:
+        """The answer to a question, which is put again `every` so many seconds until it comes: one that begins with the
+        first `same` bytes of the question's data, all where it is None, and has so many bytes where a length is given,
+        at least so many where the least is. A question that was dropped isn't put again."""
+        key, found = (drone, port, channel, length, least, bytes(data[:same])), []
         with self.changed:
             self.answers[key] = found
-        until, asked = clock.now() + seconds, self.asked
+            asked = self.asked
+        until = clock.now() + seconds
         try:
-            while clock.now() < until and asked == self.asked:
-                self.send(drone, firmware.packet(port, channel, data))
+            while clock.now() < until:
                 with self.changed:
-                    if self.changed.wait_for(lambda: found, clock.real(ANSWER)):
+                    if asked != self.asked:
+                        break
+                    self.send(drone, firmware.packet(port, channel, data))
+                    self.changed.wait_for(lambda: found or asked != self.asked, clock.real(every))
+                    if found:
                         return found[0]
         finally:
             with self.changed:
@@ -240,22 +272,25 @@ class Radio:
         raise Dead("%s doesn't answer a question on port %d: %s" % (
             self.names[drone], port, self.faults.get(drone, "packets are lost")))
 
-    def drop(self):
-        """Has all questions end that are still put again: what they ask isn't wanted any more."""
-        self.asked += 1
-        for waiting in self.waiting:
-            try:
-                while True:
-                    waiting.get_nowait()
-            except queue.Empty:
-                pass
+    def drop(self) -> None:
+        """Has all questions end that are still put again: what they ask isn't wanted any more. Nothing of them goes out
+        after this."""
+        with self.changed:
+            self.asked += 1
+            for waiting in self.waiting:
+                try:
+                    while True:
+                        waiting.get_nowait()
+                except queue.Empty:
+                    pass
+            self.changed.notify_all()
 
-    def each(self, work, look=None):
+    def each(self, work: Callable[[int], Any], look: Optional[Work] = None) -> List[Any]:
         """What a function gives for each drone, side by side; the first failure is raised once all have ended. All the
         while `look` is called, where one is given, and what it raises ends the wait."""
         out, failed = [None] * len(self.names), []
 
-        def run(drone):
+        def run(drone: int) -> None:
             try:
                 out[drone] = work(drone)
             except Exception as error:
@@ -264,20 +299,21 @@ class Radio:
         for thread in threads:
             thread.start()
         for thread in threads:
-            thread.join(0.02 if look else None)
             while thread.is_alive():
-                look()
-                thread.join(0.02)
+                thread.join(0.02 if look else None)
+                if look:
+                    look()
         if failed:
             raise failed[0]
         return out
 
-    def memories(self, drone):
+    def memories(self, drone: int) -> List[Tuple[int, int]]:
         """A drone's list of memories: their types and sizes."""
-        count = self.ask(drone, firmware.MEMORY, 0, firmware.COUNT_MEMORIES)[1]
-        return [firmware.memory_of(self.ask(drone, firmware.MEMORY, 0, firmware.ask_memory(k))) for k in range(count)]
+        count = self.ask(drone, firmware.MEMORY, 0, firmware.COUNT_MEMORIES, least=2)[1]
+        return [firmware.memory_of(self.ask(drone, firmware.MEMORY, 0, firmware.ask_memory(k), least=7))
+                for k in range(count)]
 
-    def fence(self, drone, memory):
+    def fence(self, drone: int, memory: int) -> None:
         """Waits until all that a drone was sent before is answered: each port answers in order. Both questions have a
         mark by chance, so that no answer to an earlier one is taken for theirs: a byte of the memory, of which an
         upload reads more at once, and a byte that the commander gives back."""
@@ -285,26 +321,26 @@ class Radio:
         self.ask(drone, firmware.MEMORY, 1, firmware.read(memory, mark, 1), 5, length=7)
         self.ask(drone, firmware.COMMANDER, 0, firmware.group() + bytes([0x80 | mark & 0x7F]), 3)
 
-    def dongles(self):
+    def dongles(self) -> List[Dongle]:
         """The dongles, channels and rates of all drones, opened for broadcasts."""
         for key in sorted({tuple(uri.split("/")[2:5]) for uri in self.uris}):
             if key not in self.shared:
                 self.shared[key] = Dongle(*key)
         return list(self.shared.values())
 
-    def crowded(self):
+    def crowded(self) -> List[Tuple[str, int]]:
         """The dongles with more drones than are usual, and how many these are."""
         counts = {}
         for uri in self.uris:
             counts[uri.split("/")[2]] = counts.get(uri.split("/")[2], 0) + 1
         return [(number, count) for number, count in sorted(counts.items()) if count > MANY]
 
-    def broadcast_beside(self, raw, copies=1):
+    def broadcast_beside(self, raw: bytes, copies: int = 1) -> List[Tuple[Dongle, Sent, threading.Event]]:
         """Has a packet sent to all drones at once, so many times, by each dongle, and returns at once: for each dongle
         its row and its event."""
         return [(dongle, *dongle.send(raw, copies)) for dongle in self.dongles()]
 
-    def broadcast(self, raw, copies=1):
+    def broadcast(self, raw: bytes, copies: int = 1) -> Tuple[float, float]:
         """Sends a packet to all drones at once, so many times, by each dongle and channel; when the first went out and
         when the last had. It has no answer by itself; drones answer by their own links. A dongle that doesn't send it
         in time is named, after all others have sent it."""
@@ -318,7 +354,7 @@ class Radio:
             raise Dead("; ".join(gone))
         return min(row[0] for _, row, _ in sent), max(row[1] for _, row, _ in sent)
 
-    def close(self):
+    def close(self) -> None:
         """Closes all that was opened, as far as it can be closed in time."""
         self.open = False
         for waiting in self.waiting:
@@ -338,7 +374,7 @@ class Radio:
         self.drivers, self.shared = [], {}
 
     @staticmethod
-    def close_one(driver):
+    def close_one(driver: Any) -> None:
         """Closes a driver."""
         try:
             driver.close()
@@ -352,7 +388,8 @@ class Link(Asked):
     last."""
     answer_time = 0.1
 
-    def __init__(self, names, heard, radio, memory, repeat_starts=False):
+    def __init__(self, names: Sequence[str], heard: Callable[[int, bytes], None], radio: Radio, memory: int,
+                 repeat_starts: bool = False) -> None:
         super().__init__(names, heard)
         self.radio, self.memory, self.repeat_starts = radio, memory, repeat_starts
         self.fault, self.asked, self.lock, self.silence = None, set(), threading.Lock(), Silence(len(names))
@@ -365,7 +402,7 @@ class Link(Asked):
         radio.each(lambda drone: radio.fence(drone, memory))
         radio.listeners.append(self.came)
 
-    def wrong_memory(self, drone):
+    def wrong_memory(self, drone: int) -> Optional[str]:
         """What is wrong with the show's memory id for a drone, or None."""
         good, rows = trajectory_memories(self.lists[drone]), self.lists[drone]
         if self.memory in good:
@@ -374,7 +411,7 @@ class Link(Asked):
         return "%s: memory %d is %s; its trajectory memory is %s" % (
             self.names[drone], self.memory, kind, " ".join(map(str, good)) or "missing")
 
-    def send(self, drone, packet):
+    def send(self, drone: int, packet: bytes) -> None:
         key = key_of(packet, False)
         if key is None or key[0] != COMMAND and packet[1] != self.memory:
             self.fault = "%s: %s is no packet of this upload" % (self.names[drone], packet.hex(" ").upper())
@@ -389,17 +426,17 @@ class Link(Asked):
             self.asked.add((drone, key))
         self.radio.send(drone, packet, lambda: self.going(drone, is_start), self.gone)
 
-    def going(self, drone, is_start):
+    def going(self, drone: int, is_start: bool) -> None:
         """A packet goes to the driver: a start isn't taken before."""
         if is_start and self.starts[drone][0] is None:
             self.starts[drone][0] = clock.now()
 
-    def gone(self):
+    def gone(self) -> None:
         """The driver has a packet."""
         with self.lock:
             self.left += 1
 
-    def came(self, drone, raw):
+    def came(self, drone: int, raw: bytes) -> None:
         """A packet came from a drone: an answer to one that was sent is handed on."""
         key = key_of(raw, True)
         if key is None:
@@ -412,7 +449,7 @@ class Link(Asked):
                 self.starts[drone][1] = clock.now()
             self.heard(drone, raw)
 
-    def ailing(self):
+    def ailing(self) -> Optional[str]:
         """Why the upload can't go on, or None."""
         silent = self.silence.look(self.radio.last)
         self.radio.nudge([drone for drone, quiet in enumerate(silent) if quiet > QUIET / 2])
@@ -422,24 +459,24 @@ class Link(Asked):
                     self.names[drone], QUIET, self.radio.faults.get(drone, "no packet came"))
         return self.fault
 
-    def close(self):
+    def close(self) -> None:
         if self.came in self.radio.listeners:
             self.radio.listeners.remove(self.came)
         self.radio.close()
 
-    def report(self):
+    def report(self) -> List[str]:
         out = ["trajectory memories: %s" % ", ".join("%s %d" % (name, self.memory) for name in self.names)]
         if self.strangers:
             out.append("%d answers came to packets that were not sent, and were dropped" % self.strangers)
         return out + start_lines(self.names, self.starts, self.repeat_starts)
 
 
-def trajectory_memories(rows):
+def trajectory_memories(rows: Iterable[Tuple[int, int]]) -> List[int]:
     """The ids of a drone's memories for trajectories, by its list of types and sizes."""
     return [k for k, (kind, size) in enumerate(rows) if kind == firmware.TRAJECTORY_MEMORY and size >= MEMORY]
 
 
-def start_lines(names, starts, repeated=False):
+def start_lines(names: Sequence[str], starts: Dict[int, List[Optional[float]]], repeated: bool = False) -> List[str]:
     """When each drone can have taken its start, between when that went out first and when it was answered last, and
     the spread of all. Milliseconds count from when the first one went out."""
     if not starts:

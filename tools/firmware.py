@@ -4,16 +4,17 @@ WRITTEN FROM MEMORY of Bitcraze's firmware and library as of 2022 to 2025, and n
 drone. Behind each group stands how sure that memory is. Check each group with the firmware that you fly.
 """
 import struct
+from typing import Iterable, Optional, Tuple
 
 CONSOLE, PARAMETERS, MEMORY, LOGS, PLACES, COMMANDER, PLATFORM, LINK = 0, 2, 4, 5, 6, 8, 13, 15
 
 
-def packet(port, channel, data):
+def packet(port: int, channel: int, data: bytes) -> bytes:
     """A packet's bytes, with link bits 3."""
     return bytes([port << 4 | 0x0C | channel]) + bytes(data)
 
 
-def parts(raw):
+def parts(raw: bytes) -> Tuple[int, int, bytes]:
     """A packet's port, channel and data."""
     return raw[0] >> 4, raw[0] & 3, raw[1:]
 
@@ -23,7 +24,7 @@ def parts(raw):
 ASK_PROTOCOL, ASK_FIRMWARE = bytes([0]), bytes([1])
 
 
-def text_of(data):
+def text_of(data: bytes) -> str:
     """The text after an answer's first byte."""
     return bytes(data[1:]).split(b"\0")[0].decode("ascii", "replace")
 
@@ -34,17 +35,17 @@ COUNT_MEMORIES = bytes([1])
 TRAJECTORY_MEMORY = 0x12
 
 
-def ask_memory(number):
+def ask_memory(number: int) -> bytes:
     """The question for a memory of the list."""
     return bytes([2, number])
 
 
-def memory_of(data):
+def memory_of(data: bytes) -> Tuple[int, int]:
     """A memory's type and size."""
     return data[2], struct.unpack_from("<I", bytes(data), 3)[0]
 
 
-def read(number, address, length):
+def read(number: int, address: int, length: int) -> bytes:
     """The question for bytes of a memory, on channel 1; the answer begins with its first five bytes."""
     return struct.pack("<BIB", number, address, length)
 
@@ -56,17 +57,17 @@ PARAMETER_TYPES = {0x08: "B", 0x09: "H", 0x0A: "I", 0x00: "b", 0x01: "h", 0x02: 
 LOG_TYPES = {1: "B", 2: "H", 3: "I", 4: "b", 5: "h", 6: "i", 7: "f", 8: "e"}
 
 
-def ask_item(number):
+def ask_item(number: int) -> bytes:
     """The question for an item of a table."""
     return struct.pack("<BH", 2, number)
 
 
-def table_of(data):
+def table_of(data: bytes) -> Tuple[int, int]:
     """How many items a table has, and its checksum."""
     return struct.unpack_from("<HI", bytes(data), 1)
 
 
-def item_of(data):
+def item_of(data: bytes) -> Tuple[str, int]:
     """An item's name, `group.name`, and its type."""
     group, name = bytes(data[4:]).split(b"\0")[:2]
     return "%s.%s" % (group.decode("ascii", "replace"), name.decode("ascii", "replace")), data[3] & 0x0F
@@ -74,12 +75,12 @@ def item_of(data):
 
 # ---- parameters, port 2: read on channel 1, write on channel 2 (90 %)
 
-def write_parameter(number, kind, value):
+def write_parameter(number: int, kind: int, value: float) -> bytes:
     """The data that sets a parameter; the answer begins with its first two bytes."""
     return struct.pack("<H" + PARAMETER_TYPES[kind], number, value)
 
 
-def parameter_of(data, kind):
+def parameter_of(data: bytes, kind: int) -> float:
     """The value of a read parameter."""
     return struct.unpack_from("<" + PARAMETER_TYPES[kind], bytes(data), 3)[0]
 
@@ -90,22 +91,22 @@ RESET_LOGS = bytes([5])
 MOST_LOGGED = 26  # bytes of one block's values
 
 
-def create_block(block, items):
+def create_block(block: int, items: Iterable[Tuple[int, int]]) -> bytes:
     """The data that makes a block of (number, type) items."""
     return bytes([6, block]) + b"".join(struct.pack("<BH", kind << 4 | kind, number) for number, kind in items)
 
 
-def start_block(block, milliseconds):
+def start_block(block: int, milliseconds: int) -> bytes:
     """The data that has a block sent every so many milliseconds, a multiple of ten."""
     return bytes([3, block, max(1, min(255, milliseconds // 10))])
 
 
-def stop_block(block):
+def stop_block(block: int) -> bytes:
     """The data that has a block sent no more."""
     return bytes([4, block])
 
 
-def logged(data, kinds):
+def logged(data: bytes, kinds: Iterable[int]) -> Optional[Tuple[int, int, Tuple[float, ...]]]:
     """A block's number, the drone's milliseconds, which wrap at 2^24, and its values; None where it is too short."""
     form = "<" + "".join(LOG_TYPES[kind] for kind in kinds)
     if len(data) < 4 + struct.calcsize(form):
@@ -115,7 +116,7 @@ def logged(data, kinds):
 
 # ---- arming, port 13 channel 0 (the request 85 %, its answer 60 %: `supervisor.info` is what is believed)
 
-def arm(on):
+def arm(on: bool) -> bytes:
     """The data that arms or disarms a drone."""
     return bytes([1, 1 if on else 0])
 
@@ -127,27 +128,27 @@ WRECKED = IS_TUMBLED | IS_LOCKED | IS_CRASHED
 
 # ---- the high-level commander, port 8 channel 0 (90 %); metres, seconds, radians
 
-def group(mask=0):
+def group(mask: int = 0) -> bytes:
     """The data that puts a drone into groups; 0 is how it begins. Here it is a question that changes nothing."""
     return bytes([0, mask])
 
 
-def take_off(height, seconds):
+def take_off(height: float, seconds: float) -> bytes:
     """The data of a take-off to an absolute height, with the yaw as it is."""
     return struct.pack("<BBff?f", 7, 0, height, 0.0, True, seconds)
 
 
-def land(height, seconds):
+def land(height: float, seconds: float) -> bytes:
     """The data of a landing at an absolute height, with the yaw as it is."""
     return struct.pack("<BBff?f", 8, 0, height, 0.0, True, seconds)
 
 
-def go_to(x, y, z, yaw, seconds):
+def go_to(x: float, y: float, z: float, yaw: float, seconds: float) -> bytes:
     """The data that takes a drone to a place."""
     return struct.pack("<BBBfffff", 4, 0, 0, x, y, z, yaw, seconds)
 
 
-def start(trajectory):
+def start(trajectory: int) -> bytes:
     """The data that starts a trajectory, as a plan has it."""
     return struct.pack("<BBBBBf", 5, 0, 0, 0, trajectory, 1.0)
 

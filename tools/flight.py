@@ -1,345 +1,704 @@
-"""A fleet of drones by radio: what they say of themselves, and the commands of a flight. For tools/fly.
-
-As firmware.py it is from memory, and was run with simulated drones alone.
-"""
-import csv
+"""A flight from take-off to landing: its stages, what is looked at, and what is done at a fault. For tools/fly."""
+import math
 import threading
+import time
+from typing import Any, Callable, Dict, Iterable, Iterator, List, Optional, Sequence, Set, Tuple
 
 import clock
+from companion import many
+from crazyradio import Dead, Silence
+from crew import Answers, Cut, Interrupted, Watch, say
+from curves import curves_of
+from descent import EARLY, Descent
 import firmware
-from crazyradio import ANSWER
+from fleet import Fleet, Trouble
+import landings
+import legs
+from ways import Ways
 
-FLIGHT, SETTLING = 1, 2  # log blocks
-MARK = 0x5A  # a byte by which the answer to a broadcast is told from others
-LOGGED = {FLIGHT: ["stateEstimate.x", "stateEstimate.y", "stateEstimate.z", "stateEstimate.yaw", "pm.vbat",
-                   "supervisor.info"],
-          SETTLING: ["kalman.varPX", "kalman.varPY", "kalman.varPZ"]}
-OPTIONAL = ("supervisor.info", "stateEstimate.yaw")  # old firmware hasn't them all
-REVIVE = 1.0  # seconds without samples of a drone whose link is heard, after which its blocks are made anew
-SAME_FLOOR = 0.03  # metres between floors up to which all may be landed by one broadcast
-TAKEN = (0, 1)  # statuses of a landing: carried out; refused, since the drone lands already or is on the floor
-WRAP = 2 ** 24  # milliseconds after which a drone's stamps begin anew
-HISTORY = 20  # samples that are kept to see whether a drone is settled
-
-
-class Trouble(Exception):
-    """What keeps a flight from going on."""
+LEAD = 100  # milliseconds until a landing that is decided is begun
+FAR_FOR = 0.3  # seconds for which a drone has to be far from its curve, or to send no numbers
+MOST_PAIRS = 10  # that are named where all land
+TELLS = 5  # seconds between two lines on how it goes
+ANSWERS = 0.4  # real seconds in which `check` has to answer where drones fly on meanwhile
+OLD = 0.2  # seconds that a sample may be old by which a landing is judged
+NO_ANSWER = "`check` didn't answer in time"
 
 
-class State:
-    """What a drone said of itself last: place in metres, yaw in degrees, volts, the supervisor's bits or None, and the
-    estimator's variances, with when it was heard; `low` is since when all samples were below its least voltage, and
-    `places` are its last ones. `measured` is when the place was measured, by the drone's own clock: its packets are
-    late by chance, and the least late one sets that clock."""
-
-    def __init__(self):
-        self.place, self.volts, self.info, self.heard, self.measured = None, None, None, None, None
-        self.places, self.variances, self.yaw, self.low, self.least_volts = [], [], None, None, 0.0
-        self.stamp, self.least = None, None
-
-    def weigh(self, volts, at):
-        """Notes a voltage: under thrust single samples sag."""
-        self.volts = volts
-        self.low = None if volts >= self.least_volts else self.low if self.low is not None else at
-
-    def is_empty(self, seconds):
-        """Whether the voltage was too low for so long."""
-        return self.low is not None and self.heard - self.low >= seconds
-
-    def measure(self, heard, stamp):
-        """Notes when a sample came, and the drone's milliseconds in it, which begin anew after WRAP."""
-        turns = 0 if self.stamp is None else round((self.stamp - stamp) / WRAP)
-        self.stamp = stamp + turns * WRAP
-        late = heard - self.stamp / 1000
-        self.least = late if self.least is None else min(self.least, late)
-        self.heard, self.measured = heard, self.stamp / 1000 + self.least
+def confirm(options, answers: Answers, text: str, look: Callable[[], None]) -> None:
+    """Asks the crew, and looks after what flies; anything but `yes` ends the flight."""
+    if not options.yes and answers.line(text + " Type yes: ", look) != "yes":
+        raise Trouble("nobody said yes")
 
 
-class Log:
-    """The file to which places go, as tools/flown reads it; before the start rows wait."""
-
-    def __init__(self, path):
-        self.file = open(path, "w", newline="", encoding="utf-8") if path else None
-        self.rows = csv.writer(self.file) if path else None
-        self.waiting, self.zero, self.lock = [], None, threading.Lock()
-        if path:
-            self.rows.writerow(["time", "drone", "x", "y", "z", "stamp"])
-
-    def put(self, at, name, place, stamp):
-        """A sample."""
-        with self.lock:
-            if self.file is None:
-                return
-            self.waiting.append((at, name, place, stamp))
-            if self.zero is not None:
-                self.write()
-
-    def write(self):
-        """Writes what waits."""
-        for at, name, place, stamp in self.waiting:
-            self.rows.writerow(["%.4f" % (at - self.zero), name, *("%.5f" % v for v in place), stamp])
-        self.waiting = []
-        self.file.flush()
-
-    def start(self, zero):
-        """The instant of the start."""
-        with self.lock:
-            self.zero = zero
-            if self.file:
-                self.write()
-
-    def close(self):
-        """Writes what waits, by the time of its last sample where nothing was started, and closes the file."""
-        if self.zero is None and self.waiting:
-            self.start(self.waiting[-1][0])
-        with self.lock:
-            if self.file:
-                self.file.close()
-                self.file = None
+def in_mm(place: Sequence[float]) -> legs.Place:
+    """A place in whole mm."""
+    return tuple(round(1000 * v) for v in place)
 
 
-class Fleet:
-    """The drones of a show by a radio."""
+class Flight(Descent):
+    """A flight from take-off to landing. `silent` are drones that are silent and, as it is assumed, fly on to where they
+    were told to; `failed` those whose fault was said, and `out` those of them that don't fly any more. `aims` has where
+    each was told to go last, and `leg`, `begun`, `stage_began` and `stage_ends` the leg that is flown, its stage, when
+    its commands went out, and when it has ended. `doubt` is why a landing that begins now isn't shown apart."""
 
-    def __init__(self, radio, log):
-        self.radio, self.names, self.log = radio, radio.names, log
-        self.states, self.tables, self.kinds = [State() for _ in self.names], {}, [{} for _ in self.names]
-        self.started, self.heard_broadcast, self.lock = {}, set(), threading.Lock()
-        self.every, self.revived, self.told = 100, [0.0] * len(self.names), []
-        radio.listeners.append(self.came)
+    def __init__(self, fleet: Fleet, flown, ways: Ways, options, watch: Watch, answers: Answers) -> None:
+        super().__init__(fleet, [pad[2] / 1000 for pad in ways.pads], options.silence, watch, answers)
+        self.flown, self.ways, self.options = flown, ways, options
+        self.highest = ways.top() / 1000 + 1
+        self.curves, self.flying, self.in_show, self.zero = list(curves_of(flown).values()), False, False, None
+        self.strays, self.far, self.far_since = [0.0] * len(self.names), [0.0] * len(self.names), {}
+        self.silence, self.quiet = Silence(len(self.names)), [0.0] * len(self.names)
+        self.armed: Set[int] = set()
+        self.silent: Set[int] = set()
+        self.failed: Set[int] = set()
+        self.out: Set[int] = set()
+        self.void, self.slack, self.told, self.takes = False, 0.0, 0.0, 200.0  # milliseconds that `check` takes
+        self.leg, self.begun, self.stage_ends = ways.up, 0, 0.0
+        self.stage_began: Optional[float] = None
+        self.doubt: Optional[str] = None
+        self.aims: Dict[int, legs.Place] = ways.standing()
 
-    # ---- what drones say
+    # ---- what is looked at
 
-    def came(self, drone, raw):
-        """Takes what a drone sends: samples, and answers to starts."""
-        port, channel, data = firmware.parts(raw)
-        if (port, channel) == (firmware.COMMANDER, 0) and len(data) >= 4 and data[0] == 5:
-            with self.lock:
-                self.started[drone] = clock.now(), data[3]
-        if (port, channel) == (firmware.COMMANDER, 0) and data[:3] == firmware.group() + bytes([MARK]):
-            self.heard_broadcast.add(drone)
-        kinds = self.kinds[drone].get(data[0] if data else None)
-        if (port, channel) != (firmware.LOGS, 2) or not kinds:
-            return
-        found, state = firmware.logged(data, [kind for _, kind in kinds]), self.states[drone]
-        if found is None:
-            return
-        block, stamp, values = found
-        by_name = dict(zip((name for name, _ in kinds), values))
-        if block == SETTLING:
-            state.variances = (state.variances + [max(values)])[-HISTORY:]
-            return
-        state.place = [by_name["stateEstimate." + axis] for axis in "xyz"]
-        state.info, state.yaw = by_name.get("supervisor.info"), by_name.get("stateEstimate.yaw")
-        state.measure(clock.now(), stamp)
-        state.weigh(by_name["pm.vbat"], state.heard)
-        state.places = (state.places + [state.place])[-HISTORY:]
-        self.log.put(state.heard, self.names[drone], state.place, stamp)
+    def fault_of(self, k: int) -> Optional[str]:
+        """What is wrong with a drone that is heard, and wasn't said before: words, or None."""
+        name, state = self.names[k], self.fleet.states[k]
+        if state.info is not None and state.info & firmware.WRECKED:
+            self.out.add(k)
+            return "%s has tumbled" % name
+        if k in self.armed and state.info is not None and not state.info & firmware.IS_ARMED:
+            self.out.add(k)
+            return "%s is no longer armed" % name
+        if k in self.failed:
+            return None
+        if state.senseless is not None and clock.now() - state.senseless > FAR_FOR:
+            return "%s sends a place that is no number" % name
+        if state.is_empty(self.options.sag):
+            return "%s has %.2f V left" % (name, state.volts)
+        return None
 
-    def table(self, drone, port):
-        """A drone's table of parameters or logs: numbers and types by name. Equal tables are read once."""
-        count, checksum = firmware.table_of(self.radio.ask(drone, port, 0, firmware.ASK_TABLE))
-        key = port, count, checksum
-        if key not in self.tables:
-            found = {}
-            for number in range(count):
-                name, kind = firmware.item_of(self.radio.ask(drone, port, 0, firmware.ask_item(number)))
-                found[name] = number, kind
-            self.tables[key] = found
-        return self.tables[key]
+    def faults(self) -> Iterator[str]:
+        """What is wrong with drones that are heard, and wasn't said before."""
+        for k in self.all:
+            words = None if k in self.silent | self.landed | self.out else self.fault_of(k)
+            if words:
+                self.failed.add(k)
+                yield words
 
-    def versions(self, drone):
-        """A drone's protocol and firmware."""
-        protocol = self.radio.ask(drone, firmware.PLATFORM, 1, firmware.ASK_PROTOCOL)[1]
-        return protocol, firmware.text_of(self.radio.ask(drone, firmware.PLATFORM, 1, firmware.ASK_FIRMWARE, 1))
+    def listen(self) -> Iterator[str]:
+        """Looks who is silent, says so, and yields it where that is a fault: on the ways, and where it is asked for."""
+        self.quiet = self.silence.look([state.heard for state in self.fleet.states])
+        self.fleet.revive()
+        for k, quiet in enumerate(self.quiet):
+            if quiet > self.options.silence and k not in self.silent | self.landed:
+                self.silent.add(k)
+                if not self.in_show or self.options.on_silence == "land":
+                    yield "%s is silent for %.1f s" % (self.names[k], quiet)
+                    continue
+                say("%s is silent for %.1f s: it flies its curve on, as is assumed, and all fly on" % (
+                    self.names[k], quiet))
+                if len(self.silent) == len(self.names):
+                    say("NO DRONE IS HEARD: is the radio gone? Nothing from here reaches them; there is the other way")
+            elif quiet < self.options.silence / 2 and k in self.silent:
+                self.silent.discard(k)
+                say("%s is heard again" % self.names[k])
 
-    def set(self, drone, name, value):
-        """Sets a parameter; nothing is done where a drone hasn't it."""
-        found = self.table(drone, firmware.PARAMETERS).get(name)
-        if found:
-            data = firmware.write_parameter(*found, value)
-            self.radio.ask(drone, firmware.PARAMETERS, 2, data, 2)
+    def noted(self) -> List[str]:
+        """Looks at all drones, and what is pressed; the faults that are new."""
+        self.watch.look()
+        return [*self.listen(), *self.faults(), *(self.strayed() if self.in_show else ())]
 
-    def reset_estimator(self, drone):
-        """Has a drone's estimator begin anew, where it has one that can."""
-        self.set(drone, "kalman.resetEstimation", 1)
-        clock.wait(0.1)
-        self.set(drone, "kalman.resetEstimation", 0)
+    def guard(self) -> None:
+        """Raises what was pressed, or the faults of drones in flight."""
+        new = self.noted()
+        if new:
+            raise Trouble("; ".join(new))
 
-    def revive(self):
-        """Makes the logs of drones anew that are heard and send no samples: a link that was gone for two seconds, or a
-        drone that started anew, has lost them."""
-        now = clock.now()
-        for drone, state in enumerate(self.states):
-            last = self.radio.last[drone]
-            if last is None or now - last > REVIVE or state.heard is None or now - state.heard < REVIVE:
-                continue
-            if now - self.revived[drone] < 3 * REVIVE:
-                continue
-            self.revived[drone] = now
-            threading.Thread(target=self.try_logs, args=(drone,), daemon=True).start()
-
-    def try_logs(self, drone):
-        """Makes a drone's logs anew, if it lets that be done."""
-        try:
-            self.begin_logs(drone, self.every, (FLIGHT,))
-        except Exception:
-            pass
-
-    def begin_logs(self, drone, milliseconds, blocks=(FLIGHT, SETTLING)):
-        """Has a drone send its places, battery and estimator's variances."""
-        self.every = milliseconds
-        table = self.table(drone, firmware.LOGS)
-        self.radio.ask(drone, firmware.LOGS, 1, firmware.RESET_LOGS, 1)
-        for block, names in LOGGED.items():
-            if block not in blocks:
-                continue
-            missing = [name for name in names if name not in table and name not in OPTIONAL]
-            if missing:
-                raise Trouble("%s has no log %s: another firmware or estimator?" % (
-                    self.names[drone], ", ".join(missing)))
-            items = [(name, *table[name]) for name in names if name in table]
-            self.kinds[drone][block] = [(name, kind) for name, _, kind in items]
-            made = self.radio.ask(drone, firmware.LOGS, 1, firmware.create_block(block, [it[1:] for it in items]), 2)
-            begun = self.radio.ask(drone, firmware.LOGS, 1, firmware.start_block(block, milliseconds), 2)
-            if (made[2], begun[2]) != (0, 0):
-                raise Trouble("%s refuses to log: %d %d" % (self.names[drone], made[2], begun[2]))
-
-    def end_settling(self):
-        """Has all drones send no variances any more: a radio has no room for them in flight."""
-        self.radio.each(lambda drone: self.radio.ask(drone, firmware.LOGS, 1, firmware.stop_block(SETTLING), 2))
-
-    def end_logs(self):
-        """Has all drones that answer stop sending samples."""
-        for drone in range(len(self.names)):
-            self.radio.send(drone, firmware.packet(firmware.LOGS, 1, firmware.RESET_LOGS))
-
-    def deaf(self, tries=3):
-        """The drones that answer no broadcast of a question that changes nothing."""
-        raw = firmware.packet(firmware.COMMANDER, 0, firmware.group() + bytes([MARK]))
-        for _ in range(tries):
-            self.radio.broadcast(raw)
-            until = clock.now() + 1
-            while clock.now() < until and len(self.heard_broadcast) < len(self.names):
-                clock.wait(0.02)
-        return [drone for drone in range(len(self.names)) if drone not in self.heard_broadcast]
-
-    # ---- commands
-
-    def command(self, drone, data, word):
-        """A command to one drone, until it is answered; when it went out first and when it was answered. A take-off
-        that is asked for once more, since its answer was lost, is refused: then it was taken."""
-        begin = clock.now()
-        answer = self.radio.ask(drone, firmware.COMMANDER, 0, data, 3, seconds=2)
-        again = answer[3] == 1 and clock.now() - begin > 0.9 * ANSWER
-        if answer[3] and not again:
-            raise Trouble("%s refuses to %s: status %d" % (self.names[drone], word, answer[3]))
-        return begin, clock.now()
-
-    def commands(self, rows, word, look):
-        """Commands to drones, side by side: data by drone. The seconds within which all went out and were answered."""
-        times = self.radio.each(lambda k: self.command(k, rows[k], word) if k in rows else None, look)
-        times = [row for row in times if row]
-        return max(row[1] for row in times) - min(row[0] for row in times)
-
-    def holds(self, drone, memory, data):
-        """Whether a drone's memory still begins with these bytes: one that started anew has lost them."""
-        data = data[:20]
-        return self.radio.ask(drone, firmware.MEMORY, 1, firmware.read(memory[0], memory[1], len(data)), 5, seconds=2,
-                              length=6 + len(data))[6:] == data
-
-    def arm(self, on, drones, look=None):
-        """Arms or disarms drones; which of them aren't as they should be afterwards, by their own supervisors, or
-        didn't answer where they have none. A drone that arms by itself can't be disarmed."""
-        quiet = set()
-
-        def arm(drone):
-            try:
-                return drone in drones and self.radio.ask(drone, firmware.PLATFORM, 0, firmware.arm(on), 1, seconds=2)
-            except Exception:
-                quiet.add(drone)
-        self.radio.each(arm, look)
-        until, wrong = clock.now() + 2, []
-        while clock.now() < until:
-            wrong = [self.names[drone] for drone in drones if (
-                drone in quiet if self.states[drone].info is None else
-                bool(self.states[drone].info & firmware.IS_ARMED) != on
-                and (on or not self.states[drone].info & firmware.AUTO_ARM))]
-            if not wrong:
-                break
-            if look:
-                look()
+    def wait_for(self, done: Callable[[], List[str]], seconds: float, what: str) -> None:
+        """Waits until a function gives no names any more, on guard; raises where it takes too long."""
+        until = clock.now() + seconds
+        while done():
+            if clock.now() > until:
+                raise Trouble("%s: %s" % (what, ", ".join(done())))
+            self.guard()
             clock.wait(0.05)
-        return wrong
 
-    def start(self, trajectory, copies, by_broadcast):
-        """Starts a trajectory in all drones: by a broadcast that each hears at once, or one by one. By drone when its
-        start went out first and last, and when it was answered last and with which status, or None. Nobody is sent a
-        second start of its own, since it would begin anew. A drone answers in order: one that answers a question
-        after the start and not the start didn't take it."""
-        self.started, raw = {}, firmware.packet(firmware.COMMANDER, 0, firmware.start(trajectory))
-        if by_broadcast:
-            sent = dict.fromkeys(range(len(self.names)), self.radio.broadcast(raw, copies))
-        else:
-            sent = {}
-            for drone in range(len(self.names)):
-                sent[drone] = (clock.now(),) * 2
-                self.radio.send(drone, raw)
-        self.radio.each(self.pass_by)
-        with self.lock:
-            return {drone: (*sent[drone], *self.started.get(drone, (None, None))) for drone in sent}
+    def pause(self, until: float) -> None:
+        """Waits until an instant; a second Ctrl-C ends it."""
+        while clock.now() < until:
+            self.watch.look()
+            self.fleet.revive()
+            clock.wait(min(0.05, max(0.0, until - clock.now())))
 
-    def pass_by(self, drone):
-        """Waits until a drone has answered all commands before, but not for long."""
-        try:
-            self.radio.ask(drone, firmware.COMMANDER, 0, firmware.group(), 1, seconds=1)
-        except Exception:
-            pass
+    def meanwhile(self, work: Callable[[], Any], seconds: float = math.inf, late: Any = None) -> Any:
+        """What a function gives that asks `check`, while the crew is heard; `late` where it takes longer, in real
+        seconds: then it goes on, and nobody waits for it."""
+        out: List[Any] = []
+        failed: List[Exception] = []
 
-    def beside(self, raw, copies):
-        """A broadcast that goes out beside commands to each drone, so that nothing rests on it, nor waits for it."""
-        try:
-            self.radio.broadcast_beside(raw, copies)
-        except Exception:
-            pass
-
-    def land(self, floors, drones, seconds=None, speed=0.4, least=2.0):
-        """Lands drones where they are, each by a command of its own, and beside that by a broadcast where all land on
-        floors of one height. The seconds that it takes, who didn't answer, and who refused, with the status."""
-        self.radio.drop()
-        highest = max([self.states[k].place[2] - floors[k] for k in drones if self.states[k].place] or [2.0])
-        seconds, quiet, refused = seconds or max(least, highest / speed), [], []
-        if len(drones) == len(self.names) and max(floors) - min(floors) <= SAME_FLOOR:
-            self.beside(firmware.packet(firmware.COMMANDER, 0, firmware.land(min(floors), seconds)), 2)
-
-        def land(drone):
-            if drone not in drones:
-                return
+        def run() -> None:
             try:
-                status = self.radio.ask(
-                    drone, firmware.COMMANDER, 0, firmware.land(floors[drone], seconds), 3, seconds=1.5)[3]
-                if status not in TAKEN:
-                    refused.append("%s with status %d" % (self.names[drone], status))
-            except Exception:
-                quiet.append(self.names[drone])
-        self.radio.each(land)
-        return seconds, quiet, refused
+                out.append(work())
+            except Exception as error:
+                failed.append(error)
+        thread, until = threading.Thread(target=run, daemon=True), time.monotonic() + seconds
+        thread.start()
+        while thread.is_alive() and time.monotonic() < until:
+            thread.join(0.02)
+            self.watch.look()
+            self.fleet.revive()
+        if failed:
+            raise failed[0]
+        return out[0] if out else late
 
-    def rest(self, drones):
-        """Has the commanders of drones that are down stop: some let motors idle until then."""
-        for drone in drones:
-            self.radio.send(drone, firmware.packet(firmware.COMMANDER, 0, firmware.STOP))
+    def far_from(self, places: Dict[int, legs.Place], limit: float) -> List[str]:
+        """The names of drones that are farther from their places, in mm and by drone, than this."""
+        return [self.names[k] for k, place in places.items()
+                if 1000 * math.dist(self.fleet.states[k].place, [v / 1000 for v in place]) > limit]
 
-    def cut(self):
-        """Stops all motors, at once and for good: each drone falls, and has to be started anew."""
-        self.radio.drop()
-        for port, channel, data in ((firmware.PLACES, 1, firmware.EMERGENCY_STOP),
-                                    (firmware.COMMANDER, 0, firmware.STOP)):
-            raw = firmware.packet(port, channel, data)
-            for drone in range(len(self.names)):
-                self.radio.send(drone, raw)
-            self.beside(raw, 2)
-            for _ in range(2):
-                for drone in range(len(self.names)):
-                    self.radio.send(drone, raw)
-        clock.wait(0.5)
+    # ---- the ways up and down
+
+    def ready(self) -> None:
+        """Looks, just before anybody takes off, whether drones are still as they were looked over; raises where not."""
+        faults = []
+        for k, (name, state, pad) in enumerate(zip(self.names, self.fleet.states, self.ways.pads)):
+            moved = 1000 * math.dist(state.place, [v / 1000 for v in pad])
+            if not self.is_fresh(k):
+                faults.append("%s is silent" % name)
+            elif state.senseless is not None:
+                faults.append("%s sends a place that is no number" % name)
+            elif moved > self.ways.rules.aim:
+                faults.append("%s is %.0f mm from where it stood, and %d were judged" % (
+                    name, moved, self.ways.rules.aim))
+            elif state.says_it_flies():
+                faults.append("%s says that it flies" % name)
+        if not faults:
+            memory, data = self.flown.show.settings["memory"], self.flown.data()
+            held = self.fleet.radio.each(lambda k: self.fleet.holds(k, memory, data[k]), self.watch.look)
+            faults = ["%s doesn't hold the show any more: it was started anew since the upload" % name
+                      for name, is_held in zip(self.names, held) if not is_held]
+        if faults:
+            raise Trouble("not flown: " + ", ".join(faults))
+
+    def arm(self, drones: Iterable[int]) -> None:
+        """Arms drones just before they fly: where one has to be armed it is disarmed again if it waits."""
+        drones = [k for k in drones if k not in self.armed]
+        wrong = self.fleet.arm(True, drones, self.watch.look) if drones else []
+        self.armed |= set(drones)
+        if wrong:
+            raise Trouble("not armed: %s" % ", ".join(wrong))
+
+    def begins_to_fly(self) -> None:
+        """From now on drones are in the air."""
+        self.flying = True
+        self.watch.take_off()
+
+    def fly_leg(self, leg: legs.Leg) -> None:
+        """Flies a leg, stage by stage."""
+        self.leg = leg
+        for number, stage in enumerate(leg.stages, 1):
+            self.begun, self.stage_began = number, None
+            self.stage_ends = clock.now() + stage.milliseconds / 1000 + 1
+            self.fly_stage(stage.without(self.out | self.silent))
+
+    def fly_stage(self, stage: legs.Stage) -> None:
+        """Flies a stage of a leg, and waits until all are where it ends."""
+        if not stage.to:
+            return
+        seconds, names = stage.milliseconds / 1000, " ".join(self.names[k] for k in stage.to)
+        if stage.kind == legs.TAKE_OFF:
+            self.arm(stage.to)
+            self.begins_to_fly()
+            say("taking off, %s: %s, %.1f s" % (many(len(stage.to), "drone"), names, seconds))
+            rows = {k: firmware.take_off(place[2] / 1000, seconds) for k, place in stage.to.items()}
+            near = max(self.options.at_start, self.ways.rules.stray)  # farther off is another way
+            self.rising = set(stage.to)
+            self.go(rows, "take off", stage, near, "not up")
+            self.rising = set()
+        elif stage.kind == legs.GO_TO:
+            self.go(self.go_to_rows(stage), "go to its place", stage, self.options.at_start,
+                    "not at the %s place" % ("first" if self.zero is None else "next"))
+        else:
+            say("landing, %s: %s, %.1f s" % (many(len(stage.to), "drone"), names, seconds))
+            self.aims.update(stage.to)
+            self.goes_out(stage)
+            up = self.bring_down(list(stage.to), seconds, self.ways.rules.late / 1000)
+            if up:
+                raise Trouble("not seen to be down: %s" % self.words_of(up))
+
+    def goes_out(self, stage: legs.Stage) -> None:
+        """The commands of a stage go out now."""
+        self.stage_began = clock.now()
+        self.stage_ends = self.stage_began + stage.milliseconds / 1000 + 1
+
+    def go_to_rows(self, stage: legs.Stage) -> Dict[int, bytes]:
+        """The commands of a stage in which drones go to places, with the yaws of before or after the show."""
+        yaws = self.ways.yaws if self.leg is self.ways.up else self.ways.last_yaws
+        return {k: firmware.go_to(*(v / 1000 for v in place), math.radians(yaws[k] / 10), stage.milliseconds / 1000)
+                for k, place in stage.to.items()}
+
+    def go(self, rows: Dict[int, bytes], word: str, stage: legs.Stage, near: float, what: str) -> None:
+        """Gives the commands of a stage, says where they went out farther apart than was judged, and waits."""
+        self.goes_out(stage)
+        begin = clock.now()
+        self.aims.update(stage.to)
+        spread = 1000 * self.fleet.commands(rows, word, self.watch.look)
+        if len(rows) > 1 and spread > self.ways.rules.late:
+            say("OUTSIDE OF WHAT WAS JUDGED: commands within %.0f ms, and %d were judged" % (
+                spread, self.ways.rules.late))
+        until = begin + stage.milliseconds / 1000
+        self.wait_for(lambda: clock.now() < until and ["all"] or self.far_from(stage.to, near),
+                      stage.milliseconds / 1000 + 5, what)
+
+    def take_off(self) -> None:
+        """Flies the way up, and looks whether all are at their first places and stay there."""
+        self.ready()
+        self.fly_leg(self.ways.up)
+        if not self.ways.up.stages:
+            say("nobody takes off: all first places are on the floor")
+        firsts, near = dict(enumerate(self.ways.firsts)), self.options.at_start
+        self.wait_for(lambda: self.far_from(firsts, near), 8, "not at the first place")
+        settled = clock.now() + 1
+        self.wait_for(lambda: clock.now() < settled and ["all"] or [], 3, "")
+        off = self.far_from(firsts, near)
+        if off:
+            raise Trouble("left the first place: %s" % ", ".join(off))
+        off = [1000 * math.dist(state.place, [v / 1000 for v in first])
+               for state, first in zip(self.fleet.states, self.ways.firsts)]
+        say("at the first places: %s" % ", ".join("%s %.0f mm off" % it for it in zip(self.names, off)))
+
+    def come_down(self) -> None:
+        """Flies the way down; where some hold another one, that keeps clear of where they are."""
+        self.in_show, leg, hold = False, self.ways.down, self.silent | self.out
+        self.leg, self.begun, self.stage_began, self.stage_ends = leg, 0, None, clock.now()
+        if hold:
+            say("silent, and hovering at the end of its curve, as is assumed: %s" % self.words_of(self.silent)
+                if self.silent else "doesn't fly any more: %s" % self.words_of(self.out))
+            at = dict(enumerate(self.ways.lasts))
+            at.update((k, in_mm(self.fleet.states[k].place)) for k in self.out if k not in self.silent)
+            leg = self.meanwhile(lambda: self.ways.new_judged(at, hold) or self.beside_wrecks(
+                self.ways.down, 0, at, hold))
+            if leg is None:
+                raise Trouble("NO WAY DOWN is judged apart from %s" % self.words_of(hold))
+            for line in leg.lines():
+                say(line)
+        self.fly_leg(leg)
+
+    def beside_wrecks(self, leg: legs.Leg, count: int, at: Dict[int, legs.Place],
+                      hold: Set[int]) -> Optional[legs.Leg]:
+        """The rest of a leg, judged without the drones that don't fly any more: better than to come down on one that
+        lies below. None where there are none, or it isn't accepted."""
+        wrecks = self.out - self.silent
+        rest = self.ways.rest_judged(leg, count, {k: at[k] for k in at if k not in wrecks}, hold) if wrecks else None
+        if rest:
+            say("NOT JUDGED beside %s: nothing leads clear of where it lies" % self.words_of(wrecks))
+        return rest
+
+    # ---- the show
+
+    def start(self) -> None:
+        """Starts all drones, and says how far apart their starts may be."""
+        self.arm(self.all)
+        self.begins_to_fly()
+        (trajectory,) = self.flown.show.settings["trajectory"]
+        rows = self.fleet.start(trajectory, self.options.copies, not self.options.unicast)
+        begin, end = min(row[0] for row in rows.values()), max(row[1] for row in rows.values())
+        self.zero = begin
+        self.fleet.log.start(begin)
+        faults = ["%s refuses the start with status %d" % (self.names[k], row[3]) for k, row in rows.items() if row[3]]
+        faults += ["%s didn't take the start" % self.names[k] for k, row in rows.items() if row[3] is None]
+        if faults:
+            raise Trouble(", ".join(faults))
+        answered = max(row[2] for row in rows.values()) - begin
+        # A start was taken between when it went out and when it was answered: all may be so much later than the zero.
+        self.slack = min(500.0, 1000 * answered)
+        self.say_spread(1000 * (end - begin), 1000 * answered)
+        self.aims.update(enumerate(self.ways.lasts))
+        self.in_show = True
+
+    def say_spread(self, spread: float, answered: float) -> None:
+        """Says how far apart starts may be, in milliseconds; raises where that is too far."""
+        single = not self.options.unicast and self.options.copies * len(self.fleet.radio.shared) == 1
+        say("started: %s; all answered within %.0f ms" % (
+            "by one packet to all" if single else "by packets within %.0f ms" % spread, answered))
+        if not single and spread > self.options.late:
+            raise Trouble("starts may be farther apart than %d ms" % self.options.late)
+        if not single and spread > self.ways.rules.show_late:
+            self.void = True
+            say("OUTSIDE OF THE PROMISE: starts went out within %.0f ms, and the show's `late` is %d" % (
+                spread, self.ways.rules.show_late))
+
+    def strayed(self) -> Iterator[str]:
+        """Looks how far each drone is from its curve; says where that is more than is promised, and yields it where one
+        stays too far."""
+        late, now, promised = self.options.late, clock.now(), self.ways.rules.show_stray
+        for k, (state, curve) in enumerate(zip(self.fleet.states, self.curves)):
+            if k in self.silent or now - state.heard > 1:
+                continue
+            t, place = 1000 * (state.measured - self.zero), [1000 * v for v in state.place]
+            far = curve.nearest(place, t - late - 50 - self.slack, t + late, min(self.options.stray, promised) / 4)[0]
+            self.far[k], self.strays[k] = far, max(self.strays[k], far)
+            if 0 < promised < far and not self.void:
+                self.void = True
+                say("OUTSIDE OF THE PROMISE since %.1f s: %s is %.0f mm from its curve, and the show's `stray` is %d"
+                    % (max(0.0, t / 1000), self.names[k], far, promised))
+            if far <= self.options.stray:
+                self.far_since.pop(k, None)
+            elif now - self.far_since.setdefault(k, now) > FAR_FOR and k not in self.failed:
+                self.failed.add(k)
+                yield "%s is %.0f mm from its curve" % (self.names[k], far)
+
+    def off(self) -> Dict[int, landings.Reach]:
+        """The drones that aren't on their curves, as far as they are heard, and what they may reach."""
+        limit = self.ways.rules.show_stray or self.options.stray
+        return {k: landings.off_reach([1000 * v for v in self.fleet.states[k].place],
+                                      1000 * self.fleet.states[k].speed())
+                for k in self.all if k not in self.silent and (k in self.out or self.far[k] > limit)}
+
+    def ends(self) -> float:
+        """When the show is over."""
+        return self.zero + self.flown.milliseconds / 1000 + 0.5
+
+    def fly(self) -> None:
+        """Watches the show until its end."""
+        while clock.now() < self.ends():
+            self.guard()
+            if clock.now() - self.zero > self.told + TELLS:
+                self.told = clock.now() - self.zero
+                self.tell()
+            clock.wait(0.05)
+        say("flown: %.1f s; farthest from their curves: %s" % (self.flown.milliseconds / 1000, ", ".join(
+            "%s %.0f mm" % it for it in zip(self.names, self.strays))))
+        self.say_promise()
+
+    def say_promise(self) -> None:
+        """Says in the end of the show whether the promise held, as far as it was looked at."""
+        rules = self.ways.rules
+        if self.void:
+            say("THE PROMISE WAS VOID in this flight")
+        elif rules.show_stray and rules.show_late and not self.silent and not self.out:
+            say("within the show's `stray` wherever it was looked, by the drones' own estimates")
+
+    def tell(self) -> None:
+        """A line on how it goes."""
+        names, states = self.names, self.fleet.states
+        far, low = max(zip(self.strays, names)), min((state.volts, name) for state, name in zip(states, names))
+        quiet, t = max(zip(self.quiet, names)), 1000 * (clock.now() - self.zero)
+        blind = "silent" if self.silent else "off their curves" if self.off() else ""
+        why = None if blind else self.ways.landings.now(t)
+        say("%6.1f s: farthest %s %.0f mm, lowest %s %.2f V, quietest %s %.1f s; land now: %s" % (
+            self.told, far[1], far[0], low[1], low[0], quiet[1], quiet[0],
+            "not looked at while some are %s" % blind if blind else "apart" if why is None else
+            "not shown apart, %s" % landings.short(why)))
+
+    def refusal(self) -> Optional[str]:
+        """Why not all may land at this instant of the show, or None; where some are silent, after a wait for the
+        instant that was looked at."""
+        t, off = 1000 * (clock.now() - self.zero), self.off()
+        if not self.silent and not off:
+            return self.ways.landings.now(t) or self.ways.landings.now(t + LEAD)
+        at = t + self.takes + LEAD
+        told = self.told_now()
+        why = self.meanwhile(lambda: self.ways.landings.with_silent(at, set(self.silent), off, told) if self.silent else
+                             self.ways.landings.refusal(at, off, told))
+        took = 1000 * (clock.now() - self.zero) - t
+        self.takes = max(1.2 * took, 0.8 * self.takes)
+        left = at - LEAD / 2 - 1000 * (clock.now() - self.zero)
+        if why is None and left < -LEAD / 2:
+            return "it took too long to look"
+        if why is None:
+            self.pause(clock.now() + left / 1000)
+        return why
+
+    # ---- after a fault
+
+    def fly_on(self, fault: BaseException) -> bool:
+        """After a fault in the show: flies on until all may land, or to the end; whether it went on to the end."""
+        told = False
+        while clock.now() < self.ends():
+            why = self.refusal()
+            if why is None:
+                return False
+            if not told:
+                free = self.ways.landings.next(1000 * (clock.now() - self.zero))
+                say("FAULT: %s; flying on%s: a landing of all now isn't shown apart (%s)" % (
+                    fault, "" if free is None or self.silent or self.off() else " to %.1f s" % (free / 1000),
+                    landings.short(why)))
+                told = True
+            for words in self.noted():
+                say("FAULT besides: %s" % words)
+            clock.wait(0.1)
+        return True
+
+    def places_here(self) -> Dict[int, legs.Place]:
+        """Where drones are: on their pads, where they say that they are, or, where they say nothing, where they were
+        told to go."""
+        out = {}
+        for k in self.all:
+            if not self.is_fresh(k):
+                out[k] = self.aims[k]
+            elif self.is_down(k) and math.dist(in_mm(self.fleet.states[k].place), self.ways.pads[k]) < legs.LIFT:
+                out[k] = tuple(self.ways.pads[k])
+            else:
+                out[k] = in_mm(self.fleet.states[k].place)
+        return out
+
+    def hold(self, at: Dict[int, legs.Place]) -> Set[int]:
+        """Who isn't led any more: on its pad, silent, or not flying."""
+        return {k for k in self.all if at[k] == tuple(self.ways.pads[k]) or not self.is_fresh(k)} | self.out
+
+    def refusal_ready(self) -> Optional[str]:
+        """Why not all may land from the stage that is flown, by what was judged before take-off, or None. Where a drone
+        isn't where the stage has it nothing was judged."""
+        row, began = self.ways.landings_at(self.leg, self.begun), self.stage_began
+        if self.zero is not None and self.leg is self.ways.up:
+            return self.refusal_of_start()
+        if row is None:
+            return NO_ANSWER
+        for k, state in enumerate(self.fleet.states):
+            t = 0.0 if began is None else 1000 * (state.measured - began) if state.measured is not None else 0.0
+            if k in self.out or not self.is_fresh(k) or not row.has(k, t, [1000 * v for v in state.place]):
+                return NO_ANSWER
+        return row.now(0.0 if began is None else 1000 * (clock.now() - began))
+
+    def refusal_of_start(self) -> Optional[str]:
+        """The same after a start that not all took: each is somewhere on its curve up to this instant."""
+        t, far = 1000 * (clock.now() - self.zero), self.ways.rules.stray
+        for k, (curve, state) in enumerate(zip(self.curves, self.fleet.states)):
+            if k in self.out or not self.is_fresh(k):
+                return NO_ANSWER
+            if curve.nearest([1000 * v for v in state.place], 0, t + 50, far)[0] > far:
+                return NO_ANSWER
+        return self.ways.after_start(t)
+
+    def refusal_here(self) -> Optional[str]:
+        """Why not all may land straight down from where they are on the ways, or None: with how far they are carried
+        on by the speed of their last two samples, and how far they fly until all are told."""
+        at, now = self.places_here(), clock.now()
+        moving = [k for k in self.silent if at[k] != tuple(self.ways.pads[k])] if now < self.stage_ends else []
+        if moving:
+            return "%s silent on the way" % self.words_of(moving)
+        to = {k: (*at[k][:2], self.ways.pads[k][2]) for k in set(self.all) - self.hold(at)}
+        flown = self.leg.stages[self.begun - 1] if self.begun and now < self.stage_ends else None
+        if flown and flown.kind == legs.LAND and not set(to) <= set(flown.to):
+            return "%s on the way down" % self.words_of(flown.to)  # a landing isn't broken off by another
+        if not to or flown and flown.kind == legs.LAND:
+            return None
+        speed = max(1000 * self.fleet.states[k].speed() for k in to)
+        more = landings.carried(speed) + speed * (legs.LATE / 1000 + OLD + ANSWERS)
+        if self.ways.rules.stray + more > landings.MOST:
+            return landings.TOO_FAR
+        leg = legs.Leg(self.names, at, self.ways.yaws, legs.Rules(self.flown.show.settings, self.ways.rules.aim + more))
+        stage = legs.Stage(legs.LAND, landings.landing_ms([at[k][2] - place[2] for k, place in to.items()]), to)
+        return legs.judge_stages(leg, [stage], self.ways.standing(), at)
+
+    def refusal_soon(self) -> Optional[str]:
+        """Why not all may land now, or None: by what was judged beforehand, or else by `check`, which hasn't long."""
+        why = self.refusal_ready()
+        return why and self.meanwhile(self.refusal_here, ANSWERS, why)
+
+    def places_planned(self) -> Dict[int, legs.Place]:
+        """Where drones are, those who are where their leg has them after its stage by the leg's own places: from there
+        the ways back were judged beforehand."""
+        at, planned = self.places_here(), self.leg.places(self.begun)
+        return {k: planned[k] if math.dist(place, planned[k]) <= self.ways.rules.stray else place
+                for k, place in at.items()}
+
+    def come_home(self, front: str) -> Optional[str]:
+        """At a fault on the ways: where a landing of all from here isn't shown apart, the stage that is flown goes to
+        its end, and all come down from there by a way that is judged: the way that they came, the rest of the way
+        down, or a new one. What is left to do is a landing of who isn't down: why that isn't shown apart, or None."""
+        self.watch.land()
+        self.fleet.radio.drop()
+        why = self.refusal_soon()
+        if why is None:
+            return None
+        if self.zero is not None and self.leg is self.ways.up:
+            self.break_off(front, why)
+        elif self.stage_ends > clock.now():
+            say("%s; a landing of all now isn't shown apart (%s): the stage that is flown goes to its end first" % (
+                front, landings.short(why)))
+        self.pause(self.stage_ends)
+        why = self.refusal_ready() and self.meanwhile(self.refusal_here)
+        if why is None:
+            return None
+        at = self.places_planned()
+        leg, words = self.meanwhile(lambda: self.way_home(at))
+        if leg is None:
+            say("NEITHER A LANDING NOR A WAY DOWN is shown apart: %s" % landings.short(why))
+            return why
+        say("%s; a landing of all isn't shown apart (%s): all come down %s" % (front, landings.short(why), words))
+        for stage in leg.stages:
+            self.home_stage(stage)
+        return self.meanwhile(self.refusal_here) if self.up(self.all) else None
+
+    def break_off(self, front: str, why: str) -> None:
+        """After a start that not all took: has all go back to their first places, from which the rest is judged."""
+        at, speed = self.places_here(), max(1000 * state.speed() for state in self.fleet.states)
+        to = {k: place for k, place in enumerate(self.ways.firsts) if at[k] != tuple(self.ways.pads[k])}
+        milliseconds = legs.milliseconds_for(legs.GO_TO, [math.dist(at[k], place) for k, place in to.items()])
+        stage = legs.Stage(legs.GO_TO, milliseconds, to)
+        more = self.ways.rules.aim + landings.carried(speed) + speed * (legs.LATE / 1000 + OLD + ANSWERS)
+        leg = legs.Leg(self.names, at, self.ways.yaws, legs.Rules(self.flown.show.settings, more))
+        mute = [k for k in to if not self.is_fresh(k)]
+        doubt = "%s silent, and may fly the show" % self.words_of(mute) if mute else self.meanwhile(
+            lambda: legs.judge_stages(leg, [stage], self.ways.standing(), at), ANSWERS, NO_ANSWER)
+        say("%s; a landing of all now isn't shown apart (%s): all go back to their first places%s" % (
+            front, landings.short(why), ", which is NOT JUDGED: %s" % landings.short(doubt) if doubt else ""))
+        self.home_stage(stage)
+
+    def way_home(self, at: Dict[int, legs.Place]) -> Tuple[Optional[legs.Leg], str]:
+        """A judged way down from places on the ways, and words for it; None where there is none."""
+        hold, is_up = self.hold(at), self.leg is self.ways.up
+        back = legs.Leg(self.names, self.leg.begin, self.ways.yaws, self.ways.rules)
+        back.stages = self.leg.stages[:self.begun]
+        way, count = (back.reversed(), 0) if is_up else (self.leg, self.begun)
+        rest = self.ways.rest_judged(way, count, at, hold)
+        if rest:
+            return rest, "the way that they came" if is_up else "by the rest of the way down"
+        return self.ways.new_judged(at, hold) or self.beside_wrecks(way, count, at, hold), "by a new way"
+
+    def home_stage(self, stage: legs.Stage) -> None:
+        """A stage of the way home: it is flown whatever is wrong, and a second Ctrl-C stops all motors."""
+        seconds = stage.milliseconds / 1000
+        if stage.kind == legs.LAND:
+            self.bring_down(list(stage.to), seconds, self.ways.rules.late / 1000)
+            return
+        rows, mute = self.go_to_rows(stage), []
+        self.aims.update(stage.to)
+
+        def go(drone):
+            try:
+                return drone in rows and self.fleet.command(drone, rows[drone], "go back")
+            except (Trouble, Dead) as error:
+                mute.append(str(error))
+        self.fleet.radio.each(go, self.watch.look)
+        for words in mute:
+            say(words)
+        self.pause(clock.now() + seconds + 1)
+
+    # ---- landing
+
+    def doubt_now(self) -> Optional[str]:
+        """Why a landing that begins now in the show isn't shown apart, by what was judged before, or None."""
+        t = 1000 * (clock.now() - self.zero)
+        if t >= self.flown.milliseconds:
+            return self.ways.landings.now(self.flown.milliseconds)
+        if self.silent or self.off():
+            return "not looked at with %s" % (
+                self.words_of(self.silent) + " silent" if self.silent else self.words_of(self.off()) + " off the curve")
+        return self.ways.landings.now(t)
+
+    def warn(self) -> None:
+        """Says where the landing that begins now isn't shown apart, and names pairs that may come down on each other.
+        Nobody is asked: the landing waits for nothing."""
+        if self.doubt is None:
+            return
+        say("THIS LANDING ISN'T SHOWN APART: %s" % landings.short(self.doubt))
+        t = 1000 * (clock.now() - self.zero) if self.zero is not None else 0.0
+        for pair in list(self.near_pairs(t))[:MOST_PAIRS]:
+            say("MAY COME DOWN ON EACH OTHER: %s and %s" % pair)
+
+    def told_now(self) -> int:
+        """The milliseconds within which all hear of a landing: a broadcast goes out where none is down."""
+        return self.ways.landings.told if self.in_show and len(self.up(self.all)) == len(self.all) else legs.LATE
+
+    def near_pairs(self, t: float) -> Iterator[Tuple[str, str]]:
+        """The pairs that are nearer to each other from above than their ellipsoids, with how far they may be carried
+        on."""
+        places, carried = [in_mm(state.place) for state in self.fleet.states], [0.0] * len(self.names)
+        for k in self.all if self.in_show else ():
+            carried[k] = landings.carried(math.hypot(*self.ways.landings.speed(k, min(t, self.flown.milliseconds))))
+            if k in self.silent:
+                places[k] = self.curves[k].at(t)
+        for i in self.all:
+            for j in range(i):
+                far = legs.apart(places[i], places[j]) - carried[i] - carried[j]
+                if far <= 2 * self.ways.rules.radius and not {i, j} <= self.landed:
+                    yield self.names[j], self.names[i]
+
+    def land_all(self, words: str) -> bool:
+        """Lands all that aren't down; whether all are."""
+        done = self.land(words, self.warn, self.told_now() / 1000)
+        self.flying = False
+        return done
+
+    # ---- all of it
+
+    def up_and_show(self) -> None:
+        """From take-off to the end of the show."""
+        self.take_off()
+        confirm(self.options, self.answers, "All are at their first places. Start?", self.guard)
+        self.start()
+        self.fly()
+
+    def words_after(self, why: BaseException) -> Optional[str]:
+        """Does what a fault or a Ctrl-C wants; the words for the landing that follows, or None where the show went on
+        to its end."""
+        if isinstance(why, Interrupted):
+            words, front = "Ctrl-C: landing all; once more stops the motors", "Ctrl-C, once more stops the motors"
+        else:
+            words, front = "FAULT: %s; landing all" % why, "FAULT: %s" % why
+        self.doubt = None
+        if not self.in_show:
+            self.doubt = self.come_home(front)
+        elif isinstance(why, Interrupted):
+            self.doubt = self.doubt_now()
+        else:
+            try:
+                if self.fly_on(why):
+                    return None
+            except Interrupted as pressed:
+                return self.words_after(pressed)
+        return words
+
+    def not_flown(self, why: BaseException) -> int:
+        """Ends a flight in which nobody flew; the status."""
+        why = "Ctrl-C" if isinstance(why, Interrupted) else str(why)
+        say(why if why.startswith("not flown") else "not flown: %s" % why)
+        self.watch.off()
+        self.fleet.radio.drop()
+        self.disarm(self.all)
+        return EARLY
+
+    def whole(self) -> int:
+        """Flies from take-off to landing; the status."""
+        status, words = 0, None
+        try:
+            self.up_and_show()
+        except (Trouble, Dead, Interrupted) as why:
+            if not self.flying:
+                return self.not_flown(why)
+            status, words = EARLY, self.words_after(why)
+        if words is None:
+            words = "landing"
+            try:
+                self.come_down()
+            except (Trouble, Dead, Interrupted) as why:
+                status, words = EARLY, self.words_after(why)
+        return status if self.land_all(words) else EARLY
+
+    def run(self) -> int:
+        """Flies from take-off to landing, and lands all where this program itself fails; the status."""
+        try:
+            return self.whole()
+        except Cut:
+            return self.cut()
+        except BaseException as error:
+            if not self.flying:
+                raise
+            say("FAULT of this program: %r" % error)
+            self.land_anyhow()
+            raise
+
+    def land_anyhow(self) -> None:
+        """Lands all after a fault of this program: as always, and where that fails too by bare commands."""
+        try:
+            try:
+                self.land_all("landing all")
+            except Exception as error:
+                say("FAULT of this program: %r" % error)
+                self.fleet.land(self.floors, self.all, self.seconds_down(self.all), self.watch.look)
+        except Cut:
+            self.cut()

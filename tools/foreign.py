@@ -16,10 +16,14 @@ import zlib
 from fractions import Fraction
 from math import comb
 
-from companion import read_file
+from companion import stop
+import texts
 from paths import Path, part
 
-LARGEST = 1 << 26  # bytes of a file, or of a member of an archive
+LARGEST = 1 << 24  # bytes of a file, or of all members of an archive that are read
+NUMBERS = 1000000  # of all files together
+# An archive is packed less than so many times, and has fewer numbers than bytes: else it isn't a show that flies.
+PACKED, SMALLEST = 64, 20000
 NUMBER = re.compile(r"[-+]?(\d+\.?\d*|\.\d+)([eE][-+]?\d{1,3})?")
 JUMP = 100000  # micrometres that a path may jump on an axis: the polynomials of some files are rounded
 LONGEST = 36000000  # milliseconds of a show
@@ -31,6 +35,19 @@ PI = Fraction(31415926535897932384626433832795028841972, 10 ** 40)
 
 class Unreadable(Exception):
     """A file that can't be read as what it should be."""
+
+
+class Counter:
+    """Counts numbers, up to a limit."""
+
+    def __init__(self, most):
+        self.most = self.left = most
+
+    def take(self, count=1):
+        """Counts so many more."""
+        self.left -= count
+        if self.left < 0:
+            raise Unreadable("more than %d numbers" % self.most)
 
 
 def number(word):
@@ -96,26 +113,46 @@ class Archive:
     """A zip with JSON texts that refer to one another."""
 
     def __init__(self, data):
-        self.texts = {}
+        self.texts, self.left = {}, min(LARGEST, PACKED * (SMALLEST + len(data)))
+        self.counter = Counter(min(NUMBERS, SMALLEST + len(data)))
         try:
             self.file = zipfile.ZipFile(io.BytesIO(data))
         except (ValueError, NotImplementedError, OverflowError, struct.error, zipfile.BadZipFile, OSError) as error:
             raise Unreadable("no zip: %s" % error)
 
+    def names(self):
+        """The names of the members, those of folders left out."""
+        return [name for name in self.file.namelist() if not name.endswith("/")]
+
+    def data(self, where):
+        """The bytes of a member."""
+        try:
+            about = self.file.getinfo(where)
+        except KeyError:
+            raise Unreadable("the archive has no member %.60s" % where)
+        self.left -= about.file_size
+        if self.left < 0 or about.compress_type not in (zipfile.ZIP_STORED, zipfile.ZIP_DEFLATED):
+            raise Unreadable("%.60s is larger than %d bytes, or packed in an unknown way" % (
+                where, self.left + about.file_size))
+        try:
+            return self.file.read(about)
+        except (ValueError, EOFError, RuntimeError, NotImplementedError, OverflowError, struct.error, zlib.error,
+                zipfile.BadZipFile, OSError) as error:
+            raise Unreadable("%.60s is damaged: %s" % (where, error or type(error).__name__))
+
+    def number(self, word):
+        """A number as it is written, one of not too many."""
+        self.counter.take()
+        return number(word)
+
     def text(self, where):
         """The JSON text of a member, its numbers as they are written."""
         if where not in self.texts:
             try:
-                about = self.file.getinfo(where)
-            except KeyError:
-                raise Unreadable("the archive has no member %.60s" % where)
-            if about.file_size > LARGEST or about.compress_type not in (zipfile.ZIP_STORED, zipfile.ZIP_DEFLATED):
-                raise Unreadable("%s is larger than %d bytes, or packed in an unknown way" % (where, LARGEST))
-            try:
-                text = self.file.read(about).decode("utf-8")
-                self.texts[where] = json.loads(text, parse_float=number, parse_int=number, parse_constant=number)
-            except (ValueError, EOFError, RuntimeError, NotImplementedError, OverflowError, struct.error, zlib.error,
-                    zipfile.BadZipFile, OSError) as error:
+                text = self.data(where).decode("utf-8")
+                self.texts[where] = json.loads(text, parse_float=self.number, parse_int=self.number,
+                                               parse_constant=self.number)
+            except (ValueError, RecursionError) as error:
                 raise Unreadable("%.60s is damaged: %s" % (where, error or type(error).__name__))
         return self.texts[where]
 
@@ -136,8 +173,12 @@ class Archive:
         raise Unreadable("%s: references that go round" % base)
 
 
-def read_skyc(path):
-    """The paths of a .skyc of Skybrush: a zip with show.json, version 1."""
+LEFT_OUT = {"lights": "lights", "pyro": "pyrotechnics"}  # what a drone's settings may have, and no show has
+
+
+def read_skyc(path, left_out=None):
+    """The paths of a .skyc of Skybrush: a zip with show.json, version 1. `left_out` gets by what isn't read, in words,
+    how many drones have it."""
     archive = Archive(limited(path))
     show = archive.text("show.json")
     if field(show, "version", Fraction, "show.json") != 1:
@@ -153,7 +194,23 @@ def read_skyc(path):
             raise Unreadable("two drones have the name %.40r" % word)
         words.add(word)
         out.append(skyc_path(archive, "drone %d, %.40r" % (k, word), settings, name_of(word, taken)))
+        for what in left_out_of(archive, settings) if left_out is not None else ():
+            left_out[what] = left_out.get(what, 0) + 1
     return out
+
+
+def left_out_of(archive, settings):
+    """What a drone of a .skyc has that isn't read."""
+    for key, words in LEFT_OUT.items():
+        node = archive.follow(settings.get(key))
+        if node and not (isinstance(node, dict) and not any(node.get(it) for it in node if it != "version")):
+            yield words
+    yaw = archive.follow(settings.get("yawControl"))
+    if isinstance(yaw, dict) and yaw.get("autoYaw") not in (None, False):
+        yield AUTOMATIC
+
+
+AUTOMATIC = "automatic yaw"
 
 
 def skyc_path(archive, where, settings, name):
@@ -223,19 +280,42 @@ def with_yaw(pieces, setpoints):
 
 def limited(path):
     """The bytes of a file, if they aren't too many."""
-    data = read_file(path)
-    if len(data) > LARGEST:
-        raise Unreadable("more than %d bytes" % LARGEST)
-    return data
-
-
-def rows_of(path):
-    """The rows of a CSV file as (line, cells), and the words of its head, which is a first row without a number."""
     try:
-        rows = [(k, [cell.strip() for cell in row])
-                for k, row in enumerate(csv.reader(io.StringIO(limited(path).decode("utf-8-sig"), newline="")), 1)]
+        return texts.whole_of(path, LARGEST)
+    except texts.TooLong as fault:
+        raise Unreadable(str(fault))
+    except (OSError, ValueError) as error:
+        return stop("%s: %s" % (path, getattr(error, "strerror", None) or error))
+
+
+def separator_of(text):
+    """What parts the cells of a text: a semicolon or a tab, where its first row has one outside of quotes, else a
+    comma."""
+    for line in text.splitlines():
+        if line.strip() and not line.lstrip().startswith("#"):
+            bare = "".join(line.split('"')[::2])
+            return next((sign for sign in ";\t" if sign in bare), ",")
+    return ","
+
+
+def with_point(cell):
+    """A cell in which a decimal comma is a point."""
+    whole, comma, rest = cell.partition(",")
+    return whole + "." + rest if comma and NUMBER.fullmatch(whole + "." + rest) else cell
+
+
+def rows_of(data):
+    """The rows of the bytes of a CSV file as (line, cells), and the words of its head, which is a first row without a
+    number. Where semicolons or tabs part the cells, numbers may have a decimal comma."""
+    try:
+        text = data.decode("utf-8-sig")
+        separator = separator_of(text)
+        rows = [(k, [cell.strip() for cell in row]) for k, row in enumerate(
+            csv.reader(io.StringIO(text, newline=""), delimiter=separator), 1)]
     except (UnicodeDecodeError, csv.Error) as error:
         raise Unreadable("no CSV: %s" % error)
+    if separator != ",":
+        rows = [(k, [with_point(cell) for cell in row]) for k, row in rows]
     rows = [(k, row) for k, row in rows if any(row) and not row[0].startswith("#")]
     for _, row in rows:
         while not row[-1]:
@@ -256,11 +336,11 @@ def numbers_of(line, cells):
         raise Unreadable("line %d: %s" % (line, error))
 
 
-def read_polynomials(path, name, start):
-    """The path in a file of uav_trajectories: in each row a duration and eight coefficients an axis, in metres and
-    radians."""
+def read_polynomials(data, name, start):
+    """The path in the bytes of a file of uav_trajectories: in each row a duration and eight coefficients an axis, in
+    metres and radians."""
     pieces, t = [], Fraction(0)
-    for line, cells in rows_of(path)[0]:
+    for line, cells in rows_of(data)[0]:
         row = numbers_of(line, cells)
         if len(row) != 33:
             raise Unreadable("line %d: %d numbers, and 33 are wanted, a duration first" % (line, len(row)))
@@ -302,10 +382,11 @@ def columns_of(head, first):
     return found
 
 
-def read_waypoints(path, stem, smooth):
-    """The paths in a file of waypoints by the names of their drones, as lists of pieces: t,x,y,z and maybe yaw in each
-    row (seconds, metres, degrees; or Skybrush's CSV, with milliseconds and colours), and maybe a column of drones."""
-    rows, head = rows_of(path)
+def read_waypoints(data, stem, smooth):
+    """The paths in the bytes of a file of waypoints by the names of their drones, as lists of pieces: t,x,y,z and maybe
+    yaw in each row (seconds, metres, degrees; or Skybrush's CSV, with milliseconds and colours), and maybe a column of
+    drones."""
+    rows, head = rows_of(data)
     columns = columns_of(head, rows[0][1])
     words, scale, points = [word for word in ("t", "ms", "x", "y", "z", "yaw") if word in columns], 1, {}
     for line, cells in rows:
@@ -342,33 +423,70 @@ def joined(points, smooth):
 def read_starts(path):
     """Places by names, from name,x,y,z a row, in metres."""
     out = {}
-    for line, cells in rows_of(path)[0]:
+    for line, cells in rows_of(limited(path))[0]:
         if len(cells) != 4 or cells[0] in out:
             raise Unreadable("line %d: name,x,y,z are wanted, once for each drone" % line)
         out[cells[0]] = numbers_of(line, cells[1:])
     return out
 
 
+def is_archive(data):
+    """Whether bytes are those of a zip."""
+    return data[:2] == b"PK"
+
+
+def members_of(path):
+    """The CSV files that a path leads to, as (where, stem, bytes): itself, or those of a zip."""
+    data = limited(path)
+    if not is_archive(data):
+        return [(path, stem_of(path), data)]
+    archive = Archive(data)
+    names = [name for name in sorted(archive.names()) if name.lower().endswith(".csv")]
+    if not names:
+        raise Unreadable("%s: a zip without a CSV file, and without a show.json" % path)
+    return [("%s, %.60s" % (path, name), stem_of(name), archive.data(name)) for name in names]
+
+
+def stem_of(path):
+    """A file's name without folders and ending."""
+    return posixpath.splitext(posixpath.basename(path))[0]
+
+
+def has_waypoints(data):
+    """Whether a CSV file has a head that names t, x, y and z."""
+    words = {COLUMNS.get(cell) for cell in rows_of(data)[1]}
+    return {"x", "y", "z"} <= words and bool({"t", "ms"} & words)
+
+
+def one_csv(data, stem, waypoints, smooth, places):
+    """The paths in the bytes of a CSV file by the names of their drones, as lists of pieces."""
+    if waypoints or has_waypoints(data):
+        return read_waypoints(data, stem, smooth)
+    if places is not None and stem not in places:
+        raise Unreadable("the file of --starts has no place for %.40s" % stem)
+    return {stem: read_polynomials(data, "", (places or {}).get(stem, [Fraction(0)] * 3)).pieces}
+
+
 def read_csv(files, waypoints, smooth=False, starts=None):
-    """The paths of CSV files: polynomials, a drone a file, or waypoints."""
-    taken, found = set(), {}
-    places = read_starts(starts) if starts else {}
-    for path in files:
-        stem = os.path.splitext(os.path.basename(path))[0]
+    """The paths of CSV files, or of zips of them: polynomials, a drone a file, or waypoints."""
+    taken, found, counter = set(), {}, Counter(NUMBERS)
+    places = read_starts(starts) if starts else None
+    for where, stem, data in (member for path in files for member in members_of(path)):
         try:
-            if waypoints:
-                some = read_waypoints(path, stem, smooth)
-            elif starts and stem not in places:
-                raise Unreadable("%s has no place for %s" % (starts, stem))
-            else:
-                some = {stem: read_polynomials(path, "", places.get(stem, [Fraction(0)] * 3)).pieces}
-            for word, pieces in some.items():
+            counter.take(data.count(b",") + data.count(b";") + data.count(b"\t"))
+            for word, pieces in one_csv(data, stem, waypoints, smooth, places).items():
                 if word in found:
                     raise Unreadable("two drones have the name %.40r" % word)
                 found[word] = checked(name_of(word, taken), pieces)
         except Unreadable as error:
-            raise Unreadable("%s: %s" % (path, error))
-    lost = [word for word in places if word not in found]
+            raise Unreadable("%s: %s" % (where, error))
+    lost = [word for word in places or () if word not in found]
     if lost:
         raise Unreadable("%s: no file is called %.40r" % (starts, lost[0]))
     return list(found.values())
+
+
+def is_one_place(paths):
+    """Whether several paths all begin in one place, within a millimetre."""
+    firsts = [[row[0] for row in path.pieces[0][2][:3]] for path in paths]
+    return len(firsts) > 1 and all(max(column) - min(column) <= 1000 for column in zip(*firsts))

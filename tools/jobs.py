@@ -18,11 +18,11 @@ class Job:
         self.lock, self.running, self.over = threading.Lock(), set(), threading.Event()
 
     @property
-    def cancelled(self):
+    def cancelled(self) -> bool:
         """Whether a newer text came."""
         return self.over.is_set()
 
-    def adopt(self, process):
+    def adopt(self, process: subprocess.Popen) -> subprocess.Popen:
         """Notes a process, or ends it where the job is cancelled already."""
         with self.lock:
             if not self.cancelled:
@@ -31,13 +31,13 @@ class Job:
         end(process)
         raise Cancelled
 
-    def start(self, words, **more):
+    def start(self, words: list, **more) -> subprocess.Popen:
         """Starts a process in a group of its own, with pipes."""
         if self.cancelled:
             raise Cancelled
         return self.adopt(begin(words, **more))
 
-    def answer(self, words, text, **more):
+    def answer(self, words: list, text: bytes, **more) -> tuple:
         """The status and both outputs of a process, on this input."""
         process = self.start(words, **more)
         try:
@@ -51,13 +51,13 @@ class Job:
             raise Cancelled
         return process.returncode, said, told
 
-    def leave(self, process):
+    def leave(self, process: subprocess.Popen) -> None:
         """Forgets a process, which is ended where it still runs."""
         end(process)
         with self.lock:
             self.running.discard(process)
 
-    def cancel(self):
+    def cancel(self) -> None:
         """Ends all that runs for it."""
         with self.lock:
             self.over.set()
@@ -66,13 +66,13 @@ class Job:
             end(process)
 
 
-def begin(words, **more):
+def begin(words: list, **more) -> subprocess.Popen:
     """A process in a group of its own, with pipes."""
     return subprocess.Popen(words, stdin=subprocess.PIPE, stdout=subprocess.PIPE, stderr=subprocess.PIPE,
                             start_new_session=True, **more)
 
 
-def end(process):
+def end(process: subprocess.Popen) -> None:
     """Ends a process and all that it started."""
     if process.poll() is None:
         try:

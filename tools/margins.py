@@ -8,7 +8,7 @@ import separation
 MOST = 1000  # millimetres of a stray, and milliseconds of lateness, in the language
 
 
-def with_setting(text, *words):
+def with_setting(text: bytes, *words) -> bytes:
     """The show's text with another setting: its word and its numbers."""
     line = " ".join(map(str, words)).encode()
     old = rb"(?m)^[ \t\r]*%s(?:[ \t\r]+\d+)+(?=[ \t\r]*(#|$))" % words[0].encode()
@@ -16,7 +16,7 @@ def with_setting(text, *words):
     return new if found else text.rstrip(b"\n") + b"\n" + line + b"\n"
 
 
-def judged(text, deep):
+def judged(text: bytes, deep: int) -> tuple:
     """The status and line of `check`, or what the tools work out where the program isn't built."""
     answer = ask_check(text, deep)
     if answer:
@@ -30,7 +30,7 @@ def judged(text, deep):
     return 0, "ok"
 
 
-def greatest(deep, high, changed, judge=judged):
+def greatest(deep: int, high: int, changed, judge=judged) -> tuple:
     """The greatest number below `high` with which the show is accepted, by halving, and the refusal above it; None
     where it isn't with the least, and what is said then."""
     low, refusal = -1, ""

@@ -1,17 +1,18 @@
-"""Where drones are at samples of time, which pairs come nearest there, where two are blocked, and regions: the data of a
-page. For tools/picture and tools/studio. It looks at single instants and proves nothing."""
+"""Where drones are at samples of time, which pairs come nearest there, where two are blocked, and regions: the data of
+a page. For tools/picture and tools/studio. It looks at single instants and proves nothing."""
 import os
 import subprocess
 from itertools import combinations
 
-from companion import begins, cue_words, no_program, place, read_file, seconds, stop, value
+from causes import cause_of
+from companion import begins, choreo, cue_words, no_program, place, read_file, seconds, stop, value
 import separation
 
 MOST_PLACES = 48000  # of all drones together, so that a page has about a megabyte
 MOST_PAIRS = 12
 
 
-def step_of(flown, wanted, most_places=MOST_PLACES):
+def step_of(flown: choreo.Flown, wanted, most_places: int = MOST_PLACES) -> int:
     """The milliseconds from one sample to the next: as wanted, or so that the page stays small."""
     if wanted:
         return wanted
@@ -21,7 +22,7 @@ def step_of(flown, wanted, most_places=MOST_PLACES):
                            -(-least // 1000) * 1000))
 
 
-def ask(program, words, text):
+def ask(program: str, words: list, text: bytes):
     """The status and output of the program, or None where it can't be run."""
     if no_program(program):
         return None
@@ -31,7 +32,7 @@ def ask(program, words, text):
 
 # ---- positions
 
-def played(rows, names):
+def played(rows: list, names: list) -> tuple:
     """The instants and, for each, the drones' places in millimetres and yaws in degrees, by the rows of `play`."""
     times, places = [], []
     for k, row in enumerate(rows):
@@ -45,7 +46,7 @@ def played(rows, names):
     return times, places
 
 
-def worked_out(flown, step, also=()):
+def worked_out(flown: choreo.Flown, step: int, also=()) -> tuple:
     """The same, by the tool: at each step, at the end, and at further instants."""
     times = sorted({*range(0, flown.milliseconds, step), flown.milliseconds, *also})
     edges, places, cue = begins(flown), [], 0
@@ -58,7 +59,7 @@ def worked_out(flown, step, also=()):
     return times, places
 
 
-def shares(flown, places):
+def shares(flown: choreo.Flown, places: list) -> tuple:
     """At each sample the nearest pair as (share, first, second), and of each pair the sample at which it is nearest."""
     r, h = flown.show.settings["ellipsoid"]
     nearest, pairs = [], {}
@@ -79,24 +80,26 @@ def shares(flown, places):
 
 # ---- what is refused
 
-def mark_of(flown, deep, i, j, cue, index):
-    """A place in which two drones are blocked: from, to, both drones, cue, the nearest instant, all in milliseconds, how
-    near they are there, whether they touch, and words."""
+def mark_of(flown: choreo.Flown, deep: int, i: int, j: int, cue: int, index: int) -> dict:
+    """A place in which two drones are blocked: from, to, both drones, cue, the nearest instant, all in milliseconds,
+    how near they are there, whether they touch, the cause where it is the show's `stray` or `late`, and words."""
     r, h = flown.show.settings["ellipsoid"]
     begin, lasts, parts = begins(flown)[cue], flown.cues[cue].milliseconds, 2 ** deep
     part = separation.difference(flown.by_cue[i][cue][1], flown.by_cue[j][cue][1])
     near = separation.Nearest(part, r, h)
+    cause = None if near.touch else cause_of(flown, i, j, cue, deep)
     words = "%s and %s in cue %d, %s: nearest at %s with %.1f %% of what their ellipsoids need, %s" % (
         flown.names[i], flown.names[j], cue + 1, cue_words(flown.cues[cue]), seconds(begin + lasts * near.at),
-        100 * near.share, "too near" if near.touch else "apart, but along no direction")
+        100 * near.share, "too near" if near.touch else "apart while they fly exactly: the cause is " + cause.replace(
+            "`", "") if cause else "apart, but along no direction")
     return {"from": begin + lasts * index / parts, "to": begin + lasts * (index + 1) / parts, "pair": [i, j],
             "cue": cue, "nearest": begin + lasts * near.at, "words": words, "share": round(100 * near.share, 1),
-            "touch": near.touch, "named": False}
+            "touch": near.touch, "cause": cause, "named": False}
 
 
-def blocked_marks(flown, deep):
-    """The places in which two drones are blocked, that first in which they come nearest; `named` is the one that `check`
-    names."""
+def blocked_marks(flown: choreo.Flown, deep: int) -> list:
+    """The places in which two drones are blocked, that first in which they come nearest; `named` is the one that
+    `check` names."""
     marks = [mark_of(flown, deep, *found) for found in separation.blocked_places(flown, deep)]
     for mark in marks[:1]:
         mark["named"] = True
@@ -105,7 +108,7 @@ def blocked_marks(flown, deep):
 
 # ---- regions
 
-def regions_of(path):
+def regions_of(path: str) -> list:
     """The regions of a file as (kind, six numbers): docs/COMMANDS.md, boxes."""
     out = []
     for number, line in enumerate(read_file(path).decode(errors="replace").split("\n"), 1):
@@ -122,7 +125,7 @@ def regions_of(path):
     return out
 
 
-def boxes_said(program, text, path, deep):
+def boxes_said(program: str, text: bytes, path: str, deep: int) -> str:
     """What the program's `boxes` says of the regions of a file, or nothing."""
     end = b"" if text.endswith(b"\n") else b"\n"
     whole = text + end + b"%%\n" + read_file(path)

@@ -15,7 +15,7 @@ MOST_TEXT = choreo.LONGEST_TEXT + 4096  # a little more than a show may have, so
 MOST_DIFF = 30000  # lines that are compared
 
 
-def stamp_of(data):
+def stamp_of(data) -> str:
     """What a file's bytes are known by; that of a file that isn't there is empty."""
     return "" if data is None else hashlib.sha256(data).hexdigest()
 
@@ -26,7 +26,7 @@ class ShowFile:
     def __init__(self, path):
         self.name, self.path, self.lock = os.path.basename(path), os.path.realpath(path), threading.Lock()
 
-    def look(self):
+    def look(self) -> tuple:
         """What tells whether the file changed, without reading it."""
         try:
             found = os.stat(self.path)
@@ -42,7 +42,7 @@ class ShowFile:
         except FileNotFoundError:
             return None
 
-    def save(self, data, stamp):
+    def save(self, data: bytes, stamp):
         """Writes the file at once as a whole, and keeps what was there as `SHOW~`; the stamp of what is there instead
         where that isn't what the page read, or None."""
         with self.lock:
@@ -52,7 +52,7 @@ class ShowFile:
             self.replace(data, old)
             return None
 
-    def replace(self, data, old):
+    def replace(self, data: bytes, old) -> None:
         """Writes a file beside it, and gives it the name; what was there gets another name in the same way."""
         with self.beside() as (path, file):
             file.write(data)
@@ -81,7 +81,7 @@ class ShowFile:
                 os.unlink(path)
 
 
-def text_of(data):
+def text_of(data: bytes) -> tuple:
     """A file's bytes as the page has them: with line feeds alone, and what they were."""
     text = data.decode("utf-8", "surrogateescape")
     pairs, alone = text.count("\r\n"), text.count("\n")
@@ -91,12 +91,12 @@ def text_of(data):
     return plain.replace("\r", " "), ends, "\r" in plain or (pairs and ends == "\n")
 
 
-def bytes_of(text):
+def bytes_of(text: str) -> bytes:
     """The bytes of a text of the page."""
     return text.encode("utf-8", "surrogateescape")
 
 
-def difference(old, new):
+def difference(old: str, new: str) -> list:
     """Two texts as lines with a mark each: + new, - old, a blank for both, @ for a gap."""
     old, new = old.split("\n"), new.split("\n")
     if len(old) + len(new) > MOST_DIFF:

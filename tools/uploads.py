@@ -1,6 +1,7 @@
 """An upload by the proved program, over pipes: its process, what goes by, the pace of its ticks, and the loop that
 carries packets between it and a link. Shared by tools/bridge and tools/fly; nothing here is proved.
 """
+import os
 import queue
 import subprocess
 import threading
@@ -8,6 +9,7 @@ import time
 
 from companion import stop
 from links import COMMAND, READ, WRITE, key_of, words_of
+import program as proved
 
 TICK, PACKET, END = 0x54, 0x50, 0x45
 GIVES_UP = 20  # ticks for which a packet is in flight; at each but the last it is sent
@@ -24,6 +26,11 @@ class Host:
 
     def __init__(self, command, text, events):
         self.events = events
+        try:
+            if os.path.abspath(command[0]) == proved.PROGRAM:
+                command = [proved.runs(), *command[1:]]
+        except proved.Unusable as why:
+            stop(str(why))
         try:
             self.process = subprocess.Popen(command, stdin=subprocess.PIPE, stdout=subprocess.PIPE, bufsize=0)
         except OSError as error:

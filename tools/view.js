@@ -5,9 +5,12 @@
 let flight = null, last = 0, drones = 0, unit = "s";
 let now = 0, chosen = new Set();  // milliseconds, and drones by number
 let chartHeight = 250;
+let shareWords = "share";  // below the chart of the nearest pair
 let chartEdges = {};  // by the id of a chart the room above and below it; without it that for cue numbers and times
 let spaceHeight = null;  // a page's own height of the view in space, by its width
 let onPick = null;  // what a page does with a click into a chart
+let onDrone = null;  // what a page does with a click in space: it is given the drone's number, or null beside all
+let onStretch = null;  // what a page does where the end of a cue is dragged: it is given the cue and its milliseconds
 const byId = id => document.getElementById(id);
 // Takes another flight; the page draws it then.
 function setFlight(data) {
@@ -103,10 +106,11 @@ function placeAt(k, ms) {
 }
 function bounds() {
   const low = [Infinity, Infinity, Infinity], high = [-Infinity, -Infinity, -Infinity];
-  for (const row of flight.xyz) row.forEach((v, k) => {
-    low[k % 3] = Math.min(low[k % 3], v);
-    high[k % 3] = Math.max(high[k % 3], v);
-  });
+  for (const row of flight.xyz) for (let k = 0; k < row.length; k += 1) {
+    const axis = k % 3, v = row[k];
+    if (v < low[axis]) low[axis] = v;
+    if (v > high[axis]) high[axis] = v;
+  }
   return [low, high];
 }
 let lowest, highest;
@@ -147,7 +151,8 @@ function look() {
   const all = corners(ROOM.low, ROOM.high).map(flat), span = k => 2 * Math.max(...all.map(it => Math.abs(it[k])));
   const gap = spaceHeight ? 26 : 34, wanted = (width - 2 * gap) * span(1) / span(0) + 2 * gap;
   const height = Math.round(spaceHeight ? spaceHeight(width) : Math.max(280, Math.min(560, 0.95 * width, wanted)));
-  const scale = zoom * Math.min((width - 2 * gap) / span(0), (height - 2 * gap) / span(1));
+  // Where there is hardly any room something small is drawn.
+  const scale = zoom * Math.max(0.001, Math.min((width - 2 * gap) / span(0), (height - 2 * gap) / span(1)));
   if (canvas.width !== Math.round(width * sharp) || canvas.height !== Math.round(height * sharp)) {
     canvas.width = Math.round(width * sharp);
     canvas.height = Math.round(height * sharp);
@@ -159,7 +164,10 @@ function look() {
     const [x, y, far] = flat(point);
     return [width / 2 + aside[0] + scale * x, height / 2 + aside[1] - scale * y, far];
   };
-  view = {pen, to, scale, width, height, se, ce, still: null};
+  // The same for many points: where the origin is drawn, and by how much a millimetre on x, y and z moves a point.
+  const [origin, ...axes] = [[0, 0, 0], [1, 0, 0], [0, 1, 0], [0, 0, 1]].map(to);
+  const steps = [0, 1].map(side => axes.map(point => point[side] - origin[side]));
+  view = {pen, to, scale, width, height, se, ce, origin, steps, still: null};
 }
 function way(pen, points) {
   pen.beginPath();
@@ -175,47 +183,66 @@ function words(pen, x, y, it, style, align) {
   pen.fillText(it, x, y);
 }
 const FONT = '13px system-ui, "DejaVu Sans", sans-serif', SMALL = '12px system-ui, "DejaVu Sans", sans-serif';
+// The numbers of an axis at which the floor has lines.
+function marksOf(axis, step) {
+  const out = [];
+  for (let v = Math.ceil(ROOM.low[axis] / step) * step; v <= ROOM.high[axis]; v += step) out.push(v);
+  return out;
+}
 function drawFloor() {
   const {pen, to} = view, [low, high] = [ROOM.low, ROOM.high], wide = Math.max(high[0] - low[0], high[1] - low[1]);
   const step = [100, 200, 500, 1000, 2000, 5000, 10000].find(it => wide / it <= 9) || 10000;
   pen.lineWidth = 1;
   pen.strokeStyle = "#e2e2e2";
-  const marks = axis => {
-    const out = [];
-    for (let v = Math.ceil(low[axis] / step) * step; v <= high[axis]; v += step) out.push(v);
-    return out;
-  };
-  for (const x of marks(0)) { way(pen, [to([x, low[1], floor]), to([x, high[1], floor])]); pen.stroke(); }
-  for (const y of marks(1)) { way(pen, [to([low[0], y, floor]), to([high[0], y, floor])]); pen.stroke(); }
+  for (const x of marksOf(0, step)) { way(pen, [to([x, low[1], floor]), to([x, high[1], floor])]); pen.stroke(); }
+  for (const y of marksOf(1, step)) { way(pen, [to([low[0], y, floor]), to([high[0], y, floor])]); pen.stroke(); }
   pen.font = SMALL;
   pen.textBaseline = "middle";
-  // Numbers stand at those edges that are nearer to whoever looks.
+  numberFloor(step);
+  if (tilt < 60) drawHeightAxis(step);
+  const name = tilt > 80 ? "x to the right, y up, metres" :
+    tilt >= 3 ? "metres" : Math.abs(turn % 180) < 3 ? "x and height, metres" :
+    Math.abs(Math.abs(turn % 180) - 90) < 3 ? "y and height, metres" : "metres";
+  words(pen, 6, 12, name, "#555", "left");
+}
+const LEAST_GAP = 26, LEAST_HIGH = 17;  // pixels from one number to the next, along the floor and up
+// How many steps there are from one number to the next, so that none covers another.
+function stepsBetween(far, least) {
+  return [1, 2, 5].find(many => many * far >= least) || 10;
+}
+// Numbers stand at those edges that are nearer to the eye.
+function numberFloor(step) {
+  const {pen, to} = view, [low, high] = [ROOM.low, ROOM.high];
   const nearer = (axis, point) =>
     [low, high].map(side => side[axis]).sort((a, b) => to(point(a))[2] - to(point(b))[2])[0];
   const flatX = Math.abs(Math.cos(turn * Math.PI / 180)) > 0.05;
   const flatY = Math.abs(Math.sin(turn * Math.PI / 180)) > 0.05 || tilt > 3;
   const yEdge = nearer(1, y => [0, y, floor]), xEdge = nearer(0, x => [x, 0, floor]);
   const out = (px, py) => [px + Math.sign(px - view.width / 2) * 16, py + 12];
-  if (flatX) for (const x of marks(0)) words(pen, ...add(to([x, yEdge, floor]), [0, 13]), metres(x), "#555");
-  if (flatY) for (const y of marks(1)) {
+  const roomy = (axis, point) => {
+    const [a, b] = [to(point(0)), to(point(step))];
+    return marksOf(axis, step * stepsBetween(Math.hypot(a[0] - b[0], a[1] - b[1]), LEAST_GAP));
+  };
+  if (flatX) for (const x of roomy(0, x => [x, yEdge, floor])) {
+    words(pen, ...add(to([x, yEdge, floor]), [0, 13]), metres(x), "#555");
+  }
+  if (flatY) for (const y of roomy(1, y => [xEdge, y, floor])) {
     const point = to([tilt > 80 ? low[0] : xEdge, y, floor]);
     words(pen, ...(tilt > 80 ? add(point, [-14, 0]) : out(point[0], point[1])), metres(y), "#555");
   }
-  if (tilt < 60) {
-    const edges = [low[0], high[0]].flatMap(x => [low[1], high[1]].map(y => [x, y]));
-    const [x, y] = edges.sort((a, b) => to([...a, 0])[0] - to([...b, 0])[0])[0];
-    way(pen, [to([x, y, floor]), to([x, y, high[2]])]);
-    pen.lineWidth = 1;
-    pen.strokeStyle = "#ccc";
-    pen.stroke();
-    for (let v = Math.ceil(floor / step) * step; v <= high[2]; v += step) {
-      words(pen, ...add(to([x, y, v]), [-14, 0]), metres(v), "#555");
-    }
+}
+function drawHeightAxis(step) {
+  const {pen, to} = view, [low, high] = [ROOM.low, ROOM.high];
+  const edges = [low[0], high[0]].flatMap(x => [low[1], high[1]].map(y => [x, y]));
+  const [x, y] = edges.sort((a, b) => to([...a, 0])[0] - to([...b, 0])[0])[0];
+  way(pen, [to([x, y, floor]), to([x, y, high[2]])]);
+  pen.lineWidth = 1;
+  pen.strokeStyle = "#ccc";
+  pen.stroke();
+  const each = step * stepsBetween(Math.abs(to([x, y, step])[1] - to([x, y, 0])[1]), LEAST_HIGH);
+  for (let v = Math.ceil(floor / each) * each; v <= high[2]; v += each) {
+    words(pen, ...add(to([x, y, v]), [-14, 0]), metres(v), "#555");
   }
-  const name = tilt > 80 ? "x to the right, y up, metres" :
-    tilt >= 3 ? "metres" : Math.abs(turn % 180) < 3 ? "x and height, metres" :
-    Math.abs(Math.abs(turn % 180) - 90) < 3 ? "y and height, metres" : "metres";
-  words(pen, 6, 12, name, "#555", "left");
 }
 const add = ([x, y], [dx, dy]) => [x + dx, y + dy];
 function drawRegions() {
@@ -233,14 +260,21 @@ function drawRegions() {
   }
 }
 let rough = false;  // while it is turned, paths are drawn with fewer points
+// The points of a drone's path on the canvas, without those that are hardly apart.
+function pathOf(k) {
+  const {origin: [left, above], steps: [[ax, bx, cx], [ay, by, cy]]} = view, xyz = flight.xyz[k], points = [];
+  const stride = rough ? Math.ceil(last / 120) || 1 : 1;
+  for (let s = 0; s <= last; s = s === last ? s + 1 : Math.min(last, s + stride)) {
+    const x = xyz[3 * s], y = xyz[3 * s + 1], z = xyz[3 * s + 2], before = points[points.length - 1];
+    const px = left + ax * x + bx * y + cx * z, py = above + ay * x + by * y + cy * z;
+    if (!before || Math.abs(px - before[0]) + Math.abs(py - before[1]) > 0.7 || s === last) points.push([px, py]);
+  }
+  return points;
+}
 function drawPaths() {
-  const {pen, to} = view, stride = rough ? Math.ceil(last / 120) || 1 : 1;
+  const {pen} = view;
   flight.names.forEach((_, k) => {
-    const points = [];
-    for (let s = 0; s <= last; s = s === last ? s + 1 : Math.min(last, s + stride)) {
-      const point = to(at(k, s)), before = points[points.length - 1];
-      if (!before || Math.hypot(point[0] - before[0], point[1] - before[1]) > 0.7 || s === last) points.push(point);
-    }
+    const points = pathOf(k), [x, y] = points[0];
     pen.globalAlpha = faint(k) ? 0.08 : 0.55;
     pen.strokeStyle = colour(k);
     pen.lineWidth = 1.6;
@@ -249,7 +283,6 @@ function drawPaths() {
     pen.stroke();
     pen.setLineDash([]);
     pen.globalAlpha = faint(k) ? 0.2 : 1;
-    const [x, y] = to(at(k, 0));
     pen.fillStyle = "#fff";
     pen.fillRect(x - 3, y - 3, 6, 6);
     pen.strokeRect(x - 3, y - 3, 6, 6);
@@ -305,45 +338,51 @@ function ring(k, [x, y], beside, up, stroke, fill) {
   pen.stroke();
 }
 function moveDrones() {
-  const {pen, to, scale, width, height, still} = view;
+  const {pen, to, still} = view;
   pen.save();
   pen.setTransform(1, 0, 0, 1, 0, 0);
   pen.drawImage(still, 0, 0);
   pen.restore();
   const places = flight.names.map((_, k) => placeAt(k, now)), close = touching(places);
   const order = places.map((place, k) => [k, to(place)]).sort((a, b) => b[1][2] - a[1][2]);
-  for (const [k, point] of order) {
-    const [x, y] = point, [px, py, pz, yaw] = places[k];
-    const touches = close.has(k), stroke = touches ? "#d00000" : colour(k), shown = faint(k) ? 0.2 : 1;
-    pen.globalAlpha = faint(k) ? 0.2 : 1;
-    pen.lineWidth = 0.8;
-    pen.strokeStyle = colour(k);
-    if (tilt < 75) {
-      pen.globalAlpha = 0.4 * shown;
-      way(pen, [point, to([px, py, floor])]);
-      pen.stroke();
-      pen.globalAlpha = shown;
-    }
-    pen.lineWidth = touches ? 2.5 : 1.2;
-    ring(k, point, flight.r, flight.h, stroke, touches ? "#d0000050" : `color-mix(in srgb, ${colour(k)} 13%, transparent)`);
-    if (flight.stray) {
-      pen.setLineDash([3, 3]);
-      pen.lineWidth = 1;
-      ring(k, point, BESIDE, UP, stroke);
-      pen.setLineDash([]);
-    }
-    const reach = Math.max(flight.r, 9 / scale), angle = yaw * Math.PI / 180;
-    pen.lineWidth = 2;
-    way(pen, [[x, y], to([px + reach * Math.cos(angle), py + reach * Math.sin(angle), pz])]);
-    pen.strokeStyle = stroke;
+  for (const [k, point] of order) drawDrone(k, point, places[k], close.has(k));
+  nameDrones(places, close);
+  pen.globalAlpha = 1;
+}
+// A drone with the line down to the floor, its ellipsoid, the ring of its stray, and where it looks.
+function drawDrone(k, point, [px, py, pz, yaw], touches) {
+  const {pen, to, scale} = view, [x, y] = point, stroke = touches ? "#d00000" : colour(k), shown = faint(k) ? 0.2 : 1;
+  pen.globalAlpha = faint(k) ? 0.2 : 1;
+  pen.lineWidth = 0.8;
+  pen.strokeStyle = colour(k);
+  if (tilt < 75) {
+    pen.globalAlpha = 0.4 * shown;
+    way(pen, [point, to([px, py, floor])]);
     pen.stroke();
-    pen.beginPath();
-    pen.arc(x, y, 3.5, 0, 2 * Math.PI);
-    pen.fillStyle = colour(k);
-    pen.fill();
+    pen.globalAlpha = shown;
   }
-  // A ring that is small is left free; a large one has its name inside.
-  const small = flight.r * scale < 30 ? flight.r * scale : 0;
+  pen.lineWidth = touches ? 2.5 : 1.2;
+  const fill = touches ? "#d0000050" : `color-mix(in srgb, ${colour(k)} 13%, transparent)`;
+  ring(k, point, flight.r, flight.h, stroke, fill);
+  if (flight.stray) {
+    pen.setLineDash([3, 3]);
+    pen.lineWidth = 1;
+    ring(k, point, BESIDE, UP, stroke);
+    pen.setLineDash([]);
+  }
+  const reach = Math.max(flight.r, 9 / scale), angle = yaw * Math.PI / 180;
+  pen.lineWidth = 2;
+  way(pen, [[x, y], to([px + reach * Math.cos(angle), py + reach * Math.sin(angle), pz])]);
+  pen.strokeStyle = stroke;
+  pen.stroke();
+  pen.beginPath();
+  pen.arc(x, y, 3.5, 0, 2 * Math.PI);
+  pen.fillStyle = colour(k);
+  pen.fill();
+}
+// A ring that is small is left free; a large one has its name inside.
+function nameDrones(places, close) {
+  const {pen, to, scale, width, height} = view, small = flight.r * scale < 30 ? flight.r * scale : 0;
   const spots = flight.names.map((name, k) => [...to(places[k]).slice(0, 2), name]);
   pen.font = FONT;
   pen.textBaseline = "middle";
@@ -360,7 +399,16 @@ function moveDrones() {
     }
     words(pen, best.cx, best.cy, name, colour(k));
   });
-  pen.globalAlpha = 1;
+}
+const NEAR_CLICK = 16;  // pixels from a drone at which a click is still one on it
+// The drone that is drawn nearest to a point of the canvas, or null where none is near.
+function droneAt(x, y) {
+  let best = NEAR_CLICK, drone = null;
+  flight.names.forEach((_, k) => {
+    const [px, py] = view.to(placeAt(k, now)), far = Math.hypot(px - x, py - y);
+    if (far < best) [best, drone] = [far, k];
+  });
+  return drone;
 }
 function setView(words) {
   [turn, tilt] = VIEWS[words];
@@ -403,10 +451,12 @@ function buildViews() {
     rough = true;
     drawSpace();
   };
-  canvas.onpointerup = canvas.onpointercancel = () => {
+  canvas.onpointerup = canvas.onpointercancel = event => {
+    const still = from && Math.hypot(event.clientX - from[0], event.clientY - from[1]) < 4;
     from = null;
     rough = false;
-    drawSpace();
+    if (still && onDrone && flight && event.type === "pointerup") onDrone(droneAt(event.offsetX, event.offsetY));
+    else drawSpace();
   };
 }
 
@@ -422,20 +472,7 @@ function chart(svg, low, high, marks, words, height) {
   for (const mark of flight.marks) {
     box(svg, [x(mark.from), above, Math.max(x(mark.from) + 3, x(mark.to)), floor], {fill: "#f3b6b6"});
   }
-  // Every cue, or every second, fifth, tenth .. where they are many.
-  const each = (width - left - right) / flight.cues.length;
-  const stride = room => [1, 2, 5, 10, 20, 50, 100].find(it => it * each >= room) || 200;
-  const lines = stride(5), labels = stride(8 * String(flight.cues.length).length + 4);
-  let free = -Infinity;
-  flight.cues.forEach(([from], k) => {
-    const to = k + 1 < flight.cues.length ? flight.cues[k + 1][0] : flight.end;
-    const middle = (x(from) + x(to)) / 2, half = 4 * String(k + 1).length + 2;
-    if (k % lines === 0) line(svg, x(from), above, x(from), floor, "#d8d8d8");
-    if (above > 20 && (k + 1) % labels === 0 && middle - half >= free) {
-      text(svg, middle, above - 8, k + 1, "middle");
-      free = middle + half;
-    }
-  });
+  drawCues(svg, x, above, floor);
   for (const [v, label] of marks) {
     line(svg, left, y(v), width - right, y(v), "#e8e8e8");
     text(svg, left - 6, y(v) + 4, label, "end");
@@ -454,32 +491,111 @@ function chart(svg, low, high, marks, words, height) {
     line(svg, px, above - 3, px, floor, "#d00000", {"stroke-width": 1.5, "stroke-dasharray": "5 3"});
   }
   const cursor = node("line", {y1: above, y2: floor, stroke: "#000", "stroke-width": 1.3});
+  bindChart(svg, left, width - left - right);
+  if (onStretch && above > 20) drawGrips(svg, x, above, floor);
+  const set = () => { for (const end of ["x1", "x2"]) cursor.setAttribute(end, x(now)); };
+  return {x, y, cursor, left, right: width - right, set};
+}
+// Every cue, or every second, fifth, tenth .. where they are many.
+function drawCues(svg, x, above, floor) {
+  const each = (x(flight.end) - x(0)) / flight.cues.length;
+  const stride = room => [1, 2, 5, 10, 20, 50, 100].find(it => it * each >= room) || 200;
+  const lines = stride(5), labels = stride(8 * String(flight.cues.length).length + 4);
+  let free = -Infinity;
+  flight.cues.forEach(([from], k) => {
+    const middle = (x(from) + x(endOfCue(k))) / 2, half = 4 * String(k + 1).length + 2;
+    if (k % lines === 0) line(svg, x(from), above, x(from), floor, "#d8d8d8");
+    if (above > 20 && (k + 1) % labels === 0 && middle - half >= free) {
+      text(svg, middle, above - 8, k + 1, "middle");
+      free = middle + half;
+    }
+  });
+}
+const endOfCue = k => k + 1 < flight.cues.length ? flight.cues[k + 1][0] : flight.end;
+function bindChart(svg, left, wide) {
   const go = event => {
     const box = svg.getBoundingClientRect();
-    move((event.clientX - box.left - left) / (width - left - right) * flight.end);
+    move((event.clientX - box.left - left) / wide * flight.end);
   };
   svg.onpointerdown = go;
   svg.onpointermove = event => { if (event.buttons) go(event); };
   svg.onclick = () => { if (onPick) onPick(now); };
-  const set = () => { for (const end of ["x1", "x2"]) cursor.setAttribute(end, x(now)); };
-  return {x, y, cursor, left, right: width - right, set};
+}
+const GRIP = 5;  // pixels at either side of the end of a cue; cues that are narrower than both together have no grip
+// Grips above a chart, by which the end of a cue is dragged.
+function drawGrips(svg, x, above, floor) {
+  flight.cues.forEach(([from], k) => {
+    const end = x(endOfCue(k));
+    if (end - x(from) < 2 * GRIP) return;
+    const grip = node("rect", {x: end - GRIP, width: 2 * GRIP, y: 0, height: above, fill: "#0000", class: "grip"});
+    grip.append(node("title", {}, `drag: cue ${k + 1} longer or shorter`));
+    line(svg, end, above - 7, end, above, "#777", {"stroke-width": 1.5});
+    bindGrip(svg, grip, k, x, above, floor);
+    svg.append(grip);
+  });
+}
+function bindGrip(svg, grip, k, x, above, floor) {
+  const from = flight.cues[k][0], perPixel = flight.end / (x(flight.end) - x(0)), length = endOfCue(k) - from;
+  const snap = [1, 5, 10, 20, 50, 100, 200, 500, 1000].find(it => it >= perPixel) || 1000;
+  const shown = node("line", {y1: 0, y2: floor, stroke: "#1d5fbf", "stroke-width": 1.5, "stroke-dasharray": "4 3"});
+  const label = node("text", {y: above + 14, class: "name"});
+  let at = null, begun = 0;
+  grip.onpointerdown = event => {
+    event.stopPropagation();
+    grip.setPointerCapture(event.pointerId);
+    [at, begun] = [length, event.clientX];
+    svg.append(shown, label);
+    drag(event);
+  };
+  const drag = event => {
+    const wanted = length + (event.clientX - begun) * perPixel;
+    at = event.clientX === begun ? length : Math.max(snap, Math.min(65535, Math.round(wanted / snap) * snap));
+    const px = x(from + at), isRight = px > (x(0) + x(flight.end)) / 2;
+    for (const end of ["x1", "x2"]) shown.setAttribute(end, px);
+    label.setAttribute("x", px + (isRight ? -6 : 6));
+    label.setAttribute("text-anchor", isRight ? "end" : "start");
+    label.textContent = `cue ${k + 1}: ${(at / 1000).toFixed(2)} s`;
+  };
+  grip.onpointermove = event => { event.stopPropagation(); if (at !== null) drag(event); };
+  grip.onpointerup = grip.onpointercancel = event => {
+    event.stopPropagation();
+    const wanted = at;
+    at = null;
+    shown.remove();
+    label.remove();
+    if (wanted !== null && wanted !== length && event.type === "pointerup") onStretch(k, wanted);
+  };
+  grip.onclick = event => event.stopPropagation();
 }
 const charts = [];
+const tenth = v => Math.round(10 * v) / 10;
+// The points of a line in a chart by the x of each sample, without those inside a level part.
+function graph(xs, height) {
+  const out = [];
+  let before = NaN, here = tenth(height(0));
+  for (let s = 0; s <= last; s += 1) {
+    const next = s < last ? tenth(height(s + 1)) : NaN;
+    if (here !== before || here !== next) out.push(`${xs[s]},${here}`);
+    [before, here] = [here, next];
+  }
+  return out;
+}
 const chartTicks = (low, high) => ticks(low, high, Math.round(chartHeight / 42));
 function drawHeights() {
   const svg = byId("heights");
   const low = Math.min(0, lowest[2]), high = highest[2] + (chosen.size ? flight.h : 0) + 200;
   const it = chart(svg, low, high, chartTicks(low, high).map(v => [v, metres(v)]), "z in m", chartHeight);
+  const xs = flight.times.map(ms => tenth(it.x(ms)));
   flight.names.forEach((_, k) => {
+    const xyz = flight.xyz[k];
     if (chosen.has(k)) {
-      const height = (s, by) => it.y(Math.max(low, Math.min(high, flight.xyz[k][3 * s + 2] + by)));
-      const edge = by => flight.times.map((ms, s) => `${it.x(ms).toFixed(1)},${height(s, by).toFixed(1)}`);
+      const edge = by => graph(xs, s => it.y(Math.max(low, Math.min(high, xyz[3 * s + 2] + by))));
       const upper = edge(flight.h), lower = edge(-flight.h).reverse();
       svg.append(node("polygon", {points: [...upper, ...lower].join(" "), fill: colour(k), "fill-opacity": 0.12}));
     }
-    const points = flight.times.map((ms, s) => `${it.x(ms).toFixed(1)},${it.y(flight.xyz[k][3 * s + 2]).toFixed(1)}`);
-    svg.append(node("polyline", {points: points.join(" "), fill: "none", stroke: colour(k), "stroke-width": 1.8,
-                                 "stroke-dasharray": dashes(k), opacity: faint(k) ? 0.1 : 0.9}));
+    svg.append(node("polyline", {points: graph(xs, s => it.y(xyz[3 * s + 2])).join(" "), fill: "none",
+                                 stroke: colour(k), "stroke-width": 1.8, "stroke-dasharray": dashes(k),
+                                 opacity: faint(k) ? 0.1 : 0.9}));
   });
   svg.append(it.cursor);
   charts.push(it);
@@ -489,13 +605,20 @@ function drawShares() {
   let low = Infinity, most = 0;
   for (const [v] of flight.nearest) { low = Math.min(low, v); most = Math.max(most, v); }
   const high = Math.max(150, Math.min(most + 20, Math.max(chartHeight < 200 ? 260 : 400, 1.5 * low)));
-  const it = chart(svg, 0, high, chartTicks(0, high).map(v => [v, `${v} %`]), "share", chartHeight);
+  const it = chart(svg, 0, high, chartTicks(0, high).map(v => [v, `${v} %`]), shareWords, chartHeight);
   box(svg, [it.left, it.y(100), it.right, it.y(0)], {fill: "#d00000", "fill-opacity": 0.07});
   line(svg, it.left, it.y(100), it.right, it.y(100), "#d00000", {"stroke-width": 1.5});
-  const share = s => Math.min(high, flight.nearest[s][0]);
-  const points = flight.times.map((ms, s) => `${it.x(ms).toFixed(1)},${it.y(share(s)).toFixed(1)}`);
+  const points = graph(flight.times.map(ms => tenth(it.x(ms))), s => it.y(Math.min(high, flight.nearest[s][0])));
   svg.append(node("polyline", {points: points.join(" "), fill: "none", stroke: "#222", "stroke-width": 1.8}));
-  // Names at the lowest dips, as far as they have room.
+  nameDips(svg, it, high);
+  const clipped = `what is above ${high.toFixed(0)} % is drawn there`;
+  if (most > high && chartHeight > 200) text(svg, it.left + 4, it.y(high) + 14, clipped, "start");
+  svg.append(it.cursor);
+  charts.push(it);
+}
+
+// Names at the lowest dips, as far as they have room.
+function nameDips(svg, it, high) {
   const dips = [];
   for (let s = 0; s <= last; s += 1) {
     const v = flight.nearest[s][0], falls = s === 0 || v < flight.nearest[s - 1][0];
@@ -515,10 +638,6 @@ function drawShares() {
     svg.append(node("circle", {cx: px, cy: it.y(v), r: 3, fill: v <= 100 ? "#d00000" : "#222"}));
     text(svg, middle, py, words, "middle", {class: "name"});
   }
-  const clipped = `what is above ${high.toFixed(0)} % is drawn there`;
-  if (most > high && chartHeight > 200) text(svg, it.left + 4, it.y(high) + 14, clipped, "start");
-  svg.append(it.cursor);
-  charts.push(it);
 }
 
 // ---- the slider, and drones by name

@@ -12,6 +12,7 @@ import random
 import struct
 import threading
 import time
+from typing import Any, Dict, Iterator, List, Optional, Sequence, Tuple
 
 import clock
 import firmware
@@ -28,6 +29,9 @@ PADDING = 20  # further items of the tables, so that reading them is no single p
 NOTHING = b"\xF3\x01\x3C"  # what an acknowledgement carries where a drone has nothing to say
 FULL, SINKS = 4.1, 0.0008  # volts, and volts a second in flight
 FORGETS, TIMEOUT, OFF = 2.0, 30.0, 1.0  # seconds: without a poll until logs go, from arming to flight, of a reboot
+
+Segment = Tuple[int, List[List[int]]]  # milliseconds, and control values by axis
+
 # What --fault and tests can ask for; the number behind some is seconds after the start of the show.
 FAULTS = {
     "dead": "answers nothing",
@@ -60,23 +64,27 @@ FAULTS = {
     "auto": "arms by itself, and can't be disarmed",
     "timeout": "disarms half a minute after it was armed, unless it flies",
     "reboots": "starts anew once its memory was read back",
+    "senseless": "says that its place is no number",
+    "loses": "says that its place is no number, so many seconds after its start",
+    "volts": "says that its voltage is no number",
+    "short": "gives answers that are cut off to questions on its memories and tables",
 }
 
 
-def smooth(u):
+def smooth(u: float) -> float:
     """From 0 to 1 from rest to rest."""
     u = min(1.0, max(0.0, u))
     return u ** 4 * (35 - 84 * u + 70 * u ** 2 - 20 * u ** 3)
 
 
-def carried_on(speed, seconds):
+def carried_on(speed: float, seconds: float) -> float:
     """How far a drone is from its setpoint, along the way that it flew, so long after this has stopped: 0.07 s of speed
     and 0.06 s^2/m of its square at most, from memory of what others saw (0.4 m at 2 m/s)."""
     last = 0.2 + 0.163 * speed
     return speed * seconds * math.exp(-seconds / last)
 
 
-def segments_at(memory, offset, pieces):
+def segments_at(memory: bytes, offset: int, pieces: int) -> List[Segment]:
     """The segments of a trajectory in a memory, as (milliseconds, control values by axis); none where there is none."""
     last, at, out = list(struct.unpack_from("<hhhh", memory, offset)), offset + 8, []
     for _ in range(pieces):
@@ -96,7 +104,7 @@ class Drone:
     """A drone: radio with safelink, memories, tables, commander, and where it is, in metres."""
     memory_bytes = bytearray
 
-    def __init__(self, world, uri, home, faults):
+    def __init__(self, world: "World", uri: str, home: Sequence[float], faults: Dict[str, float]) -> None:
         self.world, self.uri, self.faults, self.lock = world, uri, faults, threading.RLock()
         home = [home[0] + (0.5 if "astray" in faults else 0), home[1], 0.5 if "riser" in faults else home[2]]
         self.place, self.plan, self.began, self.armed, self.cut = home, None, 0.0, False, False
@@ -104,6 +112,7 @@ class Drone:
         self.memories = [(kind, self.memory_bytes(b"\xFF" * size)) for kind, size in MEMORIES]
         self.lands, self.thrown, self.hits, self.armed_at, self.off_until, self.yaw = False, None, 0.0, None, None, 0.0
         self.polled, self.refused, self.is_read = clock.now(), [], False
+        self.heard_at = None  # where a packet was heard at another instant than this one
         if "memory" in faults:
             self.memories.insert(2, (0x11, self.memory_bytes(b"\xFF" * 8192)))
         self.table, self.parameters = [None] * 10, [row[2] for row in PARAMETERS]
@@ -117,15 +126,15 @@ class Drone:
 
     # ---- the way
 
-    def flown(self, now=None):
+    def flown(self, now: Optional[float] = None) -> Optional[float]:
         """Seconds since the start of its trajectory, or None."""
         return None if self.curve_began is None else (now or clock.now()) - self.curve_began
 
-    def is_due(self, fault):
+    def is_due(self, fault: str) -> bool:
         """Whether a fault of some seconds after the start has come."""
         return fault in self.faults and self.flown() is not None and self.flown() >= self.faults[fault]
 
-    def is_gone(self):
+    def is_gone(self) -> bool:
         """Whether its link is gone."""
         if "reboots" in self.faults and self.is_read and self.table[0] is not None:
             self.reboot()
@@ -133,14 +142,14 @@ class Drone:
         off = self.off_until is not None and clock.now() < self.off_until
         return gap or off or "dead" in self.faults or self.is_due("silent") or "lost" in self.faults and self.is_written
 
-    def reboot(self):
+    def reboot(self) -> None:
         """Starts anew: its memory is zero, and all that it was told is gone."""
         del self.faults["reboots"]
         self.memories = [(kind, self.memory_bytes(size)) for kind, size in MEMORIES]
         self.table, self.blocks, self.up_queue, self.parameters = [None] * 10, {}, [], [row[2] for row in PARAMETERS]
         self.safelink, self.armed, self.booted, self.off_until = False, False, clock.now(), clock.now() + OFF
 
-    def planned(self, now=None):
+    def planned(self, now: Optional[float] = None) -> List[float]:
         """Where its commander has it."""
         now = now or clock.now()
         if self.plan is None:
@@ -157,7 +166,7 @@ class Drone:
             at -= milliseconds
         return [row[-1] / 1000 for row in segments[-1][1][:3]]
 
-    def is_at(self, now=None):
+    def is_at(self, now: Optional[float] = None) -> List[float]:
         """Where it is: as planned, but for its stray."""
         self.is_idle()
         now = now or clock.now()
@@ -179,12 +188,14 @@ class Drone:
             at[0] += 0.5 * (self.flown(now) - self.faults["wanders"])
         return [at[0], at[1], max(self.floor, at[2])]
 
-    def drop(self):
-        """The motors stop."""
+    def drop(self) -> None:
+        """The motors stop, once."""
+        if self.cut:
+            return
         self.place, self.lands = self.planned(), False
         self.cut, self.armed, self.plan = clock.now(), False, None
 
-    def go(self, to, seconds):
+    def go(self, to: Sequence[float], seconds: float) -> None:
         """Flies from where its setpoint is to a place. A way begins with speed 0, and the drone is carried on."""
         now = clock.now()
         here, before = self.planned(now), self.planned(now - 0.01)
@@ -192,14 +203,14 @@ class Drone:
         self.thrown = (now, speed) if self.flies and 0.02 < math.hypot(*speed) < 20 else None
         self.plan = "way", now, here, to, max(0.01, seconds)
 
-    def is_idle(self):
+    def is_idle(self) -> bool:
         """Whether its commander has nothing to fly: on the floor, and after a landing has ended."""
         plan = self.plan
         if self.lands and plan is not None and clock.now() >= plan[1] + plan[4]:
             self.end_landing(plan)
         return self.plan is None
 
-    def end_landing(self, plan):
+    def end_landing(self, plan: Sequence[Any]) -> None:
         """The landing ends, and its motors stop, at whatever height it is."""
         _, _, first, last, seconds = plan
         if last[2] < self.floor - 0.05 and first[2] > self.floor:
@@ -211,7 +222,7 @@ class Drone:
 
     # ---- the radio
 
-    def poll(self, raw):
+    def poll(self, raw: bytes) -> bytes:
         """A packet of the radio that arrived; the acknowledgement's payload."""
         with self.lock:
             self.log_what_is_due()
@@ -232,21 +243,23 @@ class Drone:
                 self.take(raw)
             return answer
 
-    def take(self, raw):
+    def take(self, raw: bytes) -> None:
         """Carries a packet out; its answer waits for the next poll."""
         port, channel, data = firmware.parts(bytes(raw))
         answer = {firmware.PARAMETERS: self.parameter, firmware.MEMORY: self.memory, firmware.LOGS: self.log,
                   firmware.COMMANDER: self.command, firmware.PLATFORM: self.platform,
                   firmware.PLACES: self.emergency}.get(port, lambda *_: None)(channel, data)
+        if answer is not None and "short" in self.faults and channel == 0 and port != firmware.COMMANDER:
+            answer = answer[:3]
         if answer is not None:
             self.up_queue.append(firmware.packet(port, channel, answer))
 
-    def emergency(self, channel, data):
+    def emergency(self, channel: int, data: bytes) -> None:
         """Port 6: the emergency stop."""
         if (channel, data[:1]) == (1, firmware.EMERGENCY_STOP):
             self.drop()
 
-    def platform(self, channel, data):
+    def platform(self, channel: int, data: bytes) -> Optional[bytes]:
         """Port 13: arming and versions."""
         if channel == 1:
             return bytes([0, 3 if "outdated" in self.faults else 6]) if data[0] == 0 else b"\x01simulated\0"
@@ -259,7 +272,7 @@ class Drone:
             return bytes([1, int(can), self.armed])
         return None
 
-    def memory(self, channel, data):
+    def memory(self, channel: int, data: bytes) -> bytes:
         """Port 4: the list of memories, reads and writes."""
         if channel == 0:
             if data[0] == 1:
@@ -277,7 +290,7 @@ class Drone:
         self.is_written = True
         return data[:5] + bytes([0 if good else EIO])
 
-    def table_answer(self, data, items, checksum):
+    def table_answer(self, data: bytes, items: Sequence[Sequence[Any]], checksum: int) -> bytes:
         """The answer to a question for a table or an item of it."""
         if data[0] == 3:
             return struct.pack("<BHI", 3, len(items) + PADDING, checksum)
@@ -285,7 +298,7 @@ class Drone:
         name, kind = items[number - PADDING][:2] if number >= PADDING else ("filling.item%d" % number, items[0][1])
         return data[:3] + bytes([kind]) + name.replace(".", "\0").encode() + b"\0"
 
-    def parameter(self, channel, data):
+    def parameter(self, channel: int, data: bytes) -> bytes:
         """Port 2: parameters."""
         if channel == 0:
             return self.table_answer(data, PARAMETERS, 0xA1)
@@ -296,7 +309,7 @@ class Drone:
         self.parameters[number] = struct.unpack_from(form, data, 2)[0]
         return data
 
-    def log(self, channel, data):
+    def log(self, channel: int, data: bytes) -> Optional[bytes]:
         """Port 5: logs."""
         if channel == 0:
             return self.table_answer(data, LOGGED, 0xB2)
@@ -315,7 +328,7 @@ class Drone:
             self.blocks[data[1]][1:] = data[2] / 100, clock.now()
         return data[:2] + b"\0"
 
-    def log_what_is_due(self):
+    def log_what_is_due(self) -> None:
         """Puts log blocks that are due into what goes up. Where nobody polled for two seconds, they are gone."""
         if self.is_due("gap") and clock.now() - self.polled > FORGETS:
             self.blocks, self.up_queue = {}, []
@@ -331,11 +344,15 @@ class Drone:
                 self.up_queue.append(firmware.packet(firmware.LOGS, 2, bytes([block]) + stamp.to_bytes(3, "little")
                                                      + struct.pack(form, *values)))
 
-    def variable(self, name, now):
+    def variable(self, name: str, now: float) -> float:
         """The value of a log variable at an instant."""
         group, _, item = name.partition(".")
         if item == "yaw":
             return self.yaw + (90.0 if "turned" in self.faults else 0.0)
+        if group == "stateEstimate" and ("senseless" in self.faults or self.is_due("loses")):
+            return math.nan
+        if name == "pm.vbat" and "volts" in self.faults:
+            return math.nan
         if group == "stateEstimate":
             high = self.faults.get("high", 0.0) if item == "z" else 0.0
             return self.is_at(now)["xyz".index(item)] + high
@@ -356,12 +373,12 @@ class Drone:
         flying = flying or "flying" in self.faults
         return info | firmware.CAN_FLY * self.armed | firmware.IS_FLYING * flying | firmware.IS_TUMBLED * bool(self.cut)
 
-    def command(self, channel, data):
+    def command(self, channel: int, data: bytes) -> bytes:
         """Port 8: the commander."""
-        return (data + bytes(3))[:3] + bytes([self.commanded(data)])
+        return (data + bytes(3))[:3] + bytes([self.commanded(data, self.heard_at)])
 
-    def commanded(self, data):
-        """Carries a command out; its status."""
+    def commanded(self, data: bytes, at: Optional[float] = None) -> int:
+        """Carries a command out, which was heard at an instant; its status."""
         kind = data[0]
         if kind == 0:
             return 0
@@ -399,10 +416,10 @@ class Drone:
             self.go([x, y, z], seconds)
             self.flies, self.lands, self.yaw = True, False, math.degrees(yaw)
             return 0
-        return self.begin(data) if kind == 5 else ENOEXEC
+        return self.begin(data, at) if kind == 5 else ENOEXEC
 
-    def begin(self, data):
-        """Starts a trajectory, anew each time, after its own lateness."""
+    def begin(self, data: bytes, at: Optional[float] = None) -> int:
+        """Starts a trajectory that was heard of at an instant, anew each time, after its own lateness."""
         number = data[4]
         if "refuses" in self.faults:
             return EBUSY
@@ -412,7 +429,7 @@ class Drone:
         segments = segments_at([whole for kind, whole in self.memories if kind == 0x12][0], offset, pieces)
         if not segments:
             return ENOEXEC
-        self.curve_began = clock.now() + self.world.late / 1000 * self.late_share
+        self.curve_began = (clock.now() if at is None else at) + self.world.late / 1000 * self.late_share
         self.plan, self.flies, self.lands, self.thrown = ("curve", self.curve_began, segments), True, False, None
         self.starts.append(self.curve_began)
         return 0
@@ -421,11 +438,12 @@ class Drone:
 class World:
     """The air that drones share, and the drones."""
 
-    def __init__(self):
+    def __init__(self) -> None:
         self.reset({}, {})
 
-    def reset(self, homes, faults, stray=0.0, late=0.0, loss=0.0, rate=900.0, seed=1, unplugged=(), blocks=None,
-              dies=None):
+    def reset(self, homes: Dict[str, Sequence[float]], faults: Dict[str, Dict[str, float]], stray: float = 0.0,
+              late: float = 0.0, loss: float = 0.0, rate: float = 900.0, seed: int = 1, unplugged: Sequence[str] = (),
+              blocks: Optional[float] = None, dies: Optional[float] = None) -> None:
         """Sets drones at places (metres) by their URIs, each with its faults and their numbers. So many seconds after
         the first start calls of dongle 0 don't return any more (blocks), or return and nothing is sent (dies)."""
         self.blocks, self.dies, self.nearest, self.watching = blocks, dies, None, False
@@ -438,17 +456,17 @@ class World:
         for drone, share in zip(self.drones.values(), shares):
             drone.late_share = share
 
-    def ails(self, dongle, after):
+    def ails(self, dongle: object, after: Optional[float]) -> bool:
         """Whether something that comes over dongle 0 so long after the first start has come over this one."""
         starts = [drone.starts[0] for drone in self.drones.values() if drone.starts]
         return str(dongle) == "0" and after is not None and bool(starts) and clock.now() >= min(starts) + after
 
-    def watch(self):
+    def watch(self) -> None:
         """Notes how near two drones of which one flies come to each other, looking all the while."""
         self.watching = True
         threading.Thread(target=self.look, daemon=True).start()
 
-    def look(self):
+    def look(self) -> None:
         """Looks, every twenty-five real milliseconds."""
         while self.watching:
             time.sleep(0.025)
@@ -460,7 +478,7 @@ class World:
                         if self.nearest is None or far < self.nearest[0]:
                             self.nearest = far, n, k
 
-    def lines(self, names):
+    def lines(self, names: Sequence[str]) -> Iterator[str]:
         """Where the drones are, whether they are armed, how often they began a trajectory, and how long after the
         first one: lines for people."""
         first = min([drone.starts[0] for drone in self.drones.values() if drone.starts] or [0.0])
@@ -476,7 +494,7 @@ class World:
             yield "simulated: nearest two of which one flew: %s and %s, %.2f m" % (
                 names[self.nearest[1]], names[self.nearest[2]], self.nearest[0])
 
-    def take_turn(self, dongle):
+    def take_turn(self, dongle: str) -> Tuple[bool, bool]:
         """Waits for a dongle's next transfer."""
         with self.lock:
             at = max(clock.now(), self.free.get(dongle, 0.0))
@@ -485,7 +503,7 @@ class World:
         clock.wait(at + 1 / self.rate - clock.now())
         return lost, lost_back
 
-    def transfer(self, uri, raw):
+    def transfer(self, uri: str, raw: bytes) -> Tuple[bool, bytes]:
         """A packet to a drone: whether it was acknowledged, and what came back."""
         lost, lost_back = self.take_turn(uri.split("/")[2])
         drone = self.drones.get(uri)
@@ -494,17 +512,20 @@ class World:
         came = drone.poll(raw)
         return (False, b"") if lost_back else (True, came)
 
-    def broadcast(self, dongle, channel, raw):
+    def broadcast(self, dongle: object, channel: object, raw: bytes) -> None:
         """A packet to all drones of a channel, each of which may miss it. Nobody acknowledges it, so the dongle
-        repeats it three times at once: that is from memory, too."""
+        repeats it three times at once: that is from memory, too. All hear it at one instant."""
         self.take_turn(str(dongle))
+        now = clock.now()
         for uri, drone in self.drones.items():
             if uri.split("/")[2:4] == [str(dongle), str(channel)] and "deaf" not in drone.faults:
                 is_deaf = drone.is_gone() or "deafens" in drone.faults and drone.flies
                 is_deaf = is_deaf or self.ails(dongle, self.dies)
                 if not is_deaf and self.chance.random() >= self.loss ** 4:
                     with drone.lock:
+                        drone.heard_at = now
                         drone.take(raw)
+                        drone.heard_at = None
 
 
 WORLD = World()

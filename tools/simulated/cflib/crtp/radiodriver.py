@@ -3,6 +3,7 @@ import queue
 import re
 import threading
 import time
+from typing import Any, Callable, Optional, Sequence, Tuple
 
 import clock
 
@@ -19,11 +20,12 @@ class WrongUriType(Exception):
 
 
 class RadioDriver:
-    def __init__(self):
+    def __init__(self) -> None:
         self.uri, self.link_error_callback, self._thread = "", None, None
         self.in_queue = self.out_queue = None
 
-    def connect(self, uri, radio_link_statistics_callback, link_error_callback):
+    def connect(self, uri: str, radio_link_statistics_callback: Any,
+                link_error_callback: Optional[Callable[[str], None]]) -> None:
         if not re.search("^radio://", uri):
             raise WrongUriType("Not a radio URI")
         if uri in air.WORLD.unplugged:
@@ -34,7 +36,7 @@ class RadioDriver:
         OPEN.append(self)
         self._thread.start()
 
-    def receive_packet(self, wait=0):
+    def receive_packet(self, wait: float = 0) -> Optional[CRTPPacket]:
         try:
             if wait == 0:
                 return self.in_queue.get(False)
@@ -42,14 +44,14 @@ class RadioDriver:
         except queue.Empty:
             return None
 
-    def send_packet(self, pk):
+    def send_packet(self, pk: CRTPPacket) -> None:
         try:
             self.out_queue.put(pk, True, clock.real(2))
         except queue.Full:
             if self.link_error_callback:
                 self.link_error_callback("RadioDriver: Could not send packet to copter")
 
-    def close(self):
+    def close(self) -> None:
         self._thread.open = False
         self._thread.join()
         OPEN.remove(self)
@@ -57,13 +59,13 @@ class RadioDriver:
 
 
 class _RadioDriverThread(threading.Thread):
-    def __init__(self, uri, link):
+    def __init__(self, uri: str, link: RadioDriver) -> None:
         threading.Thread.__init__(self, daemon=True)
         self.uri, self.link, self.open, self.left = uri, link, True, RETRIES
         self.up = self.down = 0
         self.safelink = False
 
-    def exchange(self, data):
+    def exchange(self, data: bytes) -> Tuple[bool, bytes]:
         """A transfer, with safelink's numbers; none ends where the dongle is gone and the library waits for it."""
         while air.WORLD.ails(self.uri.split("/")[2], air.WORLD.blocks):
             time.sleep(0.05)
@@ -76,7 +78,7 @@ class _RadioDriverThread(threading.Thread):
             self.up = 1 - self.up
         return ack, came
 
-    def run(self):
+    def run(self) -> None:
         for _ in range(10):
             ack, came = air.WORLD.transfer(self.uri, b"\xFF\x05\x01")
             if came == b"\xFF\x05\x01":
@@ -106,29 +108,29 @@ class RadioManager:
     """A dongle that is shared: its `open` gives an instance with a channel and an address of its own."""
 
     @staticmethod
-    def open(devid):
+    def open(devid: int) -> "_SharedRadioInstance":
         return _SharedRadioInstance(devid)
 
 
 class _SharedRadioInstance:
-    def __init__(self, devid):
+    def __init__(self, devid: int) -> None:
         self.devid = devid
         self.channel = self.address = self.rate = None
 
-    def set_channel(self, channel):
+    def set_channel(self, channel: int) -> None:
         self.channel = channel
 
-    def set_address(self, address):
+    def set_address(self, address: Sequence[int]) -> None:
         self.address = tuple(address)
 
-    def set_data_rate(self, dr):
+    def set_data_rate(self, dr: int) -> None:
         self.rate = dr
 
-    def send_packet(self, data):
+    def send_packet(self, data: Sequence[int]) -> None:
         while air.WORLD.ails(self.devid, air.WORLD.blocks):
             time.sleep(0.05)
         if self.address == (0xFF, 0xE7, 0xE7, 0xE7, 0xE7):
             air.WORLD.broadcast(self.devid, self.channel, bytes(data))
 
-    def close(self):
+    def close(self) -> None:
         pass

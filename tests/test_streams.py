@@ -1,0 +1,132 @@
+"""The tools in hostile hands: closed and full streams, files without an end, missing files, and a program that isn't
+the one of its record. Each ends with a status that it documents and a line, and none with a traceback."""
+import hashlib
+import json
+import os
+import resource
+import shutil
+import subprocess
+import tempfile
+import unittest
+
+from common import TOP
+
+SHOW = "examples/crossing.choreo"
+MEMORY = 700 << 20  # bytes, many times what a tool takes
+TOOLS = {"explain": [SHOW], "deal": ["examples/grid_to_ring.choreo"], "summary": [SHOW], "picture": [SHOW],
+         "without": [SHOW, "a"], "import": ["examples/relay.csv", "--waypoints"]}
+# Reads a file that never ends; and the status.
+ENDLESS = [(["explain", "/dev/zero"], 3), (["summary", "/dev/zero"], 3), (["without", "/dev/zero", "a"], 3),
+           (["export", "/dev/zero", "out"], 70), (["import", "/dev/zero"], 3), (["import", "--judge", "/dev/zero"], 3),
+           (["import", "--starts", "/dev/zero", "examples/eight_left.csv"], 3),
+           (["export_skyc", "/dev/zero", "out"], 70)]
+
+
+def shell(line, place=TOP, most=None):
+    """The status, standard output and standard error of a line of a shell, with so many bytes of memory at most."""
+    def limit():
+        resource.setrlimit(resource.RLIMIT_AS, (most, most))
+    done = subprocess.run(["sh", "-c", line], cwd=place, stdin=subprocess.DEVNULL, stdout=subprocess.PIPE,
+                          stderr=subprocess.PIPE, timeout=300, preexec_fn=limit if most else None)
+    return done.returncode, done.stdout.decode(), done.stderr.decode()
+
+
+class Streams(unittest.TestCase):
+    def test_closed(self):
+        for tool, words in TOOLS.items():
+            status, said, told = shell("tools/%s %s >&-" % (tool, " ".join(words)))
+            self.assertEqual((status, said), (70, ""), (tool, told))
+            self.assertIn("%s: Bad file descriptor\n" % tool, told)
+            self.assertNotIn("Traceback", told)
+        for tool in ("explain", "deal", "export", "picture", "without"):
+            # What is said to a closed standard error isn't in the output, nor anywhere else.
+            self.assertEqual(shell("tools/%s none none 2>&-" % tool)[1], "", tool)
+        self.assertEqual(shell("tools/explain none 2>&-"), (70, "", ""))
+        self.assertEqual(shell("tools/explain - <&-")[:2], (70, ""))
+
+    def test_full(self):
+        if os.path.exists("/dev/full"):
+            for tool in ("explain", "without"):
+                status, said, told = shell("tools/%s %s >/dev/full" % (tool, " ".join(TOOLS[tool])))
+                self.assertEqual((status, said), (70, ""))
+                self.assertIn("%s: No space left on device\n" % tool, told)
+                self.assertNotIn("Traceback", told)
+
+    def test_nobody_reads_on(self):
+        for tool in ("picture", "explain"):
+            source, sink = os.pipe()
+            os.close(source)
+            done = subprocess.run(["tools/" + tool, SHOW], cwd=TOP, stdin=subprocess.DEVNULL, stdout=sink,
+                                  stderr=subprocess.PIPE, timeout=300)
+            os.close(sink)
+            self.assertEqual((done.returncode, b"Traceback" in done.stderr), (141, False), done.stderr)
+
+    def test_endless(self):
+        for words, wanted in ENDLESS:
+            status, said, told = shell("tools/" + " ".join(words), most=MEMORY)
+            self.assertEqual((status, said), (wanted, ""), (words, told))
+            self.assertNotIn("Traceback", told)
+
+    def test_missing_and_odd_files(self):
+        for words in (["explain", "tools"], ["deal", "none/none"], ["export", "tools", "out"], ["import", "none.csv"],
+                      ["summary", "'" + "a" * 5000 + "'"], ["without", "", "a"], ["picture", "none"]):
+            status, said, told = shell("tools/" + " ".join(word or "''" for word in words))
+            self.assertEqual((status, said, told.count("\n")), (70, "", 1), (words, told))
+
+
+class Swapped(unittest.TestCase):
+    """A copy of the tools beside a program that accepts everything, and beside a record."""
+
+    def setUp(self):
+        folder = tempfile.TemporaryDirectory()
+        self.addCleanup(folder.cleanup)
+        self.place = folder.name
+        for name in ("tools", "docs", "examples"):
+            shutil.copytree(os.path.join(TOP, name), os.path.join(self.place, name),
+                            ignore=shutil.ignore_patterns("__pycache__"))
+        self.out = os.path.join(self.place, "crates", "show_cli", "out")
+        os.makedirs(self.out)
+        self.program = os.path.join(self.out, "show_cli")
+        with open(self.program, "w") as file:
+            file.write("#!/bin/sh\necho ok drones 2 cues 1 duration_ms 3000\n")
+        os.chmod(self.program, 0o755)
+
+    def record(self, path, **more):
+        """Writes a record, or a manifest."""
+        with open(os.path.join(self.place, path), "w") as file:
+            json.dump(more, file)
+
+    def test_by_its_record(self):
+        record = "crates/show_cli/out/show_cli.built"
+        self.record(record, sha256="0" * 64)
+        self.is_refused("the program isn't the one of show_cli.built")
+        with open(os.path.join(self.place, record), "w") as file:
+            file.write("{ damaged")
+        self.is_refused("the program isn't the one of show_cli.built")
+        # The one of the record is asked.
+        with open(self.program, "rb") as file:
+            digest = hashlib.sha256(file.read()).hexdigest()
+        self.record(record, sha256=digest)
+        self.assertIn("APART", shell("tools/import --judge examples/relay.csv --waypoints", self.place)[1])
+
+    def test_by_the_manifest(self):
+        names = {"tools/" + name: "" for name in os.listdir(os.path.join(self.place, "tools"))
+                 if os.path.isfile(os.path.join(self.place, "tools", name))}
+        self.record("MANIFEST.json", sha256="0" * 64, files=names)
+        self.is_refused("the program isn't the one of MANIFEST.json")
+
+    def is_refused(self, line):
+        """Says that no tool believes the program."""
+        status, said, told = shell("tools/import --judge examples/relay.csv --waypoints", self.place)
+        self.assertEqual((status, "APART" in said, line in told), (70, False, True), told)
+        status, said, told = shell("tools/explain " + SHOW, self.place)
+        self.assertEqual((status, "check: ok" in said, line in said), (5, False, True), said + told)
+        for words in ("bridge " + SHOW, "export_skyc %s out" % SHOW, "fly --simulate --yes " + SHOW):
+            status, said, told = shell("tools/" + words, self.place)
+            self.assertEqual((status, "check: ok" in said + told, line in told), (70, False, True), said + told)
+        status, said, told = shell("tools/without examples/crossing_cured.choreo a", self.place)
+        self.assertEqual((status, line in told), (0, True), told)
+
+
+if __name__ == "__main__":
+    unittest.main()

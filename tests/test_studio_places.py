@@ -1,0 +1,146 @@
+"""tools/studio_places.py, studio_words.py and studio_work.py: where drones are at a line of a text that may be half
+written, what the words of a line are, and blocked places as they are found."""
+import contextlib
+import io
+import json
+import os
+import sys
+import unittest
+
+sys.dont_write_bytecode = True
+TOP = os.path.dirname(os.path.dirname(os.path.abspath(__file__)))
+sys.path.insert(0, os.path.join(TOP, "tools"))
+import choreo
+import studio_work
+from studio_places import last_lines, places_at
+from studio_words import words_of_language
+
+TEXT = """choreo 1
+drone a 0 0 1000000 0
+drone b 1000000 0 1000000 900
+cue 2000
+a move 0 1000000 1500000 0
+end
+repeat 3
+  cue 1000
+  a line 500000 1000000 1500000 0
+  end
+  cue 1000
+  b turn 0
+  end
+end
+figure g lead wing
+cue 900
+lead move 0 0 1800000 0
+end
+cue 900
+wing turn 900
+end
+end
+cue 500
+form f move
+b hold
+end
+formation f
+at a 0 0 1000000 0
+end
+"""
+
+
+class Places(unittest.TestCase):
+    def at(self, line, text=TEXT):
+        """What stands around a line."""
+        return places_at(text.encode(), line)
+
+    def places(self, line, text=TEXT):
+        """Where the drones are, by name, and whether that is exact."""
+        found = self.at(line, text)
+        return {row[0]: row[1:] for row in found["drones"]}, found["exact"]
+
+    def test_top(self):
+        start = {"a": [0, 0, 1000000, 0], "b": [1000000, 0, 1000000, 900]}
+        self.assertEqual(self.places(4), (start, True))
+        self.assertEqual(self.places(7), ({**start, "a": [0, 1000000, 1500000, 0]}, True))
+        self.assertEqual(self.at(4)["where"], "top")
+        # The formation stands after its use.
+        self.assertEqual(self.places(27)[0]["a"], [0, 0, 1000000, 0])
+        self.assertEqual((self.at(27)["formations"], self.at(27)["figures"]), (["f"], ["g"]))
+
+    def test_in_a_cue(self):
+        """Where the cue begins, with those that have a line."""
+        found = self.at(6)
+        self.assertEqual((found["where"], found["acted"]), ("cue", ["a"]))
+        self.assertEqual(self.places(6)[0]["a"], [0, 0, 1000000, 0])
+        self.assertEqual(sorted(self.at(26)["acted"]), ["a", "b"])  # a by the formation
+        self.assertEqual((self.at(29)["where"], self.at(29)["acted"]), ("formation", ["a"]))
+
+    def test_in_a_repeat(self):
+        """The first turn counts."""
+        self.assertEqual(self.at(11)["where"], "repeat")
+        self.assertEqual(self.places(11)[0]["a"], [500000, 1000000, 1500000, 0])
+        self.assertEqual(self.places(12)[0]["b"], [1000000, 0, 1000000, 900])
+        self.assertEqual(self.places(15)[0]["b"], [1000000, 0, 1000000, 0])
+
+    def test_in_a_figure(self):
+        found = self.at(20)
+        self.assertEqual((found["where"], found["in_figure"], found["drones"]),
+                         ("cue", True, [["lead", 0, 0, 1800000, 0], ["wing", 0, 0, 1000000, 0]]))
+        self.assertEqual(self.at(19)["where"], "figure")
+
+    def test_half_written(self):
+        """An open cue, and faults after the line; a fault before it leaves the starts."""
+        half = TEXT[:TEXT.index("repeat")] + "cue 3000\n"
+        self.assertEqual((self.at(8, half)["where"], self.places(8, half)), (
+            "cue", ({"a": [0, 1000000, 1500000, 0], "b": [1000000, 0, 1000000, 900]}, True)))
+        self.assertEqual(self.places(7, TEXT + "nonsense\n"), self.places(7))
+        places, exact = self.places(7, TEXT.replace("a move", "a mvoe"))
+        self.assertEqual((places["a"], exact), ([0, 0, 1000000, 0], False))
+        for text in ("", "\n\n", "choreo 1", "end\nend\n", "cue cue cue", "\xff \xe2\x82\xac", "figure\nfigure g\ncue 1\n"):
+            for line in (1, 2, 9):
+                self.assertEqual(self.at(line, text)["drones"], [], text)
+
+    def test_last_lines(self):
+        """In a cue a drone may have the name of any word."""
+        text = b"cue 1\ncue hold\nend\nrepeat 2\ncue 1\nend\nend\n"
+        self.assertEqual(last_lines(text), {1: 3, 4: 7, 5: 6})
+
+
+class Words(unittest.TestCase):
+    def test_language(self):
+        """The words of docs/LANGUAGE.md, The language; an act that tools/choreo.py has is here as well."""
+        found = words_of_language()
+        place = [["x", "um"], ["y", "um"], ["z", "um"], ["yaw", "deg10"]]
+        self.assertEqual(found["acts"]["move"], place)
+        self.assertEqual(found["lines"]["drone"], ["name", *place])
+        self.assertEqual(found["acts"]["arc"], [["ccw", "cw"], ["centre x", "um"], ["centre y", "um"], ["yaw", "deg10"]])
+        self.assertEqual([row[0] for row in found["acts"]["curve"]],
+                         ["x1", "y1", "z1", "x2", "y2", "z2", "x3", "y3", "z3", "yaw"])
+        self.assertEqual((found["lines"]["cue"], found["lines"]["late"], found["lines"]["stray"]),
+                         ([["length", "ms"]], [["late", "ms"]], [["stray", "mm"]]))
+        self.assertEqual(set(found["acts"]), set(choreo.ACTS))
+        for word in ("choreo", "drone", "ccw", "none", "end", *choreo.ACTS):
+            self.assertIn(word, found["words"])
+
+
+class Marks(unittest.TestCase):
+    def test_so_far(self):
+        """Blocked places are written as they are found, and all are counted; the largest show is no exception."""
+        text = "choreo 1\n" + "".join("drone d%d 0 0 1000000 0\n" % k for k in range(6)) + "cue 100\nend\n"
+        flown, out = choreo.flown_of(text.encode()), io.StringIO()
+        studio_work.know_forms(flown)
+        before = studio_work.MARK_TIME, studio_work.MOST_MARKS, studio_work.MOST_MEASURED
+        studio_work.MARK_TIME, studio_work.MOST_MARKS, studio_work.MOST_MEASURED = 0, 4, 7
+        try:
+            with contextlib.redirect_stdout(out):
+                studio_work.put_marks(flown, 6)
+        finally:
+            studio_work.MARK_TIME, studio_work.MOST_MARKS, studio_work.MOST_MEASURED = before
+        rows = [json.loads(line) for line in out.getvalue().splitlines()]
+        self.assertEqual([row["all"] for row in rows], [False] * 15 + [True])
+        self.assertEqual([row["many"] for row in rows[-2:]], [15, 15])  # six drones at one place are 15 pairs
+        self.assertEqual([len(row["marks"]) for row in rows], [1, 2, 3] + [4] * 13)
+        self.assertFalse(hasattr(studio_work, "MOST_SLOTS"))
+
+
+if __name__ == "__main__":
+    unittest.main()

@@ -1,0 +1,97 @@
+"""Where a tool's output and its messages part: standard output has what it writes, standard error what it says, and
+neither ever gets into the other, also where one of them is closed. And how a tool ends: with its status, and where it
+has no answer with 70 and a line, never with a traceback.
+"""
+from __future__ import annotations
+
+import os
+import sys
+
+NO_ANSWER = 70
+INTERRUPTED, NOBODY_READS = 128 + 2, 128 + 13  # as after SIGINT and SIGPIPE
+OPEN_AS = {0: os.O_WRONLY, 1: os.O_RDONLY, 2: os.O_WRONLY}  # a stream that was closed can neither be read nor written
+
+
+def fill() -> None:
+    """Opens the standard streams that were closed, so that no other file gets their numbers. Reading and writing one
+    fails as it would, but what is said to a closed standard error is dropped."""
+    for number, how in OPEN_AS.items():
+        try:
+            os.fstat(number)
+        except OSError:
+            os.open(os.devnull, how)  # the lowest number that is free is this one
+            os.set_inheritable(number, True)
+    if sys.stdin is None:
+        sys.stdin = open(0, closefd=False)
+    if sys.stdout is None:
+        sys.stdout = open(1, "w", closefd=False)
+    if sys.stderr is None:
+        sys.stderr = open(2, "w", errors="backslashreplace", closefd=False)
+
+
+def tell(who: str, text: str) -> None:
+    """Says a line on standard error; where that can't be written nothing is said."""
+    try:
+        if sys.stderr:
+            print("%s: %s" % (who, text), file=sys.stderr, flush=True)
+    except (OSError, ValueError):
+        pass
+
+
+def fault_of(error: BaseException) -> str:
+    """What went wrong, in one line."""
+    if isinstance(error, OSError) and error.strerror:
+        return "%s: %s" % (error.filename, error.strerror) if error.filename is not None else error.strerror
+    if isinstance(error, MemoryError):
+        return "out of memory"
+    at = error.__traceback__
+    while at and at.tb_next:
+        at = at.tb_next
+    place = " (%s, line %d)" % (os.path.basename(at.tb_frame.f_code.co_filename), at.tb_lineno) if at else ""
+    words = " ".join(str(error).split())[:200]
+    return "no answer: %s%s%s" % (type(error).__name__, ": " + words if words else "", place)
+
+
+def drop_output() -> None:
+    """Has nothing more written to standard output, at the end of Python either."""
+    try:
+        number = os.open(os.devnull, os.O_WRONLY)
+        os.dup2(number, 1)
+        os.close(number)
+    except OSError:
+        pass
+
+
+def status_of(main, who: str) -> int:
+    """The status of a tool, once all that it wrote has gone out."""
+    try:
+        try:
+            status = main()
+        except SystemExit as ended:
+            if isinstance(ended.code, str):
+                tell(who, ended.code)
+                return NO_ANSWER
+            status = ended.code
+        sys.stdout.flush()
+        return int(status or 0)
+    except KeyboardInterrupt:
+        drop_output()
+        return INTERRUPTED
+    except BrokenPipeError:  # nobody reads on
+        drop_output()
+        return NOBODY_READS
+    except Exception as error:
+        fault = fault_of(error)
+        drop_output()
+        tell(who, fault)
+        return NO_ANSWER
+
+
+def run(main, who: str | None = None) -> None:
+    """Runs a tool, a call that returns its status, and ends the process with that."""
+    import _signal
+    fill()
+    # A program that has ended breaks its pipe, and what it wrote is still to be read.
+    _signal.signal(_signal.SIGPIPE, _signal.SIG_IGN)
+    status = status_of(main, who or os.path.basename(sys.argv[0]))
+    sys.exit(status)

@@ -1,0 +1,50 @@
+"""Reads texts: to their limit and one byte more, and no further, whatever a path leads to."""
+from __future__ import annotations
+
+import os
+import stat
+import sys
+
+CHUNK = 1 << 16
+SHOW = 1048576  # bytes of a show, of a schedule and of regions: docs/COMMANDS.md
+CERTIFICATE = 400000000
+PLAN = 1 << 22  # 32 drones with 4,096 bytes each and all their packets take less than a million
+LOG = 1 << 28
+PAGE = 1 << 22  # of the tools' own files
+
+
+class TooLong(Exception):
+    """A text that has more bytes than it may."""
+
+
+def from_stream(stream, most: int) -> bytes:
+    """At most so many bytes of a stream: no more are taken from it than that, and what the stream keeps ahead."""
+    parts, left = [], most
+    while left > 0:
+        part = stream.read(min(CHUNK, left))
+        if not part:
+            break
+        parts.append(part)
+        left -= len(part)
+    return b"".join(parts)
+
+
+def front_of(path: str, most: int) -> bytes:
+    """The first bytes of a file, so many at most; `-` is standard input. Raises OSError."""
+    if path == "-":
+        return from_stream(sys.stdin.buffer, most)
+    with open(path, "rb") as file:
+        return from_stream(file, most)
+
+
+def whole_of(path: str, most: int) -> bytes:
+    """The bytes of a file that has at most so many; raises TooLong where there are more, and OSError."""
+    data = front_of(path, most + 1)
+    if len(data) > most:
+        raise TooLong("more than %d bytes" % most)
+    return data
+
+
+def is_plain(number: int) -> bool:
+    """Whether an open file is one whose bytes stay: it can be read again."""
+    return stat.S_ISREG(os.fstat(number).st_mode)
