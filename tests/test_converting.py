@@ -134,8 +134,8 @@ class Both(unittest.TestCase):
         """However a number is written, its word in the other form is one."""
         for first, second in ((b"000100", b"0.0001m"), (b"-0", b"0"), (b"-0300000", b"-0.3m")):
             self.assertEqual(converting.converted(SOLO % (1, first, b"2000"), 2), SOLO % (2, second, b"2s"))
-        for second, first in ((b"30cm", b"300000"), (b"-00.0010mm", b"-1"), (b"-0.0cm", b"0"), (b"1500.000mm", b"1500000"),
-                              (b"-00", b"0"), (b"0" * 5000 + b"1." + b"0" * 5000 + b"m", b"1000000")):
+        for second, first in ((b"30cm", b"300000"), (b"-00.0010mm", b"-1"), (b"-0.0cm", b"0"), (b"-00", b"0"),
+                              (b"1500.000mm", b"1500000"), (b"0" * 5000 + b"1." + b"0" * 5000 + b"m", b"1000000")):
             self.assertEqual(converting.converted(SOLO % (2, second, b"2000ms"), 1), SOLO % (1, first, b"2000"))
 
     def test_examples(self):

@@ -28,7 +28,8 @@ ROWS = [
     (MILLIMETRES, "50mm", 50, "50"), (MILLIMETRES, "2.5cm", 25, "2.55cm"), (MILLIMETRES, "0.12m", 120, "0.1205m"),
     (MILLIMETRES, "3000um", 3, "3001um"), (MILLIMETRES, "1mm", 1, "1.5mm"), (MILLIMETRES, "1.000mm", 1, "1.0001mm"),
     (MILLIMETRES, "00000um", 0, "5um"), (MILLIMETRES, "0", 0, "0ms"),
-    (MILLISECONDS, "2s", 2000, "2"), (MILLISECONDS, "1.5s", 1500, "1.5ms"), (MILLISECONDS, "65.535s", 65535, "65.5355s"),
+    (MILLISECONDS, "2s", 2000, "2"), (MILLISECONDS, "1.5s", 1500, "1.5ms"),
+    (MILLISECONDS, "65.535s", 65535, "65.5355s"),
     (MILLISECONDS, "1500ms", 1500, "1500us"), (MILLISECONDS, "0.001s", 1, "0.0005s"), (MILLISECONDS, "20ms", 20, "20m"),
     (MILLISECONDS, "0", 0, "0m"), (MILLISECONDS, "1m", None, "1min"),
     (TENTHS, "90deg", 900, "90"), (TENTHS, "-90.5deg", -905, "-90.55deg"), (TENTHS, "0.1deg", 1, "0.05deg"),
@@ -102,8 +103,9 @@ class Words(unittest.TestCase):
     def test_long_words(self):
         for word, value in (("9" * 5000 + "m", FAR), ("-" + "9" * 5000 + "m", -FAR), ("0" * 5000, 0),
                             ("0" * 5000 + "1.0m", 1000000), ("1." + "0" * 5000 + "m", 1000000),
-                            ("1" + "0" * 5000 + "um", FAR), ("9" * 5000, None), ("9" * 5000 + "." + "0" * 5000 + "1m", None),
-                            ("0." + "0" * 5000 + "1m", None), ("1" * 5000 + ".m", None), ("0" * 5000 + "s", None)):
+                            ("1" + "0" * 5000 + "um", FAR), ("9" * 5000, None),
+                            ("9" * 5000 + "." + "0" * 5000 + "1m", None), ("0." + "0" * 5000 + "1m", None),
+                            ("1" * 5000 + ".m", None), ("0" * 5000 + "s", None)):
             self.assertEqual(quantities.value_of(MICROMETRES, word), value, word[:10])
         self.assertEqual(quantities.value_of(MILLIMETRES, "7" + "0" * 5000 + "um"), FAR)
         self.assertIsNone(quantities.value_of(MILLIMETRES, "7" + "0" * 5000 + "1um"))
@@ -179,9 +181,11 @@ class Reader(unittest.TestCase):
                 (front + "ellipsoid 120mm %s\ncue 1s\nend\n", "0.3m", "300"), (front + "cue %s\nend\n", "1.5s", "1500"),
                 (cue, "turn 90deg", "turn 900"), (cue, "move 1m 0 0 0", "move 1m 0 0 1m"),
                 (cue, "line 1m 1m 1m 1deg", "line 1m 1m 1m 10"), (cue, "arc cw 0 10cm 0", "arc cw 0 10 0"),
-                (cue, "swing cw 0 10cm 0.1deg", "swing cw 0 10cm 0.01deg"), (cue, "arc_in cw 1mm 0 0", "arc_in cw 1 0 0"),
+                (cue, "swing cw 0 10cm 0.1deg", "swing cw 0 10cm 0.01deg"),
+                (cue, "arc_in cw 1mm 0 0", "arc_in cw 1 0 0"),
                 (cue, "curve 1m 1m 1m 2m 2m 2m 3m 3m 3m 1deg", "curve 1m 1m 1m 2m 2m 2s 3m 3m 3m 1deg"),
-                (figure, "1m -1cm 0", "1m -1 0"), (front + "formation f\nat a %s\nend\ncue 1s\nend\n", "1m 0 0 0", "1 0 0 0")):
+                (figure, "1m -1cm 0", "1m -1 0"),
+                (front + "formation f\nat a %s\nend\ncue 1s\nend\n", "1m 0 0 0", "1 0 0 0")):
             self.assertEqual(answer(text % right)[:6], "plan 1", (text, right))
             self.assertEqual(answer(text % wrong).split()[-1], "bad-number", (text, wrong))
 
@@ -189,8 +193,9 @@ class Reader(unittest.TestCase):
         """Ids, offsets, counts and turns have no unit in either form."""
         front = "choreo 2\ndrone a 0 0 0 0\n"
         figure = "figure f r\ncue 1s\nend\nend\nperform f none %s 0 0 0 a\n"
-        for lines, right, wrong in (("memory %s 0\ncue 1s\nend\n", "3", "3m"), ("memory 2 %s\ncue 1s\nend\n", "64", "64um"),
-                                    ("trajectory %s\ncue 1s\nend\n", "1", "1.0"), ("repeat %s\ncue 1s\nend\nend\n", "2", "2s"),
+        cue = "cue 1s\nend\n"
+        for lines, right, wrong in (("memory %s 0\n" + cue, "3", "3m"), ("memory 2 %s\n" + cue, "64", "64um"),
+                                    ("trajectory %s\n" + cue, "1", "1.0"), ("repeat %s\n" + cue + "end\n", "2", "2s"),
                                     (figure, "1", "90deg")):
             self.assertEqual(answer(front + lines % right)[:6], "plan 1", lines)
             self.assertEqual(answer(front + lines % wrong).split()[-1], "bad-number", lines)
@@ -209,7 +214,8 @@ class Reader(unittest.TestCase):
     def test_first_form_stays(self):
         """Words of `choreo 1` are whole numbers without a unit."""
         for word, wanted in (("1000000", "plan"), ("-0", "plan"), ("0" * 5000 + "7", "plan"), ("1m", "bad-number"),
-                             ("0m", "bad-number"), ("1.0", "bad-number"), ("100000001", "range"), ("9" * 5000, "range")):
+                             ("0m", "bad-number"), ("1.0", "bad-number"), ("100000001", "range"),
+                             ("9" * 5000, "range")):
             came = answer(FIRST.replace("solo 0 0 1000000", "solo 0 0 " + word))
             self.assertEqual(came[:4] if wanted == "plan" else came.split()[-1], wanted, word[:20])
 

@@ -30,8 +30,8 @@ FORMS = {("choreo", "1"): 1, ("choreo", "2"): 2}  # the form of the language by 
 
 
 class Number(NamedTuple):
-    """The slot of a number: its limits, and what it counts where a text of `choreo 2` has a quantity; without that it is
-    a whole number in both forms."""
+    """The slot of a number: its limits, and what it counts where a text of `choreo 2` has a quantity. Without that it
+    is a whole number in both forms."""
 
     least: int
     most: int

@@ -1,4 +1,4 @@
-"""Writes a show's text in the other form of the language: `choreo 1` in whole numbers, `choreo 2` in numbers with units.
+"""Writes a show's text in the other form of the language: `choreo 1` in whole numbers, `choreo 2` with units.
 
     tools/convert [--to 1|2] SHOW > NEW
 
@@ -59,8 +59,8 @@ def in_form(text: bytes, form: int) -> bytes:
 
 def converted(text: bytes, form: int) -> bytes:
     """A show's text in a form, which is 1 or 2: the same show, with the same comments, blanks and order. A text that is
-    in that form already stays as it is. Raises choreo.Refused where the reader refuses the text, and texts.TooLong where
-    the new one would be longer than a show may be."""
+    in that form already stays as it is. Raises choreo.Refused where the reader refuses the text, and texts.TooLong
+    where the new one would be longer than a show may be."""
     if form not in choreo.FORMS.values():
         raise ValueError(f"there is no form {form} of the language")
     choreo.flown_of(text)

@@ -2,8 +2,8 @@
 places count. For texts of `choreo 2`; docs/LANGUAGE.md, Quantities, has the rules.
 
 A value is exact, of words with any number of digits; none is ever rounded or cut off. `written` has one way for each
-value: metres; millimetres where a place counts millimetres; seconds from one second on, and milliseconds below; degrees;
-with no digit more than it takes, and `0` without a unit.
+value: metres, or millimetres where a place counts millimetres; seconds from one second on, and milliseconds below;
+degrees; with no digit more than it takes, and `0` without a unit.
 """
 from __future__ import annotations
 
