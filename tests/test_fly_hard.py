@@ -203,10 +203,14 @@ runpy.run_path(sys.argv[0], run_name="__main__")
 """
 
 
+# What a flight says that acts on a Ctrl-C: a landing, the stage that goes to its end, or, behind that, the way back.
+ACTS = "told to land", "goes to its end first", "all come down"
+
+
 def while_check_is_slow(trigger, after, show, pads, speed=4):
     """A flight in which `check` takes three seconds from when some words have come, and so many simulated seconds later
     Ctrl-C is pressed: the status, the output, and the real seconds until one is told to land, or a line says that the
-    stage goes to its end."""
+    stage goes to its end, or that all go back."""
     with tempfile.TemporaryDirectory() as room:
         def file(name, text):
             with open(os.path.join(room, name), "w") as out:
@@ -227,7 +231,7 @@ def while_check_is_slow(trigger, after, show, pads, speed=4):
                 time.sleep(after / faster(speed))
                 process.send_signal(INT)
                 pressed_at = time.monotonic()
-            if pressed_at and wait is None and ("told to land" in line or "goes to its end first" in line):
+            if pressed_at and wait is None and any(words in line for words in ACTS):
                 wait = time.monotonic() - pressed_at
         process.stdout.close()
         return process.wait(), out, wait

@@ -520,7 +520,9 @@ class Flight(Descent):
             say("%s; a landing of all now isn't shown apart (%s): the stage that is flown goes to its end first" % (
                 front, landings.short(why)))
         self.pause(self.stage_ends)
-        why = self.refusal_ready() and self.meanwhile(self.refusal_here)
+        why = self.refusal_ready()
+        if why == NO_ANSWER:  # else what was judged beforehand is as good where all are at rest, and `check` may be slow
+            why = self.meanwhile(self.refusal_here)
         if why is None:
             return None
         at = self.places_planned()
