@@ -1,6 +1,9 @@
 -- Lines whose entries and faults were worked out by hand from the page of the language.
-use Rattle.choreo_lines.proofs.Prelude.{◌≡◌, List, [], ◌∷◌, Some, Ok, refl, ℕ, ℤ, ◌≤ℤ◌, pos, neg_ℤ, true, false, codes, values_in, names_in, act_in, act_line, row_line, entry_of, kind_in, Says}
+use Rattle.choreo_lines.proofs.Prelude.{◌≡◌, List, [], ◌∷◌, Some, Ok, arith, refl, ℕ, ℤ, ◌≤ℤ◌, pos, neg_ℤ, true, false, codes, values_in, names_in, act_in, act_line, row_line, entry_of, kind_in, Says}
+use Rattle.std.proofs.Common.{inr}
 use Rattle.text_lines.specs.Numbers.{IsNumber, number_of}
+use Rattle.quantities.specs.declared.unit.Counts.TheVariants.{Milliseconds}
+use Rattle.quantities.proofs.QuantityLaws.{quantity_is_read}
 use Rattle.choreo_lines.specs.declared.table.Form.TheVariants.{Whole, Units}
 use Rattle.choreo_lines.specs.declared.line.LineKind.TheVariants as kind
 use Rattle.choreo_lines.specs.declared.line.Place.TheVariants.{Top, InRepeat, InCue, InFigureCue}
@@ -114,6 +117,85 @@ hold_with_a_word : kind_in Whole InCue (codes "a" ∷ codes "hold" ∷ codes "1"
 unfolding act_line act_in
 hold_with_a_word = refl
 
+-- The same lines with units.
+
+-- `drone a 0 -5um 100cm 90deg`: zeros alone need no unit
+drone_line_with_units : entry_of Units Top (codes "drone" ∷ codes "a" ∷ codes "0" ∷ codes "-5um" ∷ codes "100cm" ∷ codes "90deg" ∷ [])
+    ≡ Ok (entry.Drone (record { items = codes "a" }) (record { x = pos 0; y = neg_ℤ (pos 5); z = pos 1000000; yaw = pos 900 }))
+unfolding row_line values_in names_in
+drone_line_with_units = refl
+
+-- each form refuses the numbers of the other, before it judges their range
+no_bare_length : kind_in Units Top (codes "drone" ∷ codes "a" ∷ codes "0" ∷ codes "0" ∷ codes "100000001" ∷ codes "0" ∷ []) ≡ Some kind.BadNumber
+unfolding row_line values_in
+no_bare_length = refl
+
+no_unit_among_whole_numbers : kind_in Whole Top (codes "drone" ∷ codes "a" ∷ codes "0" ∷ codes "0" ∷ codes "1m" ∷ codes "0" ∷ []) ≡ Some kind.BadNumber
+unfolding row_line values_in
+no_unit_among_whole_numbers = refl
+
+-- `101m` is too far, and `1.0000001m` isn't a whole number of micrometres
+far_with_units : kind_in Units Top (codes "drone" ∷ codes "a" ∷ codes "101m" ∷ codes "0" ∷ codes "0" ∷ codes "0" ∷ []) ≡ Some kind.Range
+unfolding row_line values_in
+far_with_units = refl
+
+no_tenth_of_a_micrometre : kind_in Units Top (codes "drone" ∷ codes "a" ∷ codes "1.0000001m" ∷ codes "0" ∷ codes "0" ∷ codes "0" ∷ []) ≡ Some kind.BadNumber
+unfolding row_line values_in
+no_tenth_of_a_micrometre = refl
+
+-- each place has its unit: `ellipsoid 12.5cm 300mm`, `stray 3cm`, `late 0.25s`, `cue 2s`
+ellipsoid_with_units : entry_of Units Top (codes "ellipsoid" ∷ codes "12.5cm" ∷ codes "300mm" ∷ []) ≡ Ok (entry.Ellipsoid 125 300)
+unfolding row_line values_in names_in
+ellipsoid_with_units = refl
+
+stray_with_a_unit : entry_of Units Top (codes "stray" ∷ codes "3cm" ∷ []) ≡ Ok (entry.Stray 30)
+unfolding row_line values_in names_in
+stray_with_a_unit = refl
+
+late_with_a_unit : entry_of Units Top (codes "late" ∷ codes "0.25s" ∷ []) ≡ Ok (entry.Late 250)
+unfolding row_line values_in names_in
+late_with_a_unit = refl
+
+cue_with_a_unit : entry_of Units InRepeat (codes "cue" ∷ codes "2s" ∷ []) ≡ Ok (entry.Cue 2000)
+unfolding row_line values_in names_in
+cue_with_a_unit = refl
+
+-- half a millimetre of stray, a time of stray and a length of lateness are no numbers there; a cue of no time is out of range
+no_half_millimetre : kind_in Units Top (codes "stray" ∷ codes "1.5mm" ∷ []) ≡ Some kind.BadNumber
+unfolding row_line values_in
+no_half_millimetre = refl
+
+no_time_of_stray : kind_in Units Top (codes "stray" ∷ codes "30ms" ∷ []) ≡ Some kind.BadNumber
+unfolding row_line values_in
+no_time_of_stray = refl
+
+no_length_of_lateness : kind_in Units Top (codes "late" ∷ codes "30mm" ∷ []) ≡ Some kind.BadNumber
+unfolding row_line values_in
+no_length_of_lateness = refl
+
+no_empty_cue : kind_in Units InRepeat (codes "cue" ∷ codes "0" ∷ []) ≡ Some kind.Range
+unfolding row_line values_in
+no_empty_cue = refl
+
+-- ids, offsets, counts and turns have no unit
+memory_without_units : entry_of Units Top (codes "memory" ∷ codes "3" ∷ codes "100" ∷ []) ≡ Ok (entry.Memory 3 100)
+unfolding row_line values_in names_in
+memory_without_units = refl
+
+no_length_of_repeats : kind_in Units InRepeat (codes "repeat" ∷ codes "3m" ∷ []) ≡ Some kind.BadNumber
+unfolding row_line values_in
+no_length_of_repeats = refl
+
+perform_line_with_units : entry_of Units InRepeat (codes "perform" ∷ codes "g" ∷ codes "y" ∷ codes "3" ∷ codes "1m" ∷ codes "2cm" ∷ codes "-3mm" ∷ codes "a" ∷ [])
+    ≡ Ok (entry.Perform (record { items = codes "g" }) (record { mirror = mirror.Y; turns = 3; dx = pos 1000000; dy = pos 20000; dz = neg_ℤ (pos 3000) }) (record { items = codes "a" } ∷ []))
+unfolding row_line values_in names_in
+perform_line_with_units = refl
+
+arc_line_with_units : entry_of Units InFigureCue (codes "a" ∷ codes "arc" ∷ codes "cw" ∷ codes "1m" ∷ codes "-0" ∷ codes "-90.5deg" ∷ [])
+    ≡ Ok (entry.One (record { items = codes "a" }) (act.Arc false (pos 1000000) (pos 0) (neg_ℤ (pos 905))))
+unfolding act_line act_in values_in
+arc_line_with_units = refl
+
 -- What lines say, word by word.
 
 -- a number that was worked out, and its range
@@ -130,6 +212,13 @@ no_such_offset h = h.2.1.0.to.le
 -- zeros may stand before a number: `late 0250` says 250
 late_said : Says Whole (codes "late" ∷ codes "0250" ∷ []) (entry.Late 250)
 late_said = (refl, refl, (number refl (record { le = tt }) (record { le = tt }), tt))
+
+-- `late 0.25s` says 250 as well, with units, and `late 250` doesn't
+late_said_with_a_unit : Says Units (codes "late" ∷ codes "0.25s" ∷ []) (entry.Late 250)
+late_said_with_a_unit = (refl, refl, (record { is = inr (record { negative = false; whole = codes "0"; fraction = codes "25"; unit = codes "s"; digits = 25; measure = record { units = 1; counted = 1000 }; size = 250; word_is = refl; some = omega arith; digits_are = refl; unit_is = refl; size_is = refl; value_is = refl }); from = record { le = tt }; to = record { le = tt } }, tt))
+
+no_bare_lateness : Says Units (codes "late" ∷ codes "250" ∷ []) (entry.Late 250) → ⊥
+no_bare_lateness h = let e = quantity_is_read Milliseconds (pos 0) (pos 1000) (codes "250") (pos 250) h.2.0 in cc
 
 -- `figure g p q` has the roles p and q, in this order
 figure_said : Says Whole (codes "figure" ∷ codes "g" ∷ codes "p" ∷ codes "q" ∷ []) (entry.Figure (record { items = codes "g" }) (record { items = codes "p" } ∷ record { items = codes "q" } ∷ []))

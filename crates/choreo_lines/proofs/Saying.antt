@@ -1,5 +1,5 @@
 -- The words of a line say an entry exactly where the line is read as that entry.
-use Rattle.choreo_lines.proofs.Prelude.{common_steps, ◌≡◌, ℕ, suc, ◌+◌, ◌≤◌, Bool, true, false, List, [], ◌∷◌, ◌++◌, map, take, drop, Some, None, Option, Result, Ok, Err, refl, sym, ap, subst, ◌∙◌, cond, arith, eqb-true, eq-eqb, le-leb, ◌&&◌, ◌==◌, bytes_eq, codes, length, nat_le, nat_abs, ℤ, pos, negsuc, ◌≤ℤ◌, IsTrue, and_parts, leb-true, drop_all, take_all, append-nil, Name, is_name, Word, word, Row, row_of, act_places, has_count, act_of, Fits, AllFit, name_of, act_fields, act_with, keyword_in, fields_of, entry_with, ◌>>=◌, judged, quantity_in, name_in, mirror_in, smooth_in, ccw_in, value_in, values_in, names_in, act_by, act_in, act_line, row_line, entry_of, Holds, AllHold, SaysAct, Says, may_say, LineKind, Keyword, Place, Entry, Act, Form, Want, Value}
+use Rattle.choreo_lines.proofs.Prelude.{common_steps, ◌≡◌, ℕ, suc, ◌+◌, ◌≤◌, Bool, true, false, List, [], ◌∷◌, ◌++◌, map, take, drop, Some, None, Option, Result, Ok, Err, refl, sym, ap, subst, ◌∙◌, cond, arith, eqb-true, eq-eqb, le-leb, ◌&&◌, ◌==◌, length, nat_le, nat_abs, ℤ, pos, negsuc, ◌≤ℤ◌, IsTrue, and_parts, leb-true, drop_all, take_all, append-nil, Name, is_name, Word, word, Row, row_of, act_places, has_count, act_of, Fits, AllFit, name_of, act_fields, act_with, keyword_in, fields_of, entry_with, ◌>>=◌, judged, quantity_in, name_in, mirror_in, smooth_in, ccw_in, value_in, values_in, names_in, act_by, act_in, act_line, row_line, entry_of, Holds, AllHold, SaysAct, Says, may_say, LineKind, Keyword, Place, Entry, Act, Form, Want, Value}
 use Rattle.std.proofs.lemmas.Slice.Eq.{bytes_eq-Decides}
 use Rattle.text_lines.specs.declared.number.NumberFault.{NumberFault}
 use Rattle.text_lines.specs.Numbers.{number_in as number_read}
@@ -12,7 +12,6 @@ use Rattle.choreo_lines.specs.declared.line.LineKind.TheVariants as kind
 use Rattle.choreo_lines.specs.declared.line.Keyword.TheVariants as first
 use Rattle.choreo_lines.specs.declared.line.Entry.TheVariants as entry
 use Rattle.choreo_lines.specs.declared.parts.Mirror.{Mirror}
-use Rattle.choreo_lines.specs.declared.parts.Mirror.TheVariants as mirror
 use Rattle.choreo_lines.specs.declared.table.Form.TheVariants.{Whole, Units}
 use Rattle.choreo_lines.specs.declared.table.Want.TheVariants as want
 use Rattle.choreo_lines.specs.declared.table.Value.TheVariants.{Name as Named, Mirror as Mirrored, Smooth, Ccw, Number}
@@ -34,20 +33,26 @@ judged_is : (r : Result ℤ NumberFault) (v : ℤ) → judged r ≡ Ok v → r �
 judged_is (Ok x) v h = let same : x ≡ v = cc in ap (λ z. Ok z) same
 judged_is (Err f) v h = cc
 
+-- a quantity that is read is one
 quantity_holds : (form : Form) (counts : Counts) (low high : ℤ) (w : Word) (v : ℤ) → quantity_in form counts low high w ≡ Ok v → Holds form (want.Quantity counts low high) w (Number v)
 quantity_holds Whole counts low high w v h = read_is_number low high w v (judged_is (number_read low high w) v h)
 quantity_holds Units counts low high w v h = read_is_quantity counts low high w v (judged_is (quantity_read counts low high w) v h)
 
+-- what is read, and then told as a value, holds where each thing that is read does
+read_holds : {A : Type 0} (form : Form) (wanted : Want) (w : Word) (r : Result A LineKind) (f : A → Value) (v : Value) → ((x : A) → r ≡ Ok x → Holds form wanted w (f x)) → (r >>= (λ x. Ok (f x))) ≡ Ok v → Holds form wanted w v
+read_holds form wanted w (Ok x) f v holds h = let same : f x ≡ v = cc in subst (Holds form wanted w) same (holds x refl)
+read_holds form wanted w (Err k) f v holds h = cc
+
 value_holds : (form : Form) (wanted : Want) (w : Word) (v : Value) → value_in form wanted w ≡ Ok v → Holds form wanted w v
-value_holds form want.Name w v h = grind (arith, common_steps, two, name_read)
-value_holds form want.Mirror w v h = grind (arith, common_steps, two, mirror_holds)
-value_holds form want.Manner w v h = grind (arith, common_steps, two, smooth_holds)
-value_holds form want.Sense w v h = grind (arith, common_steps, two, ccw_holds)
-value_holds form (want.Number low high) w v h = grind (arith, common_steps, two, read_is_number, judged_is)
+value_holds form want.Name w v h = read_holds form want.Name w (name_in w) Named v (λ n e. let r = name_read w n e in (r.0, sym r.1)) h
+value_holds form want.Mirror w v h = read_holds form want.Mirror w (mirror_in w) Mirrored v (mirror_holds form w) h
+value_holds form want.Manner w v h = read_holds form want.Manner w (smooth_in w) Smooth v (smooth_holds form w) h
+value_holds form want.Sense w v h = read_holds form want.Sense w (ccw_in w) Ccw v (ccw_holds form w) h
+value_holds form (want.Number low high) w v h =
+    read_holds form (want.Number low high) w (judged (number_read low high w)) Number v
+    (λ x e. read_is_number low high w x (judged_is (number_read low high w) x e)) h
 value_holds form (want.Quantity counts low high) w v h =
-    let p = two (quantity_in form counts low high w) (λ x. Ok (Number x)) v h in
-    let same : Number p.a ≡ v = cc in
-    subst (Holds form (want.Quantity counts low high) w) same (quantity_holds form counts low high w p.a p.first)
+    read_holds form (want.Quantity counts low high) w (quantity_in form counts low high w) Number v (quantity_holds form counts low high w) h
 
 -- A value that a word is in its place fits the place.
 
