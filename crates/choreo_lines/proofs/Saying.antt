@@ -38,7 +38,7 @@ quantity_holds : (form : Form) (counts : Counts) (low high : ℤ) (w : Word) (v 
 quantity_holds Whole counts low high w v h = read_is_number low high w v (judged_is (number_read low high w) v h)
 quantity_holds Units counts low high w v h = read_is_quantity counts low high w v (judged_is (quantity_read counts low high w) v h)
 
--- what is read, and then told as a value, holds where each thing that is read does
+-- a value holds if it does for each thing that its word can be read as
 read_holds : {A : Type 0} (form : Form) (wanted : Want) (w : Word) (r : Result A LineKind) (f : A → Value) (v : Value) → ((x : A) → r ≡ Ok x → Holds form wanted w (f x)) → (r >>= (λ x. Ok (f x))) ≡ Ok v → Holds form wanted w v
 read_holds form wanted w (Ok x) f v holds h = let same : f x ≡ v = cc in subst (Holds form wanted w) same (holds x refl)
 read_holds form wanted w (Err k) f v holds h = cc

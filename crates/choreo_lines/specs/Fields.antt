@@ -73,7 +73,7 @@ number_in low high w = judged (number_read low high w)
 
 -- a word in the place of a length, a time or an angle, as the form of the text writes it
 abbrev pub quantity_in : Form → Counts → ℤ → ℤ → Word → Result ℤ LineKind
-quantity_in Whole counts low high w = judged (number_read low high w)
+quantity_in Whole counts low high w = number_in low high w
 quantity_in Units counts low high w = judged (quantity_read counts low high w)
 
 -- a word in the place of a mirror

@@ -47,7 +47,7 @@ pub fn quantity(
     ensures { result ≡ spec.quantity_in form counts low high word.now }
 {
     match form {
-        Form::Whole => judged(text_lines::number_in(word, low, high)),
+        Form::Whole => number(word, low, high),
         Form::Units => judged(quantity_in(counts, word, low, high)),
     }
 }
