@@ -2,12 +2,18 @@
 
 It is written from the documents alone and shares nothing with the program: lines, names and cues by docs/LANGUAGE.md,
 the order of refusals and fault lines by docs/COMMANDS.md, curves, rounding and bytes by docs/TRAJECTORY.md,
-separation and certificates by docs/SEPARATION.md. All numbers are whole. It proves nothing; where it and the program
-differ, one of them is wrong.
+separation and certificates by docs/SEPARATION.md. All numbers are whole, those of `choreo 2` too once they are read. It
+proves nothing; where it and the program differ, one of them is wrong.
 """
+from __future__ import annotations
+
 import os
 import re
 from math import comb, isqrt
+from typing import NamedTuple
+
+import quantities
+from quantities import MICROMETRES, MILLIMETRES, MILLISECONDS, TENTHS
 
 TOP = os.path.dirname(os.path.dirname(os.path.abspath(__file__)))
 PROGRAM = os.path.join(TOP, "crates", "show_cli", "out", "show_cli")
@@ -20,17 +26,30 @@ MOST_SEGMENTS = 255
 LONGEST_SEGMENT = 65535
 DEPTH = 6
 ALLOWED = bytes([9, 13, *range(32, 127)])
-COORDINATE, YAW = (-100000000, 100000000), (-32768, 32767)
+FORMS = {("choreo", "1"): 1, ("choreo", "2"): 2}  # the form of the language by the words of a text's first line
+
+
+class Number(NamedTuple):
+    """The slot of a number: its limits, and what it counts where a text of `choreo 2` has a quantity. Without that it
+    is a whole number in both forms."""
+
+    least: int
+    most: int
+    counts: quantities.Counts | None = None
+
+
+COORDINATE, YAW = Number(-100000000, 100000000, MICROMETRES), Number(-32768, 32767, TENTHS)
+HALF_AXIS = Number(1, 2000, MILLIMETRES)
 POINT = [COORDINATE] * 3
 AXES = ["x", "y", "z", "yaw"]
 ARCS = ["arc", "swing", "arc_in", "arc_out"]
-# The slots of a line after its first word: a name, one or more names, the limits of a number, or a set of fixed words.
+# The slots of a line after its first word: a name, one or more names, a number, or a set of fixed words.
 LINES = {
-    "memory": [(0, 255), (0, 4095)], "trajectory": [(0, 9)], "ellipsoid": [(1, 2000), (1, 2000)],
-    "stray": [(0, 1000)], "late": [(0, 1000)],
+    "memory": [Number(0, 255), Number(0, 4095)], "trajectory": [Number(0, 9)], "ellipsoid": [HALF_AXIS, HALF_AXIS],
+    "stray": [Number(0, 1000, MILLIMETRES)], "late": [Number(0, 1000, MILLISECONDS)],
     "drone": ["name", *POINT, YAW], "formation": ["name"], "at": ["name", *POINT, YAW], "figure": ["name", "names"],
-    "cue": [(1, LONGEST_SEGMENT)], "repeat": [(1, 1000000000)],
-    "perform": ["name", {"none", "x", "y"}, (0, 3), *POINT, "names"],
+    "cue": [Number(1, LONGEST_SEGMENT, MILLISECONDS)], "repeat": [Number(1, 1000000000)],
+    "perform": ["name", {"none", "x", "y"}, Number(0, 3), *POINT, "names"],
     "form": ["name", {"line", "move"}], "end": [],
 }
 ACTS = {"hold": [], "line": [*POINT, YAW], "move": [*POINT, YAW], "turn": [YAW],
@@ -66,7 +85,8 @@ def fault(number, word, outcome=None):
 
 
 class Line:
-    """A line: its number, its kind, the values of its words, and the lines of the block that it opens."""
+    """A line: its number, its kind, the values of its words, and the lines of the block that it opens. The root of a
+    text, of the kind `top`, has the form of the language as its value."""
 
     def __init__(self, number, kind, values):
         self.number, self.kind, self.values, self.body = number, kind, values, []
@@ -77,7 +97,25 @@ def is_name(word):
     return re.fullmatch("[a-z][a-z0-9_]{0,15}", word) is not None and word not in ("form", "end")
 
 
-def value_of(number, slot, word):
+def form_of(text: bytes) -> int:
+    """The form of the language that the first line with words of a text names, and 1 where it names none."""
+    for line in text.split(b"\n"):
+        words = line.partition(b"#")[0].decode("ascii", "replace").split()
+        if words:
+            return FORMS.get(tuple(words), 1)
+    return 1
+
+
+def number_of(slot: Number, word: str, form: int) -> int | None:
+    """The number that a word is in its slot, or None where it is none; beyond every range it may be a smaller one."""
+    if form == 2 and slot.counts:
+        return quantities.value_of(slot.counts, word)
+    if not re.fullmatch("-?[0-9]+", word):
+        return None
+    return quantities.number_of(word.lstrip("-")) * (-1 if word[0] == "-" else 1)
+
+
+def value_of(number, slot, word, form=1):
     """The value of a word in its slot."""
     if slot in ("name", "names"):
         if not is_name(word):
@@ -87,17 +125,17 @@ def value_of(number, slot, word):
         if word not in slot:
             raise fault(number, "bad-word")
         return word
-    if not re.fullmatch("-?[0-9]+", word):
+    value = number_of(slot, word, form)
+    if value is None:
         raise fault(number, "bad-number")
-    digits = word.lstrip("-").lstrip("0") or "0"
-    value = int(digits[:12]) * (-1 if word[0] == "-" else 1)
-    if len(digits) > 12 or not slot[0] <= value <= slot[1]:
+    if not slot.least <= value <= slot.most:
         raise fault(number, "range")
     return value
 
 
-def line_of(number, words, blocks):
-    """A line as its words say it, where these blocks are open."""
+def slots_of(number, words, blocks):
+    """What a line is, where these blocks are open: its kind, the first words that say so, and the slots of those after
+    them, one for each."""
     place, in_figure = blocks[-1].kind, any(block.kind == "figure" for block in blocks)
     if place == "cue" and words[0] != "end" and (in_figure or words[0] != "form"):
         if not is_name(words[0]):
@@ -113,8 +151,15 @@ def line_of(number, words, blocks):
     most = len(slots) + 31 if slots[-1:] == ["names"] else len(slots)
     if not len(slots) <= len(rest) <= most:
         raise fault(number, "bad-count")
-    slots = slots + ["name"] * (len(rest) - len(slots))
-    return Line(number, kind, front + [value_of(number, slot, word) for slot, word in zip(slots, rest)])
+    return kind, front, slots + ["name"] * (len(rest) - len(slots))
+
+
+def line_of(number, words, blocks):
+    """A line as its words say it, where these blocks are open, in the form of the outermost."""
+    kind, front, slots = slots_of(number, words, blocks)
+    form = (blocks[0].values or [1])[0]
+    values = [value_of(number, slot, word, form) for slot, word in zip(slots, words[len(words) - len(slots):])]
+    return Line(number, kind, front + values)
 
 
 def add_line(line, blocks):
@@ -144,9 +189,10 @@ def read(text):
         words = line.decode().split()
         if words and begun:
             add_line(line_of(number, words, blocks), blocks)
-        elif words and words != ["choreo", "1"]:
+        elif words and tuple(words) not in FORMS:
             raise fault(number, "header")
-        begun = begun or words != []
+        elif words:
+            blocks[0].values, begun = [FORMS[tuple(words)]], True
     if not begun:
         raise fault(1, "header")
     if len(blocks) > 1:
@@ -162,7 +208,7 @@ class Show:
     def __init__(self, top):
         def firsts(kind):
             return {line.values[0]: line for line in reversed(top.body) if line.kind == kind}
-        self.top = top
+        self.top, self.form = top, top.values[0]
         self.drones = [line for line in top.body if line.kind == "drone"]
         self.names = [line.values[0] for line in self.drones]
         self.body = [line for line in top.body if line.kind in PLAYED]
