@@ -29,13 +29,13 @@ class Beside:
 
     def find_spec(self, name: str, path: object = None, target: object = None) -> ModuleSpec | None:
         """The module's own file, for a name of the package."""
-        front, *rest = name.split(".")
-        if front != PACKAGE:
+        if name != PACKAGE and not name.startswith(PACKAGE + "."):
             return None
-        place = os.path.join(PACKAGE, *rest)
-        for inside, is_package in ((place + ".py", False), (os.path.join(place, "__init__.py"), True)):
-            file = os.path.join(self.folder, inside)
-            if (rest or is_package) and (os.path.isfile(file) if self.known is None else inside in self.known):
+        place = name.replace(".", "/")
+        for inside, is_package in ((place + ".py", False), (place + "/__init__.py", True)):
+            file = self.folder + "/" + inside
+            if (is_package or name != PACKAGE) and (
+                    os.path.isfile(file) if self.known is None else inside in self.known):
                 spec = ModuleSpec(name, Plain(name, file), origin=file, is_package=is_package)
                 spec.has_location = True
                 return spec  # of a package without a folder to look in: all that is found in it is found here
@@ -72,9 +72,10 @@ def released_in(folder: str) -> set[str] | None:
 
 def guard(folder: str) -> None:
     """Has all further imports go by this rule."""
-    own = [os.path.join(folder, PACKAGE), folder, os.path.dirname(folder)]
-    own += ["", *map(os.path.realpath, own)]
-    sys.path[:] = [place for place in sys.path if place not in own]
+    if not sys.flags.isolated:
+        own = [os.path.join(folder, PACKAGE), folder, os.path.dirname(folder)]
+        own += ["", *map(os.path.realpath, own)]
+        sys.path[:] = [place for place in sys.path if place not in own]
     sys.dont_write_bytecode = True  # so that importing leaves no file beside the modules
     sys.meta_path.insert(0, Beside(folder, released_in(folder)))  # type: ignore[arg-type]
 

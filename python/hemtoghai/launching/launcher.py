@@ -214,13 +214,15 @@ def main(words: list[str]) -> int:
     unproved = words[:1] == ["--unproved"]
     words = words[1:] if unproved else words
     if not words or words[0] in ("-h", "--help"):
-        sys.stdout.write(commands.help_text())
+        from hemtoghai.launching import help as helping
+        sys.stdout.write(helping.help_text())
         return 0
     if words == ["--version"]:
         from hemtoghai.launching import records
         return records.print_version()
     if words[0] in commands.FORMS and ("--help" in words or "-h" in words):
-        sys.stdout.write(commands.usage_of(words[0]))
+        from hemtoghai.launching import help as helping
+        sys.stdout.write(helping.usage_of(words[0]))
         return 0
     front, files, fault = commands.split(words)
     fault = fault or fault_of_files(front, files)

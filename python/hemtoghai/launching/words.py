@@ -1,5 +1,5 @@
 """The commands of the program, with their options, numbers and files, as the first two tables of docs/COMMANDS.md have
-them: for ./show, its help, the manual page and the completion. The program's own `help` has the same forms.
+them: for ./show, its help (help.py), the manual page and the completion. The program's own `help` has the same forms.
 """
 from __future__ import annotations
 
@@ -9,25 +9,6 @@ from hemtoghai.program import TOP
 
 PAGE = os.path.join(TOP, "docs", "COMMANDS.md")
 READ = ("page", "ROWS", "OPTIONS", "COMMANDS", "FORMS", "PURPOSES", "SECOND", "NO_INPUT", "NUMBERS")
-USAGE = """usage: ./show COMMAND [OPTIONS] [FILE]
-       ./show verify SHOW CERTIFICATE
-       ./show rehearse SHOW SCHEDULE
-       ./show boxes SHOW REGIONS
-       ./show --unproved COMMAND ..
-       ./show COMMAND --help
-       ./show --version
-
-%s
-
-Options may stand before and after the files. Without a file, or with -, the input is standard input; where
-there are two parts a line %%%% is between them. --unproved runs the sources without a proof: in about a
-minute the first time, at once after that. --version says which build of the program this is: note it with
-each plan.
-
-%s
-
-The language of shows: docs/LANGUAGE.md. Commands, statuses and fault lines: docs/COMMANDS.md. Tools: docs/TOOLS.md.
-"""
 
 
 def table(document: str, head: str) -> list[list[str]]:
@@ -45,6 +26,8 @@ def table(document: str, head: str) -> list[list[str]]:
 
 def plain(cell: str) -> str:
     """A cell of a table without links and backquotes."""
+    if "](" not in cell:
+        return cell.replace("`", "").replace("**", "")
     out, at, quoted = "", 0, False
     while at < len(cell):
         if cell[at] == "`":
@@ -101,14 +84,6 @@ def known(name: str):
     return globals()[name] if name in globals() else __getattr__(name)
 
 
-def help_text() -> str:
-    """The text of the help."""
-    import textwrap
-    return USAGE % ("\n".join("%-45s %s" % row for row in known("COMMANDS")),
-                    "\n".join(textwrap.fill("%-13s %s. Without it: %s." % tuple(row), 108, subsequent_indent=" " * 14)
-                              for row in known("OPTIONS")))
-
-
 def options_of(command: str) -> dict:
     """A command's options, each with the name of its number, or None where it has none."""
     words = [part.partition("]")[0].split() for part in known("FORMS")[command].split("[")[1:]]
@@ -119,16 +94,6 @@ def number_of(command: str) -> str | None:
     """The name of the number that follows the command itself, or None."""
     words = known("FORMS")[command].split()
     return words[1] if len(words) > 1 and words[1].isupper() else None
-
-
-def usage_of(command: str) -> str:
-    """How a command is used, in a few lines."""
-    second = known("SECOND").get(command)
-    files = "" if command in known("NO_INPUT") else " [SHOW]" if not second else " [SHOW [%s]]" % second.upper()
-    lines = ["usage: ./show %s%s" % (known("FORMS")[command], files), "", known("PURPOSES")[command]]
-    numbers = [number_of(command), *options_of(command).values()]
-    lines += ["%s is %d to %d" % (name, *known("NUMBERS")[name]) for name in numbers if name]
-    return "\n".join(lines) + "\nMore: docs/COMMANDS.md#%s\n" % command
 
 
 def meant(word: str, choices) -> str:
