@@ -1,19 +1,17 @@
-"""tools/converting.py and tools/convert: texts in both forms by hand, the examples and random shows there and back, and
-texts that are refused."""
+"""./show convert: texts in both forms by hand, the examples and random shows there and back, and texts that are
+refused."""
 import os
 import random
 import re
 import sys
 import unittest
 
-sys.dont_write_bytecode = True
-TOP = os.path.dirname(os.path.dirname(os.path.abspath(__file__)))
-sys.path[:0] = [os.path.join(TOP, "tools"), os.path.join(TOP, "bench")]
-import choreo
-import converting
+from common import TOP, run
+from hemtoghai.language import choreo, converting
+from hemtoghai.texts import TooLong
+
+sys.path.append(os.path.join(TOP, "bench"))
 from beside import script
-from common import run
-from texts import TooLong
 
 # The same show in both forms: each kind of line, blanks, comments and carriage returns.
 FIRST = b"""# choreo 1 in a comment, and 1000000
@@ -236,15 +234,15 @@ class Command(unittest.TestCase):
         there = converting.converted(text, 2).decode()
         for words, given, wanted in (((show,), None, there), (("--to", "2", show), None, there),
                                      (("--to", "1", show), None, text.decode()), (("-",), there, text.decode())):
-            self.assertEqual(run("tools/convert", *words, text=given), (0, wanted, ""), words)
+            self.assertEqual(run("convert", *words, text=given), (0, wanted, ""), words)
 
     def test_refused(self):
         faulty = (SOLO % (2, b"1000000", b"2s")).decode()
-        status, said, told = run("tools/convert", "-", text=faulty)
+        status, said, told = run("convert", "-", text=faulty)
         self.assertEqual((status, said), (3, ""))
         self.assertIn("error 3 line 2 bad-number", told)
         for words, wanted in ((("none",), 70), (("--to", "3", "x"), 2), ((), 2)):
-            status, said, told = run("tools/convert", *words)
+            status, said, told = run("convert", *words)
             self.assertEqual((status, said), (wanted, ""), told)
             self.assertNotIn("Traceback", told)
 

@@ -1,5 +1,5 @@
-"""tools/cures.py and ./show: the cure of a faulty line, by the number that is none or is out of its range, with the
-ranges and units of docs/LANGUAGE.md; and the hint where all places lie within 40 mm."""
+"""The cure of a faulty line, by the number that is none or is out of its range, with the ranges and units of
+docs/LANGUAGE.md; and the hint where all places lie within 40 mm."""
 import contextlib
 import io
 import os
@@ -7,11 +7,9 @@ import random
 import sys
 import unittest
 
-sys.dont_write_bytecode = True
-TOP = os.path.dirname(os.path.dirname(os.path.abspath(__file__)))
-sys.path.insert(0, os.path.join(TOP, "tools"))
-import cures
-import flyable
+import common  # by which the package is found
+from hemtoghai.language import cures
+from hemtoghai.writing import flyable
 
 
 class Range(unittest.TestCase):

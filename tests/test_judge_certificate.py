@@ -1,4 +1,4 @@
-"""tools/judge_certificate: what it takes for a plan of the show, and what it never calls valid. Certificates are by
+"""./show judge: what it takes for a plan of the show, and what it never calls valid. Certificates are by
 hand: `r`, `n` and `a` are words of directions that docs/SEPARATION.md numbers, and docs/COMMANDS.md has these trees."""
 import os
 import tempfile
@@ -26,7 +26,7 @@ class Judge(unittest.TestCase):
 
     def judged(self, show=None, plan=None, certificate=GOOD):
         """The status of the tool, and what it says."""
-        status, said, told = run("tools/judge_certificate", self.file("show", self.show if show is None else show),
+        status, said, told = run("judge", self.file("show", self.show if show is None else show),
                                  self.file("plan", self.plan if plan is None else plan),
                                  self.file("certificate", certificate))
         self.assertNotIn("Traceback", told)
@@ -83,13 +83,27 @@ class Judge(unittest.TestCase):
         plan = choreo.flown_of(show.encode()).plan()
         self.assertEqual(self.judged(show=show, plan=plan)[0], 0)
 
+    def test_units(self):
+        # The same show in `choreo 2`, and what isn't a quantity of such a place.
+        show = "choreo 2\nellipsoid 12cm 0.3m\n"
+        drones = "drone a 0 0 1m 0\ndrone b 100cm 0um 1000.000mm -0deg\ncue 2s\nend\ncue 3000ms\nend\ncue 2s\nend\n"
+        self.assertEqual(self.judged(show=show + drones)[0], 0)
+        for line, status in (("stray 1mm", 0), ("stray 10cm", 12), ("stray 0", 0), ("late 0s", 0), ("late 0.5s", 12),
+                             ("stray 1", 70), ("stray 1.5mm", 70), ("stray 1s", 70), ("stray 1001mm", 70),
+                             ("stray .5m", 70), ("stray 0.0", 70), ("late 1.5ms", 70), ("late 1cm", 70)):
+            self.assertEqual(self.judged(show=show + drones + line + "\n")[0], status, line)
+        for place, wrong in (("1m", "1000000"), ("1m", "1.0000001m"), ("1m", "1deg"), ("100cm", "100"), ("-0deg", "0m")):
+            self.assertEqual(self.judged(show=show + drones.replace(" " + place, " " + wrong, 1))[0], 70, wrong)
+        self.assertEqual(self.judged(show=show.replace("choreo 2", "choreo 02") + drones)[0], 70)
+        self.assertEqual(self.judged(show=self.show.replace("1000000 0\n", "1m 0\n", 1))[0], 70)
+
     def test_files_without_end(self):
         # No more is read than a text may have.
         self.file("certificate", GOOD)
         self.file("show", self.show)
         for words in (("/dev/zero", "plan", "certificate"), ("show", "/dev/zero", "certificate"),
                       ("none", "plan", "x")):
-            status, said, told = run("tools/judge_certificate", *(
+            status, said, told = run("judge", *(
                 word if word.startswith("/") else os.path.join(self.room, word) for word in words))
             self.assertEqual((status, said, told.count("\n")), (70, "", 1), told)
 

@@ -1,18 +1,14 @@
-"""tools/quantities.py and the reader of `choreo 2` in tools/choreo.py: words in their places with values worked out by
+"""python/hemtoghai/language/quantities.py and the reader of `choreo 2`: words in their places with values worked out by
 hand, those that crates/quantities proves, and random words against fractions."""
 import os
 import random
 import re
-import sys
 import unittest
 from fractions import Fraction
 
-sys.dont_write_bytecode = True
-TOP = os.path.dirname(os.path.dirname(os.path.abspath(__file__)))
-sys.path.insert(0, os.path.join(TOP, "tools"))
-import choreo
-import quantities
-from quantities import FAR, MICROMETRES, MILLIMETRES, MILLISECONDS, TENTHS
+from common import TOP
+from hemtoghai.language import choreo, quantities
+from hemtoghai.language.quantities import FAR, MICROMETRES, MILLIMETRES, MILLISECONDS, TENTHS
 
 # What a place counts, a word that is a quantity there with its value, and one beside it that is none.
 ROWS = [

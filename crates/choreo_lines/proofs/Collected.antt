@@ -1,5 +1,5 @@
 -- Words that are read from the left, one by one.
-use Rattle.choreo_lines.proofs.Prelude.{◌≡◌, ℕ, suc, ◌+◌, ◌<◌, ◌≤◌, List, [], ◌∷◌, ◌++◌, length, get_or, drop, refl, sym, ap, ◌∙◌, append_assoc, add-one, drop-cons, Result, Ok, Err, drop_all, append-nil, words_in, word_in, ◌>>=◌, name_in, names_in, value_in, values_in, LineKind, Want, Value, Name}
+use Rattle.choreo_lines.proofs.Prelude.{◌≡◌, ℕ, suc, ◌+◌, ◌<◌, ◌≤◌, List, [], ◌∷◌, ◌++◌, length, get_or, drop, refl, sym, ap, ◌∙◌, append_assoc, add-one, drop-cons, Result, Ok, Err, drop_all, append-nil, words_in, word_in, ◌>>=◌, name_in, names_in, value_in, values_in, LineKind, Form, Want, Value, Name}
 use Rattle.text_lines.specs.declared.token.Token.{Token}
 
 -- what is read after what was read so far
@@ -41,26 +41,26 @@ names_all text front ts i h =
 -- Words in the places of a row.
 
 -- what is left to read from a place on
-abbrev pub rest : List ℕ → List Want → List Token → ℕ → Result (List Value) LineKind
-rest text wants ts i = values_in (drop i wants) (words_in text (drop i ts))
+abbrev pub rest : Form → List ℕ → List Want → List Token → ℕ → Result (List Value) LineKind
+rest form text wants ts i = values_in form (drop i wants) (words_in text (drop i ts))
 
-rest_step : (text : List ℕ) (wants : List Want) (ts : List Token) (i : ℕ) (w : Want) (d : Token) → i < length wants → i < length ts → rest text wants ts i ≡ first_then (value_in (get_or wants i w) (word_in text (get_or ts i d))) (rest text wants ts (suc i))
+rest_step : (form : Form) (text : List ℕ) (wants : List Want) (ts : List Token) (i : ℕ) (w : Want) (d : Token) → i < length wants → i < length ts → rest form text wants ts i ≡ first_then (value_in form (get_or wants i w) (word_in text (get_or ts i d))) (rest form text wants ts (suc i))
 unfolding values_in
-rest_step text wants ts i w d h k =
-    ap (λ xs. values_in xs (words_in text (drop i ts))) (drop-cons wants i w h)
-    ∙ ap (λ xs. values_in (get_or wants i w ∷ drop (suc i) wants) (words_in text xs)) (drop-cons ts i d k)
+rest_step form text wants ts i w d h k =
+    ap (λ xs. values_in form xs (words_in text (drop i ts))) (drop-cons wants i w h)
+    ∙ ap (λ xs. values_in form (get_or wants i w ∷ drop (suc i) wants) (words_in text xs)) (drop-cons ts i d k)
 
-pub values_more : (text : List ℕ) (front : List Value) (wants : List Want) (ts : List Token) (i : ℕ) (w : Want) (d : Token) (v : Value) → i < length wants → i < length ts → value_in (get_or wants i w) (word_in text (get_or ts i d)) ≡ Ok v → with_front front (rest text wants ts i) ≡ with_front (front ++ v ∷ []) (rest text wants ts (i + 1))
-values_more text front wants ts i w d v h k e =
-    ap (with_front front) (rest_step text wants ts i w d h k)
-    ∙ step_ok front v _ (rest text wants ts (suc i)) e
-    ∙ ap (λ j. with_front (front ++ v ∷ []) (rest text wants ts j)) (sym (add-one i))
+pub values_more : (form : Form) (text : List ℕ) (front : List Value) (wants : List Want) (ts : List Token) (i : ℕ) (w : Want) (d : Token) (v : Value) → i < length wants → i < length ts → value_in form (get_or wants i w) (word_in text (get_or ts i d)) ≡ Ok v → with_front front (rest form text wants ts i) ≡ with_front (front ++ v ∷ []) (rest form text wants ts (i + 1))
+values_more form text front wants ts i w d v h k e =
+    ap (with_front front) (rest_step form text wants ts i w d h k)
+    ∙ step_ok front v _ (rest form text wants ts (suc i)) e
+    ∙ ap (λ j. with_front (front ++ v ∷ []) (rest form text wants ts j)) (sym (add-one i))
 
-pub values_err : (text : List ℕ) (front : List Value) (wants : List Want) (ts : List Token) (i : ℕ) (w : Want) (d : Token) (k : LineKind) → i < length wants → i < length ts → value_in (get_or wants i w) (word_in text (get_or ts i d)) ≡ Err k → with_front front (rest text wants ts i) ≡ Err k
-values_err text front wants ts i w d k h l e =
-    ap (with_front front) (rest_step text wants ts i w d h l) ∙ step_err front k _ (rest text wants ts (suc i)) e
+pub values_err : (form : Form) (text : List ℕ) (front : List Value) (wants : List Want) (ts : List Token) (i : ℕ) (w : Want) (d : Token) (k : LineKind) → i < length wants → i < length ts → value_in form (get_or wants i w) (word_in text (get_or ts i d)) ≡ Err k → with_front front (rest form text wants ts i) ≡ Err k
+values_err form text front wants ts i w d k h l e =
+    ap (with_front front) (rest_step form text wants ts i w d h l) ∙ step_err front k _ (rest form text wants ts (suc i)) e
 
-pub values_all : (text : List ℕ) (front : List Value) (wants : List Want) (ts : List Token) (i : ℕ) → length wants ≤ i → with_front front (rest text wants ts i) ≡ Ok front
+pub values_all : (form : Form) (text : List ℕ) (front : List Value) (wants : List Want) (ts : List Token) (i : ℕ) → length wants ≤ i → with_front front (rest form text wants ts i) ≡ Ok front
 unfolding values_in
-values_all text front wants ts i h =
-    ap (λ xs. with_front front (values_in xs (words_in text (drop i ts)))) (drop_all i wants h) ∙ ap (λ vs. Ok vs) (append-nil front)
+values_all form text front wants ts i h =
+    ap (λ xs. with_front front (values_in form xs (words_in text (drop i ts)))) (drop_all i wants h) ∙ ap (λ vs. Ok vs) (append-nil front)

@@ -4,7 +4,6 @@ use Rattle.std.specs.List.{list_all}
 use Rattle.std.proofs.lemmas.Bool.Decides.{nat_tests}
 use Rattle.std.proofs.lemmas.List.Folds.{list_all_at}
 use Rattle.text_lines.specs.Lines.{is_line_feed}
-use Rattle.text_lines.specs.Words.{is_blank}
 
 -- a name begins with a letter, and all its bytes go in a name
 name_parts : (word : List ℕ) → is_name word ≡ true → (begins_lower word ≡ true) × (list_all goes_in_name word ≡ true)

@@ -1,5 +1,5 @@
 -- How a line is read, step by step: what each step gave, and by which first word.
-use Rattle.choreo_lines.proofs.Prelude.{common_steps, ◌≡◌, Bool, true, false, List, drop, Result, Ok, Err, refl, sym, ap, subst, ◌∙◌, cond, arith, not, length, and_parts, Name, is_name, Word, word, row_of, has_count, may_stand, as_read, keyword_in, entry_with, ◌>>=◌, name_in, values_in, names_in, act_in, act_line, row_line, line_in, line_at, entry_of, may_say, LineKind, Keyword, Place, Entry, Act, Value}
+use Rattle.choreo_lines.proofs.Prelude.{common_steps, ◌≡◌, Bool, true, false, List, drop, Result, Ok, Err, refl, sym, ap, subst, ◌∙◌, cond, arith, not, length, and_parts, Name, is_name, Word, word, row_of, has_count, may_stand, as_read, keyword_in, entry_with, ◌>>=◌, name_in, values_in, names_in, act_in, act_line, row_line, line_in, line_at, entry_of, may_say, LineKind, Keyword, Form, Place, Entry, Act, Value}
 use Rattle.choreo_lines.specs.FirstWord.{keyword_of}
 use Rattle.choreo_lines.specs.declared.line.LineKind.TheVariants as kind
 use Rattle.choreo_lines.specs.declared.line.Keyword.TheVariants as first
@@ -33,33 +33,33 @@ with_keyword first.Other vs ns h = absurd (h refl)
 with_keyword k vs ns h = refl
 
 -- an act line that was read
-pub record Acted (ws : List Word) (e : Entry) : Type 0 where
+pub record Acted (form : Form) (ws : List Word) (e : Entry) : Type 0 where
   pub name : Name
   pub act : Act
   pub named : name_in (word ws 0) ≡ Ok name
-  pub acts : act_in (drop 1 ws) ≡ Ok act
+  pub acts : act_in form (drop 1 ws) ≡ Ok act
   pub is : entry.One name act ≡ e
 
-pub acted : (ws : List Word) (e : Entry) → act_line ws ≡ Ok e → Acted ws e
+pub acted : (form : Form) (ws : List Word) (e : Entry) → act_line form ws ≡ Ok e → Acted form ws e
 unfolding act_line
-acted ws e h = grind (arith, common_steps, cond, drop, two, passed)
+acted form ws e h = grind (arith, common_steps, cond, drop, two, passed)
 
 -- words after the first of a line that were read by its row
-pub record Rowed (k : Keyword) (ws : List Word) (e : Entry) : Type 0 where
+pub record Rowed (form : Form) (k : Keyword) (ws : List Word) (e : Entry) : Type 0 where
   pub values : List Value
   pub names : List Name
   pub count : has_count (row_of k) (length ws) ≡ true
-  pub read : values_in (row_of k).places ws ≡ Ok values
+  pub read : values_in form (row_of k).places ws ≡ Ok values
   pub named : names_in (drop (length (row_of k).places) ws) ≡ Ok names
   pub is : entry_with k values names ≡ e
 
-pub rowed : (k : Keyword) (ws : List Word) (e : Entry) → row_line k ws ≡ Ok e → Rowed k ws e
+pub rowed : (form : Form) (k : Keyword) (ws : List Word) (e : Entry) → row_line form k ws ≡ Ok e → Rowed form k ws e
 unfolding row_line
-rowed k ws e h = grind (arith, common_steps, drop, passed, two)
+rowed form k ws e h = grind (arith, common_steps, drop, passed, two)
 
-line_keyword : (k : Keyword) (ws : List Word) (e : Entry) → line_in k ws ≡ Ok e → keyword_in e ≡ k
-line_keyword first.Other ws e h = let a = acted ws e h in ap keyword_in (sym a.is)
-line_keyword k ws e h = let r = rowed k (drop 1 ws) e h in ap keyword_in (sym r.is) ∙ with_keyword k r.values r.names (λ o. cc)
+line_keyword : (form : Form) (k : Keyword) (ws : List Word) (e : Entry) → line_in form k ws ≡ Ok e → keyword_in e ≡ k
+line_keyword form first.Other ws e h = let a = acted form ws e h in ap keyword_in (sym a.is)
+line_keyword form k ws e h = let r = rowed form k (drop 1 ws) e h in ap keyword_in (sym r.is) ∙ with_keyword k r.values r.names (λ o. cc)
 
 -- The first word, and as what it is read.
 
@@ -69,8 +69,8 @@ IsFirst first.Other w = Unit {0}
 IsFirst k w = keyword_of w ≡ k
 
 -- the words are read as this entry, by the row of its first word
-abbrev pub IsRead : List Word → Entry → Type 0
-IsRead ws e = IsFirst (keyword_in e) (word ws 0) × (line_in (keyword_in e) ws ≡ Ok e)
+abbrev pub IsRead : Form → List Word → Entry → Type 0
+IsRead form ws e = IsFirst (keyword_in e) (word ws 0) × (line_in form (keyword_in e) ws ≡ Ok e)
 
 first_read : (p : Place) (k : Keyword) (w : Word) → keyword_of w ≡ k → IsFirst (as_read p k) w
 first_read place.InCue first.End w e = e
@@ -120,24 +120,24 @@ read_as_name p k m o = cc
 
 -- A line that is read at a place is read by its own first word, and may stand there; and the other way round.
 
-pub read_of : (p : Place) (ws : List Word) (e : Entry) → entry_of p ws ≡ Ok e → IsRead ws e × (may_say p e ≡ true)
-read_of p ws e h =
+pub read_of : (form : Form) (p : Place) (ws : List Word) (e : Entry) → entry_of form p ws ≡ Ok e → IsRead form ws e × (may_say p e ≡ true)
+read_of form p ws e h =
     let k = as_read p (keyword_of (word ws 0)) in
-    let q = passed (may_stand p k) (line_in k ws) kind.BadWord e h in
-    let is : keyword_in e ≡ k = line_keyword k ws e q.1 in
+    let q = passed (may_stand p k) (line_in form k ws) kind.BadWord e h in
+    let is : keyword_in e ≡ k = line_keyword form k ws e q.1 in
     let begins = first_read p (keyword_of (word ws 0)) (word ws 0) refl in
-    ((subst (λ l. IsFirst l (word ws 0)) (sym is) begins, ap (λ l. line_in l ws) is ∙ q.1), ap (may_stand p) is ∙ q.0)
+    ((subst (λ l. IsFirst l (word ws 0)) (sym is) begins, ap (λ l. line_in form l ws) is ∙ q.1), ap (may_stand p) is ∙ q.0)
 
-put : (p : Place) (ws : List Word) (e : Entry) (l k : Keyword) → l ≡ k → line_in k ws ≡ Ok e → may_stand p k ≡ true → line_at p l ws ≡ Ok e
-put p ws e l k same h m = ap (λ x. line_at p x ws) same ∙ ap (λ b. cond b (line_in k ws) (Err kind.BadWord)) m ∙ h
+put : (form : Form) (p : Place) (ws : List Word) (e : Entry) (l k : Keyword) → l ≡ k → line_in form k ws ≡ Ok e → may_stand p k ≡ true → line_at form p l ws ≡ Ok e
+put form p ws e l k same h m = ap (λ x. line_at form p x ws) same ∙ ap (λ b. cond b (line_in form k ws) (Err kind.BadWord)) m ∙ h
 
-read_by : (p : Place) (ws : List Word) (e : Entry) (k : Keyword) → IsFirst k (word ws 0) → line_in k ws ≡ Ok e → may_stand p k ≡ true → entry_of p ws ≡ Ok e
-read_by p ws e first.Other f h m =
-    let a = acted ws e h in
+read_by : (form : Form) (p : Place) (ws : List Word) (e : Entry) (k : Keyword) → IsFirst k (word ws 0) → line_in form k ws ≡ Ok e → may_stand p k ≡ true → entry_of form p ws ≡ Ok e
+read_by form p ws e first.Other f h m =
+    let a = acted form ws e h in
     let named = name_keyword (word ws 0) (name_read (word ws 0) a.name a.named).0 in
-    put p ws e (as_read p (keyword_of (word ws 0))) first.Other (read_as_name p (keyword_of (word ws 0)) m named) h m
-read_by p ws e k f h m =
-    put p ws e (as_read p (keyword_of (word ws 0))) k (ap (as_read p) f ∙ stays p k m (λ o. cc)) h m
+    put form p ws e (as_read p (keyword_of (word ws 0))) first.Other (read_as_name p (keyword_of (word ws 0)) m named) h m
+read_by form p ws e k f h m =
+    put form p ws e (as_read p (keyword_of (word ws 0))) k (ap (as_read p) f ∙ stays p k m (λ o. cc)) h m
 
-pub read_entry : (p : Place) (ws : List Word) (e : Entry) → IsRead ws e → may_say p e ≡ true → entry_of p ws ≡ Ok e
-read_entry p ws e h m = read_by p ws e (keyword_in e) h.0 h.1 m
+pub read_entry : (form : Form) (p : Place) (ws : List Word) (e : Entry) → IsRead form ws e → may_say p e ≡ true → entry_of form p ws ≡ Ok e
+read_entry form p ws e h m = read_by form p ws e (keyword_in e) h.0 h.1 m

@@ -1,14 +1,18 @@
 -- The words of a line say an entry exactly where the line is read as that entry.
-use Rattle.choreo_lines.proofs.Prelude.{common_steps, ◌≡◌, ℕ, suc, ◌+◌, ◌≤◌, Bool, true, false, List, [], ◌∷◌, ◌++◌, map, take, drop, Some, None, Option, Result, Ok, Err, refl, sym, ap, subst, ◌∙◌, cond, arith, eqb-true, eq-eqb, le-leb, ◌&&◌, ◌==◌, bytes_eq, codes, length, nat_le, nat_abs, ℤ, pos, negsuc, ◌≤ℤ◌, IsTrue, and_parts, leb-true, drop_all, take_all, append-nil, Name, is_name, Word, word, Row, row_of, act_places, has_count, act_of, Fits, AllFit, name_of, act_fields, act_with, keyword_in, fields_of, entry_with, ◌>>=◌, judged, name_in, mirror_in, smooth_in, ccw_in, value_in, values_in, names_in, act_by, act_in, act_line, row_line, entry_of, Holds, AllHold, SaysAct, Says, may_say, LineKind, Keyword, Place, Entry, Act, Want, Value}
+use Rattle.choreo_lines.proofs.Prelude.{common_steps, ◌≡◌, ℕ, suc, ◌+◌, ◌≤◌, Bool, true, false, List, [], ◌∷◌, ◌++◌, map, take, drop, Some, None, Option, Result, Ok, Err, refl, sym, ap, subst, ◌∙◌, cond, arith, eqb-true, eq-eqb, le-leb, ◌&&◌, ◌==◌, length, nat_le, nat_abs, ℤ, pos, negsuc, ◌≤ℤ◌, IsTrue, and_parts, leb-true, drop_all, take_all, append-nil, Name, is_name, Word, word, Row, row_of, act_places, has_count, act_of, Fits, AllFit, name_of, act_fields, act_with, keyword_in, fields_of, entry_with, ◌>>=◌, judged, quantity_in, name_in, mirror_in, smooth_in, ccw_in, value_in, values_in, names_in, act_by, act_in, act_line, row_line, entry_of, Holds, AllHold, SaysAct, Says, may_say, LineKind, Keyword, Place, Entry, Act, Form, Want, Value}
 use Rattle.std.proofs.lemmas.Slice.Eq.{bytes_eq-Decides}
 use Rattle.text_lines.specs.declared.number.NumberFault.{NumberFault}
+use Rattle.text_lines.specs.Numbers.{number_in as number_read}
 use Rattle.text_lines.proofs.NumberLaws.{read_is_number, number_is_read}
+use Rattle.quantities.specs.declared.unit.Counts.{Counts}
+use Rattle.quantities.specs.Quantities.{quantity_in as quantity_read}
+use Rattle.quantities.proofs.QuantityLaws.{read_is_quantity, quantity_is_read}
 use Rattle.choreo_lines.proofs.Reading.{two, passed, name_read, acted, Rowed, rowed, IsRead, read_of, read_entry}
 use Rattle.choreo_lines.specs.declared.line.LineKind.TheVariants as kind
 use Rattle.choreo_lines.specs.declared.line.Keyword.TheVariants as first
 use Rattle.choreo_lines.specs.declared.line.Entry.TheVariants as entry
 use Rattle.choreo_lines.specs.declared.parts.Mirror.{Mirror}
-use Rattle.choreo_lines.specs.declared.parts.Mirror.TheVariants as mirror
+use Rattle.choreo_lines.specs.declared.table.Form.TheVariants.{Whole, Units}
 use Rattle.choreo_lines.specs.declared.table.Want.TheVariants as want
 use Rattle.choreo_lines.specs.declared.table.Value.TheVariants.{Name as Named, Mirror as Mirrored, Smooth, Ccw, Number}
 use Rattle.choreo_lines.specs.declared.table.ActWord.{ActWord}
@@ -16,121 +20,139 @@ use Rattle.choreo_lines.specs.declared.table.ActWord.TheVariants as word_of
 
 -- A word that is read in its place is that value.
 
-mirror_holds : (w : Word) (m : Mirror) → mirror_in w ≡ Ok m → Holds want.Mirror w (Mirrored m)
-mirror_holds w m h = grind (arith, common_steps, bytes_eq-Decides)
+mirror_holds : (form : Form) (w : Word) (m : Mirror) → mirror_in w ≡ Ok m → Holds form want.Mirror w (Mirrored m)
+mirror_holds form w m h = grind (arith, common_steps, bytes_eq-Decides)
 
-smooth_holds : (w : Word) (s : Bool) → smooth_in w ≡ Ok s → Holds want.Manner w (Smooth s)
-smooth_holds w s h = grind (arith, common_steps, bytes_eq-Decides)
+smooth_holds : (form : Form) (w : Word) (s : Bool) → smooth_in w ≡ Ok s → Holds form want.Manner w (Smooth s)
+smooth_holds form w s h = grind (arith, common_steps, bytes_eq-Decides)
 
-ccw_holds : (w : Word) (c : Bool) → ccw_in w ≡ Ok c → Holds want.Sense w (Ccw c)
-ccw_holds w c h = grind (arith, common_steps, bytes_eq-Decides)
+ccw_holds : (form : Form) (w : Word) (c : Bool) → ccw_in w ≡ Ok c → Holds form want.Sense w (Ccw c)
+ccw_holds form w c h = grind (arith, common_steps, bytes_eq-Decides)
 
 judged_is : (r : Result ℤ NumberFault) (v : ℤ) → judged r ≡ Ok v → r ≡ Ok v
 judged_is (Ok x) v h = let same : x ≡ v = cc in ap (λ z. Ok z) same
 judged_is (Err f) v h = cc
 
-value_holds : (wanted : Want) (w : Word) (v : Value) → value_in wanted w ≡ Ok v → Holds wanted w v
-value_holds want.Name w v h = grind (arith, common_steps, two, name_read)
-value_holds want.Mirror w v h = grind (arith, common_steps, two, mirror_holds)
-value_holds want.Manner w v h = grind (arith, common_steps, two, smooth_holds)
-value_holds want.Sense w v h = grind (arith, common_steps, two, ccw_holds)
-value_holds (want.Number low high) w v h = grind (arith, common_steps, two, read_is_number, judged_is)
+-- a quantity that is read is one
+quantity_holds : (form : Form) (counts : Counts) (low high : ℤ) (w : Word) (v : ℤ) → quantity_in form counts low high w ≡ Ok v → Holds form (want.Quantity counts low high) w (Number v)
+quantity_holds Whole counts low high w v h = read_is_number low high w v (judged_is (number_read low high w) v h)
+quantity_holds Units counts low high w v h = read_is_quantity counts low high w v (judged_is (quantity_read counts low high w) v h)
+
+-- a value holds if it does for each thing that its word can be read as
+read_holds : {A : Type 0} (form : Form) (wanted : Want) (w : Word) (r : Result A LineKind) (f : A → Value) (v : Value) → ((x : A) → r ≡ Ok x → Holds form wanted w (f x)) → (r >>= (λ x. Ok (f x))) ≡ Ok v → Holds form wanted w v
+read_holds form wanted w (Ok x) f v holds h = let same : f x ≡ v = cc in subst (Holds form wanted w) same (holds x refl)
+read_holds form wanted w (Err k) f v holds h = cc
+
+value_holds : (form : Form) (wanted : Want) (w : Word) (v : Value) → value_in form wanted w ≡ Ok v → Holds form wanted w v
+value_holds form want.Name w v h = read_holds form want.Name w (name_in w) Named v (λ n e. let r = name_read w n e in (r.0, sym r.1)) h
+value_holds form want.Mirror w v h = read_holds form want.Mirror w (mirror_in w) Mirrored v (mirror_holds form w) h
+value_holds form want.Manner w v h = read_holds form want.Manner w (smooth_in w) Smooth v (smooth_holds form w) h
+value_holds form want.Sense w v h = read_holds form want.Sense w (ccw_in w) Ccw v (ccw_holds form w) h
+value_holds form (want.Number low high) w v h =
+    read_holds form (want.Number low high) w (judged (number_read low high w)) Number v
+    (λ x e. read_is_number low high w x (judged_is (number_read low high w) x e)) h
+value_holds form (want.Quantity counts low high) w v h =
+    read_holds form (want.Quantity counts low high) w (quantity_in form counts low high w) Number v (quantity_holds form counts low high w) h
 
 -- A value that a word is in its place fits the place.
 
-pub holds_fits : (wanted : Want) (w : Word) (v : Value) → Holds wanted w v → Fits wanted v
-holds_fits want.Name w (Named n) h = subst (λ x. IsTrue (is_name x)) (sym h.1) h.0
-holds_fits want.Mirror w (Mirrored m) h = tt
-holds_fits want.Manner w (Smooth s) h = tt
-holds_fits want.Sense w (Ccw c) h = tt
-holds_fits (want.Number low high) w (Number v) h = (h.from, h.to)
-holds_fits wanted w v h = absurd h
+pub holds_fits : (form : Form) (wanted : Want) (w : Word) (v : Value) → Holds form wanted w v → Fits wanted v
+holds_fits form want.Name w (Named n) h = subst (λ x. IsTrue (is_name x)) (sym h.1) h.0
+holds_fits form want.Mirror w (Mirrored m) h = tt
+holds_fits form want.Manner w (Smooth s) h = tt
+holds_fits form want.Sense w (Ccw c) h = tt
+holds_fits form (want.Number low high) w (Number v) h = (h.from, h.to)
+holds_fits Whole (want.Quantity counts low high) w (Number v) h = (h.from, h.to)
+holds_fits Units (want.Quantity counts low high) w (Number v) h = (h.from, h.to)
+holds_fits form wanted w v h = absurd h
 
 -- values that are read fit their places, one each
-pub values_fit : (wants : List Want) (ws : List Word) (vs : List Value) → values_in wants ws ≡ Ok vs → AllFit wants vs × (length vs ≡ length wants)
+pub values_fit : (form : Form) (wants : List Want) (ws : List Word) (vs : List Value) → values_in form wants ws ≡ Ok vs → AllFit wants vs × (length vs ≡ length wants)
 unfolding values_in
-values_fit [] ws vs h = let same : [] ≡ vs = cc in subst (λ xs. AllFit [] xs × (length xs ≡ 0)) same (tt, refl)
-values_fit (wanted ∷ more) ws vs h =
-    let p = two (value_in wanted (word ws 0)) (λ v. values_in more (drop 1 ws) >>= (λ xs. Ok (v ∷ xs))) vs h in
-    let q = two (values_in more (drop 1 ws)) (λ xs. Ok (p.a ∷ xs)) vs p.then in
+values_fit form [] ws vs h = let same : [] ≡ vs = cc in subst (λ xs. AllFit [] xs × (length xs ≡ 0)) same (tt, refl)
+values_fit form (wanted ∷ more) ws vs h =
+    let p = two (value_in form wanted (word ws 0)) (λ v. values_in form more (drop 1 ws) >>= (λ xs. Ok (v ∷ xs))) vs h in
+    let q = two (values_in form more (drop 1 ws)) (λ xs. Ok (p.a ∷ xs)) vs p.then in
     let same : p.a ∷ q.a ≡ vs = cc in
-    let first = holds_fits wanted (word ws 0) p.a (value_holds wanted (word ws 0) p.a p.first) in
-    let later = values_fit more (drop 1 ws) q.a q.first in
+    let first = holds_fits form wanted (word ws 0) p.a (value_holds form wanted (word ws 0) p.a p.first) in
+    let later = values_fit form more (drop 1 ws) q.a q.first in
     subst (λ xs. AllFit (wanted ∷ more) xs × (length xs ≡ suc (length more))) same ((first, later.0), ap suc later.1)
 
-pub held_fit : (wants : List Want) (ws : List Word) (vs : List Value) → AllHold wants ws vs → AllFit wants vs
-held_fit [] [] [] h = tt
-held_fit [] (w ∷ ws) (v ∷ vs) h = (holds_fits want.Name w v h.0, held_fit [] ws vs h.1)
-held_fit (wanted ∷ more) (w ∷ ws) (v ∷ vs) h = (holds_fits wanted w v h.0, held_fit more ws vs h.1)
-held_fit wants ws vs h = absurd h
+pub held_fit : (form : Form) (wants : List Want) (ws : List Word) (vs : List Value) → AllHold form wants ws vs → AllFit wants vs
+held_fit form [] [] [] h = tt
+held_fit form [] (w ∷ ws) (v ∷ vs) h = (holds_fits form want.Name w v h.0, held_fit form [] ws vs h.1)
+held_fit form (wanted ∷ more) (w ∷ ws) (v ∷ vs) h = (holds_fits form wanted w v h.0, held_fit form more ws vs h.1)
+held_fit form wants ws vs h = absurd h
 
 -- A word that is a value in its place is read as that.
 
-held_name : (w : Word) (v : Value) → Holds want.Name w v → name_in w ≡ Ok (name_of v)
-held_name w (Named n) h =
+held_name : (form : Form) (w : Word) (v : Value) → Holds form want.Name w v → name_in w ≡ Ok (name_of v)
+held_name form w (Named n) h =
     let is : record { items = w } ≡ n = ap (λ x. record { items = x }) (sym h.1) in
     ap (λ b. cond b (Ok (record { items = w })) (Err kind.BadName)) h.0 ∙ ap (λ x. Ok x) is
-held_name w v h = absurd h
+held_name form w v h = absurd h
 
-held_value : (wanted : Want) (w : Word) (v : Value) → Holds wanted w v → value_in wanted w ≡ Ok v
-held_value want.Name w (Named n) h = ap (λ r. r >>= (λ x. Ok (Named x))) (held_name w (Named n) h)
-held_value (want.Number low high) w (Number v) h = ap (λ r. judged r >>= (λ x. Ok (Number x))) (number_is_read low high w v h)
-held_value wanted w v h = grind (arith, common_steps)
+held_value : (form : Form) (wanted : Want) (w : Word) (v : Value) → Holds form wanted w v → value_in form wanted w ≡ Ok v
+held_value form want.Name w (Named n) h = ap (λ r. r >>= (λ x. Ok (Named x))) (held_name form w (Named n) h)
+held_value form (want.Number low high) w (Number v) h = ap (λ r. judged r >>= (λ x. Ok (Number x))) (number_is_read low high w v h)
+held_value Whole (want.Quantity counts low high) w (Number v) h = ap (λ r. judged r >>= (λ x. Ok (Number x))) (number_is_read low high w v h)
+held_value Units (want.Quantity counts low high) w (Number v) h = ap (λ r. judged r >>= (λ x. Ok (Number x))) (quantity_is_read counts low high w v h)
+held_value form wanted w v h = grind (arith, common_steps)
 
 -- Words in their places, and names after them.
 
-names_hold : (ws : List Word) (ns : List Name) → names_in ws ≡ Ok ns → AllHold [] ws (map Named ns)
+names_hold : (form : Form) (ws : List Word) (ns : List Name) → names_in ws ≡ Ok ns → AllHold form [] ws (map Named ns)
 unfolding names_in
-names_hold [] ns h = let same : [] ≡ ns = cc in subst (λ xs. AllHold [] [] (map Named xs)) same tt
-names_hold (w ∷ ws) ns h =
+names_hold form [] ns h = let same : [] ≡ ns = cc in subst (λ xs. AllHold form [] [] (map Named xs)) same tt
+names_hold form (w ∷ ws) ns h =
     let p = two (name_in w) (λ n. names_in ws >>= (λ xs. Ok (n ∷ xs))) ns h in
     let q = two (names_in ws) (λ xs. Ok (p.a ∷ xs)) ns p.then in
     let same : p.a ∷ q.a ≡ ns = cc in
     let r = name_read w p.a p.first in
-    subst (λ xs. AllHold [] (w ∷ ws) (map Named xs)) same ((r.0, sym r.1), names_hold ws q.a q.first)
+    subst (λ xs. AllHold form [] (w ∷ ws) (map Named xs)) same ((r.0, sym r.1), names_hold form ws q.a q.first)
 
-values_hold : (wants : List Want) (ws : List Word) (vs : List Value) (ns : List Name) → length wants ≤ length ws → values_in wants ws ≡ Ok vs → names_in (drop (length wants) ws) ≡ Ok ns → AllHold wants ws (vs ++ map Named ns)
+values_hold : (form : Form) (wants : List Want) (ws : List Word) (vs : List Value) (ns : List Name) → length wants ≤ length ws → values_in form wants ws ≡ Ok vs → names_in (drop (length wants) ws) ≡ Ok ns → AllHold form wants ws (vs ++ map Named ns)
 unfolding values_in
-values_hold [] ws vs ns l h k = let same : [] ≡ vs = cc in subst (λ xs. AllHold [] ws (xs ++ map Named ns)) same (names_hold ws ns k)
-values_hold (wanted ∷ more) [] vs ns l h k = absurd (omega arith)
-values_hold (wanted ∷ more) (w ∷ ws) vs ns l h k =
-    let p = two (value_in wanted w) (λ v. values_in more ws >>= (λ xs. Ok (v ∷ xs))) vs h in
-    let q = two (values_in more ws) (λ xs. Ok (p.a ∷ xs)) vs p.then in
+values_hold form [] ws vs ns l h k = let same : [] ≡ vs = cc in subst (λ xs. AllHold form [] ws (xs ++ map Named ns)) same (names_hold form ws ns k)
+values_hold form (wanted ∷ more) [] vs ns l h k = absurd (omega arith)
+values_hold form (wanted ∷ more) (w ∷ ws) vs ns l h k =
+    let p = two (value_in form wanted w) (λ v. values_in form more ws >>= (λ xs. Ok (v ∷ xs))) vs h in
+    let q = two (values_in form more ws) (λ xs. Ok (p.a ∷ xs)) vs p.then in
     let same : p.a ∷ q.a ≡ vs = cc in
     let fewer : length more ≤ length ws = omega arith in
-    subst (λ xs. AllHold (wanted ∷ more) (w ∷ ws) (xs ++ map Named ns)) same
-    (value_holds wanted w p.a p.first, values_hold more ws q.a ns fewer q.first k)
+    subst (λ xs. AllHold form (wanted ∷ more) (w ∷ ws) (xs ++ map Named ns)) same
+    (value_holds form wanted w p.a p.first, values_hold form more ws q.a ns fewer q.first k)
 
 -- words of which there are as many as places
-act_values : (wants : List Want) (ws : List Word) (vs : List Value) → length ws ≡ length wants → values_in wants ws ≡ Ok vs → AllHold wants ws vs
+act_values : (form : Form) (wants : List Want) (ws : List Word) (vs : List Value) → length ws ≡ length wants → values_in form wants ws ≡ Ok vs → AllHold form wants ws vs
 unfolding names_in
-act_values wants ws vs l h =
+act_values form wants ws vs l h =
     let none : names_in (drop (length wants) ws) ≡ Ok [] = ap names_in (drop_all (length wants) ws (omega (arith, l))) in
-    subst (AllHold wants ws) (append-nil vs) (values_hold wants ws vs [] (omega (arith, l)) h none)
+    subst (AllHold form wants ws) (append-nil vs) (values_hold form wants ws vs [] (omega (arith, l)) h none)
 
-held_values : (wants : List Want) (ws : List Word) (vs : List Value) → AllHold wants ws vs → values_in wants ws ≡ Ok (take (length wants) vs)
+held_values : (form : Form) (wants : List Want) (ws : List Word) (vs : List Value) → AllHold form wants ws vs → values_in form wants ws ≡ Ok (take (length wants) vs)
 unfolding values_in
-held_values [] ws vs h = refl
-held_values (wanted ∷ more) (w ∷ ws) (v ∷ vs) h =
-    ap (λ r. r >>= (λ x. values_in more ws >>= (λ xs. Ok (x ∷ xs)))) (held_value wanted w v h.0)
-    ∙ ap (λ r. r >>= (λ xs. Ok (v ∷ xs))) (held_values more ws vs h.1)
-held_values wants ws vs h = absurd h
+held_values form [] ws vs h = refl
+held_values form (wanted ∷ more) (w ∷ ws) (v ∷ vs) h =
+    ap (λ r. r >>= (λ x. values_in form more ws >>= (λ xs. Ok (x ∷ xs)))) (held_value form wanted w v h.0)
+    ∙ ap (λ r. r >>= (λ xs. Ok (v ∷ xs))) (held_values form more ws vs h.1)
+held_values form wants ws vs h = absurd h
 
-held_names : (wants : List Want) (ws : List Word) (vs : List Value) → AllHold wants ws vs → names_in (drop (length wants) ws) ≡ Ok (map name_of (drop (length wants) vs))
+held_names : (form : Form) (wants : List Want) (ws : List Word) (vs : List Value) → AllHold form wants ws vs → names_in (drop (length wants) ws) ≡ Ok (map name_of (drop (length wants) vs))
 unfolding names_in
-held_names [] [] [] h = refl
-held_names [] (w ∷ ws) (v ∷ vs) h =
-    ap (λ r. r >>= (λ n. names_in ws >>= (λ ns. Ok (n ∷ ns)))) (held_name w v h.0)
-    ∙ ap (λ r. r >>= (λ ns. Ok (name_of v ∷ ns))) (held_names [] ws vs h.1)
-held_names (wanted ∷ more) (w ∷ ws) (v ∷ vs) h = held_names more ws vs h.1
-held_names wants ws vs h = absurd h
+held_names form [] [] [] h = refl
+held_names form [] (w ∷ ws) (v ∷ vs) h =
+    ap (λ r. r >>= (λ n. names_in ws >>= (λ ns. Ok (n ∷ ns)))) (held_name form w v h.0)
+    ∙ ap (λ r. r >>= (λ ns. Ok (name_of v ∷ ns))) (held_names form [] ws vs h.1)
+held_names form (wanted ∷ more) (w ∷ ws) (v ∷ vs) h = held_names form more ws vs h.1
+held_names form wants ws vs h = absurd h
 
 -- as many words as values
-pub held_length : (wants : List Want) (ws : List Word) (vs : List Value) → AllHold wants ws vs → length ws ≡ length vs
-held_length [] [] [] h = refl
-held_length [] (w ∷ ws) (v ∷ vs) h = ap suc (held_length [] ws vs h.1)
-held_length (wanted ∷ more) (w ∷ ws) (v ∷ vs) h = ap suc (held_length more ws vs h.1)
-held_length wants ws vs h = absurd h
+pub held_length : (form : Form) (wants : List Want) (ws : List Word) (vs : List Value) → AllHold form wants ws vs → length ws ≡ length vs
+held_length form [] [] [] h = refl
+held_length form [] (w ∷ ws) (v ∷ vs) h = ap suc (held_length form [] ws vs h.1)
+held_length form (wanted ∷ more) (w ∷ ws) (v ∷ vs) h = ap suc (held_length form more ws vs h.1)
+held_length form wants ws vs h = absurd h
 
 -- Values that fit their places are those of what they denote.
 
@@ -179,50 +201,50 @@ no_names ws ns h e = grind (arith, common_steps)
 
 -- A line that is read by its row, and one of an act.
 
-row_held : (k : Keyword) (ws : List Word) (e : Entry) → Rowed k ws e → AllHold (row_of k).places ws (fields_of e)
-row_held k ws e r =
+row_held : (form : Form) (k : Keyword) (ws : List Word) (e : Entry) → Rowed form k ws e → AllHold form (row_of k).places ws (fields_of e)
+row_held form k ws e r =
     let none = λ (z : (row_of k).names ≡ 0). no_names (drop (length (row_of k).places) ws) r.names r.named (none_left (row_of k) ws r.count z) in
-    let fit = values_fit (row_of k).places ws r.values r.read in
+    let fit = values_fit form (row_of k).places ws r.values r.read in
     let is = entry_apart k r.values r.names fit.0 fit.1 none in
-    subst (AllHold (row_of k).places ws) (sym is ∙ ap fields_of r.is)
-    (values_hold (row_of k).places ws r.values r.names (has_places (row_of k) (length ws) r.count) r.read r.named)
+    subst (AllHold form (row_of k).places ws) (sym is ∙ ap fields_of r.is)
+    (values_hold form (row_of k).places ws r.values r.names (has_places (row_of k) (length ws) r.count) r.read r.named)
 
 -- the words of an act whose values are taken apart
-abbrev HasAct : Word → List Word → ActWord × List Value → Type 0
-HasAct x ws parts = (act_of x ≡ Some parts.0) × AllHold (act_places parts.0) ws parts.1
+abbrev HasAct : Form → Word → List Word → ActWord × List Value → Type 0
+HasAct form x ws parts = (act_of x ≡ Some parts.0) × AllHold form (act_places parts.0) ws parts.1
 
-act_held : (o : Option ActWord) (x : Word) (ws : List Word) (a : Act) → act_of x ≡ o → act_by o ws ≡ Ok a → HasAct x ws (act_fields a)
-act_held None x ws a e h = cc
-act_held (Some k) x ws a e h =
-    let p = passed (length ws == length (act_places k)) (values_in (act_places k) ws >>= (λ vs. Ok (act_with k vs))) kind.BadCount a h in
-    let q = two (values_in (act_places k) ws) (λ vs. Ok (act_with k vs)) a p.1 in
+act_held : (form : Form) (o : Option ActWord) (x : Word) (ws : List Word) (a : Act) → act_of x ≡ o → act_by form o ws ≡ Ok a → HasAct form x ws (act_fields a)
+act_held form None x ws a e h = cc
+act_held form (Some k) x ws a e h =
+    let p = passed (length ws == length (act_places k)) (values_in form (act_places k) ws >>= (λ vs. Ok (act_with k vs))) kind.BadCount a h in
+    let q = two (values_in form (act_places k) ws) (λ vs. Ok (act_with k vs)) a p.1 in
     let same : act_with k q.a ≡ a = cc in
     let count = eqb-true (length ws) (length (act_places k)) p.0 in
-    let fit = values_fit (act_places k) ws q.a q.first in
+    let fit = values_fit form (act_places k) ws q.a q.first in
     let is = every (act_places k) (λ vs. act_fields (act_with k vs) ≡ (k, vs)) (act_apart k) q.a fit.0 fit.1 in
-    subst (HasAct x ws) (sym is ∙ ap act_fields same) (e, act_values (act_places k) ws q.a count q.first)
+    subst (HasAct form x ws) (sym is ∙ ap act_fields same) (e, act_values form (act_places k) ws q.a count q.first)
 
-act_says : (ws : List Word) (a : Act) → act_in ws ≡ Ok a → SaysAct ws a
+act_says : (form : Form) (ws : List Word) (a : Act) → act_in form ws ≡ Ok a → SaysAct form ws a
 unfolding act_in
-act_says [] a h = cc
-act_says (x ∷ ws) a h = act_held (act_of x) x ws a refl h
+act_says form [] a h = cc
+act_says form (x ∷ ws) a h = act_held form (act_of x) x ws a refl h
 
-line_says : (ws : List Word) (n : Name) (a : Act) → name_in (word ws 0) ≡ Ok n → act_in (drop 1 ws) ≡ Ok a → Says ws (entry.One n a)
-line_says [] n a named h = cc
-line_says (w ∷ ws) n a named h = let r = name_read w n named in ((r.0, sym r.1), act_says ws a h)
+line_says : (form : Form) (ws : List Word) (n : Name) (a : Act) → name_in (word ws 0) ≡ Ok n → act_in form (drop 1 ws) ≡ Ok a → Says form ws (entry.One n a)
+line_says form [] n a named h = cc
+line_says form (w ∷ ws) n a named h = let r = name_read w n named in ((r.0, sym r.1), act_says form ws a h)
 
-pub read_says : (ws : List Word) (e : Entry) → IsRead ws e → Says ws e
-read_says ws (entry.One n a) h =
-    let l = acted ws (entry.One n a) h.1 in subst (Says ws) l.is (line_says ws l.name l.act l.named l.acts)
-read_says [] e h = cc
-read_says (w ∷ ws) e h =
-    let r = rowed (keyword_in e) ws e h.1 in (h.0, r.count, row_held (keyword_in e) ws e r)
+pub read_says : (form : Form) (ws : List Word) (e : Entry) → IsRead form ws e → Says form ws e
+read_says form ws (entry.One n a) h =
+    let l = acted form ws (entry.One n a) h.1 in subst (Says form ws) l.is (line_says form ws l.name l.act l.named l.acts)
+read_says form [] e h = cc
+read_says form (w ∷ ws) e h =
+    let r = rowed form (keyword_in e) ws e h.1 in (h.0, r.count, row_held form (keyword_in e) ws e r)
 
 -- A line that says an entry is read as it.
 
-row_read : (k : Keyword) (ws : List Word) (vs : List Value) → has_count (row_of k) (length ws) ≡ true → AllHold (row_of k).places ws vs → row_line k ws ≡ Ok (entry_with k (take (length (row_of k).places) vs) (map name_of (drop (length (row_of k).places) vs)))
+row_read : (form : Form) (k : Keyword) (ws : List Word) (vs : List Value) → has_count (row_of k) (length ws) ≡ true → AllHold form (row_of k).places ws vs → row_line form k ws ≡ Ok (entry_with k (take (length (row_of k).places) vs) (map name_of (drop (length (row_of k).places) vs)))
 unfolding row_line
-row_read k ws vs c h = grind (arith, common_steps, drop, cond, held_values, take, held_names)
+row_read form k ws vs c h = grind (arith, common_steps, drop, cond, held_values, take, held_names)
 
 names_again : (ns : List Name) → map name_of (map Named ns) ≡ ns
 names_again [] = refl
@@ -238,24 +260,24 @@ entry_again e o = refl
 act_again : (a : Act) → AllFit (act_places (act_fields a).0) (act_fields a).1 → (act_with (act_fields a).0 (act_fields a).1 ≡ a) × (length (act_fields a).1 ≡ length (act_places (act_fields a).0))
 act_again a f = grind (arith, common_steps)
 
-act_read : (a : Act) (ws : List Word) → AllHold (act_places (act_fields a).0) ws (act_fields a).1 → act_by (Some (act_fields a).0) ws ≡ Ok a
-act_read a ws h = grind (arith, common_steps, act_again, held_fit, held_length, held_values, take_all, cond, eq-eqb)
+act_read : (form : Form) (a : Act) (ws : List Word) → AllHold form (act_places (act_fields a).0) ws (act_fields a).1 → act_by form (Some (act_fields a).0) ws ≡ Ok a
+act_read form a ws h = grind (arith, common_steps, act_again, held_fit, held_length, held_values, take_all, cond, eq-eqb)
 
-act_line_read : (w : Word) (ws : List Word) (n : Name) (a : Act) → Holds want.Name w (Named n) → SaysAct ws a → act_line (w ∷ ws) ≡ Ok (entry.One n a)
+act_line_read : (form : Form) (w : Word) (ws : List Word) (n : Name) (a : Act) → Holds form want.Name w (Named n) → SaysAct form ws a → act_line form (w ∷ ws) ≡ Ok (entry.One n a)
 unfolding act_line act_in
-act_line_read w [] n a named h = absurd h
-act_line_read w (x ∷ ws) n a named h = grind (arith, common_steps, le-leb, cond, held_name, act_read)
+act_line_read form w [] n a named h = absurd h
+act_line_read form w (x ∷ ws) n a named h = grind (arith, common_steps, le-leb, cond, held_name, act_read)
 
-pub says_read : (ws : List Word) (e : Entry) → Says ws e → IsRead ws e
-says_read [] e h = absurd h
-says_read (w ∷ ws) (entry.One n a) h = (tt, act_line_read w ws n a h.0 h.1)
-says_read (w ∷ ws) e h =
-    (h.0, row_read (keyword_in e) ws (fields_of e) h.1 h.2 ∙ ap (λ x. Ok x) (entry_again e (λ o. cc)))
+pub says_read : (form : Form) (ws : List Word) (e : Entry) → Says form ws e → IsRead form ws e
+says_read form [] e h = absurd h
+says_read form (w ∷ ws) (entry.One n a) h = (tt, act_line_read form w ws n a h.0 h.1)
+says_read form (w ∷ ws) e h =
+    (h.0, row_read form (keyword_in e) ws (fields_of e) h.1 h.2 ∙ ap (λ x. Ok x) (entry_again e (λ o. cc)))
 
 -- A line that is read as an entry says it, and may say it there.
-pub says_of : (p : Place) (ws : List Word) (e : Entry) → entry_of p ws ≡ Ok e → Says ws e × (may_say p e ≡ true)
-says_of p ws e h = let r = read_of p ws e h in (read_says ws e r.0, r.1)
+pub says_of : (form : Form) (p : Place) (ws : List Word) (e : Entry) → entry_of form p ws ≡ Ok e → Says form ws e × (may_say p e ≡ true)
+says_of form p ws e h = let r = read_of form p ws e h in (read_says form ws e r.0, r.1)
 
 -- A line that says an entry is read as that, where it may stand.
-pub says_entry : (p : Place) (ws : List Word) (e : Entry) → Says ws e → may_say p e ≡ true → entry_of p ws ≡ Ok e
-says_entry p ws e h m = read_entry p ws e (says_read ws e h) m
+pub says_entry : (form : Form) (p : Place) (ws : List Word) (e : Entry) → Says form ws e → may_say p e ≡ true → entry_of form p ws ≡ Ok e
+says_entry form p ws e h m = read_entry form p ws e (says_read form ws e h) m

@@ -1,10 +1,14 @@
 -- What the words of a line say by the table, or what is wrong with them: its places are read from the left.
 use Rattle.std.specs.Prelude.{◌≡◌, Bool, true, false, List, [], ◌∷◌, length, drop, ◌==◌, nat_le, Option, Some, None, Result, Ok, Err, ℤ, bytes_eq, codes, if◌then◌else◌}
 use Rattle.text_lines.specs.Numbers.{number_in as number_read}
+use Rattle.quantities.specs.Quantities.{quantity_in as quantity_read}
+use Rattle.quantities.specs.declared.unit.Counts.{Counts}
 use Rattle.text_lines.specs.declared.number.NumberFault.{NumberFault}
 use Rattle.text_lines.specs.declared.number.NumberFault.TheVariants.{NotANumber, OutOfRange}
 use Rattle.choreo_lines.specs.Name.{Name, is_name}
 use Rattle.choreo_lines.specs.FirstWord.{keyword_of}
+use Rattle.choreo_lines.specs.declared.table.Form.{Form}
+use Rattle.choreo_lines.specs.declared.table.Form.TheVariants.{Whole, Units}
 use Rattle.choreo_lines.specs.declared.table.Want.{Want}
 use Rattle.choreo_lines.specs.declared.table.Want.TheVariants as want
 use Rattle.choreo_lines.specs.declared.table.Value.{Value}
@@ -67,6 +71,11 @@ judged (Err fault) = Err (number_kind fault)
 abbrev pub number_in : ℤ → ℤ → Word → Result ℤ LineKind
 number_in low high w = judged (number_read low high w)
 
+-- a word in the place of a length, a time or an angle, as the form of the text writes it
+abbrev pub quantity_in : Form → Counts → ℤ → ℤ → Word → Result ℤ LineKind
+quantity_in Whole counts low high w = number_in low high w
+quantity_in Units counts low high w = judged (quantity_read counts low high w)
+
 -- a word in the place of a mirror
 abbrev pub mirror_in : Word → Result Mirror LineKind
 mirror_in w =
@@ -87,17 +96,19 @@ ccw_in w =
     if bytes_eq w (codes "cw") then Ok false else Err kind.BadWord
 
 -- a word where this is wanted
-abbrev pub value_in : Want → Word → Result Value LineKind
-value_in want.Name w = name_in w >>= (λ n. Ok (Named n))
-value_in want.Mirror w = mirror_in w >>= (λ m. Ok (Mirrored m))
-value_in want.Manner w = smooth_in w >>= (λ s. Ok (Smooth s))
-value_in want.Sense w = ccw_in w >>= (λ c. Ok (Ccw c))
-value_in (want.Number low high) w = number_in low high w >>= (λ v. Ok (Number v))
+abbrev pub value_in : Form → Want → Word → Result Value LineKind
+value_in form want.Name w = name_in w >>= (λ n. Ok (Named n))
+value_in form want.Mirror w = mirror_in w >>= (λ m. Ok (Mirrored m))
+value_in form want.Manner w = smooth_in w >>= (λ s. Ok (Smooth s))
+value_in form want.Sense w = ccw_in w >>= (λ c. Ok (Ccw c))
+value_in form (want.Number low high) w = number_in low high w >>= (λ v. Ok (Number v))
+value_in form (want.Quantity counts low high) w = quantity_in form counts low high w >>= (λ v. Ok (Number v))
 
 -- words where these are wanted, from the left; there are at least as many
-unfoldable pub values_in : List Want → List Word → Result (List Value) LineKind
-values_in [] ws = Ok []
-values_in (wanted ∷ more) ws = value_in wanted (word ws 0) >>= (λ v. values_in more (drop 1 ws) >>= (λ vs. Ok (v ∷ vs)))
+unfoldable pub values_in : Form → List Want → List Word → Result (List Value) LineKind
+values_in form [] ws = Ok []
+values_in form (wanted ∷ more) ws =
+    value_in form wanted (word ws 0) >>= (λ v. values_in form more (drop 1 ws) >>= (λ vs. Ok (v ∷ vs)))
 
 -- names, from the left
 unfoldable pub names_in : List Word → Result (List Name) LineKind
@@ -107,42 +118,44 @@ names_in (w ∷ ws) = name_in w >>= (λ n. names_in ws >>= (λ ns. Ok (n ∷ ns)
 -- A whole line.
 
 -- the words after the word of an act: their number, and then they
-abbrev pub act_by : Option ActWord → List Word → Result Act LineKind
-act_by None ws = Err kind.BadWord
-act_by (Some a) ws =
-    if length ws == length (act_places a) then values_in (act_places a) ws >>= (λ vs. Ok (act_with a vs)) else Err kind.BadCount
+abbrev pub act_by : Form → Option ActWord → List Word → Result Act LineKind
+act_by form None ws = Err kind.BadWord
+act_by form (Some a) ws =
+    if length ws == length (act_places a)
+    then values_in form (act_places a) ws >>= (λ vs. Ok (act_with a vs))
+    else Err kind.BadCount
 
 -- an act, its own word first
-unfoldable pub act_in : List Word → Result Act LineKind
-act_in ws = act_by (act_of (word ws 0)) (drop 1 ws)
+unfoldable pub act_in : Form → List Word → Result Act LineKind
+act_in form ws = act_by form (act_of (word ws 0)) (drop 1 ws)
 
 -- an act line, with all its words: its name, that it has an act, and the act
-unfoldable pub act_line : List Word → Result Entry LineKind
-act_line ws = do
+unfoldable pub act_line : Form → List Word → Result Entry LineKind
+act_line form ws = do
   n ← name_in (word ws 0)
-  a ← if nat_le 2 (length ws) then act_in (drop 1 ws) else Err kind.BadCount
+  a ← if nat_le 2 (length ws) then act_in form (drop 1 ws) else Err kind.BadCount
   Ok (entry.One n a)
 
 -- the words after the first of a line by its row: their number, those in its places, and the names
-unfoldable pub row_line : Keyword → List Word → Result Entry LineKind
-row_line k ws =
+unfoldable pub row_line : Form → Keyword → List Word → Result Entry LineKind
+row_line form k ws =
     if has_count (row_of k) (length ws)
-    then values_in (row_of k).places ws
+    then values_in form (row_of k).places ws
     >>= (λ vs. names_in (drop (length (row_of k).places) ws) >>= (λ ns. Ok (entry_with k vs ns)))
     else Err kind.BadCount
 
 -- all words of a line, by its first word as it is read here
-abbrev pub line_in : Keyword → List Word → Result Entry LineKind
-line_in first.Other ws = act_line ws
-line_in k ws = row_line k (drop 1 ws)
+abbrev pub line_in : Form → Keyword → List Word → Result Entry LineKind
+line_in form first.Other ws = act_line form ws
+line_in form k ws = row_line form k (drop 1 ws)
 
 -- the same, where a line with this first word may stand
-abbrev pub line_at : Place → Keyword → List Word → Result Entry LineKind
-line_at place k ws = if may_stand place k then line_in k ws else Err kind.BadWord
+abbrev pub line_at : Form → Place → Keyword → List Word → Result Entry LineKind
+line_at form place k ws = if may_stand place k then line_in form k ws else Err kind.BadWord
 
 -- what the words of a line say at a place
-abbrev pub entry_of : Place → List Word → Result Entry LineKind
-entry_of place ws = line_at place (as_read place (keyword_of (word ws 0))) ws
+abbrev pub entry_of : Form → Place → List Word → Result Entry LineKind
+entry_of form place ws = line_at form place (as_read place (keyword_of (word ws 0))) ws
 
 -- what is wrong, where something is
 abbrev pub kind_of : {A : Type 0} → Result A LineKind → Option LineKind
@@ -150,8 +163,8 @@ kind_of (Ok x) = None
 kind_of (Err k) = Some k
 
 -- what is wrong with the words of a line, where it stands
-abbrev pub kind_in : Place → List Word → Option LineKind
-kind_in place ws = kind_of (entry_of place ws)
+abbrev pub kind_in : Form → Place → List Word → Option LineKind
+kind_in form place ws = kind_of (entry_of form place ws)
 
 -- the first of two judgements that finds something
 abbrev pub or_else : Option LineKind → Option LineKind → Option LineKind

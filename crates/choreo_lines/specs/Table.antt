@@ -1,6 +1,7 @@
 -- The lines of the language as a table: what each line wants in its places, how many names may follow, and where it stands.
 use Rattle.std.specs.Prelude.{ℕ, ◌+◌, Bool, true, false, ◌&&◌, List, [], ◌∷◌, length, get_or, ◌==◌, nat_le, Option, Some, None, pos, neg_ℤ, bytes_eq, codes, if◌then◌else◌}
 use Rattle.fleet_math.specs.Limits.{most_drones}
+use Rattle.quantities.specs.declared.unit.Counts.TheVariants.{Micrometres, Millimetres, Milliseconds, TenthsOfADegree}
 use Rattle.choreo_lines.specs.declared.table.Want.{Want}
 use Rattle.choreo_lines.specs.declared.table.Want.TheVariants as want
 use Rattle.choreo_lines.specs.declared.table.ActWord.{ActWord}
@@ -31,11 +32,11 @@ only places = record { places = places; names = 0 }
 
 -- micrometres
 abbrev pub coordinate : Want
-coordinate = want.Number (neg_ℤ (pos 100000000)) (pos 100000000)
+coordinate = want.Quantity Micrometres (neg_ℤ (pos 100000000)) (pos 100000000)
 
 -- tenths of a degree
 abbrev pub yaw : Want
-yaw = want.Number (neg_ℤ (pos 32768)) (pos 32767)
+yaw = want.Quantity TenthsOfADegree (neg_ℤ (pos 32768)) (pos 32767)
 
 -- x, y, z and yaw
 abbrev pub point : List Want
@@ -45,14 +46,15 @@ point = coordinate ∷ coordinate ∷ coordinate ∷ yaw ∷ []
 abbrev pub row_of : Keyword → Row
 row_of first.Memory = only (want.Number (pos 0) (pos 255) ∷ want.Number (pos 0) (pos 4095) ∷ [])
 row_of first.Trajectory = only (want.Number (pos 0) (pos 9) ∷ [])
-row_of first.Ellipsoid = only (want.Number (pos 1) (pos 2000) ∷ want.Number (pos 1) (pos 2000) ∷ [])
-row_of first.Stray = only (want.Number (pos 0) (pos 1000) ∷ [])
-row_of first.Late = only (want.Number (pos 0) (pos 1000) ∷ [])
+row_of first.Ellipsoid =
+    only (want.Quantity Millimetres (pos 1) (pos 2000) ∷ want.Quantity Millimetres (pos 1) (pos 2000) ∷ [])
+row_of first.Stray = only (want.Quantity Millimetres (pos 0) (pos 1000) ∷ [])
+row_of first.Late = only (want.Quantity Milliseconds (pos 0) (pos 1000) ∷ [])
 row_of first.Drone = only (want.Name ∷ point)
 row_of first.Formation = only (want.Name ∷ [])
 row_of first.At = only (want.Name ∷ point)
 row_of first.Figure = record { places = want.Name ∷ []; names = most_drones }
-row_of first.Cue = only (want.Number (pos 1) (pos 65535) ∷ [])
+row_of first.Cue = only (want.Quantity Milliseconds (pos 1) (pos 65535) ∷ [])
 row_of first.Repeat = only (want.Number (pos 1) (pos 1000000000) ∷ [])
 row_of first.Perform = record {
   places = want.Name ∷ want.Mirror ∷ want.Number (pos 0) (pos 3) ∷ coordinate ∷ coordinate ∷ coordinate ∷ [];

@@ -24,6 +24,7 @@ Fits want.Mirror (Mirrored m) = Unit {0}
 Fits want.Manner (Smooth s) = Unit {0}
 Fits want.Sense (Ccw c) = Unit {0}
 Fits (want.Number low high) (Number v) = (low ≤ℤ v) × (v ≤ℤ high)
+Fits (want.Quantity counts low high) (Number v) = (low ≤ℤ v) × (v ≤ℤ high)
 Fits wanted v = ⊥
 
 -- values that places which want these may have, one by one; after the last place stand names

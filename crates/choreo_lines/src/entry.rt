@@ -15,7 +15,8 @@ use crate::field::{copy_of, name, nth, value};
 use crate::line::{Entry, Keyword, LineError, LineKind, Place};
 use crate::parts::{Act, Frame, Mirror, Name, Point};
 use crate::table::{
-    ActWord, MOST_PLACES, Value, Want, act_places, act_word, as_read, may_stand, names, places,
+    ActWord, Form, MOST_PLACES, Value, Want, act_places, act_word, as_read, may_stand, names,
+    places,
 };
 use crate::word::keyword;
 use arrayvec::ArrayVec;
@@ -25,6 +26,7 @@ use text_lines::{Token, word_at};
 
 // What the words are in their places, from the left. The list is the caller's, so that it isn't copied.
 fn values_in(
+    form: Form,
     text: &[u8],
     wants: &[Want],
     words: &[Token],
@@ -33,11 +35,12 @@ fn values_in(
     requires few { length wants.now ≤ MOST_PLACES }
     requires words { length wants.now ≤ length words.now }
     requires empty { values.now.items ≡ [] }
-    ensures { MatchResult result (λ _. spec.values_in wants.now (words_in text.now words.now) ≡ Ok values.new.items)
-        (λ k. spec.values_in wants.now (words_in text.now words.now) ≡ Err k) }
+    ensures { MatchResult result
+        (λ _. spec.values_in form wants.now (words_in text.now words.now) ≡ Ok values.new.items)
+        (λ k. spec.values_in form wants.now (words_in text.now words.now) ≡ Err k) }
 {
     for k in 0..wants.len() {
-        let value = value(wants[k], word_at(text, &words[k]))?;
+        let value = value(form, wants[k], word_at(text, &words[k]))?;
         values.push(value);
     }
     Ok(())
@@ -278,9 +281,9 @@ fn entry_with(first: Keyword, values: &[Value], names: Listed<Name>) -> Entry
 
 // The act that words say, its own first.
 #[tactic(auto, unfolding(crate::specs::Fields::act_in))]
-fn act_in(text: &[u8], words: &[Token]) -> Result<Act, LineKind>
+fn act_in(form: Form, text: &[u8], words: &[Token]) -> Result<Act, LineKind>
     requires { 0 < length words.now }
-    ensures { result ≡ spec.act_in (words_in text.now words.now) }
+    ensures { result ≡ spec.act_in form (words_in text.now words.now) }
 {
     let Some(act) = act_word(nth(text, words, 0)) else {
         return Err(LineKind::BadWord);
@@ -291,21 +294,21 @@ fn act_in(text: &[u8], words: &[Token]) -> Result<Act, LineKind>
         return Err(LineKind::BadCount);
     }
     let mut values = ArrayVec::new();
-    values_in(text, places, words, &mut values)?;
+    values_in(form, text, places, words, &mut values)?;
     Ok(act_with(act, values.as_slice()))
 }
 
 // What all words of an act line say: its name is judged first, and then that it has an act.
 #[tactic(auto, unfolding(crate::specs::Fields::act_line))]
-fn act_line(text: &[u8], words: &[Token]) -> Result<Entry, LineKind>
+fn act_line(form: Form, text: &[u8], words: &[Token]) -> Result<Entry, LineKind>
     requires { 0 < length words.now }
-    ensures { result ≡ spec.act_line (words_in text.now words.now) }
+    ensures { result ≡ spec.act_line form (words_in text.now words.now) }
 {
     let name = name(nth(text, words, 0))?;
     if words.len() < 2 {
         return Err(LineKind::BadCount);
     }
-    let act = act_in(text, &words[1..])?;
+    let act = act_in(form, text, &words[1..])?;
     Ok(Entry::One { name, act })
 }
 
@@ -323,58 +326,79 @@ fn has_count(first: Keyword, count: usize) -> bool
 
 // What the words after the first of a line say.
 #[tactic(auto, unfolding(crate::specs::Fields::row_line))]
-fn row_line(alloc: Global, first: Keyword, text: &[u8], words: &[Token]) -> Result<Entry, LineError>
-    ensures { Gives result (spec.row_line first (words_in text.now words.now)) }
+fn row_line(
+    alloc: Global,
+    form: Form,
+    first: Keyword,
+    text: &[u8],
+    words: &[Token],
+) -> Result<Entry, LineError>
+    ensures { Gives result (spec.row_line form first (words_in text.now words.now)) }
 {
     if !has_count(first, words.len()) {
         return Err(LineError::Kind(LineKind::BadCount));
     }
     let places = places(first);
     let mut values = ArrayVec::new();
-    values_in(text, places, words, &mut values)?;
+    values_in(form, text, places, words, &mut values)?;
     let names = names_in(alloc, text, &words[places.len()..])?;
     Ok(entry_with(first, values.as_slice(), names))
 }
 
 // What the words of a line say, by its first word as it is read here.
-fn line_in(alloc: Global, first: Keyword, text: &[u8], words: &[Token]) -> Result<Entry, LineError>
+fn line_in(
+    alloc: Global,
+    form: Form,
+    first: Keyword,
+    text: &[u8],
+    words: &[Token],
+) -> Result<Entry, LineError>
     requires { 0 < length words.now }
-    ensures { Gives result (spec.line_in first (words_in text.now words.now)) }
+    ensures { Gives result (spec.line_in form first (words_in text.now words.now)) }
 {
     match first {
-        Keyword::Other => Ok(act_line(text, words)?),
-        _ => row_line(alloc, first, text, &words[1..]),
+        Keyword::Other => Ok(act_line(form, text, words)?),
+        _ => row_line(alloc, form, first, text, &words[1..]),
     }
 }
 
 // What the words of a line say at a place.
-fn entry_at(alloc: Global, place: Place, text: &[u8], words: &[Token]) -> Result<Entry, LineError>
-    requires { 0 < length words.now }
-    ensures { Gives result (spec.entry_of place (words_in text.now words.now)) }
-{
-    let first = as_read(place, keyword(nth(text, words, 0)));
-    if may_stand(place, first) {
-        line_in(alloc, first, text, words)
-    } else {
-        Err(LineError::Kind(LineKind::BadWord))
-    }
-}
-
-/// What the words of a line say where it stands, or what is wrong with them by the table of lines.
-pub fn entry_of(
+fn entry_at(
     alloc: Global,
+    form: Form,
     place: Place,
     text: &[u8],
     words: &[Token],
 ) -> Result<Entry, LineError>
     requires { 0 < length words.now }
-    ensures value { Gives result (spec.entry_of place (words_in text.now words.now)) }
-    // The words say the entry, and it may stand here.
-    ensures says { IfOk result (λ e. Says (words_in text.now words.now) e × (may_say place e ≡ true)) }
-    // And the other way round, unless memory runs out: an entry that they say, and that may stand here, is the result.
-    ensures said { (e : Entry) → Says (words_in text.now words.now) e → may_say place e ≡ true → Gives result (Ok e) }
-    // A refusal names what is wrong by the table of lines, and an entry comes only where nothing is.
-    ensures kind { KindGives result (spec.kind_in place (words_in text.now words.now)) }
+    ensures { Gives result (spec.entry_of form place (words_in text.now words.now)) }
 {
-    entry_at(alloc, place, text, words)
+    let first = as_read(place, keyword(nth(text, words, 0)));
+    if may_stand(place, first) {
+        line_in(alloc, form, first, text, words)
+    } else {
+        Err(LineError::Kind(LineKind::BadWord))
+    }
+}
+
+/// What the words of a line say where it stands, in a text of this form, or what is wrong with them by the table of
+/// lines.
+pub fn entry_of(
+    alloc: Global,
+    form: Form,
+    place: Place,
+    text: &[u8],
+    words: &[Token],
+) -> Result<Entry, LineError>
+    requires { 0 < length words.now }
+    ensures value { Gives result (spec.entry_of form place (words_in text.now words.now)) }
+    // The words say the entry, and it may stand here.
+    ensures says { IfOk result (λ e. Says form (words_in text.now words.now) e × (may_say place e ≡ true)) }
+    // And the other way round, unless memory runs out: an entry that they say, and that may stand here, is the result.
+    ensures said { (e : Entry)
+        → Says form (words_in text.now words.now) e → may_say place e ≡ true → Gives result (Ok e) }
+    // A refusal names what is wrong by the table of lines, and an entry comes only where nothing is.
+    ensures kind { KindGives result (spec.kind_in form place (words_in text.now words.now)) }
+{
+    entry_at(alloc, form, place, text, words)
 }

@@ -7,10 +7,22 @@ ghost use Rattle.choreo_lines.specs.Fields as spec;
 
 use crate::line::LineKind;
 use crate::parts::{Mirror, Name};
-use crate::table::{Value, Want};
+use crate::table::{Form, Value, Want};
 use crate::word::is_name;
 use arrayvec::ArrayVec;
+use quantities::{Counts, quantity_in};
 use text_lines::{LARGE, NumberFault, Token, word_at};
+
+// What is wrong with a line that has no number, or one out of range, in the place of a number.
+fn judged(read: Result<i64, NumberFault>) -> Result<i64, LineKind>
+    ensures { result ≡ spec.judged read }
+{
+    match read {
+        Ok(value) => Ok(value),
+        Err(NumberFault::NotANumber) => Err(LineKind::BadNumber),
+        Err(NumberFault::OutOfRange) => Err(LineKind::Range),
+    }
+}
 
 /// The number that a word spells, in a range.
 pub fn number(word: &[u8], low: i64, high: i64) -> Result<i64, LineKind>
@@ -19,10 +31,24 @@ pub fn number(word: &[u8], low: i64, high: i64) -> Result<i64, LineKind>
     ensures value { result ≡ spec.number_in low high word.now }
     ensures within { IfOk result (λ v. (low ≤ℤ v) × (v ≤ℤ high)) }
 {
-    match text_lines::number_in(word, low, high) {
-        Ok(value) => Ok(value),
-        Err(NumberFault::NotANumber) => Err(LineKind::BadNumber),
-        Err(NumberFault::OutOfRange) => Err(LineKind::Range),
+    judged(text_lines::number_in(word, low, high))
+}
+
+/// The length, time or angle that a word is in a text of this form, in a range of what its place counts.
+pub fn quantity(
+    form: Form,
+    counts: Counts,
+    word: &[u8],
+    low: i64,
+    high: i64,
+) -> Result<i64, LineKind>
+    requires low { neg_ℤ (pos LARGE) <ℤ low }
+    requires high { high <ℤ pos LARGE }
+    ensures { result ≡ spec.quantity_in form counts low high word.now }
+{
+    match form {
+        Form::Whole => number(word, low, high),
+        Form::Units => judged(quantity_in(counts, word, low, high)),
     }
 }
 
@@ -92,9 +118,9 @@ fn ccw(word: &[u8]) -> Result<bool, LineKind>
     }
 }
 
-/// What a word is in its place.
-pub fn value(want: Want, word: &[u8]) -> Result<Value, LineKind>
-    ensures { result ≡ spec.value_in want word.now }
+/// What a word is in its place, in a text of this form.
+pub fn value(form: Form, want: Want, word: &[u8]) -> Result<Value, LineKind>
+    ensures { result ≡ spec.value_in form want word.now }
 {
     match want {
         Want::Name => Ok(Value::Name(name(word)?)),
@@ -102,6 +128,9 @@ pub fn value(want: Want, word: &[u8]) -> Result<Value, LineKind>
         Want::Manner => Ok(Value::Smooth(smooth(word)?)),
         Want::Sense => Ok(Value::Ccw(ccw(word)?)),
         Want::Number { low, high } => { Ok(Value::Number(number(word, low as i64, high as i64)?)) }
+        Want::Quantity { counts, low, high } => {
+            Ok(Value::Number(quantity(form, counts, word, low as i64, high as i64)?))
+        }
     }
 }
 

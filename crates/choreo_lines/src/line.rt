@@ -9,7 +9,7 @@ use std::alloc::{AllocError, AllocFailed};
 pub enum LineKind {
     /// A byte that may not stand outside a comment.
     BadByte,
-    /// The first line with words isn't `choreo 1`.
+    /// The first line with words isn't `choreo 1` or `choreo 2`.
     Header,
     /// The first word has no place here, or an act or a fixed word is unknown.
     BadWord,
@@ -17,7 +17,7 @@ pub enum LineKind {
     BadName,
     /// The number of words isn't that of the line.
     BadCount,
-    /// A word in the place of a number isn't one.
+    /// A word in the place of a number isn't one, or not as the form of the text writes it.
     BadNumber,
     /// A number is out of its range.
     Range,

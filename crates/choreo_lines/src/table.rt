@@ -7,9 +7,19 @@ ghost use Rattle.choreo_lines.specs.Table as spec;
 use crate::line::{Keyword, Place};
 use crate::parts::{Ease, Mirror, Name};
 use fleet_math::MOST_DRONES;
+use quantities::Counts;
 
 /// How many places the longest line has, which is that of a curve.
 pub const MOST_PLACES: usize = 10;
+
+/// How a text writes lengths, times and angles.
+#[derive(Clone, Copy)]
+pub enum Form {
+    /// As whole numbers of what their places count: `choreo 1`.
+    Whole,
+    /// As quantities with a unit: `choreo 2`.
+    Units,
+}
 
 /// What a place of a line wants.
 #[derive(Clone, Copy)]
@@ -21,8 +31,10 @@ pub enum Want {
     Manner,
     /// `ccw` or `cw`.
     Sense,
-    /// A number from `low` to `high`.
+    /// A whole number from `low` to `high`.
     Number { low: i32, high: i32 },
+    /// A length, a time or an angle from `low` to `high` of what the place counts, as the form of the text writes it.
+    Quantity { counts: Counts, low: i32, high: i32 },
 }
 
 /// What stands in a place of a line.
@@ -56,14 +68,14 @@ pub enum ActWord {
     Eased(Ease),
 }
 
-// Micrometres.
-const COORDINATE: Want = Want::Number {
+const COORDINATE: Want = Want::Quantity {
+    counts: Counts::Micrometres,
     low: -100_000_000,
     high: 100_000_000,
 };
 
-// Tenths of a degree.
-const YAW: Want = Want::Number {
+const YAW: Want = Want::Quantity {
+    counts: Counts::TenthsOfADegree,
     low: -32_768,
     high: 32_767,
 };
@@ -74,11 +86,26 @@ const OFFSET: Want = Want::Number { low: 0, high: 4095 };
 
 const TRAJECTORY: Want = Want::Number { low: 0, high: 9 };
 
-const HALF_AXIS: Want = Want::Number { low: 1, high: 2000 };
+const HALF_AXIS: Want = Want::Quantity {
+    counts: Counts::Millimetres,
+    low: 1,
+    high: 2000,
+};
 
-const ALLOWANCE: Want = Want::Number { low: 0, high: 1000 };
+const STRAY: Want = Want::Quantity {
+    counts: Counts::Millimetres,
+    low: 0,
+    high: 1000,
+};
 
-const DURATION: Want = Want::Number {
+const LATENESS: Want = Want::Quantity {
+    counts: Counts::Milliseconds,
+    low: 0,
+    high: 1000,
+};
+
+const DURATION: Want = Want::Quantity {
+    counts: Counts::Milliseconds,
     low: 1,
     high: 65_535,
 };
@@ -99,7 +126,8 @@ pub fn places(first: Keyword) -> &'static [Want]
         Keyword::Memory => &[ID, OFFSET],
         Keyword::Trajectory => &[TRAJECTORY],
         Keyword::Ellipsoid => &[HALF_AXIS, HALF_AXIS],
-        Keyword::Stray | Keyword::Late => &[ALLOWANCE],
+        Keyword::Stray => &[STRAY],
+        Keyword::Late => &[LATENESS],
         Keyword::Drone | Keyword::At => &[Want::Name, COORDINATE, COORDINATE, COORDINATE, YAW],
         Keyword::Formation | Keyword::Figure => &[Want::Name],
         Keyword::Cue => &[DURATION],

@@ -118,9 +118,9 @@ pub extern "C" fn hemtoghai_run(
 /// The version, as major * 65536 + minor * 256 + patch.
 #[unsafe(no_mangle)]
 pub extern "C" fn hemtoghai_version() -> u32
-    ensures { result ≡ 256 }
+    ensures { result ≡ 512 }
 {
-    0x00_01_00
+    0x00_02_00
 }
 
 #[cfg(test)]

@@ -63,6 +63,6 @@ fn no_room(rt: HostRuntime) -> Result<(), Fail> {
 
 #[test]
 fn version(rt: HostRuntime) -> Result<(), Fail> {
-    assert_eq!(rt; hemtoghai_version(), 0x00_01_00);
+    assert_eq!(rt; hemtoghai_version(), 0x00_02_00);
     Ok(())
 }

@@ -113,7 +113,7 @@ upload [--depth D] [--start] [--readback]\ndrill N [--depth D]\n\
 boxes [--depth D]\nspeed [--depth D] [--limit V]\nexplain [--depth D] [--fine E]\n\
 dynamics [--depth D] [--accel A] [--jump J]\nversion\n";
 
-pub const VERSION: &[u8] = b"hemtoghai 0.1.0\n";
+pub const VERSION: &[u8] = b"hemtoghai 0.2.0\n";
 
 // A drone that moves a metre along x in two seconds: its first, middle and last instants.
 pub const ROWS: &[u8] =

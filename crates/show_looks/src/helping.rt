@@ -30,5 +30,5 @@ pub fn help<S: Source, K: Sink>(lines: &[u8], source: &mut S, sink: &mut K) -> u
 pub fn version<S: Source, K: Sink>(source: &mut S, sink: &mut K) -> u8
     ensures { Does version_verb (during S.told K.written K.faults source.old source.new sink.old sink.new) result }
 {
-    tell(b"hemtoghai 0.1.0\n", source, sink)
+    tell(b"hemtoghai 0.2.0\n", source, sink)
 }

@@ -8,7 +8,7 @@ returns-in_err-value c =
     let has : c.loop-k.k < length c.args.words.now = omega (arith, c.requires.words, c.loop-k-test.true) in
     rw (p.1, p.2)
     (c.loop-k.invariant.0
-    ∙ values_err _ _ _ _ _ _ _ _ c.loop-k-test.true has (sym (c.in_err-value.ensures ∙ ap (value_in _) c.word_at.ensures)))
+    ∙ values_err _ _ _ _ _ _ _ _ _ c.loop-k-test.true has (sym (c.in_err-value.ensures ∙ ap (value_in _ _) c.word_at.ensures)))
 
 pub loop-k-preserved : goal.loop-k-preserved
 loop-k-preserved c = grind (arith, common_steps, values_more, with_front, rest)
@@ -16,4 +16,4 @@ loop-k-preserved c = grind (arith, common_steps, values_more, with_front, rest)
 pub returns : goal.returns
 returns c =
     let past : length c.args.wants.now ≤ c.loop-k.k = omega arith in
-    c.loop-k.invariant.0 ∙ values_all _ _ _ _ _ past
+    c.loop-k.invariant.0 ∙ values_all _ _ _ _ _ _ past

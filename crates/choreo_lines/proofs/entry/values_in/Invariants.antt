@@ -4,5 +4,5 @@ use Rattle.choreo_lines.proofs.entry.values_in.Given as goal
 
 abbrev pub invariant-loop-k : goal.invariant-loop-k
 invariant-loop-k l =
-    (values_in l.wants (words_in l.text l.words) ≡ with_front l.values.items (rest l.text l.wants l.words l.k))
+    (values_in l.form l.wants (words_in l.text l.words) ≡ with_front l.values.items (rest l.form l.text l.wants l.words l.k))
     × (length l.values.items ≡ l.k)

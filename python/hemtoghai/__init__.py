@@ -1,0 +1,1 @@
+"""Judges, compiles and explains shows of drones."""
