@@ -1,16 +1,16 @@
 """Judges texts of shows from the documents alone: their first fault, or what the commands answer.
 
-For bench/language. `tools/choreo.py` and `tools/separation.py` read texts, write cues out and search for directions;
-this module puts their refusals into the order of docs/COMMANDS.md.
+For bench/language. `language/choreo.py` and `geometry/separation.py` of the package read texts, write cues out and
+search for directions; this module puts their refusals into the order of docs/COMMANDS.md.
 """
 import os
 import sys
 
 sys.dont_write_bytecode = True  # so that importing leaves no file beside the scripts
-sys.path.insert(0, os.path.join(os.path.dirname(os.path.dirname(os.path.abspath(__file__))), "tools"))
-import choreo
-import separation
-from choreo import Refused
+sys.path.insert(0, os.path.join(os.path.dirname(os.path.dirname(os.path.abspath(__file__))), "python"))
+from hemtoghai.language import choreo
+from hemtoghai.geometry import separation
+from hemtoghai.language.choreo import Refused
 
 
 class Verdict:

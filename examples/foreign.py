@@ -1,5 +1,5 @@
 #!/usr/bin/env python3
-"""Writes the examples of trajectories that other programs make, for tools/import: one of each format that it reads.
+"""Writes the examples of trajectories that other programs make, for ./show import: one of each format that it reads.
 
     examples/foreign.py [FOLDER]       into examples/ without a folder
 
@@ -86,7 +86,7 @@ def eight(path, side, seconds=10, count=20):
 def relay(path):
     """Waypoints: each drone goes ahead, aside and back, the next one two seconds later."""
     rows = ["# Three drones hand a place on. Lines between waypoints have corners, which no drone flies at speed: run",
-            "# tools/import --smooth examples/relay.csv > relay.choreo", "drone,t,x,y,z,yaw"]
+            "# ./show import --smooth examples/relay.csv > relay.choreo", "drone,t,x,y,z,yaw"]
     for k, (name, x, y, z) in enumerate(RELAY):
         t0 = 1 + 2 * k
         for t, dx, dz in ((0, 0, 0), (t0, 0, 0), (t0 + 2, 1, 0.2), (t0 + 4, 1, 0.5), (t0 + 6, 0, 0), (13, 0, 0)):

@@ -7,12 +7,12 @@ import os
 import sys
 
 sys.dont_write_bytecode = True
-sys.path.insert(0, os.path.join(os.path.dirname(os.path.dirname(os.path.abspath(__file__))), "tools"))
-from figures import Show, grid, ring, straight, turn
+sys.path.insert(0, os.path.join(os.path.dirname(os.path.dirname(os.path.abspath(__file__))), "python"))
+from hemtoghai.writing.figures import Show, grid, ring, straight, turn
 
 COMMENT = """Eight drones in two rows gather on a ring, the ring turns by 100 degrees, and they come back.
 Shows a turn by any angle, eased at both ends: each cue has a `curve` a drone, and what is cut is cut for all at once.
-Written by examples/ring.py, which uses tools/figures.py. Run: ./show check examples/ring.choreo"""
+Written by examples/ring.py, which uses python/hemtoghai/writing/figures.py. Run: ./show check examples/ring.choreo"""
 show = Show(COMMENT, ellipsoid=(120, 300))
 rows, places = grid(4, 2, 0.8), ring(8, 1.2, first=22.5)
 # Drone k of the rows gets the place of the ring that lies in its direction, so that ways don't cross.

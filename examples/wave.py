@@ -8,13 +8,13 @@ import os
 import sys
 
 sys.dont_write_bytecode = True
-sys.path.insert(0, os.path.join(os.path.dirname(os.path.dirname(os.path.abspath(__file__))), "tools"))
-from figures import Show, cascade, mirrored, straight, turn, wave
+sys.path.insert(0, os.path.join(os.path.dirname(os.path.dirname(os.path.abspath(__file__))), "python"))
+from hemtoghai.writing.figures import Show, cascade, mirrored, straight, turn, wave
 
 COMMENT = """A row of eight drones in two groups. A wave runs outward through both at once, then the drones rise one
 after another, and then both groups swing around their inner end, one mirrored to the other.
 Shows a sine wave, a cascade and mirrored groups that fly at the same time.
-Written by examples/wave.py, which uses tools/figures.py. Run: ./show check examples/wave.choreo"""
+Written by examples/wave.py, which uses python/hemtoghai/writing/figures.py. Run: ./show check examples/wave.choreo"""
 show = Show(COMMENT, ellipsoid=(120, 300))
 right = {"r%d" % (k + 1): (0.5 + 0.5 * k, 0, 1) for k in range(4)}
 left = {name.replace("r", "l"): (-x, y, z) for name, (x, y, z) in right.items()}

@@ -1,4 +1,4 @@
-"""What the tests of the tools have in common: the program, the simulated library and its world, and runs of tools.
+"""What the tests have in common: the program, the simulated library and its world, and runs of commands.
 
 The simulated library and its drones are from one memory of the firmware, never compared with a radio or a drone.
 """
@@ -9,20 +9,23 @@ import unittest
 
 sys.dont_write_bytecode = True
 TOP = os.path.dirname(os.path.dirname(os.path.abspath(__file__)))
-TOOLS = os.path.join(TOP, "tools")
-sys.path[:0] = [TOOLS, os.path.join(TOOLS, "simulated")]
+PYTHON = os.path.join(TOP, "python")
+SIMULATED = os.path.join(PYTHON, "hemtoghai", "flying", "simulated")
+sys.path[:0] = [PYTHON, SIMULATED]
 
-import choreo
-import clock
+from hemtoghai.flying import clock
+from hemtoghai.language import choreo
+from hemtoghai.program import PROGRAM
 from cflib import air
 
+SHOW = os.path.join(TOP, "show")
 SPEED = 20
 
 
 def wants_program(test):
     """Marks a test, or a class of them, that needs the proved program: without one it is skipped. In CI, which builds
     it before, `.ci/companions` fails without it."""
-    return unittest.skipUnless(os.access(choreo.PROGRAM, os.X_OK), "the program isn't built: ./show check FILE builds it")(test)
+    return unittest.skipUnless(os.access(PROGRAM, os.X_OK), "the program isn't built: ./show check FILE builds it")(test)
 
 
 def example(name):
@@ -81,8 +84,8 @@ def holds(one, data, offset=0):
     return True
 
 
-def run(tool, *words, text=None, env=None):
-    """The status, standard output and standard error of a tool."""
-    done = subprocess.run([os.path.join(TOP, tool), *words], cwd=TOP, input=text, stdout=subprocess.PIPE,
+def run(*words, text=None, env=None):
+    """The status, standard output and standard error of a command."""
+    done = subprocess.run([SHOW, *words], cwd=TOP, input=text, stdout=subprocess.PIPE,
                           stderr=subprocess.PIPE, universal_newlines=True, timeout=300, env=env)
     return done.returncode, done.stdout, done.stderr

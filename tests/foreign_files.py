@@ -1,28 +1,18 @@
-"""Files as other programs write them, and tools/import without a process: for the tests of tools/import."""
+"""Files as other programs write them, and ./show import without a process: for the tests of ./show import."""
 import contextlib
-import importlib.machinery
-import importlib.util
 import io
 import json
 import math
 import os
 import random
-import sys
 import tempfile
 import unittest
 import zipfile
 from fractions import Fraction
 
-import common
-import choreo
-
-
-def tool(name):
-    """A tool as a module."""
-    loader = importlib.machinery.SourceFileLoader(name, os.path.join(common.TOP, "tools", name))
-    module = importlib.util.module_from_spec(importlib.util.spec_from_loader(name, loader))
-    loader.exec_module(module)
-    return module
+import common  # by which the package is found
+from hemtoghai import __main__
+from hemtoghai.language import choreo
 
 
 def drone(name, points, late=0, yaw=None, **more):
@@ -130,21 +120,17 @@ class Case(unittest.TestCase):
         return path
 
     def run_tool(self, name, *words):
-        """The status, standard output and standard error of a tool; what it doesn't catch is a fault of the test."""
-        out, said, before = io.StringIO(), io.StringIO(), sys.argv
-        sys.argv = ["tools/" + name, *map(str, words)]
-        try:
-            with contextlib.redirect_stdout(out), contextlib.redirect_stderr(said):
-                try:
-                    status = tool(name).main()
-                except SystemExit as end:
-                    status = end.code
-        finally:
-            sys.argv = before
+        """The status, standard output and standard error of a command; what it doesn't catch is a fault of the test."""
+        out, said = io.StringIO(), io.StringIO()
+        with contextlib.redirect_stdout(out), contextlib.redirect_stderr(said):
+            try:
+                status = __main__.main([*name.split(), *map(str, words)])
+            except SystemExit as end:
+                status = end.code
         return status, out.getvalue(), said.getvalue()
 
     def show_of(self, *words):
-        """The show that tools/import writes, as it is flown, its text, its bound in metres, and what is said."""
+        """The show that ./show import writes, as it is flown, its text, its bound in metres, and what is said."""
         status, out, said = self.run_tool("import", *words)
         self.assertEqual(status, 0, said)
         bound = Fraction(out.split("is at most ")[1].split()[0]) / 1000

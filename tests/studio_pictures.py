@@ -16,7 +16,7 @@ import time
 
 sys.dont_write_bytecode = True
 sys.path.insert(0, os.path.dirname(os.path.abspath(__file__)))
-from test_studio import TOP, Running, choreo
+from test_studio import PROGRAM, TOP, Running
 from test_studio_page import CONTROL, Browser, Page
 
 SIZE = 1120, 700
@@ -161,7 +161,7 @@ def show_of_document():
 
 
 def main():
-    folder, program = sys.argv[1], sys.argv[2] if len(sys.argv) > 2 else choreo.PROGRAM
+    folder, program = sys.argv[1], sys.argv[2] if len(sys.argv) > 2 else PROGRAM
     with tempfile.TemporaryDirectory() as place:
         session = Session(folder, program)
         try:

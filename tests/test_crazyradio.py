@@ -3,9 +3,7 @@ import contextlib
 import io
 import os
 import queue
-import runpy
 import struct
-import sys
 import tempfile
 import threading
 import time
@@ -13,11 +11,12 @@ import unittest
 import unittest.mock
 
 import common
-import choreo
-import clock
-import crazyradio
-import firmware
-import uploads
+from hemtoghai import __main__, streams
+from hemtoghai.language import choreo
+from hemtoghai.flying import clock
+from hemtoghai.flying import crazyradio
+from hemtoghai.flying import firmware
+from hemtoghai.flying import uploads
 from cflib import air
 from cflib.crtp import radiodriver
 
@@ -48,7 +47,7 @@ def upload(flown, text, where, *words, watch=lambda traffic: None):
     """What came of an upload through the program over simulated drones, and the link."""
     events = queue.Queue()
     radio, link = opened(flown, where, lambda *it: events.put(("heard", *it)))
-    host = uploads.Host([choreo.PROGRAM, "upload", *words], text, events)
+    host = uploads.Host([common.PROGRAM, "upload", *words], text, events)
     traffic = uploads.Traffic(flown.names, uploads.wanted_packets(flown, "--start" in words, "--readback" in words))
     try:
         carrying = uploads.Carrying(host, link, events, None, traffic)
@@ -506,7 +505,7 @@ class Paces(unittest.TestCase):
 
 @common.wants_program
 class Bridge(unittest.TestCase):
-    """tools/bridge --radio, run in this process so that the simulated library is in its place."""
+    """./show bridge --radio, run in this process so that the simulated library is in its place."""
 
     def run_bridge(self, faults=(), words=(), drones="a radio://0/80/2M/E7E7E7E701\nb radio://0/80/2M/E7E7E7E702\n", **settings):
         flown = common.example("crossing_cured")[1]
@@ -517,14 +516,10 @@ class Bridge(unittest.TestCase):
             file.write(drones)
             file.flush()
             show = os.path.join(common.TOP, "examples", "crossing_cured.choreo")
-            before, sys.argv = sys.argv, ["bridge", "--radio", file.name, *words, show]
-            try:
-                with contextlib.redirect_stdout(out), contextlib.redirect_stderr(error), self.assertRaises(SystemExit) as ended:
-                    runpy.run_path(os.path.join(common.TOOLS, "bridge"), run_name="__main__")
-            finally:
-                sys.argv = before
+            with contextlib.redirect_stdout(out), contextlib.redirect_stderr(error):
+                status = streams.status_of(lambda: __main__.main(["bridge", "--radio", file.name, *words, show]), "bridge")
         self.assertEqual(radiodriver.OPEN, [])
-        return ended.exception.code, out.getvalue() + error.getvalue(), flown
+        return status, out.getvalue() + error.getvalue(), flown
 
     def test_start(self):
         status, out, flown = self.run_bridge(words=["--start"], loss=0.2)
@@ -569,11 +564,11 @@ class Bridge(unittest.TestCase):
         with tempfile.NamedTemporaryFile("w") as file:
             file.write("a radio://0/80/2M/E7E7E7E701\nb radio://0/80/2M/E7E7E7E702\n")
             file.flush()
-            status, _, error = common.run("tools/bridge", "--radio", file.name, "examples/crossing_cured.choreo")
+            status, _, error = common.run("bridge", "--radio", file.name, "examples/crossing_cured.choreo")
         self.assertEqual((status, "no link: No module named 'cflib'" in error), (70, True), error)
 
     def test_given_up(self):
-        status, out, _ = common.run("tools/bridge", "--loss", "100", "--tick", "2", "examples/crossing_cured.choreo")
+        status, out, _ = common.run("bridge", "--loss", "100", "--tick", "2", "examples/crossing_cured.choreo")
         self.assertEqual(status, 9, out)
         self.assertIn("a, packet 0: write of 24 bytes to address 0 of memory 2 had no good answer, sent 20 times\n", out)
 
@@ -585,13 +580,13 @@ class Bridge(unittest.TestCase):
         for cue in range(32):
             rows += ["cue 1000", *("d%d move %d %d 1000000 0" % (k, k * 1000000 + cue % 2 * 100000, cue % 2 * 100000)
                                    for k in range(8)), "end"]
-        status, out, told = common.run("tools/bridge", "--delay", "5", "-", text="\n".join(rows) + "\n")
+        status, out, told = common.run("bridge", "--delay", "5", "-", text="\n".join(rows) + "\n")
         self.assertEqual(status, 0, told)
         sent = int(out.split(" packets to drones")[0].split()[-1])
         self.assertTrue(336 <= sent <= 504, out)
 
     def test_progress(self):
-        status, out, told = common.run("tools/bridge", "--rate", "10", "--delay", "100", "examples/crossing_cured.choreo")
+        status, out, told = common.run("bridge", "--rate", "10", "--delay", "100", "examples/crossing_cured.choreo")
         self.assertEqual(status, 0, out)
         self.assertRegex(told, "1 s: a [0-3]/3, b [0-4]/4\n")
 

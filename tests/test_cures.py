@@ -1,14 +1,15 @@
-"""tools/cures.py and ./show: the cure of a faulty line, by the number that is out of its range, with the ranges of
+"""The cure of a faulty line, by the number that is none or is out of its range, with the ranges and units of
 docs/LANGUAGE.md; and the hint where all places lie within 40 mm."""
+import contextlib
+import io
 import os
+import random
 import sys
 import unittest
 
-sys.dont_write_bytecode = True
-TOP = os.path.dirname(os.path.dirname(os.path.abspath(__file__)))
-sys.path.insert(0, os.path.join(TOP, "tools"))
-import cures
-import flyable
+import common  # by which the package is found
+from hemtoghai.language import cures
+from hemtoghai.writing import flyable
 
 
 class Range(unittest.TestCase):
@@ -46,6 +47,97 @@ class Range(unittest.TestCase):
         """Where no number is found, and of other faults, it is the row of the table."""
         self.assertEqual(cures.cure_of("range", b"a b c"), cures.row_of("range"))
         self.assertEqual(cures.cure_of("bad-count", b"stray 2000"), cures.row_of("bad-count"))
+
+
+class Units(unittest.TestCase):
+    """What is said in each form: a line, and words of what is wrong, of its cause and of its cure."""
+
+    def says(self, word, form, *rows):
+        for line, *wanted in rows:
+            row = cures.cure_of(word, line, form)
+            for cell, words in zip(row, wanted):
+                self.assertIn(words, cell, (line, row))
+                self.assertTrue(words or not cell, (line, row))
+
+    def test_without_a_unit(self):
+        self.says("bad-number", 2, (
+            b"drone a 0 0 1000000 0", "a coordinate is 1000000, without a unit", "`choreo 1`, which reads it as 1m",
+            "write 1m, 100cm or 1000mm"),
+            (b"drone a 0 0 1 0", "is 1, without", "", "write 1m, 1cm, 1mm or 1um, whichever is meant"),
+            (b"at a 1.5 0 0 0", "is 1.5, without", "", "write 1.5m, 1.5cm or 1.5mm, whichever is meant"),
+            (b"cue 2000", "length of a cue is 2000, without", "reads it as 2s", "write 2s or 2000ms"),
+            (b"cue 2", "is 2, without", "", "write 2s or 2ms, whichever is meant; `choreo 1` reads it as 2ms"),
+            (b"a turn 900", "a yaw is 900, without", "", "write 900deg; `choreo 1` reads it as 90deg"),
+            (b"ellipsoid 120mm 300", "H of `ellipsoid` is 300", "reads it as 300mm", "write 0.3m, 30cm or 300mm"),
+            (b"late 20", "`late` is 20", "reads it as 20ms", "write 0.02s or 20ms"),
+            (b"a move 0 0 0.0 0", "is 0.0, without", "", "write 0: "),
+            (b"a move 0 0 200000000 0", "is 200000000", "", "write m, cm, mm or um right after the number"))
+
+    def test_not_whole(self):
+        self.says("bad-number", 2, (
+            b"a move 0.5um 0 0 0", "is 0.5um, which is no whole number of micrometres", "the next after 0 is 1um",
+            "write 0 or 1um"),
+            (b"drone a -1.0000001m 0 0 0", "micrometres", "0.000001m", "write -1.000001m or -1m"),
+            (b"stray 1.5mm", "`stray` is 1.5mm, which is no whole number of millimetres", "1mm", "write 1mm or 2mm"),
+            (b"cue 0.0005s", "milliseconds", "0.001s", "write 0 or 0.001s"),
+            (b"a turn 0.05deg", "tenths of a degree", "0.1deg", "write 0 or 0.1deg"))
+
+    def test_other_units(self):
+        self.says("bad-number", 2, (
+            b"a move 2s 0 0 0", "a coordinate is 2s, which is a time", "",
+            "is a length: write its number with m, cm, mm or um"),
+            (b"a move 0s 0 0 0", "is 0s, which is a time", "", "zero needs no unit: write 0"),
+            (b"a move 1km 0 0 0", "is 1km, and km is no unit here", "", "is a length"),
+            (b"cue 1m", "is 1m, which is a length", "", "the length of a cue is a time: write its number with s or ms"),
+            (b"a turn 1rad", "rad is no unit here", "", "a yaw is an angle: write its number with deg"),
+            (b"a move .5m 0 0 0", "is .5m", "no digit before", "write 0.5m"),
+            (b"a move -1.m 0 0 0", "is -1.m", "no digit before", "write -1m"),
+            (b"a move 1,5m 0 0 0", "is 1,5m", "comma", "write 1.5m"),
+            (b"a move +1m 0 0 0", "is +1m", "a `+`", "write 1m"),
+            (b"a move m 0 0 0", "no digits", "", "m, cm, mm or um"), (b"repeat 3s", "has no unit", "", "write 3"))
+        self.says("bad-count", 2, (
+            b"drone a 0 0 1 m 0 # x", "too many", "a blank between a number and its unit", "write 1m"))
+
+    def test_ranges_in_units(self):
+        self.says("range", 2, (b"drone a 101m 0 0 0", "is 101m (101000000 micrometres), and may be -100m to 100m"),
+                  (b"cue 70s", "is 70s (70000 milliseconds), and may be 1ms to 65.535s", "65.535s", "split"),
+                  (b"stray 2m", "is 2m (2000 millimetres), and may be 0 to 1000mm"), (b"late 1.1s", "may be 0 to 1s"),
+                  (b"ellipsoid 0 1mm", "R of `ellipsoid` is 0, and may be 1mm to 2000mm"),
+                  (b"a turn -3600deg", "is -3600deg (-36000 tenths of a degree), and may be -3276.8deg to 3276.7deg"),
+                  (b"a move " + b"9" * 5000 + b"m 0 0 0", "is 999999999999.. (5001 digits), and may be -100m to 100m"),
+                  (b"repeat 0", "count of a `repeat` is 0, and may be 1 to 1000000000"))
+
+    def test_first_form(self):
+        self.says("bad-number", 1, (
+            b"drone a 1.5m 0 0 0", "is 1.5m, which is a length", "this text is in `choreo 1`",
+            "1.5m is 1500000 micrometres"),
+            (b"cue 2.5s", "is 2.5s, which is a time", "`choreo 2`", "begin the text with `choreo 2`, and write 2.5s"),
+            (b"cue 2000s", "is 2000s", "`choreo 2`", "write whole numbers, here of milliseconds"),
+            (b"cue 1.5", "is 1.5, which isn't whole", "1.5s is meant", "1.5s is 1500 milliseconds"),
+            (b"a turn 90deg", "is 90deg, which is an angle", "`choreo 2`", "90deg is 900 tenths of a degree"),
+            (b"a move 3s 0 0 0", "is 3s, which is a time", "`choreo 2`", "write whole numbers, here of micrometres"))
+        for word in (b"1e6", b"1,000", b"x", b"9" * 5000 + b"m"):
+            line = b"a move " + word + b" 0 0 0"
+            self.assertEqual(cures.cure_of("bad-number", line, 1), cures.row_of("bad-number"))
+        self.assertEqual(cures.cure_of("bad-count", b"drone a 0 0 1 m 0", 1), cures.row_of("bad-count"))
+
+    def test_form_of_the_text(self):
+        """What ./show prints of a text goes by its first line with words."""
+        for header, form in ((b"# choreo 1\n choreo 2", 2), (b"# x\nchoreo 1 # choreo 2", 1)):
+            told = io.StringIO()
+            with contextlib.redirect_stderr(told):
+                cures.print_cure("show", 3, "bad-number", header + b"\ndrone a 0 0 1m 1800\n")
+            self.assertIn("reads it as 180deg" if form == 2 else "1m is 1000000 micrometres", told.getvalue())
+
+    def test_no_word_stops_it(self):
+        """Whatever stands in the place of a number, something is said."""
+        choose = random.Random(5)
+        for _ in range(150):
+            word = "".join(choose.choices("-+.,0159mscude_ ", k=choose.choice([1, 2, 3, 5, 9]))).strip() or "-"
+            line = choose.choice(["cue %s", "stray %s", "drone a %s 0 0 0", "a turn %s", "repeat %s"]) % word
+            for form in (1, 2):
+                for fault in ("bad-number", "range", "bad-count"):
+                    self.assertEqual(len(cures.cure_of(fault, line.encode(), form)), 3, line)
 
 
 class Millimetres(unittest.TestCase):

@@ -1,15 +1,12 @@
-"""tools/deal and tools/explain --cured: shows of a few drones, worked by hand. The program isn't run here."""
+"""./show deal and ./show why --cured: shows of a few drones, worked by hand. The program isn't run here."""
 import os
 import subprocess
-import sys
 import tempfile
 import unittest
 
-sys.dont_write_bytecode = True
-TOP = os.path.dirname(os.path.dirname(os.path.abspath(__file__)))
-sys.path.insert(0, os.path.join(TOP, "tools"))
-import choreo
-import separation
+from common import SHOW, TOP
+from hemtoghai.language import choreo
+from hemtoghai.geometry import separation
 
 # Two drones form a row across, change sides, and form it again.
 TWICE = """choreo 1
@@ -128,9 +125,9 @@ end
 """
 
 
-def run(tool, *words, text):
-    """The status, standard output and standard error of a tool on a show."""
-    done = subprocess.run([os.path.join(TOP, "tools", tool), *words, "-"], cwd=TOP, input=text, timeout=120,
+def run(word, *words, text):
+    """The status, standard output and standard error of a command on a show."""
+    done = subprocess.run([SHOW, word, *words, "-"], cwd=TOP, input=text, timeout=120,
                           stdout=subprocess.PIPE, stderr=subprocess.PIPE, universal_newlines=True)
     return done.returncode, done.stdout, done.stderr
 
@@ -176,7 +173,7 @@ class Deal(unittest.TestCase):
         status, said, told = run("deal", text=LAYERS)
         self.assertEqual((status, said), (71, LAYERS), told)
         self.assertIn("f, line 9: nobody would move", told)
-        self.assertNotIn("deal", run("explain", text=LAYERS)[1])  # it would not help
+        self.assertNotIn("deal", run("why", text=LAYERS)[1])  # it would not help
         # Two of three stay, which is said, too.
         text = LAYERS.replace("formation", "drone c 5000000 0 1000000 0\nformation").replace(
             "end\ncue", "at c 5000000 900000 1000000 0\nend\ncue")
@@ -230,7 +227,7 @@ class Cured(unittest.TestCase):
         """The status and what was said of a show, and the cured one."""
         with tempfile.TemporaryDirectory() as folder:
             path = os.path.join(folder, "new")
-            status, said, told = run("explain", "--cured", path, text=text)
+            status, said, told = run("why", "--cured", path, text=text)
             with open(path) as file:
                 return status, said + told, file.read()
 
@@ -283,12 +280,12 @@ end
     def test_deal_is_said_where_it_helps(self):
         with open(os.path.join(TOP, "examples", "grid_to_ring.choreo")) as file:
             text = file.read()
-        said = run("explain", text=text)[1]
-        self.assertIn("Line 63 forms a formation whose ways cross: tools/deal deals its places anew.", said)
+        said = run("why", text=text)[1]
+        self.assertIn("Line 63 forms a formation whose ways cross: ./show deal deals its places anew.", said)
         # Drones that cross, though their places are dealt well: nothing is said of deal.
         text = "choreo 1\ndrone a 0 0 0 0\ndrone b 300000 0 0 0\ndrone c 600000 0 0 0\nformation f\n" \
                "at a 0 100000 0 0\nat b 30000 100000 0 0\nat c 60000 100000 0 0\nend\ncue 3000\nform f move\nend\n"
-        status, said, _ = run("explain", text=text)
+        status, said, _ = run("why", text=text)
         self.assertEqual((status, "deal" in said), (5, False), said)
 
 

@@ -1,4 +1,4 @@
-"""tools/explain: which remedies help, `stray` and `late` as causes, and the shortest cure. Shows worked by hand; the
+"""./show why: which remedies help, `stray` and `late` as causes, and the shortest cure. Shows worked by hand; the
 program isn't run here."""
 import os
 import sys
@@ -54,7 +54,7 @@ end""")
 class Causes(unittest.TestCase):
     def said(self, text):
         """What is said of a show that is refused."""
-        status, said, told = run("explain", text=text)
+        status, said, told = run("why", text=text)
         self.assertEqual(status, 5, said + told)
         return said
 
@@ -94,7 +94,7 @@ class Cures(unittest.TestCase):
         """What was said of a show and its cure, and the cured show."""
         with tempfile.TemporaryDirectory() as folder:
             path = os.path.join(folder, "new")
-            said = run("explain", "--cured", path, text=text)[1]
+            said = run("why", "--cured", path, text=text)[1]
             with open(path) as file:
                 return said, file.read()
 

@@ -1,4 +1,4 @@
-"""tools/flown: logs with known strays, offsets and clocks."""
+"""./show flown: logs with known strays, offsets and clocks."""
 import math
 import os
 import random
@@ -8,7 +8,7 @@ import tempfile
 import unittest
 
 import common
-import curves
+from hemtoghai.geometry import curves
 
 
 class Flown(unittest.TestCase):
@@ -41,7 +41,7 @@ class Flown(unittest.TestCase):
         return path
 
     def judged(self, path, *words):
-        status, out, said = common.run("tools/flown", *words, self.show, path)
+        status, out, said = common.run("flown", *words, self.show, path)
         self.assertEqual(said, "")
         rows = {line.split()[0]: line.split()[1:] for line in out.split("\n")[1:1 + len(self.flown.names)]}
         return status, rows, out
@@ -54,11 +54,11 @@ class Flown(unittest.TestCase):
         for words, wanted, line in (((), 0, "within 50 mm of the curve at an instant within 200 ms"),
                                     (("--stray", "30"), 1, "within 30 mm of the curve at an instant within 200 ms"),
                                     (("--late", "40"), 1, "within 50 mm of the curve at an instant within 40 ms")):
-            status, out, _ = common.run("tools/flown", *words, "-", path, text=text)
+            status, out, _ = common.run("flown", *words, "-", path, text=text)
             self.assertEqual((status, line in out), (wanted, True), out)
         self.assertNotIn("stray is 0", out)
         # without the lines it says why nothing is kept
-        status, out, _ = common.run("tools/flown", self.show, path)
+        status, out, _ = common.run("flown", self.show, path)
         self.assertEqual((status, "stray is 0, which no drone keeps" in out), (1, True))
 
     def test_window(self):
@@ -103,7 +103,7 @@ class Flown(unittest.TestCase):
     @common.wants_program
     def test_curves(self):
         with open(os.path.join(common.TOP, self.show), "rb") as show:
-            done = subprocess.run([common.choreo.PROGRAM, "play", "--step", "77"], stdin=show,
+            done = subprocess.run([common.PROGRAM, "play", "--step", "77"], stdin=show,
                                   stdout=subprocess.PIPE, timeout=60)
         self.assertEqual(done.returncode, 0)
         rows = done.stdout.decode().split("\n")
@@ -149,11 +149,11 @@ class Flown(unittest.TestCase):
             path = os.path.join(self.room.name, "bad.csv")
             with open(path, "w") as file:
                 file.write(text)
-            status, out, error = common.run("tools/flown", self.show, path)
+            status, out, error = common.run("flown", self.show, path)
             self.assertEqual((status, out), (70, ""))
             self.assertIn(said, error)
-        self.assertEqual(common.run("tools/flown", self.show, "no.csv")[0], 70)
-        status, _, error = common.run("tools/flown", self.show, self.log(leave=["b"]))
+        self.assertEqual(common.run("flown", self.show, "no.csv")[0], 70)
+        status, _, error = common.run("flown", self.show, self.log(leave=["b"]))
         self.assertEqual((status, "of b" in error), (70, True))
 
     def spoiled(self, change):
@@ -190,20 +190,20 @@ class Flown(unittest.TestCase):
                 cells = rows[50].split(",")
                 cells[column] = word
                 return [*rows[:50], ",".join(cells), *rows[51:]]
-            status, out, error = common.run("tools/flown", "--stray", "50", self.show, self.spoiled(change))
+            status, out, error = common.run("flown", "--stray", "50", self.show, self.spoiled(change))
             self.assertEqual((status, out), (70, ""), word)
             self.assertIn("row 50 of the samples isn't time,drone,x,y,z in seconds and metres", error)
         path = self.spoiled(lambda rows: [*rows[:50], "x" * 200000, *rows[50:]])
-        status, out, error = common.run("tools/flown", self.show, path)
+        status, out, error = common.run("flown", self.show, path)
         self.assertEqual((status, "this is no CSV file" in error), (70, True), error)
         for words in (("--stray", "nan"), ("--late", "inf"), ("--gap", "nan"), ("--stray", "-1")):
-            self.assertEqual(common.run("tools/flown", *words, self.show, self.log())[0], 2, words)
+            self.assertEqual(common.run("flown", *words, self.show, self.log())[0], 2, words)
 
     def test_strangers(self):
         path = self.log()
         with open(path, "a") as file:
             file.write("1,who,0,0,0\n")
-        status, out, _ = common.run("tools/flown", "--stray", "1", self.show, path)
+        status, out, _ = common.run("flown", "--stray", "1", self.show, path)
         self.assertEqual((status, out.split("\n")[0]), (0, "not of the show, and left out: who"))
 
 

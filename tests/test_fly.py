@@ -1,34 +1,22 @@
-"""tools/fly over simulated drones, at many times the speed: whole flights, the fault of each stage, and both Ctrl-C.
+"""./show fly over simulated drones, at many times the speed: whole flights, the fault of each stage, and both Ctrl-C.
 
 The simulated drones are from the same memory of the firmware as the tool; no drone was ever flown. Flights wait most
 of the time, so several run at once: all are begun before the first test, and each test waits for its own.
 """
-import concurrent.futures
 import os
 import re
 import signal
 import subprocess
-import sys
 import tempfile
 import time
 import unittest
 
 import common
+import flights
+from flights import as_if_idle, faster
 
 SHOW = os.path.join("examples", "crossing_cured.choreo")
 AT_ONCE = 6
-
-
-def faster(most):
-    """How many times faster than real a flight may run: on a machine that is busy less, or simulated links are lost."""
-    return max(1, int(most * min(1.0, 2 * os.cpu_count() / max(0.1, os.getloadavg()[0]))))
-
-
-def as_if_idle(out):
-    """An output without the lines that commands and answers were late, as they are on a machine that is busy."""
-    return re.sub("OUTSIDE OF WHAT WAS JUDGED: .*\n", "", out)
-
-
 WORDS = ["--simulate", "--sim", "speed=%d" % faster(4), "--silence", "3"]
 # Two that hover so high, and so long, that no signal comes too late: up they take 8 s and down 10 s.
 HIGH = "choreo 1\ndrone a 0 0 4000000 0\ndrone b 1500000 0 4000000 0\ncue 60000\nend\n"
@@ -85,7 +73,7 @@ def fly(words, show=SHOW, text="yes\nyes\nyes\nleave\n", signals=()):
                 file.write(show)
             show = os.path.join(room, "show.choreo")
         process = subprocess.Popen(
-            [os.path.join(common.TOOLS, "fly"), *WORDS, "--log", log, *words, show], cwd=common.TOP, stdin=subprocess.PIPE,
+            [common.SHOW, "fly", *WORDS, "--log", log, *words, show], cwd=common.TOP, stdin=subprocess.PIPE,
             stdout=subprocess.PIPE, stderr=subprocess.STDOUT, universal_newlines=True)
         out, left = "", list(signals)
         try:
@@ -105,7 +93,7 @@ def fly(words, show=SHOW, text="yes\nyes\nyes\nleave\n", signals=()):
         if os.path.exists(log):
             with open(log) as file:
                 rows = file.read()
-        judged = common.run("tools/flown", "--gap", "10000", show, log) if "started" in out else None
+        judged = common.run("flown", "--gap", "10000", show, log) if "started" in out else None
         return status, out, rows, judged
 
 
@@ -116,7 +104,7 @@ def terminal_gone():
         show = os.path.join(room, "show.choreo")
         with open(show, "w") as file:
             file.write(HIGH)
-        process = subprocess.Popen([os.path.join(common.TOOLS, "fly"), *WORDS, "--yes", "--log", log, show], cwd=common.TOP,
+        process = subprocess.Popen([common.SHOW, "fly", *WORDS, "--yes", "--log", log, show], cwd=common.TOP,
                                    stdout=subprocess.PIPE, stderr=subprocess.PIPE, universal_newlines=True)
         for line in process.stdout:
             if line.startswith("started"):
@@ -161,29 +149,8 @@ FLIGHTS = {
         "dead", "outdated", "empty", "unsettled", "astray", "memory", "locked", "deaf", "lost", "forgets", "unarmed", "stays",
         "stuck", "deafens", "refuses", "wanders:2", "falls:4", "drains:2", "hovers")},
 }
-POOL, BEGUN = concurrent.futures.ThreadPoolExecutor(AT_ONCE), {}
-AGAIN = False  # whether tests are run once more, each by itself
-
-
-def begun(name):
-    """A flight that is begun, or was before."""
-    if name not in BEGUN:
-        BEGUN[name] = POOL.submit(terminal_gone) if name == "terminal" else POOL.submit(fly, *FLIGHTS[name])
-    return BEGUN[name]
-
-
-def forget():
-    """Has flights flown anew, each when a test wants it: those before may have failed since the machine was busy."""
-    global POOL, AGAIN
-    POOL, AGAIN = concurrent.futures.ThreadPoolExecutor(AT_ONCE), True
-    BEGUN.clear()
-
-
-def setUpModule():
-    unittest.addModuleCleanup(POOL.shutdown)
-    if os.access(common.choreo.PROGRAM, os.X_OK) and "-k" not in sys.argv and not AGAIN:
-        for name in [*FLIGHTS, "terminal"]:
-            begun(name)
+RUNS = flights.Flights(AT_ONCE, {**{name: (fly, *given) for name, given in FLIGHTS.items()}, "terminal": (terminal_gone,)})
+begun, forget, setUpModule = RUNS.begun, RUNS.forget, RUNS.set_up
 
 
 def last_heights(rows):
@@ -325,17 +292,17 @@ class Flights(unittest.TestCase):
         self.assertLess(float(rows.split("\n")[-2].split(",")[0]), 50)
 
     def test_refused(self):
-        status, out, error = common.run("tools/fly", "--simulate", "examples/crossing.choreo")
+        status, out, error = common.run("fly", "--simulate", "examples/crossing.choreo")
         self.assertEqual((status, out + error), (5, "error 5 pair a b cue 1 part 28 of 64\n"))
 
     def test_words(self):
         for words in (["--sim", "what=3"], ["--sim", "stray=x"], ["--fault", "b:what"], ["--fault", "who:dead"], ["--late", "0"],
                       ["--fault", "b:silent:x"], ["--radio", "x"]):
-            self.assertEqual(common.run("tools/fly", "--simulate", *words, SHOW)[0], 2, words)
-        self.assertIn("the show has no drone who\n", common.run("tools/fly", "--simulate", "--fault", "who:dead", SHOW)[2])
-        self.assertEqual(common.run("tools/fly", SHOW)[0], 2)
-        self.assertEqual(common.run("tools/fly", "--fault", "b:dead", "--radio", "x", SHOW)[0], 2)
-        self.assertEqual(common.run("tools/fly", "--radio", "no such file", SHOW)[0], 70)
+            self.assertEqual(common.run("fly", "--simulate", *words, SHOW)[0], 2, words)
+        self.assertIn("the show has no drone who\n", common.run("fly", "--simulate", "--fault", "who:dead", SHOW)[2])
+        self.assertEqual(common.run("fly", SHOW)[0], 2)
+        self.assertEqual(common.run("fly", "--fault", "b:dead", "--radio", "x", SHOW)[0], 2)
+        self.assertEqual(common.run("fly", "--radio", "no such file", SHOW)[0], 70)
 
 
 if __name__ == "__main__":

@@ -1,9 +1,8 @@
-"""tools/fly where drones, radios and people do what they seldom do: silence, a dongle that is gone, landings from speed,
+"""./show fly where drones, radios and people do what they seldom do: silence, a dongle that is gone, landings from speed,
 pads of other heights, drones that start anew, type-ahead, and Ctrl-C at any time.
 
 The simulated drones are from memory of the firmware, and of people who fly them; no drone was ever flown.
 """
-import concurrent.futures
 import os
 import pty
 import re
@@ -18,8 +17,10 @@ import time
 import unittest
 
 import common
-import crew
-from test_fly import HIGH, PASSING, SHOW, as_if_idle, b, faster, fly, last_heights
+import flights
+from flights import as_if_idle, faster
+from hemtoghai.flying import crew
+from test_fly import HIGH, PASSING, SHOW, b, fly, last_heights
 
 AT_ONCE = 4
 # b flies through below a's place, so that a must not come down there before b has passed.
@@ -100,7 +101,7 @@ def typed(lines, wait_for, then, show=SHOW, seconds=90):
     for two seconds more after others have: the status, or None where it still waits, and the output."""
     master, slave = pty.openpty()
     process = subprocess.Popen(
-        [os.path.join(common.TOOLS, "fly"), "--simulate", "--sim", "speed=%d" % faster(4), "--silence", "4", show], cwd=common.TOP,
+        [common.SHOW, "fly", "--simulate", "--sim", "speed=%d" % faster(4), "--silence", "4", show], cwd=common.TOP,
         stdin=slave, stdout=subprocess.PIPE, stderr=subprocess.STDOUT)
     os.close(slave)
     os.set_blocking(process.stdout.fileno(), False)
@@ -125,7 +126,7 @@ def typed(lines, wait_for, then, show=SHOW, seconds=90):
 def piped():
     """A flight that gets three lines in one write, by a pipe that stays open: its status, and the output."""
     process = subprocess.Popen(
-        [os.path.join(common.TOOLS, "fly"), "--simulate", "--sim", "speed=%d" % faster(4), "--silence", "4", SHOW], cwd=common.TOP,
+        [common.SHOW, "fly", "--simulate", "--sim", "speed=%d" % faster(4), "--silence", "4", SHOW], cwd=common.TOP,
         stdin=subprocess.PIPE, stdout=subprocess.PIPE, stderr=subprocess.STDOUT)
     os.write(process.stdin.fileno(), b"yes\nyes\nno\n")
     try:
@@ -145,7 +146,7 @@ def pressed(words, *signals, show=HIGH, after=0.0, speed=4):
             file.write(show)
         speed = faster(speed)
         process = subprocess.Popen(
-            [os.path.join(common.TOOLS, "fly"), "--simulate", "--sim", "speed=%d" % speed, "--silence", "3", "--yes", *words, path],
+            [common.SHOW, "fly", "--simulate", "--sim", "speed=%d" % speed, "--silence", "3", "--yes", *words, path],
             cwd=common.TOP, stdin=subprocess.PIPE, stdout=subprocess.PIPE, stderr=subprocess.STDOUT)
         process.stdin.write(b"leave\n")  # who can't be reached is left, or the flight would go on as long as a battery
         process.stdin.close()
@@ -186,20 +187,21 @@ def coming_down(*signals):
     return pressed([], *signals, show=SHORT)
 
 
-# tools/fly with another program in the place of the proved one, which says when the first drone is told to land.
+# ./show fly with another program in the place of the proved one, which says when the first drone is told to land.
 TOLD = """
-import runpy, sys
+import sys
 sys.path[:0] = sys.argv[1:3]
-import choreo, crew
+from hemtoghai import __main__, program
+from hemtoghai.flying import crew
 from cflib import air
-choreo.PROGRAM, told, commanded = sys.argv[3], [], air.Drone.commanded
+program.PROGRAM, told, commanded = sys.argv[3], [], air.Drone.commanded
 def noted(drone, data, at=None):
     if data[0] == 8 and not told:
         told.append(crew.say("simulated: one is told to land"))
     return commanded(drone, data, at)
 air.Drone.commanded = noted
-sys.argv[:4] = [sys.argv[1] + "/fly"]
-runpy.run_path(sys.argv[0], run_name="__main__")
+sys.argv[:4] = ["show", "fly"]
+__main__.run()
 """
 
 
@@ -217,10 +219,10 @@ def while_check_is_slow(trigger, after, show, pads, speed=4):
                 out.write(text)
             return out.name
         program = file("program", "#!/bin/sh\n[ \"$1\" = check ] && [ -e %s/slow ] && sleep 3\nexec %s \"$@\"\n" % (
-            room, common.choreo.PROGRAM))
+            room, common.PROGRAM))
         os.chmod(program, 0o755)
         process = subprocess.Popen(
-            [sys.executable, "-c", TOLD, common.TOOLS, os.path.join(common.TOOLS, "simulated"), program, "--simulate", "--sim",
+            [sys.executable, "-c", TOLD, common.PYTHON, common.SIMULATED, program, "--simulate", "--sim",
              "speed=%d" % faster(speed), "--silence", "3", "--yes", "--pads", file("pads", pads), file("show.choreo", show)],
             cwd=common.TOP, stdin=subprocess.DEVNULL, stdout=subprocess.PIPE, stderr=subprocess.STDOUT, universal_newlines=True)
         out, pressed_at, wait = "", None, None
@@ -240,7 +242,7 @@ def while_check_is_slow(trigger, after, show, pads, speed=4):
 def stays(seconds=14):
     """Whether a flight still runs where one hovers in the end and nobody answers, and the output."""
     process = subprocess.Popen(
-        [os.path.join(common.TOOLS, "fly"), "--simulate", "--sim", "speed=%d" % faster(4), "--silence", "4", "--yes", *b("hovers"), SHOW],
+        [common.SHOW, "fly", "--simulate", "--sim", "speed=%d" % faster(4), "--silence", "4", "--yes", *b("hovers"), SHOW],
         cwd=common.TOP, stdin=subprocess.DEVNULL, stdout=subprocess.PIPE, stderr=subprocess.STDOUT)
     os.set_blocking(process.stdout.fileno(), False)
     out, until = "", time.monotonic() + 150
@@ -261,7 +263,7 @@ def limited(words, size):
     with tempfile.TemporaryDirectory() as room:
         log = os.path.join(room, "log.csv")
         done = subprocess.run(
-            [os.path.join(common.TOOLS, "fly"), "--simulate", "--sim", "speed=%d" % faster(4), "--silence", "4", "--yes", "--log", log, *words, SHOW],
+            [common.SHOW, "fly", "--simulate", "--sim", "speed=%d" % faster(4), "--silence", "4", "--yes", "--log", log, *words, SHOW],
             cwd=common.TOP, stdin=subprocess.DEVNULL, stdout=subprocess.PIPE, stderr=subprocess.STDOUT, universal_newlines=True,
             preexec_fn=lambda: resource.setrlimit(resource.RLIMIT_FSIZE, (size, size)))
         with open(log) as file:
@@ -279,7 +281,7 @@ def unread():
                 os.write(writing, bytes(4096))
         except BlockingIOError:
             os.set_blocking(writing, True)
-        process = subprocess.Popen([os.path.join(common.TOOLS, "fly"), "--simulate", "--sim", "speed=%d" % faster(4), "--silence", "4", "--yes", "--log", log,
+        process = subprocess.Popen([common.SHOW, "fly", "--simulate", "--sim", "speed=%d" % faster(4), "--silence", "4", "--yes", "--log", log,
                                     SHOW], cwd=common.TOP, stdin=subprocess.DEVNULL, stdout=writing, stderr=writing)
         os.close(writing)
         status = process.wait(240)
@@ -323,29 +325,8 @@ FLIGHTS = {
     "short": (fly, b("short")), "wreck": (fly, b("falls:4.6"), PASSING), "wanders": (fly, b("wanders:1"), BESIDE),
     "hovers unasked": (stays,), "disk": (limited, [], 1500), "unread": (unread,),
 }
-POOL, BEGUN = concurrent.futures.ThreadPoolExecutor(AT_ONCE), {}
-AGAIN = False
-
-
-def begun(name):
-    """A flight that is begun, or was before."""
-    if name not in BEGUN:
-        BEGUN[name] = POOL.submit(FLIGHTS[name][0], *FLIGHTS[name][1:])
-    return BEGUN[name]
-
-
-def forget():
-    """Has flights flown anew, each when a test wants it."""
-    global POOL, AGAIN
-    POOL, AGAIN = concurrent.futures.ThreadPoolExecutor(AT_ONCE), True
-    BEGUN.clear()
-
-
-def setUpModule():
-    unittest.addModuleCleanup(POOL.shutdown)
-    if os.access(common.choreo.PROGRAM, os.X_OK) and "-k" not in sys.argv and not AGAIN:
-        for name in FLIGHTS:
-            begun(name)
+RUNS = flights.Flights(AT_ONCE, FLIGHTS)
+begun, forget, setUpModule = RUNS.begun, RUNS.forget, RUNS.set_up
 
 
 def nearest(out):
@@ -550,9 +531,9 @@ class Hard(unittest.TestCase):
 
     def test_logs(self):
         # A log that can't be written is refused before the link; a disk that is full later changes nothing but the log.
-        status, out, error = common.run("tools/fly", "--simulate", "--yes", "--log", "/dev/full", SHOW)
+        status, out, error = common.run("fly", "--simulate", "--yes", "--log", "/dev/full", SHOW)
         self.assertEqual((status, "firmware" in out, "No space left" in error), (70, False, True), out + error)
-        status, out, error = common.run("tools/fly", "--simulate", "--yes", "--log", "/no/such/folder/log", SHOW)
+        status, out, error = common.run("fly", "--simulate", "--yes", "--log", "/no/such/folder/log", SHOW)
         self.assertEqual((status, "firmware" in out), (70, False), out + error)
         status, out, rows = begun("disk").result()
         self.assertEqual(status, 0, out)
@@ -568,11 +549,11 @@ class Hard(unittest.TestCase):
     def test_options_that_are_no_numbers(self):
         for word in ("jump", "silence", "stray", "accel", "battery", "wander"):
             for number in ("nan", "inf", "-1", "0", "1e99"):
-                status, _, error = common.run("tools/fly", "--simulate", "--" + word, number, SHOW)
+                status, _, error = common.run("fly", "--simulate", "--" + word, number, SHOW)
                 self.assertEqual(status, 2, (word, number))
                 self.assertIn("a number from", error)
         for words in (("--sim", "stray=nan"), ("--sim", "speed=inf"), ("--fault", "b:silent:nan"), ("--copies", "1.5"), ("--ceiling", "nan")):
-            self.assertEqual(common.run("tools/fly", "--simulate", *words, SHOW)[0], 2, words)
+            self.assertEqual(common.run("fly", "--simulate", *words, SHOW)[0], 2, words)
 
     def test_small(self):
         # Millimetres for micrometres: all of it within 40 mm.
@@ -580,7 +561,7 @@ class Hard(unittest.TestCase):
             path = os.path.join(room, "show.choreo")
             with open(path, "w") as file:
                 file.write("choreo 1\ndrone a 0 0 1000 0\ncue 2000\na move 1000 0 1000 0\nend\n")
-            status, out, _ = common.run("tools/fly", "--simulate", "--yes", path)
+            status, out, _ = common.run("fly", "--simulate", "--yes", path)
         self.assertEqual((status, "not flown: all places lie within 40 mm of the origin" in out), (1, True), out)
 
     def test_other_signals(self):

@@ -1,13 +1,10 @@
 """What ./show adds on an accepted show that no drone flies: lines and cues of shows whose numbers were worked out by hand."""
 import os
-import sys
 import unittest
 
-sys.dont_write_bytecode = True
-TOP = os.path.dirname(os.path.dirname(os.path.abspath(__file__)))
-sys.path.insert(0, os.path.join(TOP, "tools"))
-import choreo
-import flyable
+from common import TOP
+from hemtoghai.language import choreo
+from hemtoghai.writing import flyable
 
 STAND_IN = os.path.join(TOP, ".ci", "stand_in")
 
@@ -51,7 +48,7 @@ class Warnings(unittest.TestCase):
     def test_above_each_other(self):
         rows = ["choreo 1", "drone a 0 0 1000000 0", "drone b 100000 0 2000000 0", "cue 1000", "end", ""]
         self.assertEqual(flyable.warning(STAND_IN, "\n".join(rows).encode()), "a and b begin 100 mm apart from above: "
-                         "tools/legs SHOW PADS says from which pads they can go up")
+                         "./show legs SHOW PADS says from which pads they can go up")
         rows[2] = "drone b 241000 0 2000000 0"
         self.assertIsNone(flyable.warning(STAND_IN, "\n".join(rows).encode()))
 

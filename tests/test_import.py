@@ -1,4 +1,4 @@
-"""tools/import: what it reads, that its bound holds, and what it keeps. No file here was written by another program:
+"""./show import: what it reads, that its bound holds, and what it keeps. No file here was written by another program:
 all are made from memory of the formats."""
 import io
 import math
@@ -8,8 +8,8 @@ import zipfile
 from fractions import Fraction
 
 import foreign_files as files
-import choreo
-import paths
+from hemtoghai.commands import importing
+from hemtoghai.geometry import paths
 from foreign_files import Case, squared
 
 ROOT = Fraction(1733, 1000)  # above the root of three
@@ -241,13 +241,13 @@ class Kept(Case):
         path = self.file("caf\u00e9\nchoreo 1.csv", "0,0.0004,0.0004,1.0004\n3,0.0004,0.0004,1.0004\n")
         text = self.show_of("--waypoints", "--ellipsoid", "100 250", "--memory", "3 64", path)[1]
         self.assertEqual(text.split("\n")[:6], [
-            "# Source: caf??choreo 1.csv, by tools/import.",
+            "# Source: caf??choreo 1.csv, by ./show import.",
             "# Bound: at any instant what is sent is at most 0.70 mm (yaw 0.00 degrees) from the source.",
             "# Factor: 100 250 is wanted around the source's curves, and 1.0070 times that is kept clear.",
             "choreo 1", "ellipsoid 101 252", "memory 3 64"])
 
     def test_factor(self):
-        grown = files.tool("import").grown
+        grown = importing.grown
         # By hand: 1 + 10 / 120 = 1.08333.., rounded up 1.0834; 130.008 and 325.02, rounded up.
         self.assertEqual(grown((120, 300), Fraction(10)), (Fraction(10834, 10000), (131, 326)))
         self.assertEqual(grown((300, 120), Fraction(12)), (Fraction(11, 10), (330, 132)))

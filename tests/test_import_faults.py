@@ -1,4 +1,4 @@
-"""tools/import: damaged files, and what is too much of something. Each ends with a line and a status, and none with a
+"""./show import: damaged files, and what is too much of something. Each ends with a line and a status, and none with a
 traceback; nothing is written. No file here was written by another program."""
 import io
 import json
@@ -11,7 +11,7 @@ import unittest
 import zipfile
 
 import common
-import foreign
+from hemtoghai.exchange import foreign
 import foreign_files as files
 from foreign_files import Case, drone, show
 
@@ -169,7 +169,7 @@ class Faults(Case):
             status, out, said = self.run_tool("import", *words, "a.csv")
             self.assertEqual((status, out), (2, ""), words)
             self.assertNotIn("Traceback", said)
-        status, _, said = common.run("tools/import", self.file("none.csv"))
+        status, _, said = common.run("import", self.file("none.csv"))
         self.assertEqual((status, said), (70, "import: %s: No such file or directory\n" % self.file("none.csv")))
 
 

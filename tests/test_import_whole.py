@@ -1,4 +1,4 @@
-"""tools/import and tools/export_skyc: round trips, what is judged, and an imported show in the memories of simulated
+"""./show import and ./show export skyc: round trips, what is judged, and an imported show in the memories of simulated
 drones. No file here was written by another program, and no other program read one."""
 import json
 import math
@@ -12,9 +12,9 @@ from fractions import Fraction
 
 import common
 import foreign_files as files
-import choreo
-import program
-import foreign
+from hemtoghai.language import choreo
+from hemtoghai import program
+from hemtoghai.exchange import foreign
 from foreign_files import Case, squared
 
 EXAMPLES = os.path.join(common.TOP, "examples")
@@ -46,7 +46,7 @@ class RoundTrips(Case):
     def exported(self, flown, *words):
         """The paths in the .skyc of what is flown, its place, and its bound."""
         path = self.file("o.skyc")
-        status, out, said = self.run_tool("export_skyc", *words, self.file("plan", flown.plan()), path)
+        status, out, said = self.run_tool("export skyc", *words, self.file("plan", flown.plan()), path)
         self.assertEqual(status, 0, said)
         self.assertIn("are their own bytes: nothing is promised of those", out)
         return foreign.read_skyc(path), path, bound_of(out)
@@ -96,7 +96,7 @@ class RoundTrips(Case):
         # A turn of 90 degrees from rest to rest: at half its time 45; what is printed holds at 65 instants.
         text = b"choreo 1\ndrone a 0 0 1000000 0\ncue 2000\na turn 900\nend\n"
         (path,), where, _ = self.exported(choreo.flown_of(text))
-        said = self.run_tool("export_skyc", self.file("plan"), where)[1]
+        said = self.run_tool("export skyc", self.file("plan"), where)[1]
         bound = 10 * Fraction(re.search(r"and (\S+) degrees", said)[1])
         own = [0, 0, 0, 0, 900, 900, 900, 900]
         way = [[Fraction(v)] for v in own]
@@ -107,18 +107,18 @@ class RoundTrips(Case):
     def test_refused(self):
         for data, status, words in ((b"plan 1\nx\n", 70, "line 2"), (b"", 3, "header"),
                                     (b"choreo 1\ncue 1.5\n", 3, "bad-")):
-            came, out, said = self.run_tool("export_skyc", self.file("it", data), self.file("o.skyc"))
+            came, out, said = self.run_tool("export skyc", self.file("it", data), self.file("o.skyc"))
             self.assertEqual((came, out), (status, ""), said)
             self.assertIn(words, said)
         for words, status, line in (([self.file("none"), "o"], 70, "No such file"),
                                     (["--tolerance", "nan", "a", "b"], 2, ""),
                                     ([os.path.join(EXAMPLES, "crossing.choreo"), "o"], 5, "error 5 pair a b"),
                                     ([os.path.join(EXAMPLES, "solo.choreo"), self.file("no/o")], 70, "No such file")):
-            came, out, said = self.run_tool("export_skyc", *words)
+            came, out, said = self.run_tool("export skyc", *words)
             self.assertEqual((came, out), (status, ""), said)
             self.assertIn(line, said)
         path = self.file("solo.skyc")
-        self.assertEqual(self.run_tool("export_skyc", os.path.join(EXAMPLES, "solo.choreo"), path)[0], 0)
+        self.assertEqual(self.run_tool("export skyc", os.path.join(EXAMPLES, "solo.choreo"), path)[0], 0)
         self.assertEqual([way.name for way in foreign.read_skyc(path)], ["solo"])
 
 
@@ -148,7 +148,7 @@ class Judged(Case):
         self.assertIn("TOO NEAR: at this instant, by the file's own curves, two ellipsoids 120 300 share a point", out)
         self.assertIn("at 2.000 s of the file, with 83.3 % of the distance", out)
         self.assertIn("drone_1 at (1000, 0, 1000) mm by the file\n  drone_2 at (1000, 200, 1000) mm by the file", out)
-        self.assertIn("tools/explain, of the import", out)
+        self.assertIn("./show why, of the import", out)
         self.assertIn("TOO NEAR: no depth helps", out)
 
     def test_above(self):
@@ -209,7 +209,7 @@ class Whole(Case):
             names = [os.path.join(EXAMPLES, it) for it in (name, "eight_right.csv")[:1 + (name == "eight_left.csv")]]
             status, out, said = self.run_tool("import", *words, *names)
             self.assertEqual((status, "corners" in said), (0, False), said)
-            done = subprocess.run([choreo.PROGRAM, "check"], input=out.encode(), stdout=subprocess.PIPE, timeout=60)
+            done = subprocess.run([common.PROGRAM, "check"], input=out.encode(), stdout=subprocess.PIPE, timeout=60)
             self.assertEqual(done.returncode, 0, done.stdout)
 
     def test_uploaded(self):
@@ -217,7 +217,7 @@ class Whole(Case):
         flown, text, _, _ = self.show_of(os.path.join(EXAMPLES, "rising.skyc"))
         os.mkdir(self.file("memories"))
         spoilt = ["--loss", "20", "--again", "5", "--late", "5", "--seed", "7"]
-        status, out, said = common.run("tools/bridge", *spoilt, "--start", "--memory", self.file("memories"),
+        status, out, said = common.run("bridge", *spoilt, "--start", "--memory", self.file("memories"),
                                        self.file("rising.choreo", text))
         self.assertEqual(status, 0, out + said)
         self.assertIn("trajectory 0 started", out)

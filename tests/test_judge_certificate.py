@@ -1,4 +1,4 @@
-"""tools/judge_certificate: what it takes for a plan of the show, and what it never calls valid. Certificates are by
+"""./show judge: what it takes for a plan of the show, and what it never calls valid. Certificates are by
 hand: `r`, `n` and `a` are words of directions that docs/SEPARATION.md numbers, and docs/COMMANDS.md has these trees."""
 import os
 import tempfile
@@ -26,7 +26,7 @@ class Judge(unittest.TestCase):
 
     def judged(self, show=None, plan=None, certificate=GOOD):
         """The status of the tool, and what it says."""
-        status, said, told = run("tools/judge_certificate", self.file("show", self.show if show is None else show),
+        status, said, told = run("judge", self.file("show", self.show if show is None else show),
                                  self.file("plan", self.plan if plan is None else plan),
                                  self.file("certificate", certificate))
         self.assertNotIn("Traceback", told)
@@ -103,7 +103,7 @@ class Judge(unittest.TestCase):
         self.file("show", self.show)
         for words in (("/dev/zero", "plan", "certificate"), ("show", "/dev/zero", "certificate"),
                       ("none", "plan", "x")):
-            status, said, told = run("tools/judge_certificate", *(
+            status, said, told = run("judge", *(
                 word if word.startswith("/") else os.path.join(self.room, word) for word in words))
             self.assertEqual((status, said, told.count("\n")), (70, "", 1), told)
 

@@ -15,11 +15,8 @@ import tempfile
 import time
 import unittest
 
-TOP = os.path.dirname(os.path.dirname(os.path.abspath(__file__)))
-sys.dont_write_bytecode = True
-sys.path.insert(0, os.path.join(TOP, "tools"))
-
-import commands
+from common import TOP
+from hemtoghai.launching import words as commands
 
 # As rt does, it keeps others out of the crate's folder and of those below it, refuses a crate whose lower ones aren't
 # proved, builds PROGRAM, and runs a try in a folder of its own below TMPDIR. It notes each call in `calls`. Where SLOW
@@ -103,7 +100,7 @@ class Place(unittest.TestCase):
         self.addCleanup(folder.cleanup)
         self.place = os.path.join(folder.name, "place")
         os.mkdir(self.place)
-        for name in ("tools", "docs"):
+        for name in ("python", "docs"):
             os.symlink(os.path.join(TOP, name), os.path.join(self.place, name))
         shutil.copy(os.path.join(TOP, "show"), self.place)
         self.file("VERSION", "1.2.3\n")
@@ -404,8 +401,8 @@ class Words(Processes):
     def test_no_table(self):
         os.remove(self.path("docs"))
         os.makedirs(self.path("docs"))
-        os.remove(self.path("tools"))
-        shutil.copytree(os.path.join(TOP, "tools"), self.path("tools"))
+        os.remove(self.path("python"))
+        shutil.copytree(os.path.join(TOP, "python"), self.path("python"))
         status, said, told = self.show("check", "good")
         self.assertEqual((status, said, told.count("\n")), (70, "", 1), told)
         self.assertIn("docs/COMMANDS.md: No such file", told)
@@ -474,7 +471,7 @@ class Words(Processes):
         os.close(terminal)
         _, status = os.waitpid(child, 0)
         self.assertEqual((os.waitstatus_to_exitcode(status), out.decode().replace("\r", "")), (
-            2, "show: upload writes frames for a bridge, and nothing for people: tools/bridge good\nerror 2 usage\n"))
+            2, "show: upload writes frames for a bridge, and nothing for people: ./show bridge good\nerror 2 usage\n"))
 
     def test_files(self):
         self.assertEqual(self.show("verify", "good", "bad")[1:2], ("error 3 line 2 bad-number\n",))
@@ -630,7 +627,7 @@ class Edges(Place):
         path = "PATH=%s:/usr/bin:/bin " % self.path("bin")
         try:
             seen = self.shell(path + "python3 -c 'import sys; open(%s); sys.exit(sys.version_info < (3, 9))'" % repr(
-                os.path.join(TOP, "tools", "streams.py")).replace("'", '"'), user=65534, extra_groups=[])
+                os.path.join(TOP, "python", "hemtoghai", "streams.py")).replace("'", '"'), user=65534, extra_groups=[])
         except OSError:
             self.skipTest("root can't be somebody else here")
         if seen[0]:
@@ -645,7 +642,7 @@ class Edges(Place):
     def test_exchanged(self):
         # What was hashed runs, also where another program takes its name, or its file, before it starts.
         path = self.path("crates/show_cli/out/show_cli")
-        code = ("import sys; sys.path[:0] = ['tools']\nimport program, subprocess\nfile = program.runs()\n"
+        code = ("import sys; sys.path[:0] = ['python']\nimport subprocess\nfrom hemtoghai import program\nfile = program.runs()\n"
                 "with open(%r, 'w') as other:\n    other.write('#!/bin/sh\\necho theirs\\n')\n"
                 "print(subprocess.run([file], stdout=subprocess.PIPE).stdout.decode(), program.fault())" % path)
         self.program("#!/bin/sh\necho ours\n")
@@ -674,14 +671,14 @@ class Speed(Place):
                               env=self.settings(self.place))
         self.assertEqual((done.returncode, done.stdout), (0, "a\n"), done.stderr)
         imported = {line.split("|")[2].strip() for line in done.stderr.splitlines() if line.count("|") == 2}
-        self.assertLessEqual({"commands", "running", "seen"}, imported)
+        self.assertLessEqual({"hemtoghai.launching." + name for name in ("words", "running", "seen")}, imported)
         slow = {"hashlib", "json", "re", "subprocess", "tempfile", "typing", "records", "collections"}
         self.assertEqual(imported & slow, set())
 
     def test_each_change_is_seen(self):
         self.show("check", "good")
-        code = "import sys; sys.path[:0] = ['tools']\nimport program, seen\nprint(seen.is_as_seen(program.PROGRAM))"
-        note = ("import sys; sys.path[:0] = ['tools']\nimport program, seen\nseen.SETTLED = -99\n"
+        code = "import sys; sys.path[:0] = ['python']\nfrom hemtoghai import program\nfrom hemtoghai.launching import seen\nprint(seen.is_as_seen(program.PROGRAM))"
+        note = ("import sys; sys.path[:0] = ['python']\nfrom hemtoghai import program\nfrom hemtoghai.launching import seen\nseen.SETTLED = -99\n"
                 "print(seen.is_known_current(program.PROGRAM))")
 
         def said(text):

@@ -1,4 +1,4 @@
-"""tools/legs, legs.py and landings.py: ways up and down that `check` accepts, refusals that say what to change, and
+"""./show legs, legs.py and landings.py: ways up and down that `check` accepts, refusals that say what to change, and
 landings that are judged."""
 import math
 import os
@@ -9,10 +9,10 @@ import tempfile
 import unittest
 
 import common
-import choreo
-import curves
-import landings
-import legs
+from hemtoghai.language import choreo
+from hemtoghai.geometry import curves
+from hemtoghai.flying import landings
+from hemtoghai.flying import legs
 
 ABOVE = """choreo 1
 drone a 0 0 500000 0
@@ -45,7 +45,7 @@ def up(pads, firsts, given=None):
 
 def check(text):
     """The status of the proved program's check, asked by itself."""
-    return subprocess.run([choreo.PROGRAM, "check"], input=text, stdout=subprocess.PIPE).returncode
+    return subprocess.run([common.PROGRAM, "check"], input=text, stdout=subprocess.PIPE).returncode
 
 
 def nearest(leg):
@@ -361,7 +361,7 @@ class AllLand(unittest.TestCase):
 class Tool(unittest.TestCase):
     def test_files(self):
         with tempfile.TemporaryDirectory() as room:
-            status, out, error = common.run("tools/legs", "--out", room, "examples/crossing_cured.choreo")
+            status, out, error = common.run("legs", "--out", room, "examples/crossing_cured.choreo")
             self.assertEqual((status, error), (0, ""))
             for name in ("up", "down"):
                 with open(os.path.join(room, name + ".choreo"), "rb") as file:
@@ -372,21 +372,21 @@ class Tool(unittest.TestCase):
             pads = os.path.join(room, "pads")
             with open(pads, "w") as file:
                 file.write("# a on a riser\na 100000 0 300000\nb 1000000 -50000 0\n")
-            status, out, _ = common.run("tools/legs", "--dry", "examples/crossing_cured.choreo", pads)
+            status, out, _ = common.run("legs", "--dry", "examples/crossing_cured.choreo", pads)
             self.assertEqual((status, "a to (0.10, 0.00, 1.00)" in out), (0, True), out)
             self.assertEqual(sorted(os.listdir(room)), ["down.choreo", "pads", "up.choreo"])
             for text, said in (("a 0 0\n", "line 1: `NAME X Y Z` in micrometres is wanted"), ("a 0 0 0\n", "no pad for b")):
                 with open(pads, "w") as file:
                     file.write(text)
-                status, _, error = common.run("tools/legs", "--dry", "examples/crossing_cured.choreo", pads)
+                status, _, error = common.run("legs", "--dry", "examples/crossing_cured.choreo", pads)
                 self.assertEqual((status, said in error), (70, True), error)
 
     def test_refused(self):
-        status, out, _ = common.run("tools/legs", "--dry", "-", text=ABOVE)
+        status, out, _ = common.run("legs", "--dry", "-", text=ABOVE)
         self.assertEqual(status, 16)
         self.assertTrue(re.search("no way up: a and b come too near.*\nno way down: a and b", out), out)
-        self.assertEqual(common.run("tools/legs", "--dry", "examples/crossing.choreo")[:2][0], 5)
-        self.assertEqual(common.run("tools/legs", "--dry", "no such file")[0], 70)
+        self.assertEqual(common.run("legs", "--dry", "examples/crossing.choreo")[:2][0], 5)
+        self.assertEqual(common.run("legs", "--dry", "no such file")[0], 70)
 
 
 if __name__ == "__main__":

@@ -1,4 +1,4 @@
-"""The library for C, as tools/library made it in library/out: from C, C++, Rust and Python, by many threads at once,
+"""The library for C, as ./show library made it in library/out: from C, C++, Rust and Python, by many threads at once,
 and with each malloc failing in turn; hemtoghai.py with the library and with the program; and the programs of
 docs/CALLING.md. What is expected is the program's own answer, or that of the documents. What needs a compiler or a
 build that isn't there, or isn't of these sources, is skipped."""
@@ -17,9 +17,8 @@ from unittest import mock
 
 sys.dont_write_bytecode = True
 sys.path.insert(0, os.path.dirname(os.path.abspath(__file__)))
-from common import TOP, wants_program
-import built
-import choreo
+from common import PROGRAM, TOP, wants_program
+from hemtoghai.launching import built
 
 OUT = os.path.join(TOP, "library", "out")
 MODULE = os.path.join(TOP, "library", "hemtoghai.py")
@@ -93,7 +92,7 @@ def blocks_of(language):
 
 
 def is_made():
-    """Whether library/out is what tools/library makes of these sources."""
+    """Whether library/out is what ./show library makes of these sources."""
     try:
         with open(os.path.join(OUT, "MANIFEST.json")) as file:
             record = json.load(file)
@@ -111,7 +110,7 @@ class Room(unittest.TestCase):
     def setUpClass(cls):
         if Room.room is None:
             if not is_made():
-                raise unittest.SkipTest("the library isn't the one of these sources: tools/library makes it")
+                raise unittest.SkipTest("the library isn't the one of these sources: ./show library makes it")
             if not shutil.which("cc"):
                 raise unittest.SkipTest("there is no C compiler")
             Room.room = tempfile.mkdtemp()
@@ -249,7 +248,7 @@ class Judges(Room):
 
     def judges(self):
         """The module by the library and by the program."""
-        return self.by_library(), module_by(HEMTOGHAI_PROGRAM=choreo.PROGRAM)
+        return self.by_library(), module_by(HEMTOGHAI_PROGRAM=PROGRAM)
 
     @wants_program
     def test_same_answers(self):
@@ -259,7 +258,7 @@ class Judges(Room):
         for show in SHOWS:
             text = text_of(show)
             for words in WORDS:
-                status, answer = said(choreo.PROGRAM, *words.split(), text=text)
+                status, answer = said(PROGRAM, *words.split(), text=text)
                 for module in (library, program):
                     self.assertEqual(tuple(module.run(words, text)), (status, answer), (words, show))
 

@@ -1,17 +1,14 @@
-"""tools/picture: what the page is given, and the drawing. How the page looks isn't tested here; it was looked at in
+"""./show picture: what the page is given, and the drawing. How the page looks isn't tested here; it was looked at in
 Chromium."""
 import json
 import os
 import re
 import subprocess
-import sys
 import tempfile
 import unittest
 
-sys.dont_write_bytecode = True
-TOP = os.path.dirname(os.path.dirname(os.path.abspath(__file__)))
-sys.path.insert(0, os.path.join(TOP, "tools"))
-import drawing
+from common import SHOW, TOP
+from hemtoghai.seeing import drawing
 
 STAND_IN = ["--program", os.path.join(TOP, ".ci", "stand_in")]
 # In both cues the two pass one another, in the first 100 mm apart and in the second at one place.
@@ -36,7 +33,7 @@ end
 
 def picture(*words, text=None):
     """The status, standard output and standard error of the tool."""
-    done = subprocess.run([os.path.join(TOP, "tools", "picture"), *words], cwd=TOP, input=text, timeout=120,
+    done = subprocess.run([SHOW, "picture", *words], cwd=TOP, input=text, timeout=120,
                           stdout=subprocess.PIPE, stderr=subprocess.PIPE, universal_newlines=True)
     return done.returncode, done.stdout, done.stderr
 
@@ -102,7 +99,7 @@ class Drawing(unittest.TestCase):
         self.assertEqual(status, 0, told)
         self.assertEqual((said.count("<ellipse"), said.count("<circle")), (32, 32))
         with open(os.path.join(TOP, "docs", "picture.svg")) as file:
-            # Made by tools/picture --svg examples/grid_to_ring_dealt.choreo > docs/picture.svg.
+            # Made by ./show picture --svg examples/grid_to_ring_dealt.choreo > docs/picture.svg.
             self.assertEqual(said, file.read())
 
     def test_faulty(self):

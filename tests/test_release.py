@@ -1,4 +1,4 @@
-"""tools/release, the manual page and the completion; ./show, tools and library of a release, unpacked where there is
+"""./show release, the manual page and the completion; ./show, tools and library of a release, unpacked where there is
 no rt and no repository. A repository is made for it with the files of this one, two small crates, and the program and
 library that were built. Where the program isn't built here .ci/stand_in is in its place, and where the library isn't,
 files of a few bytes are. Machines other than this one weren't tried."""
@@ -18,13 +18,10 @@ import tempfile
 import unittest
 from unittest import mock
 
-sys.dont_write_bytecode = True
-TOP = os.path.dirname(os.path.dirname(os.path.abspath(__file__)))
-sys.path.insert(0, os.path.join(TOP, "tools"))
-import choreo
-import commands
-import machine
-import manual
+from common import PROGRAM, TOP
+from hemtoghai import machine
+from hemtoghai.language import choreo
+from hemtoghai.launching import manual, words as commands
 
 PROVED = "logic=proved functions=3 axioms=1"
 STAND_IN = """#!/bin/sh
@@ -32,7 +29,7 @@ case $1 in check | compile | play | upload) exec %s %s "$@" ;; esac
 echo error 2 usage
 exit 2
 """ % (sys.executable, os.path.join(TOP, ".ci", "stand_in"))
-IS_BUILT = os.access(choreo.PROGRAM, os.X_OK)
+IS_BUILT = os.access(PROGRAM, os.X_OK)
 LIBRARY = os.path.join(TOP, "library", "out")
 HAS_LIBRARY = os.path.exists(os.path.join(LIBRARY, "MANIFEST.json"))
 LIB = ["library/out/lib/libhemtoghai.so", "library/out/lib/libhemtoghai.so.0", "library/out/lib/libhemtoghai.so.7.8.9"]
@@ -57,7 +54,7 @@ class Repository:
 
     def __init__(self, room):
         self.place = os.path.join(room, "repository")
-        for name in ("docs", "examples", "tools", "library"):
+        for name in ("docs", "examples", "python", "tools", "library"):
             shutil.copytree(os.path.join(TOP, name), self.path(name),
                             ignore=shutil.ignore_patterns("__pycache__", "out", "target"))
         shutil.copy(os.path.join(TOP, "show"), self.place)
@@ -71,7 +68,7 @@ class Repository:
         self.program = self.path("crates/show_cli/out/show_cli")
         self.file(self.program, STAND_IN, 0o755)
         if IS_BUILT:
-            shutil.copy(choreo.PROGRAM, self.program)
+            shutil.copy(PROGRAM, self.program)
         self.git("init", "-q")
         self.commit()
         self.record()
@@ -106,12 +103,12 @@ class Repository:
 
     def said(self, code):
         """What an expression over the records of ./show of the place is, as text."""
-        code = "import sys; sys.dont_write_bytecode = True; sys.path[:0] = ['tools']\nimport records\nprint(%s)" % code
+        code = "import sys; sys.dont_write_bytecode = True; sys.path[:0] = ['python']\nfrom hemtoghai.launching import records\nprint(%s)" % code
         return subprocess.run([sys.executable, "-c", code], cwd=self.place, check=True, stdout=subprocess.PIPE,
                               env=self.settings()).stdout.decode().strip()
 
     def library(self, said=PROVED):
-        """Makes the files of the library, and notes their build, as tools/library does."""
+        """Makes the files of the library, and notes their build, as ./show library does."""
         out = self.path("library/out")
         for name, source in (("include/hemtoghai.h", "library/hemtoghai.h"),
                              ("python/hemtoghai.py", "library/hemtoghai.py")):
@@ -134,8 +131,8 @@ class Repository:
         self.said("records.write_record(%r, records.stamp(records.crates_below('show_cli')))" % said)
 
     def release(self, *words):
-        """The status, standard output and standard error of tools/release."""
-        return done(["tools/release", "--out", os.path.dirname(self.place), *words], self.place, env=self.settings())
+        """The status, standard output and standard error of ./show release."""
+        return done(["./show", "release", "--out", os.path.dirname(self.place), *words], self.place, env=self.settings())
 
     def packed(self, changed=""):
         """The path of the archive."""
@@ -248,7 +245,7 @@ class Release(unittest.TestCase):
             folders[:] = [it for it in folders if it != "__pycache__"]  # of a tool that ran before this test
             found += [os.path.relpath(os.path.join(folder, name), self.top) for name in names]
         self.assertEqual(sorted([*manifest["files"], "MANIFEST.json"]), sorted(found))
-        for path in ("README.md", "show", "docs/COMMANDS.md", "examples/solo.choreo", "tools/simulated/cflib/air.py",
+        for path in ("README.md", "show", "docs/COMMANDS.md", "examples/solo.choreo", "python/hemtoghai/flying/simulated/cflib/air.py",
                      "share/show.1", "share/show.bash", "crates/show_cli/out/show_cli", "library/check.c",
                      "library/out/lib/libhemtoghai.a", *LIB, "library/out/include/hemtoghai.h",
                      "library/out/lib/pkgconfig/hemtoghai.pc", "library/out/python/hemtoghai.py"):
@@ -292,7 +289,7 @@ class Release(unittest.TestCase):
         wanted = 0, "Program %s ok drones 1 cues 1 duration_ms 2000\n" % PROVED, ""
         self.assertEqual(self.asked("library", HEMTOGHAI_PROGRAM=program), wanted)
 
-    @unittest.skipUnless(HAS_LIBRARY, "the library isn't built: tools/library builds it")
+    @unittest.skipUnless(HAS_LIBRARY, "the library isn't built: ./show library builds it")
     def test_module_by_library(self):
         for place in ("library", "library/out/python"):
             wanted = 0, "Library %s ok drones 1 cues 1 duration_ms 2000\n" % PROVED, ""
@@ -319,9 +316,9 @@ class Release(unittest.TestCase):
         self.assertTrue(text.startswith("# Hemtoghai 7.8.9\n"), text[:99])
         for word in ("rt check", "bench/", "@VERSION@", "of the repository"):
             self.assertNotIn(word, text)
-        for path in re.findall(r"\]\(([^)#]*)\)", text) + re.findall(r"`((?:share|docs|tools)/[a-z_.0-9]+)", text):
+        for path in re.findall(r"\]\(([^)#]*)\)", text) + re.findall(r"`((?:share|docs|python)/[a-z_.0-9/]+)", text):
             self.assertTrue(os.path.exists(os.path.join(self.top, path)), path)
-        self.assertFalse(os.path.exists(os.path.join(self.top, "tools", "release.md")))
+        self.assertFalse(os.path.exists(os.path.join(self.top, "python", "hemtoghai", "launching", "release.md")))
 
     def differing(self):
         """What --version says of files that aren't as released."""
@@ -332,7 +329,8 @@ class Release(unittest.TestCase):
     def test_one_byte_of_any_file(self):
         # The program and the manifest are judged by themselves.
         names = [name for name in self.manifest()["files"] if not os.path.islink(os.path.join(self.top, name))]
-        fronts = ("docs/F", "examples/so", "share/", "VERSION", "README", "tools/f", "library/out/lib/libhemtoghai.a")
+        fronts = ("docs/F", "examples/so", "share/", "VERSION", "README", "tools/f", "python/hemtoghai/flying/",
+                  "library/out/lib/libhemtoghai.a")
         chosen = [name for name in sorted(names) if name.startswith(fronts)]
         self.assertGreater(len(chosen), 15)
         for name in chosen:
@@ -372,42 +370,45 @@ class Release(unittest.TestCase):
         mark = os.path.join(self.top, "mark")
         code = ("open(%r, 'a').write(__name__ + '\\n')\n" % mark).encode()
         names = ["fcntl.py", "os.py", "json.py", "site.py", "sitecustomize.py", "commands.py", "records/__init__.py"]
-        names += ["tools/" + name for name in (
-            "json.py", "re.py", "math.py", "argparse.py", "hashlib.py", "_sha2.py", "choreo/__init__.py",
-            "companion/__init__.py", "program/__init__.py", "usercustomize.py", "__init__.py")]
+        names += ["python/" + name for name in (
+            "json.py", "re.py", "math.py", "argparse.py", "hashlib.py", "_sha2.py", "usercustomize.py", "__init__.py",
+            "hemtoghai.py", "hemtoghai/json.py", "hemtoghai/language/re.py", "hemtoghai/language/choreo/__init__.py",
+            "hemtoghai/companion/__init__.py", "hemtoghai/program/__init__.py", "hemtoghai/commands/why/__init__.py")]
         tag = sys.implementation.cache_tag
         for name in names:
             self.added(name, code)
-        for name in ("choreo", "commands", "separation"):
-            source = os.path.join(self.top, "tools", name + ".py")
+        for module in ("language/choreo", "launching/words", "geometry/separation"):
+            folder, name = os.path.split("python/hemtoghai/" + module)
+            source = os.path.join(self.top, folder, name + ".py")
             found = os.stat(source)
             head = importlib.util.MAGIC_NUMBER + bytes(4) + int(found.st_mtime).to_bytes(4, "little") + (
                 found.st_size & 0xFFFFFFFF).to_bytes(4, "little")
-            kept = "tools/__pycache__/%s.%s.pyc" % (name, tag)
+            kept = "%s/__pycache__/%s.%s.pyc" % (folder, name, tag)
             self.added(kept, head + marshal.dumps(compile(code, name, "exec")))
             names.append(kept)
-            self.added("tools/%s.abi3.so" % name, b"no library")
-            names.append("tools/%s.abi3.so" % name)
+            self.added("%s/%s.abi3.so" % (folder, name), b"no library")
+            names.append("%s/%s.abi3.so" % (folder, name))
         self.added("crates/show_cli/out/more", b"")
         os.symlink("nowhere", os.path.join(self.top, "docs", "link"))
         self.addCleanup(os.remove, os.path.join(self.top, "docs", "link"))
         names += ["crates/show_cli/out/more", "docs/link"]
         self.assertEqual(self.differing(), ["not in the release: " + name for name in sorted(names)])
         for words, statuses in ((("show", "check", "examples/crossing.choreo"), (5,)), (("show", "chek"), (2,)),
-                                (("tools/explain", "examples/crossing.choreo"), (5,)),
-                                (("tools/summary", "examples/solo.choreo"), (0,)),
-                                (("tools/deal", "examples/grid_to_ring.choreo"), (0,)),
-                                (("tools/without", "examples/crossing_cured.choreo", "a"), (0,)),
-                                (("tools/picture", "examples/solo.choreo"), (0,)), (("tools/export", "x", "y"), (70,)),
-                                (("tools/import", "examples/relay.csv"), (0, 1)), (("tools/release",), (70,)),
-                                (("tools/export_skyc", "examples/solo.choreo", "/dev/null"), (0,)),
-                                (("tools/judge_certificate", "a", "b", "c"), (70,)),
-                                (("tools/bridge", "examples/solo.choreo"), (0,))):
+                                (("show", "why", "examples/crossing.choreo"), (5,)),
+                                (("show", "summary", "examples/solo.choreo"), (0,)),
+                                (("show", "deal", "examples/grid_to_ring.choreo"), (0,)),
+                                (("show", "without", "examples/crossing_cured.choreo", "a"), (0,)),
+                                (("show", "picture", "examples/solo.choreo"), (0,)), (("show", "export", "csv", "x", "y"), (70,)),
+                                (("show", "import", "examples/relay.csv"), (0, 1)), (("show", "release",), (70,)),
+                                (("show", "export", "skyc", "examples/solo.choreo", "/dev/null"), (0,)),
+                                (("show", "judge", "a", "b", "c"), (70,)),
+                                (("show", "bridge", "examples/solo.choreo"), (0,))):
             status, out, error = self.run_there(*words)
             self.assertIn(status, statuses, (words, out[-300:], error))
             self.assertFalse(os.path.exists(mark), words)
         # They would be run, if anything did import them.
-        done([os.path.join(self.bin, "python3"), "-B", "-c", "import choreo"], os.path.join(self.top, "tools"))
+        done([os.path.join(self.bin, "python3"), "-B", "-c", "import choreo"],
+             os.path.join(self.top, "python", "hemtoghai", "language"))
         self.assertTrue(os.path.exists(mark))
         os.remove(mark)
 
@@ -419,18 +420,18 @@ class Release(unittest.TestCase):
         for text in (b"", b"{", b"[]", b"{}", before[:200], b'{"files": 7}', b'{"sha256": 7, "files": {}}'):
             with open(path, "wb") as file:
                 file.write(text)
-            for words in (("show", "check", "examples/solo.choreo"), ("tools/explain", "examples/solo.choreo")):
+            for words in (("show", "check", "examples/solo.choreo"), ("show", "why", "examples/solo.choreo")):
                 status, out, error = self.run_there(*words)
                 self.assertEqual((status, out, error.count("\n")), (70, "", 1), (text, words, error))
                 self.assertNotIn("Traceback", error)
 
     def test_missing_module(self):
-        os.rename(os.path.join(self.top, "tools", "running.py"), os.path.join(self.top, "away"))
-        self.addCleanup(os.rename, os.path.join(self.top, "away"), os.path.join(self.top, "tools", "running.py"))
-        for words in (("show", "check", "examples/solo.choreo"), ("tools/explain", "examples/solo.choreo")):
+        os.rename(os.path.join(self.top, "python", "hemtoghai", "launching", "running.py"), os.path.join(self.top, "away"))
+        self.addCleanup(os.rename, os.path.join(self.top, "away"), os.path.join(self.top, "python", "hemtoghai", "launching", "running.py"))
+        for words in (("show", "check", "examples/solo.choreo"), ("show", "why", "examples/solo.choreo")):
             status, out, error = self.run_there(*words)
             self.assertEqual((status, out, error.count("\n")), (70, "", 1), error)
-            self.assertIn("tools/running.py is missing: unpack the release anew", error)
+            self.assertIn("python/hemtoghai/launching/running.py is missing: unpack the release anew", error)
 
     def test_commands(self):
         self.assertEqual(self.run_there("show", "check", "examples/solo.choreo"),
@@ -441,7 +442,7 @@ class Release(unittest.TestCase):
         status, plan, _ = self.run_there("show", "compile", "examples/crossing_cured.choreo")
         with open(os.path.join(TOP, "examples", "crossing_cured.choreo"), "rb") as file:
             self.assertEqual((status, plan), (0, choreo.flown_of(file.read()).plan()))
-        status, out, error = self.run_there("tools/release")
+        status, out, error = self.run_there("show", "release")
         self.assertEqual((status, out, "this is a release" in error), (70, "", True))
         status, _, error = self.run_there("show", "--unproved", "check", "examples/solo.choreo")
         self.assertEqual((status, "no sources" in error), (70, True))
@@ -458,18 +459,18 @@ class Release(unittest.TestCase):
             self.assertLess(ended.ru_utime + ended.ru_stime - begun.ru_utime - begun.ru_stime, 1)
 
     def test_flown(self):
-        status, out, error = self.run_there("tools/bridge", "--loss", "20", "--start", "examples/solo.choreo")
+        status, out, error = self.run_there("show", "bridge", "--loss", "20", "--start", "examples/solo.choreo")
         self.assertEqual(status, 0, error)
         self.assertIn("solo: 28 bytes from 0 on as the show has them; trajectory 0 started", out)
         if IS_BUILT:
             words = "--simulate", "--yes", "--sim", "speed=10", "examples/solo.choreo"
-            status, out, error = self.run_there("tools/fly", *words)
+            status, out, error = self.run_there("show", "fly", *words)
             self.assertEqual((status, "landed" in out), (0, True), out + error)
 
     def test_tools(self):
-        self.assertEqual(self.run_there("tools/explain", "examples/crossing.choreo")[0], 5)
-        self.assertEqual(self.run_there("tools/summary", "examples/ring.choreo")[0], 0)
-        status, out, error = self.run_there("tools/picture", "examples/crossing_cured.choreo")
+        self.assertEqual(self.run_there("show", "why", "examples/crossing.choreo")[0], 5)
+        self.assertEqual(self.run_there("show", "summary", "examples/ring.choreo")[0], 0)
+        status, out, error = self.run_there("show", "picture", "examples/crossing_cured.choreo")
         self.assertEqual((status, "the program's play" in error), (0, True), error)
 
     def test_same_bytes(self):
@@ -477,7 +478,7 @@ class Release(unittest.TestCase):
         os.utime(os.path.join(place, "README.md"), (1, 1))
         os.chmod(os.path.join(place, "docs", "TOOLS.md"), 0o600)
         with tempfile.TemporaryDirectory() as room:
-            status, said, told = done(["tools/release", "--out", room], place, env={**os.environ, "TZ": "UTC+5"})
+            status, said, told = done(["./show", "release", "--out", room], place, env={**os.environ, "TZ": "UTC+5"})
             self.assertEqual(status, 0, told)
             again = os.path.join(room, NAME % "" + ".tar.gz")
             with open(self.repository.packed(), "rb") as first, open(again, "rb") as second:
@@ -508,11 +509,11 @@ class Machine(unittest.TestCase):
                 ("x86_64", ("glibc", "2.4"), "x86_64, glibc 2.4"), ("x86_64", ("", ""), "x86_64, no glibc "),
                 ("aarch64", ("glibc", "2.36"), "aarch64, glibc 2.36")):
             with mock.patch("os.path.exists", return_value=True), \
-                    mock.patch("machine.library", return_value=library), \
+                    mock.patch("hemtoghai.machine.library", return_value=library), \
                     mock.patch("os.uname", return_value=mock.Mock(machine=processor)):
                 line = "this release needs an x86-64 machine with glibc 2.34 or later; here: %s"
                 self.assertEqual(machine.fault(), wanted and line % wanted)
-        with mock.patch("machine.library", return_value=("glibc", "2.31")):
+        with mock.patch("hemtoghai.machine.library", return_value=("glibc", "2.31")):
             self.assertIsNone(machine.fault())  # here is no release
         self.assertEqual(machine.library(), platform.libc_ver())
 

@@ -7,9 +7,9 @@ import struct
 import unittest
 
 import common
-import clock
-import firmware
-import landings
+from hemtoghai.flying import clock
+from hemtoghai.flying import firmware
+from hemtoghai.flying import landings
 from cflib import air
 
 

@@ -8,7 +8,7 @@ h = 300 for each millimetre that a drone moves while it is late.
 import subprocess
 import unittest
 
-from common import choreo, example, wants_program
+from common import example, PROGRAM, wants_program
 
 # Two drones fly one metre in a second along x, the second that many millimetres before the first.
 AFTER = """choreo 1
@@ -40,7 +40,7 @@ LINES = [
 
 def check(text, *words):
     """The status and output of `check` of a show."""
-    done = subprocess.run([choreo.PROGRAM, "check", *words], input=text, stdout=subprocess.PIPE, timeout=60)
+    done = subprocess.run([PROGRAM, "check", *words], input=text, stdout=subprocess.PIPE, timeout=60)
     return done.returncode, done.stdout.decode()
 
 

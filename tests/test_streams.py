@@ -1,4 +1,4 @@
-"""The tools in hostile hands: closed and full streams, files without an end, missing files, and a program that isn't
+"""The commands in hostile hands: closed and full streams, files without an end, missing files, and a program that isn't
 the one of its record. Each ends with a status that it documents and a line, and none with a traceback."""
 import hashlib
 import json
@@ -13,13 +13,13 @@ from common import TOP
 
 SHOW = "examples/crossing.choreo"
 MEMORY = 700 << 20  # bytes, many times what a tool takes
-TOOLS = {"explain": [SHOW], "deal": ["examples/grid_to_ring.choreo"], "summary": [SHOW], "picture": [SHOW],
+WORDS = {"why": [SHOW], "deal": ["examples/grid_to_ring.choreo"], "summary": [SHOW], "picture": [SHOW],
          "without": [SHOW, "a"], "import": ["examples/relay.csv", "--waypoints"]}
 # Reads a file that never ends; and the status.
-ENDLESS = [(["explain", "/dev/zero"], 3), (["summary", "/dev/zero"], 3), (["without", "/dev/zero", "a"], 3),
-           (["export", "/dev/zero", "out"], 70), (["import", "/dev/zero"], 3), (["import", "--judge", "/dev/zero"], 3),
+ENDLESS = [(["why", "/dev/zero"], 3), (["summary", "/dev/zero"], 3), (["without", "/dev/zero", "a"], 3),
+           (["export csv", "/dev/zero", "out"], 70), (["import", "/dev/zero"], 3), (["import", "--judge", "/dev/zero"], 3),
            (["import", "--starts", "/dev/zero", "examples/eight_left.csv"], 3),
-           (["export_skyc", "/dev/zero", "out"], 70)]
+           (["export skyc", "/dev/zero", "out"], 70)]
 
 
 def shell(line, place=TOP, most=None):
@@ -33,57 +33,58 @@ def shell(line, place=TOP, most=None):
 
 class Streams(unittest.TestCase):
     def test_closed(self):
-        for tool, words in TOOLS.items():
-            status, said, told = shell("tools/%s %s >&-" % (tool, " ".join(words)))
+        for tool, words in WORDS.items():
+            status, said, told = shell("./show %s %s >&-" % (tool, " ".join(words)))
             self.assertEqual((status, said), (70, ""), (tool, told))
             self.assertIn("%s: Bad file descriptor\n" % tool, told)
             self.assertNotIn("Traceback", told)
-        for tool in ("explain", "deal", "export", "picture", "without"):
+        for tool in ("why", "deal", "export csv", "picture", "without"):
             # What is said to a closed standard error isn't in the output, nor anywhere else.
-            self.assertEqual(shell("tools/%s none none 2>&-" % tool)[1], "", tool)
-        self.assertEqual(shell("tools/explain none 2>&-"), (70, "", ""))
-        self.assertEqual(shell("tools/explain - <&-")[:2], (70, ""))
+            self.assertEqual(shell("./show %s none none 2>&-" % tool)[1], "", tool)
+        self.assertEqual(shell("./show why none 2>&-"), (70, "", ""))
+        self.assertEqual(shell("./show why - <&-")[:2], (70, ""))
 
     def test_full(self):
         if os.path.exists("/dev/full"):
-            for tool in ("explain", "without"):
-                status, said, told = shell("tools/%s %s >/dev/full" % (tool, " ".join(TOOLS[tool])))
+            for tool in ("why", "without"):
+                status, said, told = shell("./show %s %s >/dev/full" % (tool, " ".join(WORDS[tool])))
                 self.assertEqual((status, said), (70, ""))
                 self.assertIn("%s: No space left on device\n" % tool, told)
                 self.assertNotIn("Traceback", told)
 
     def test_nobody_reads_on(self):
-        for tool in ("picture", "explain"):
+        for tool in ("picture", "why"):
             source, sink = os.pipe()
             os.close(source)
-            done = subprocess.run(["tools/" + tool, SHOW], cwd=TOP, stdin=subprocess.DEVNULL, stdout=sink,
+            done = subprocess.run(["./show", tool, SHOW], cwd=TOP, stdin=subprocess.DEVNULL, stdout=sink,
                                   stderr=subprocess.PIPE, timeout=300)
             os.close(sink)
             self.assertEqual((done.returncode, b"Traceback" in done.stderr), (141, False), done.stderr)
 
     def test_endless(self):
         for words, wanted in ENDLESS:
-            status, said, told = shell("tools/" + " ".join(words), most=MEMORY)
+            status, said, told = shell("./show " + " ".join(words), most=MEMORY)
             self.assertEqual((status, said), (wanted, ""), (words, told))
             self.assertNotIn("Traceback", told)
 
     def test_missing_and_odd_files(self):
-        for words in (["explain", "tools"], ["deal", "none/none"], ["export", "tools", "out"], ["import", "none.csv"],
+        for words in (["why", "docs"], ["deal", "none/none"], ["export csv", "docs", "out"], ["import", "none.csv"],
                       ["summary", "'" + "a" * 5000 + "'"], ["without", "", "a"], ["picture", "none"]):
-            status, said, told = shell("tools/" + " ".join(word or "''" for word in words))
+            status, said, told = shell("./show " + " ".join(word or "''" for word in words))
             self.assertEqual((status, said, told.count("\n")), (70, "", 1), (words, told))
 
 
 class Swapped(unittest.TestCase):
-    """A copy of the tools beside a program that accepts everything, and beside a record."""
+    """A copy of the package beside a program that accepts everything, and beside a record."""
 
     def setUp(self):
         folder = tempfile.TemporaryDirectory()
         self.addCleanup(folder.cleanup)
         self.place = folder.name
-        for name in ("tools", "docs", "examples"):
+        for name in ("python", "docs", "examples"):
             shutil.copytree(os.path.join(TOP, name), os.path.join(self.place, name),
                             ignore=shutil.ignore_patterns("__pycache__"))
+        shutil.copy(os.path.join(TOP, "show"), self.place)
         self.out = os.path.join(self.place, "crates", "show_cli", "out")
         os.makedirs(self.out)
         self.program = os.path.join(self.out, "show_cli")
@@ -107,24 +108,24 @@ class Swapped(unittest.TestCase):
         with open(self.program, "rb") as file:
             digest = hashlib.sha256(file.read()).hexdigest()
         self.record(record, sha256=digest)
-        self.assertIn("APART", shell("tools/import --judge examples/relay.csv --waypoints", self.place)[1])
+        self.assertIn("APART", shell("./show import --judge examples/relay.csv --waypoints", self.place)[1])
 
     def test_by_the_manifest(self):
-        names = {"tools/" + name: "" for name in os.listdir(os.path.join(self.place, "tools"))
-                 if os.path.isfile(os.path.join(self.place, "tools", name))}
+        names = {os.path.relpath(os.path.join(folder, name), self.place): ""
+                 for folder, _, files in os.walk(os.path.join(self.place, "python")) for name in files}
         self.record("MANIFEST.json", sha256="0" * 64, files=names)
         self.is_refused("the program isn't the one of MANIFEST.json")
 
     def is_refused(self, line):
         """Says that no tool believes the program."""
-        status, said, told = shell("tools/import --judge examples/relay.csv --waypoints", self.place)
+        status, said, told = shell("./show import --judge examples/relay.csv --waypoints", self.place)
         self.assertEqual((status, "APART" in said, line in told), (70, False, True), told)
-        status, said, told = shell("tools/explain " + SHOW, self.place)
+        status, said, told = shell("./show why " + SHOW, self.place)
         self.assertEqual((status, "check: ok" in said, line in said), (5, False, True), said + told)
-        for words in ("bridge " + SHOW, "export_skyc %s out" % SHOW, "fly --simulate --yes " + SHOW):
-            status, said, told = shell("tools/" + words, self.place)
+        for words in ("bridge " + SHOW, "export skyc %s out" % SHOW, "fly --simulate --yes " + SHOW):
+            status, said, told = shell("./show " + words, self.place)
             self.assertEqual((status, "check: ok" in said + told, line in told), (70, False, True), said + told)
-        status, said, told = shell("tools/without examples/crossing_cured.choreo a", self.place)
+        status, said, told = shell("./show without examples/crossing_cured.choreo a", self.place)
         self.assertEqual((status, line in told), (0, True), told)
 
 

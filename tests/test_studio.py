@@ -1,4 +1,4 @@
-"""tools/studio over HTTP: who may ask, what is judged and in which order, saving, watching, cures, sizes and faults.
+"""./show studio over HTTP: who may ask, what is judged and in which order, saving, watching, cures, sizes and faults.
 How the page behaves is tested in tests/test_studio_page.py."""
 import hashlib
 import http.client
@@ -15,7 +15,7 @@ import unittest
 
 sys.dont_write_bytecode = True
 sys.path.insert(0, os.path.dirname(os.path.abspath(__file__)))
-from common import TOP, choreo, wants_program
+from common import PROGRAM, SHOW, TOP, wants_program
 
 STAND_IN = os.path.join(TOP, ".ci", "stand_in")
 GOOD = "choreo 1\ndrone a 0 0 1000000 0\ndrone b 1000000 0 1000000 0\ncue 2000\na move 0 1000000 1000000 0\nend\n"
@@ -70,7 +70,7 @@ class Running:
         self.path = os.path.join(self.folder.name, name)
         if text is not None:
             self.write(text)
-        self.process = subprocess.Popen([os.path.join(TOP, "tools", "studio"), "--no-open", *words, self.path],
+        self.process = subprocess.Popen([SHOW, "studio", "--no-open", *words, self.path],
                                         stdout=subprocess.PIPE, stderr=subprocess.PIPE, universal_newlines=True,
                                         preexec_fn=before)
         self.port, self.token = re.search(r"127\.0\.0\.1:(\d+)/([\w-]+)/", self.process.stdout.readline()).groups()
@@ -475,7 +475,7 @@ class Buttons(Case):
 
     @wants_program
     def test_fly(self):
-        """A flight with simulated drones, as docs/TOOLS.md says it of tools/fly."""
+        """A flight with simulated drones, as docs/TOOLS.md says it of ./show fly."""
         status, made = self.studio.post("fly", text=GOOD)
         self.assertEqual((status, made["changed"]), (200, False))
         self.assertIn("landed", made["said"])
@@ -517,7 +517,7 @@ class Program(unittest.TestCase):
         self.addCleanup(studio.end)
         found = studio.stages(GOOD)
         self.assertEqual((found["verdict"]["proved"], found["notes"]["asked"], found["flight"]["flight"]["source"]),
-                         (os.path.exists(choreo.PROGRAM + ".built"), True, "play"))
+                         (os.path.exists(PROGRAM + ".built"), True, "play"))
         self.assertTrue(found["notes"]["drones"][0]["speed"] > 1)  # 1.09 m/s by docs/LANGUAGE.md, How fast
         self.assertEqual(found["notes"]["faults"], [])
         self.assertEqual(studio.stages(NEAR)["verdict"]["line"], "error 5 pair a b cue 1 part 28 of 64")
@@ -584,7 +584,7 @@ class Program(unittest.TestCase):
 class Words(unittest.TestCase):
     def run_it(self, *words):
         """The status and standard error of the tool, where it ends by itself."""
-        done = subprocess.run([os.path.join(TOP, "tools", "studio"), *words], stdout=subprocess.PIPE,
+        done = subprocess.run([SHOW, "studio", *words], stdout=subprocess.PIPE,
                               stderr=subprocess.PIPE, universal_newlines=True, timeout=120)
         return done.returncode, done.stdout + done.stderr
 
@@ -608,7 +608,7 @@ class Words(unittest.TestCase):
         """The same file has the same port, so that the browser finds the text that wasn't saved; two studios get
         two."""
         first = Running(GOOD)
-        second = subprocess.Popen([os.path.join(TOP, "tools", "studio"), "--no-open", first.path],
+        second = subprocess.Popen([SHOW, "studio", "--no-open", first.path],
                                   stdout=subprocess.PIPE, stderr=subprocess.DEVNULL, universal_newlines=True)
         other = re.search(r":(\d+)/", second.stdout.readline())[1]
         second.send_signal(signal.SIGINT)

@@ -1,4 +1,4 @@
-"""tools/studio in Chromium: a show is typed, the verdict follows, the blocked pair is clicked, played and saved.
+"""./show studio in Chromium: a show is typed, the verdict follows, the blocked pair is clicked, played and saved.
 
 The browser is led by chromedriver, over HTTP and with the standard library alone. Without Chromium and chromedriver the
 tests are skipped.
@@ -17,7 +17,7 @@ import unittest
 
 sys.dont_write_bytecode = True
 sys.path.insert(0, os.path.dirname(os.path.abspath(__file__)))
-from test_studio import GOOD, NEAR, STAND_IN, WAIT, Running, choreo, example
+from test_studio import GOOD, NEAR, STAND_IN, WAIT, PROGRAM, Running, example
 
 CHROMIUM = shutil.which("chromium") or shutil.which("chromium-browser") or shutil.which("google-chrome")
 DRIVER = shutil.which("chromedriver")
@@ -133,10 +133,10 @@ class Page(unittest.TestCase):
             raise unittest.SkipTest(str(error))
         cls.addClassCleanup(cls.browser.end)
         cls.program = STAND_IN
-        if os.access(choreo.PROGRAM, os.X_OK):  # a copy has no record, and so the page says the same of both
+        if os.access(PROGRAM, os.X_OK):  # a copy has no record, and so the page says the same of both
             folder = tempfile.TemporaryDirectory()
             cls.addClassCleanup(folder.cleanup)
-            cls.program = shutil.copy(choreo.PROGRAM, folder.name)
+            cls.program = shutil.copy(PROGRAM, folder.name)
 
     def open(self, text, *words, size=(1280, 800)):
         """A studio, whose page is open."""

@@ -1,19 +1,15 @@
-"""tools/studio_places.py, studio_words.py and studio_work.py: where drones are at a line of a text that may be half
+"""python/hemtoghai/seeing/studio_places.py, studio_words.py and studio_work.py: where drones are at a line of a text that may be half
 written, what the words of a line are, and blocked places as they are found."""
 import contextlib
 import io
 import json
-import os
-import sys
 import unittest
 
-sys.dont_write_bytecode = True
-TOP = os.path.dirname(os.path.dirname(os.path.abspath(__file__)))
-sys.path.insert(0, os.path.join(TOP, "tools"))
-import choreo
-import studio_work
-from studio_places import last_lines, places_at
-from studio_words import words_of_language
+import common  # by which the package is found
+from hemtoghai.language import choreo
+from hemtoghai.seeing import studio_work
+from hemtoghai.seeing.studio_places import last_lines, places_at
+from hemtoghai.seeing.studio_words import words_of_language
 
 TEXT = """choreo 1
 drone a 0 0 1000000 0
@@ -107,7 +103,7 @@ class Places(unittest.TestCase):
 
 class Words(unittest.TestCase):
     def test_language(self):
-        """The words of docs/LANGUAGE.md, The language; an act that tools/choreo.py has is here as well."""
+        """The words of docs/LANGUAGE.md, The language; an act that python/hemtoghai/language/choreo.py has is here as well."""
         found = words_of_language()
         place = [["x", "um"], ["y", "um"], ["z", "um"], ["yaw", "deg10"]]
         self.assertEqual(found["acts"]["move"], place)

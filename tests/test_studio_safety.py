@@ -1,4 +1,4 @@
-"""tools/studio where something goes wrong around it: many requests at once, a file that another program writes, a disk
+"""./show studio where something goes wrong around it: many requests at once, a file that another program writes, a disk
 that is full, a program that is exchanged, and pages that listen and are gone."""
 import hashlib
 import json
@@ -16,8 +16,8 @@ import unittest
 sys.dont_write_bytecode = True
 sys.path.insert(0, os.path.dirname(os.path.abspath(__file__)))
 from test_studio import GOOD, NEAR, STAND_IN, WAIT, Running, children, soon
-import showfile
-import studio_program
+from hemtoghai.seeing import showfile
+from hemtoghai.seeing import studio_program
 
 QUICK = "#!/bin/sh\ncat > /dev/null\necho ok drones 2 cues 1 duration_ms %d\n"
 

@@ -1,11 +1,11 @@
-"""tools/without: what is left flies as before, and what is named nowhere any more goes."""
+"""./show without: what is left flies as before, and what is named nowhere any more goes."""
 import itertools
 import os
 import random
 import unittest
 
 import common
-import choreo
+from hemtoghai.language import choreo
 
 # Two formations, one of which b has alone; a figure that is performed three times, once by b and c, in a repeat, and
 # once
@@ -115,7 +115,7 @@ def flights(text):
 
 class Without(unittest.TestCase):
     def test_by_hand(self):
-        status, out, said = common.run("tools/without", "-", "b", text=SHOW)
+        status, out, said = common.run("without", "-", "b", text=SHOW)
         self.assertEqual(out, WITHOUT_B)
         self.assertNotIn("Traceback", said)
 
@@ -126,16 +126,16 @@ class Without(unittest.TestCase):
             before = flights(text)
             subsets = [some for k in range(1, len(before)) for some in itertools.combinations(before, k)]
             for gone in chance.sample(subsets, min(4, len(subsets))):
-                status, out, said = common.run("tools/without", "-", *gone, text=text)
+                status, out, said = common.run("without", "-", *gone, text=text)
                 self.assertEqual(flights(out), {name: row for name, row in before.items() if name not in gone}, gone)
 
     def test_names_that_are_taken(self):
         text = SHOW.replace("figure one p", "figure pair_2 p").replace("perform one", "perform pair_2")
-        out = common.run("tools/without", "-", "b", text=text)[1]
+        out = common.run("without", "-", "b", text=text)[1]
         self.assertIn("perform pair_3 none 0 0 0 0 c   # twice", out)
         self.assertEqual(flights(out), {name: row for name, row in flights(text).items() if name != "b"})
         long = SHOW.replace("pair", "a_name_of_16_let")
-        out = common.run("tools/without", "-", "b", text=long)[1]
+        out = common.run("without", "-", "b", text=long)[1]
         self.assertIn("figure a_name_of_16_l_2 q", out.replace("a_name_of_16_l_2", "a_name_of_16_l_2"))
         self.assertEqual(flights(out), {name: row for name, row in flights(long).items() if name != "b"})
 
@@ -144,17 +144,17 @@ class Without(unittest.TestCase):
                 (["a", "b", "c"], SHOW, 2, "no drone would be left, and a show has at least one"),
                 (["who", "b"], SHOW, 2, "no drone of the show: who; it has a, b, c"),
                 (["a"], "choreo 1\ncue 1.5\n", 3, "line 2 bad-number")):
-            came, out, said = common.run("tools/without", "-", *words, text=text)
+            came, out, said = common.run("without", "-", *words, text=text)
             self.assertEqual((came, out), (status, ""), said)
             self.assertIn(line, said)
-        self.assertEqual(common.run("tools/without", os.path.join("no", "show"), "a")[0], 70)
-        self.assertEqual(common.run("tools/without", "examples/solo.choreo")[0], 2)
+        self.assertEqual(common.run("without", os.path.join("no", "show"), "a")[0], 70)
+        self.assertEqual(common.run("without", "examples/solo.choreo")[0], 2)
 
     @common.wants_program
     def test_asks_check(self):
         # The crossing is refused with 5 for its two drones, and accepted with one of them.
         with open(os.path.join(common.TOP, "examples", "crossing.choreo")) as file:
-            status, out, said = common.run("tools/without", "-", "a", text=file.read())
+            status, out, said = common.run("without", "-", "a", text=file.read())
         self.assertEqual((status, "without: check: ok drones 1 cues 1" in said), (0, True), said)
 
 

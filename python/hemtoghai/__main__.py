@@ -1,0 +1,61 @@
+"""Words to a command: for ./show of a checkout or a release, `python3 -m hemtoghai`, and the script that pip installs.
+
+The words of the program itself are handed to it; each other word is a module with a call `main` over the words after
+it, which returns the status. Only here the process is ended.
+"""
+from __future__ import annotations
+
+import os
+import sys
+
+if __name__ == "__main__" and not __package__:  # run as a file; so that none that was added is run
+    PLACE = os.path.dirname(os.path.dirname(os.path.abspath(__file__)))
+    with open(os.path.join(PLACE, "hemtoghai", "alone.py"), encoding="utf-8") as guard:
+        exec(guard.read(), {"FOLDER": PLACE})
+
+from hemtoghai import program, streams
+
+COMMANDS = {
+    **{word: "hemtoghai.commands." + word for word in (
+        "bridge", "convert", "deal", "export", "flown", "fly", "judge", "legs", "library", "manual", "picture", "release", "studio",
+        "summary", "why", "without")},
+    "import": "hemtoghai.commands.importing",
+    "studio_work": "hemtoghai.seeing.studio_work",  # a process of the studio
+}
+WITH_INSTALLED = "bridge", "fly"  # they may need the radio's library, which was installed
+
+
+def add_installed() -> None:
+    """Has installed modules be found too, where Python was started without them, as ./show is."""
+    if not sys.flags.no_site:
+        return
+    import site
+    site.main()
+    user = site.getusersitepackages()
+    if os.path.isdir(user):
+        site.addsitedir(user)
+    sys.path += filter(None, os.environ.get("PYTHONPATH", "").split(os.pathsep))
+
+
+def main(words: list[str]) -> int:
+    """The status of a command, by its word and those after it."""
+    if words[:1] and words[0] in COMMANDS:
+        if words[0] in WITH_INSTALLED:
+            add_installed()
+        if words[0] != "judge":  # which shares nothing with the others
+            from hemtoghai import companion
+            companion.set_tool(words[0])
+        status: int = __import__(COMMANDS[words[0]], fromlist=["main"]).main(words[1:])
+        return status
+    from hemtoghai.launching import launcher
+    return launcher.main(words)
+
+
+def run() -> None:
+    """Runs the command of this process's words, and ends the process with its status."""
+    words = sys.argv[1:]
+    streams.run(lambda: main(words), words[0] if words[:1] and words[0] in COMMANDS else program.NAME)
+
+
+if __name__ == "__main__":
+    run()

@@ -1,0 +1,242 @@
+"""Uploads a show: carries packets between the program's `upload` and a link.
+
+    ./show bridge [OPTIONS] SHOW
+
+The link is a simulated one, with simulated drones that keep 4,096 bytes each; --loss and the other rates spoil it. At
+the end it says how the upload ended and what each drone's memory holds. --radio DRONES is for real drones, over
+Bitcraze's library, by flying/crazyradio.py. THAT WAS NEVER TRIED with the library, a radio or a drone: try one drone
+first, without propellers. --link FILE takes the class `Link` of a Python file. Nothing here is proved; what the program
+sends and when, and what that leaves in drones as docs/RADIO.md models them, is.
+
+Once a second standard error says how many packets each drone has acknowledged. Where the upload isn't done, a line
+says which drone, which packet and which address it is about. The status is that of the upload, as docs/RADIO.md says:
+0 done; 3 to 5 the show is refused; 6 a read failed; 8 stopped before its end, by Ctrl-C or since a drone went silent;
+9 given up; 10 refused by a drone; 11 a faulty frame; 13 too many frames; 14 a memory holds something else. 70: no
+answer.
+"""
+import importlib.util
+import os
+import queue
+import sys
+
+from argparse import ArgumentTypeError
+from hemtoghai import program
+from hemtoghai.companion import add_depth, decoded, flown_of, many, no_program, parser, stop
+from hemtoghai.flying import links
+from hemtoghai.flying.uploads import carry, ENDS, Host, Traffic, wanted_packets
+
+
+# ---- what drones hold
+
+def memory_lines(drone, name, flown, data):
+    """What a drone's memory holds: lines for people."""
+    offset, (number,) = flown.show.settings["memory"][1], flown.show.settings["trajectory"]
+    same = bytes(drone.memory[offset:offset + len(data)]) == data
+    yield "%s: %d bytes from %d on %s; %s" % (
+        name, len(data), offset, "as the show has them" if same else "are NOT the show's",
+        "not started" if drone.started is None else "trajectory %d started" % drone.started)
+    for k, entry in enumerate(drone.table):
+        if entry is not None:
+            yield "  trajectory %d at %d with %s: %s" % (k, entry[0], many(entry[1], "piece"), flight(drone, entry))
+    if drone.table[number] is None:
+        yield "  trajectory %d is not defined" % number
+
+
+def flight(drone, entry):
+    """The time and the ends of what a memory decodes to under an entry, or that it decodes to nothing."""
+    offset, pieces = entry
+    found = decoded(bytes(drone.memory[offset:end_of(drone.memory, offset, pieces)]), pieces)
+    if not found:
+        return "the bytes there are no trajectory"
+    ends = [found[0]] + [[row[-1] for row in segment[1]] for segment in found[1][-1:]]
+    return "%.3f s, from (%d, %d, %d) to (%d, %d, %d) mm" % (
+        sum(segment[0] for segment in found[1]) / 1000, *ends[0][:3], *ends[-1][:3])
+
+
+def end_of(memory, offset, pieces):
+    """Where the bytes of a trajectory of so many segments end: its start, its segments by their headers, three bytes
+    more."""
+    at = offset + 8
+    for _ in range(pieces):
+        if at >= len(memory):
+            break
+        at += 3 + 2 * sum((0, 1, 3, 7)[memory[at] >> 2 * axis & 3] for axis in range(4))
+    return min(len(memory), at + 3)
+
+
+def write_memories(folder, names, drones):
+    """Writes each drone's memory to FOLDER/NAME.memory."""
+    try:
+        os.makedirs(folder, exist_ok=True)
+        for name, drone in zip(names, drones):
+            with open(os.path.join(folder, name + ".memory"), "wb") as file:
+                file.write(drone.memory)
+    except OSError as error:
+        stop("%s: %s" % (error.filename, error.strerror))
+
+
+# ---- words
+
+def share(word):
+    """A share in percent."""
+    try:
+        if 0 <= float(word) <= 100:
+            return float(word)
+    except ValueError:
+        pass
+    raise ArgumentTypeError("a share is 0 to 100 percent, not %s" % word)
+
+
+def positive(word):
+    """A number above 0."""
+    try:
+        if 0 < float(word) <= 1000000:
+            return float(word)
+    except ValueError:
+        pass
+    raise ArgumentTypeError("a number above 0 and up to 1000000 is wanted, not %s" % word)
+
+
+def byte(word):
+    """A number of one byte."""
+    if not word.isdigit() or len(word) > 3 or int(word) > 255:
+        raise ArgumentTypeError("a memory's id is 0 to 255, not %s" % word)
+    return int(word)
+
+
+def options_of(words: list[str]):
+    """The tool's words."""
+    reader = parser(__doc__)
+    add_depth(reader)
+    reader.add_argument("--start", action="store_true", help="start the drones once all have all their bytes")
+    reader.add_argument("--readback", action="store_true",
+                       help="have the program read memories back, before any start; with --radio and --link it does")
+    reader.add_argument("--no-readback", action="store_true", help="with --radio or --link: don't")
+    reader.add_argument("--loss", type=share, default=0.0, metavar="P", help="percent of packets lost, each way")
+    reader.add_argument("--again", type=share, default=0.0, metavar="P", help="percent of packets repeated by the link")
+    reader.add_argument("--late", type=share, default=0.0, metavar="P",
+                       help="percent of packets that take up to twenty times --delay longer, and so are overtaken")
+    reader.add_argument("--delay", type=positive, default=2.0, metavar="MS",
+                       help="milliseconds, and up to twice as many, that a packet is under way; without it 2")
+    reader.add_argument("--rate", type=positive, default=1000.0, metavar="N", help="packets a second; without it 1000")
+    reader.add_argument("--seed", type=int, default=1, metavar="N", help="chooses the packets that are spoilt")
+    reader.add_argument("--tick", type=positive, metavar="MS",
+                       help="milliseconds in which an answer comes; without it what the link says")
+    reader.add_argument("--id", type=byte, metavar="ID", help="the id of the drones' memory; without it the show's")
+    reader.add_argument("--memory", metavar="FOLDER", help="write each drone's memory to FOLDER/NAME.memory")
+    reader.add_argument("--link", metavar="FILE", help="a Python file whose class Link is taken for the simulated link")
+    reader.add_argument("--radio", metavar="DRONES", help="a text with a line `NAME URI` for each drone: real drones")
+    reader.add_argument("--repeat-starts", action="store_true",
+                       help="with --radio: send starts again until they are answered; a drone begins anew at each")
+    reader.add_argument("--program", default=program.PROGRAM, metavar="FILE", help="without it the one that ./show built")
+    reader.add_argument("show", metavar="SHOW", help="a file with a show, or - for standard input")
+    options = reader.parse_args(words)
+    if options.again == 100:
+        reader.error("--again has to be below 100: each packet would be repeated for ever")
+    if options.link and options.radio:
+        reader.error("one of --link and --radio is enough")
+    if options.readback and options.no_readback:
+        reader.error("--readback and --no-readback: which of them?")
+    options.readback = options.readback or bool((options.radio or options.link) and not options.no_readback)
+    if (options.link or options.radio) and (options.memory or options.id is not None):
+        reader.error("--memory and --id are of the simulated drones, which --link and --radio leave out")
+    return options
+
+
+def link_of(path, names, heard):
+    """The link of a Python file."""
+    try:
+        spec = importlib.util.spec_from_file_location("link_of_the_bridge", path)
+        sys.modules.setdefault("links", links)  # for a release, as a link's file may still have it
+        module = importlib.util.module_from_spec(spec)
+        spec.loader.exec_module(module)
+        return module.Link(names, heard)
+    except Exception as error:
+        return stop("%s: no link: %s" % (path, error or type(error).__name__))
+
+
+def radio_of(options, flown, heard):
+    """The link to real drones; nothing stays open where one of them can't be used."""
+    from hemtoghai.flying import crazyradio
+    radio = None
+    try:
+        radio = crazyradio.Radio(flown.names, crazyradio.addresses(options.radio, flown.names))
+        return crazyradio.Link(flown.names, heard, radio, flown.show.settings["memory"][0], options.repeat_starts)
+    except BaseException as error:
+        if radio:
+            radio.close()
+        if not isinstance(error, Exception):
+            raise
+        return stop("%s: no link: %s" % (options.radio, error or type(error).__name__))
+
+
+def print_end(options, done, ended):
+    """Says how the upload ended; the tool's status."""
+    status = done.status
+    if status is None:
+        line = done.rest.decode(errors="replace").strip()
+        if ended == 2 or line.startswith("error 2"):
+            stop("the program doesn't know `upload%s`: build today's sources" % (
+                " --readback" if options.readback else ""))
+        stop("the program ended with status %d and without an end frame%s" % (ended, line and ": " + line[:60]))
+    print("upload: status %d, %s%s" % (
+        status, ENDS.get(status, "see docs/RADIO.md"), ": " + done.fault if done.fault else ""))
+    for line in done.traffic.end_lines(status):
+        print(line)
+    if status in (4, 5):
+        print("%s why %s says more, and what to change" % (program.COMMAND, options.show))
+    if ended != status:
+        stop("the program ended with status %d, but its end frame says %d" % (ended, status))
+    return status
+
+
+def link_for(options, flown, drones, heard):
+    """The link that the words ask for."""
+    if options.radio:
+        return radio_of(options, flown, heard)
+    if options.link:
+        return link_of(options.link, flown.names, heard)
+    return links.SimulatedLink(flown.names, heard, drones, options)
+
+
+def uploaded(options, text, flown, drones):
+    """Uploads; what was carried, the program's own status, and what the link says of itself."""
+    events = queue.Queue()
+    link = link_for(options, flown, drones, lambda drone, packet: events.put(("heard", drone, packet)))
+    words = ["--start"] * options.start + ["--readback"] * options.readback
+    traffic = Traffic(flown.names, wanted_packets(flown, options.start, options.readback))
+    host = None
+    try:
+        host = Host([os.path.abspath(options.program), "upload", "--depth", str(options.depth), *words], text, events)
+        done = carry(host, link, events, options.tick, traffic, lambda line: print(line, file=sys.stderr))
+        ended = host.end()
+    finally:
+        if host:
+            host.kill()
+        link.close()
+    return done, ended, link.report()
+
+
+def main(words: list[str]) -> int:
+    options = options_of(words)
+    text, flown = flown_of(options.show)
+    if not os.path.isfile(options.program):
+        stop("%s is not there: ./show check FILE builds the program" % os.path.relpath(options.program))
+    if options.program == program.PROGRAM and no_program():
+        stop(no_program())
+    memory_id = flown.show.settings["memory"][0] if options.id is None else options.id
+    drones = [links.Drone(memory_id) for _ in flown.names]
+    done, ended, lines = uploaded(options, text, flown, drones)
+    status = print_end(options, done, ended)
+    if status in (3, 4, 5):
+        return status  # no packet was sent
+    for line in lines:
+        print(line)
+    print("%s, %.2f s from the first packet to the end" % (many(done.pace.ticks, "tick"), done.traffic.seconds()))
+    if not (options.link or options.radio):
+        for drone, name, data in zip(drones, flown.names, flown.data()):
+            for line in memory_lines(drone, name, flown, data):
+                print(line)
+        if options.memory:
+            write_memories(options.memory, flown.names, drones)
+    return status

@@ -1,0 +1,186 @@
+"""Deals the places of formations anew to their drones, by the least sum of squared ways, and writes the show's text.
+
+At each `form` line each place of the formation goes to the drone for which the sum of all squared ways from where the
+drones then are is least; ways dealt so seldom cross. In a repeat the sum is that of all turns. Where several ways to
+deal have the least sum, as many drones as can keep the places that they have. A formation that is formed differently
+later on is written once more for that, as NAME_2. Acts and performs up to the next formation go with their places: in
+their lines the names of the drones change. Other lines stay. A `form` line at which each drone would get the place
+where it already is stays as it is written, since nobody would move.
+
+The new text goes to standard output, what was done and what `check` says of it to standard error. The status is that of
+`check`; 71 where a `form` line stays since nobody would move. 70: no answer.
+"""
+import re
+import sys
+
+from hemtoghai.companion import add_depth, ask_check, flown_of, missing, parser, stop, tool_name
+from hemtoghai.geometry import separation
+from hemtoghai.language import choreo
+from hemtoghai.writing.dealing import deal, form_lines, names_of, on_their_own, state, words_of
+
+
+NOBODY_MOVES = 71
+
+
+def say(words):
+    """Writes a line to standard error."""
+    print("%s: %s" % (tool_name(), words), file=sys.stderr)
+
+
+def listed(numbers):
+    """Line numbers, the first eight of them."""
+    return "line" + ("s " if len(numbers) > 1 else " ") + ", ".join(map(str, numbers[:8])) + (
+        " .." if len(numbers) > 8 else "")
+
+
+def report(made, before):
+    """Says of each `form` line how many places were dealt anew, and how many drones stay where they are."""
+    for (line, _), old, new in zip(form_lines(made.flown), before, state(made.flown)):
+        formation, (before_sum, _, written), (sum_, stay, places) = made.flown.show.formations[line.values[0]], old, new
+        moved = sum(mine != theirs for mine, theirs in zip(places, written))
+        say("%s, line %d: %d of %d places dealt anew; the squared ways sum to %.2f m2, before %.2f%s" % (
+            formation.values[0], line.number, moved, len(written), sum_ / 1e12, before_sum / 1e12,
+            "; %d drone%s where %s" % (stay, " stays" if stay == 1 else "s stay", "it is" if stay == 1 else "they are")
+            if stay else ""))
+        if line.number in made.still:
+            say("%s, line %d: nobody would move: each place would go to the drone that is already there. The places "
+                "stay as they are written" % (formation.values[0], line.number))
+
+
+# ---- the text
+
+def with_words(line, words):
+    """A line of the text with other words; blanks before them, comments and line ends stay."""
+    front, _, end = re.fullmatch(rb"(\s*)([^#]*?)(\s*(?:#.*)?)", line, re.S).groups()
+    return front + words.encode() + end
+
+
+def block(lines, written, dealt, name):
+    """The lines of a formation's block as it is dealt, under this name, and the index of its last line."""
+    last = next(k for k in range(written.body[-1].number, len(lines)) if lines[k].split(b"#")[0].split() == [b"end"])
+    out = lines[written.number - 1:last + 1]
+    if name != written.values[0]:
+        out[0] = with_words(out[0], "formation " + name)
+    for old, new in zip(written.body, dealt.body):
+        if old.values != new.values:
+            at = old.number - written.number
+            out[at] = with_words(out[at], "at %s %d %d %d %d" % tuple(new.values))
+    return last, out
+
+
+def with_names(line, names, kind):
+    """A line of an act or a perform with other drones; all else in it stays."""
+    code, hash_, comment = line.partition(b"#")
+    words = re.split(rb"(\s+)", code)
+    at = [k for k, word in enumerate(words) if word.strip()]
+    for k, name in zip(at[:1] if kind == "act" else at[7:], names):
+        words[k] = name.encode()
+    return b"".join(words) + hash_ + comment
+
+
+def rewritten(text, flown):
+    """The show's text with the places as they are dealt, a further block for each way in which a formation is formed
+    that isn't its first one, and the acts that go with their places; and by the number of a line in the old text the
+    one in the new text."""
+    lines, names = text.split(b"\n"), {line.values[0] for line in flown.show.top.body if line.kind == "formation"}
+    new, known, after = list(lines), {}, {}
+    for line, _ in form_lines(flown):
+        formation = flown.show.formations[line.values[0]]
+        name, places = formation.values[0], words_of(formation)
+        ways = known.setdefault(name, [])
+        if places not in [way for way, _ in ways]:
+            called = name if not ways else free_name(name, names)
+            ways.append((places, called))
+            last, own = block(lines, flown.show.formations[name], formation, called)
+            if called == name:
+                new[formation.number - 1:last + 1] = own
+            else:
+                after.setdefault(last, []).extend(own)
+        called = next(called for way, called in ways if way == places)
+        if called != name:
+            new[line.number - 1] = with_words(new[line.number - 1], "form %s %s" % (called, line.values[1]))
+    for line in choreo.inside(flown.show.top):
+        if line.kind in ("act", "perform") and names_of(line) != line.written:
+            new[line.number - 1] = with_names(new[line.number - 1], names_of(line), line.kind)
+    for last in sorted(after, reverse=True):
+        new[last + 1:last + 1] = after[last]
+    return b"\n".join(new), lambda number: number + sum(len(own) for last, own in after.items() if last < number - 1)
+
+
+def renamed_lines(flown):
+    """The lines of acts and performs that are flown by other drones than were written."""
+    return sorted(line.number for line in choreo.inside(flown.show.top)
+                  if line.kind in ("act", "perform") and names_of(line) != line.written)
+
+
+def free_name(name, names):
+    """A name for a formation that none has, made from another's; it has at most 16 letters."""
+    number = 2
+    while True:
+        end = "_%d" % number
+        if name[:16 - len(end)] + end not in names:
+            names.add(name[:16 - len(end)] + end)
+            return name[:16 - len(end)] + end
+        number += 1
+
+
+def judged(text, deep):
+    """Says what `check` finds, or this tool where the program isn't built; the status."""
+    answer = ask_check(text, deep)
+    if answer:
+        say("check: " + answer[1])
+        return answer[0]
+    say(missing())
+    try:
+        flown = choreo.flown_of(text)
+        choreo.judge_room(flown)
+        separation.judge_separation(flown, deep)
+    except choreo.Refused as refusal:
+        say("as this tool computes it: %s" % refusal)
+        return refusal.status
+    say("as this tool computes it, nothing is refused")
+    return 0
+
+
+def say_carried(made, new_line):
+    """Says which acts go with their places, and which can't."""
+    carried = renamed_lines(made.flown)
+    if carried:
+        say("%s of the new text: the acts go with their places, so other drones fly them" % listed(
+            [new_line(number) for number in carried]))
+    if made.unsure:
+        say("look at %s of the new text: the turns of a repeat begin there with other drones at the places, so the "
+            "names stay" % listed([new_line(number) for number in made.unsure]))
+    for number in sorted(made.lost):
+        say("look at what follows line %d of the new text: the formation there has places for other drones than the "
+            "one before, so from there on each drone flies its own acts" % new_line(number))
+
+
+def dealt_text(text, flown, keep):
+    """The show's text as it is dealt, and what was done."""
+    on_their_own(flown)
+    before, made = state(flown), deal(flown, keep)
+    new, new_line = rewritten(text, made.flown)
+    report(made, before)
+    say_carried(made, new_line)
+    return new, made
+
+
+def main(words: list[str]) -> int:
+    reader = parser(__doc__)
+    add_depth(reader)
+    reader.add_argument("--keep", action="append", default=[], metavar="NAME",
+                       help="a formation whose places stay as they are; as often as wanted")
+    reader.add_argument("show", metavar="SHOW", help="a file with a show, or - for standard input")
+    options = reader.parse_args(words)
+    text, flown = flown_of(options.show)
+    for name in options.keep:
+        if name not in flown.show.formations:
+            stop("--keep %s: the show has no formation of this name" % name)
+    if not form_lines(flown):
+        stop("%s: the show forms no formation, so there is nothing to deal" % options.show)
+    text, made = dealt_text(text, flown, options.keep)
+    sys.stdout.buffer.write(text)
+    sys.stdout.flush()
+    status = judged(text, options.depth)
+    return NOBODY_MOVES if made.still else status

@@ -1,0 +1,27 @@
+"""Writes what the drones of a plan fly as files of other programs.
+
+    ./show export csv PLAN FOLDER                            Crazyswarm2 and uav_trajectories: NAME.csv a drone
+    ./show export skyc [--tolerance MM] PLAN|SHOW OUT.skyc   Skybrush
+
+Each format says more: ./show export csv --help. Status 0: written. 2: wrong words. 3, 4, 5: a show that is refused so.
+70: a file can't be read or written, or isn't a plan.
+"""
+from __future__ import annotations
+
+from hemtoghai.companion import parser, set_tool
+
+
+def main(words: list[str]) -> int:
+    """Hands the words after the format to what writes it."""
+    if words[:1] == ["csv"]:
+        from hemtoghai.exchange import export_csv
+        set_tool("export csv")
+        return export_csv.main(words[1:])
+    if words[:1] == ["skyc"]:
+        from hemtoghai.exchange import export_skyc
+        set_tool("export skyc")
+        return export_skyc.main(words[1:])
+    reader = parser(__doc__)
+    reader.add_argument("format", choices=("csv", "skyc"), help="which program reads it")
+    reader.parse_args(words)
+    return 2

@@ -1,0 +1,245 @@
+"""Judges a flight's log against the curves of its show: how far each drone strayed, and how late it was.
+
+    ./show flown [--stray R] [--late L] [--gap G] SHOW LOG.csv
+
+NEVER TRIED with a log of real drones, only with those of `./show fly --simulate`. Each row of the log has
+`time,drone,x,y,z`: seconds since the start, the drone's name, metres; a first row with these names may bring them in
+another order, among others. A column `stamp`, the drone's own milliseconds, is used for the time where it is there, as
+./show fly writes it, since packets are late by chance and a drone's clock isn't. Rows before the start and after the end
+are left out.
+
+R and L are the show's `stray` and `late` lines, unless they are given. The question: at each sample, was the drone
+within R mm of a place of its curve that it should have had at most L / 2 ms earlier or later, all drones by one
+clock? Then any two of them were near to their curves at instants at most L ms apart, which is the premise under which
+the show keeps its drones apart. The clock is set so that as few samples as can be are outside. A drone's best start
+is the one with which the greatest of its distances is least: `late ms` is how much later than the log's zero it is,
+and `-` where it doesn't matter. THIS LOOKS AT SAMPLES: between two of them nothing is known, places are those that
+drones estimate of themselves, and the time is that of the log.
+
+`KEPT` is said of a log that covers the show: each drone has at least 5 samples, and none is more than G ms, 1000
+without the option, after the one before, the begin of the show and its end counted as samples. Of any other log it is
+`NOT KEPT` or `NOT KNOWN`. A number that isn't finite makes a log none. Status 0: kept. 1: not kept, or not known. 70: no
+answer.
+"""
+import argparse
+import csv
+from math import dist, inf
+from typing import Dict, Iterable, List, Optional, Sequence, Tuple
+
+from hemtoghai.companion import flown_of, many, parser, read_file, stop
+from hemtoghai.flying import finite
+from hemtoghai.geometry.curves import Curve, curves_of
+
+WRAP = 2 ** 24 / 1000  # seconds after which a drone's stamps begin anew
+REACH = 1500  # milliseconds within which an offset is looked for
+TOLD = 3.0  # millimetres by which an offset has to matter to be told
+FLAT = 0.5  # millimetres of the greatest distance below which offsets are as good as each other
+GAP, FEWEST = 1000, 5  # milliseconds without a sample, and samples of a drone, with which a log covers a show
+LONGEST = 1e6  # seconds of a log, before and after its zero
+
+Sample = Tuple[float, List[float]]  # milliseconds, and a place in mm
+
+
+def rows_of(path: str) -> List[List[str]]:
+    """The rows of a CSV file that have cells."""
+    try:
+        return [row for row in csv.reader(read_file(path).decode(errors="replace").split("\n")) if row]
+    except csv.Error as error:
+        return stop("%s: this is no CSV file: %s" % (path, error))
+
+
+def read_log(path: str) -> Dict[str, List[Tuple[float, List[float], Optional[float]]]]:
+    """The samples by drone: (seconds, place in mm, the drone's seconds or None)."""
+    rows = rows_of(path)
+    names, out = ["time", "drone", "x", "y", "z"], {}
+    if rows and set(names) <= {cell.strip() for cell in rows[0]}:
+        names, rows = [cell.strip() for cell in rows[0]], rows[1:]
+    at = {name: names.index(name) for name in names}
+    for number, row in enumerate(rows, 1):
+        try:
+            place = [1000 * finite.number(row[at[axis]], -finite.FAR, finite.FAR) for axis in "xyz"]
+            stamp = finite.number(row[at["stamp"]], 0, 2 ** 32) / 1000 if "stamp" in at else None
+            seconds = finite.number(row[at["time"]], -LONGEST, LONGEST)
+            out.setdefault(row[at["drone"]].strip(), []).append((seconds, place, stamp))
+        except (ValueError, IndexError):
+            stop("%s: row %d of the samples isn't time,drone,x,y,z in seconds and metres: %s" % (
+                path, number, ",".join(row)[:60]))
+    return out
+
+
+def by_own_clock(samples: Sequence[Tuple[float, List[float], Optional[float]]]) -> List[Sample]:
+    """The samples as (milliseconds, place), by the drone's own clock where it is known: set so that no packet came
+    early."""
+    if not samples or any(stamp is None for _, _, stamp in samples):
+        return [(1000 * t, place) for t, place, _ in samples]
+    stamps, turns = [], 0.0
+    for _, _, stamp in samples:
+        if stamps and stamp + turns < stamps[-1] - WRAP / 2:
+            turns += WRAP
+        stamps.append(stamp + turns)
+    early = min(t - stamp for (t, _, _), stamp in zip(samples, stamps))
+    return [(1000 * (stamp + early), place) for stamp, (_, place, _) in zip(stamps, samples)]
+
+
+def farthest(samples: Iterable[Sample], curve: Curve, late: float, bound: float = inf) -> float:
+    """The greatest distance where the drone is so late; where that is above the bound, any distance above it."""
+    far = 0.0
+    for t, place in samples:
+        far = max(far, dist(place, curve.at(t - late)))
+        if far > bound:
+            break
+    return far
+
+
+def best_of(samples: Sequence[Sample], curve: Curve, offsets: Iterable[int]) -> Tuple[float, int]:
+    """The offset with the least greatest distance, after that distance."""
+    best = (inf, 0)
+    for late in offsets:
+        best = min(best, (farthest(samples, curve, late, best[0]), late))
+    return best
+
+
+def offset_of(samples: Sequence[Sample], curve: Curve) -> Optional[int]:
+    """How late a drone was, in milliseconds: the middle of the offsets at which its greatest distance is least, but
+    for FLAT. None where that hardly depends on it."""
+    # Samples at speed tell most, so they come first.
+    samples = sorted(samples, key=lambda row: -dist(curve.at(row[0] + Curve.STEP), curve.at(row[0] - Curve.STEP)))
+    few, rows, least = samples[::max(1, len(samples) // 100)], [], inf
+    for late in sorted(range(-REACH, REACH + 1, 50), key=abs):
+        rows.append((farthest(few, curve, late, least + TOLD), late))
+        least = min(least, rows[-1][0])
+    rows.sort()
+    if rows[-1][0] - rows[0][0] < TOLD:
+        return None
+    best = best_of(samples, curve, [late for _, late in rows[:3]])
+    for step in (25, 10, 3, 1):
+        best = best_of(samples, curve, range(best[1] - 3 * step, best[1] + 3 * step + 1, step))
+    return round((edge(samples, curve, best, -1) + edge(samples, curve, best, 1)) / 2)
+
+
+def edge(samples: Sequence[Sample], curve: Curve, best: Tuple[float, int], way: int) -> int:
+    """How far an offset may go one way from the best one, to a millisecond, until the greatest distance is more than
+    FLAT above the least."""
+    def is_good(by):
+        return farthest(samples, curve, best[1] + way * by, best[0] + FLAT) <= best[0] + FLAT
+    near, far = 0, 1
+    while far < REACH and is_good(far):
+        near, far = far, 2 * far
+    while far - near > 1:
+        middle = (near + far) // 2
+        near, far = (middle, far) if is_good(middle) else (near, middle)
+    return best[1] + way * near
+
+
+class Judged:
+    """A drone's flight: `late` is its offset, `own` the greatest distance at that offset, `worst` the greatest
+    distance from the places within the window, each with its time, `outside` the samples that are farther than
+    `stray`, and `gap` the longest time without a sample in the show, with when it began."""
+
+    def __init__(self, samples: Sequence[Sample], curve: Curve, late: Optional[int]) -> None:
+        self.samples, self.curve, self.late = samples, curve, late
+        self.own = max((dist(place, curve.at(t - (late or 0))), t) for t, place in samples)
+        times = [0.0, *sorted(t for t, _ in samples), float(curve.end)]
+        self.gap, self.gap_at = max((b - a, a) for a, b in zip(times, times[1:]))
+
+    def lacks(self, longest: float) -> Optional[str]:
+        """What keeps the samples from covering the show, or None."""
+        if self.gap > longest:
+            return "no sample from %.2f to %.2f s" % (self.gap_at / 1000, (self.gap_at + self.gap) / 1000)
+        return "%s in all" % many(len(self.samples), "sample") if len(self.samples) < FEWEST else None
+
+    def judge(self, middle: float, window: float, stray: float) -> None:
+        """Looks at the places within half a window around each sample's time."""
+        self.worst, self.outside = (0.0, 0.0), []
+        for t, place in self.samples:
+            near, _ = self.curve.nearest(place, t - middle - window / 2, t - middle + window / 2,
+                                         min(stray, self.worst[0]))
+            self.worst = max(self.worst, (near, t))
+            if near > stray:
+                self.outside.append(t)
+
+
+def judge_all(judged: Dict[str, Judged], offsets: Sequence[int], options: argparse.Namespace) -> None:
+    """Judges all drones by the setting of the common clock, between the least and the greatest offset, that leaves
+    the fewest samples outside."""
+    low, high = offsets[0], offsets[-1]
+    best = None
+    for middle in [offsets[len(offsets) // 2], *(low + (high - low) * k / 8 for k in range(9))]:
+        for it in judged.values():
+            it.judge(middle, options.late, options.stray)
+        outside = sum(len(it.outside) for it in judged.values())
+        if outside == 0:
+            return
+        best = min(best or (outside, middle), (outside, middle))
+    for it in judged.values():
+        it.judge(best[1], options.late, options.stray)
+
+
+def print_table(judged: Dict[str, Judged]) -> None:
+    """Prints a line for each drone."""
+    print("%-16s %7s %7s %9s  %-24s %-24s %s" % (
+        "drone", "samples", "gap ms", "late ms", "greatest mm, so late", "greatest mm in window", "outside"))
+    for name, it in judged.items():
+        print("%-16s %7d %7.0f %9s  %-24s %-24s %d" % (
+            name, len(it.samples), it.gap, "-" if it.late is None else it.late,
+            "%.1f at %.2f s" % (it.own[0], it.own[1] / 1000),
+            "%.1f at %.2f s" % (it.worst[0], it.worst[1] / 1000), len(it.outside)))
+
+
+def print_verdict(judged: Dict[str, Judged], options: argparse.Namespace) -> bool:
+    """Prints what the log says, and whether that is enough; whether all was kept."""
+    count, outside = sum(len(it.samples) for it in judged.values()), sum(len(it.outside) for it in judged.values())
+    lacking = {name: it.lacks(options.gap) for name, it in judged.items() if it.lacks(options.gap)}
+    name = max(judged, key=lambda it: judged[it].worst)
+    word = "NOT KEPT" if outside else "NOT KNOWN" if lacking else "KEPT"
+    print("%s: %d of %s within %g mm of the curve at an instant within %g ms of the others'; the farthest is %s, "
+          "%.1f mm at %.2f s"
+          % (word, count - outside, many(count, "sample"), options.stray, options.late,
+             name, judged[name].worst[0], judged[name].worst[1] / 1000))
+    if lacking:
+        print("the log doesn't cover the show: %s" % "; ".join("%s has %s" % it for it in lacking.items()))
+    return word == "KEPT"
+
+
+def options_of(words: list[str]) -> argparse.Namespace:
+    """The tool's words."""
+    reader = parser(__doc__)
+    reader.add_argument("--stray", type=finite.option(0, 100000), metavar="R",
+                       help="millimetres from the curve; as the show has it")
+    reader.add_argument("--late", type=finite.option(0, 100000), metavar="L",
+                       help="milliseconds between drones; as the show has it")
+    reader.add_argument("--gap", type=finite.option(1, 100000), default=GAP, metavar="G",
+                       help="milliseconds without a sample at most; %d" % GAP)
+    reader.add_argument("show", metavar="SHOW", help="a file with a show, or - for standard input")
+    reader.add_argument("log", metavar="LOG", help="the flight's log, a CSV file")
+    return reader.parse_args(words)
+
+
+def main(words: list[str]) -> int:
+    options = options_of(words)
+    _, flown = flown_of(options.show)
+    for name in ("stray", "late"):
+        if getattr(options, name) is None:
+            setattr(options, name, float(flown.show.settings[name][0]))
+    log, curves, judged = read_log(options.log), curves_of(flown), {}
+    strangers = sorted(set(log) - set(flown.names))
+    if strangers:
+        print("not of the show, and left out: %s" % ", ".join(strangers))
+    for name, curve in curves.items():
+        samples = [(t, place) for t, place in by_own_clock(log.get(name, [])) if 0 <= t <= curve.end]
+        if samples:
+            judged[name] = Judged(samples, curve, offset_of(samples, curve))
+    missing = [name for name in flown.names if name not in judged]
+    if missing:
+        stop("%s: no sample during the show of %s" % (options.log, ", ".join(missing)))
+    offsets = sorted(it.late for it in judged.values() if it.late is not None) or [0]
+    judge_all(judged, offsets, options)
+    print_table(judged)
+    if options.stray == 0:
+        print("stray is 0, which no drone keeps: write the show's line `stray`, or give --stray")
+    far = max(judged, key=lambda it: judged[it].own)
+    print("best starts from %d to %d ms by the log's clock, %d ms apart; so late the farthest is %s, %.1f mm at %.2f s"
+          "; greatest gap between samples %.0f ms" % (
+              min(offsets), max(offsets), max(offsets) - min(offsets), far, judged[far].own[0],
+              judged[far].own[1] / 1000, max(it.gap for it in judged.values())))
+    return 0 if print_verdict(judged, options) else 1

@@ -1,0 +1,301 @@
+"""Flies a show in stages: looks the drones over, plans the ways up and down, uploads, takes off, starts all at once,
+watches, logs, lands, and stops.
+
+    ./show fly --radio DRONES [OPTIONS] SHOW      real drones: DRONES has a line `NAME URI` for each
+    ./show fly --simulate [OPTIONS] SHOW          the same steps with simulated drones that fly what they were sent
+
+NEVER TRIED WITH REAL DRONES, A RADIO OR BITCRAZE'S LIBRARY: packets, tables and answers are from memory of its
+firmware, and were tried with simulated drones that are from the same memory. TRY FIRST one drone without propellers,
+stage by stage with --only; then one drone with them; then two that are far apart. Nothing here is proved; what is
+uploaded is, by the program's own `upload --readback`, and `check` judged the ways up and down before anybody flies.
+
+Three times it asks, and anything but `yes` ends the flight: before the upload, before take-off and before the start.
+
+Ctrl-C in flight lands all drones at once, straight down, through whatever is below; a second one stops all motors, and
+the drones fall. At a fault all land at the next instant at which `check` has shown that they keep apart, and fly their
+curves on until then. A drone that is silent flies its curve on, and so does everybody, to the end of the show, unless
+--on-silence land is given. Have somebody at hand who can cut the power, too: where this program or its radio dies in
+flight, drones fly their trajectories to the end and stay there.
+
+Status 0: flown and landed. 1: not flown, or landed early. 2: wrong words. 3 to 5: the show is refused. 60: motors were
+stopped. 70: no answer.
+"""
+import argparse
+import queue
+import signal
+from typing import Dict, List, Sequence
+
+from hemtoghai import program
+from hemtoghai.companion import ask_check, flown_of, missing, parser, stop
+from hemtoghai.flying import clock, crazyradio, finite, legs
+from hemtoghai.flying.crew import Answers, Cut, Interrupted, say, TELLER, Watch
+from hemtoghai.flying.descent import Descent, EARLY
+from hemtoghai.flying.fleet import Fleet, FLIGHT, Log, Trouble
+from hemtoghai.flying.flight import confirm, Flight
+from hemtoghai.flying.preflight import preflight
+from hemtoghai.flying.simulation import set_simulation, simulated
+from hemtoghai.flying.uploads import carry, ENDS, Host, Traffic, wanted_packets
+from hemtoghai.flying.ways import Ways
+from hemtoghai.writing import flyable
+
+NO_STRAY, NO_LATE = 250, 100  # of a show without these lines
+EVERY = 100  # milliseconds between samples, for --only land
+LAND = 5.0  # seconds of a landing, of drones of which nothing is known
+# Options with numbers: their defaults, least and greatest values, whether they are whole, units, and what they are.
+NUMBERS = [
+    ("every", 100, 20, 1000, True, "MS", "milliseconds between samples"),
+    ("battery", 3.8, 0.1, 30, False, "V", "volts to take off with"),
+    ("empty", 3.2, 0.1, 30, False, "V", "volts below which, for --sag seconds, all land"),
+    ("sag", 1.5, 0.1, 60, False, "S", "seconds for which a battery has to be empty"),
+    ("near", 150, 1, 1000, False, "MM", "how far aside of its pad a drone may stand"),
+    ("turned", 15.0, 0.1, 180, False, "DEG", "how far off the yaw of its first place a drone may look"),
+    ("variance", 0.001, 1e-9, 1, False, "M2", "greatest variance of a settled estimator"),
+    ("wander", 30, 1, 500, False, "MM", "how far the last places of a settled estimator may be apart"),
+    ("at-start", 80, 1, 1000, False, "MM", "how far off a drone may be at the start"),
+    ("stray", None, 1, 10000, False, "MM", "farther from its curve all land; the show's, or %d" % NO_STRAY),
+    ("late", None, 1, 10000, False, "MS", "farther apart may starts not go out; the show's, or %d" % NO_LATE),
+    ("silence", 1.5, 0.2, 60, False, "S", "seconds without a sample, then a drone is silent"),
+    ("jump", 0.3, 0.001, 1000, False, "M/S", "greatest jump of speed in the show on an axis: no drone flies one"),
+    ("accel", 10.0, 0.001, 100000, False, "M/S2", "greatest acceleration in the show on an axis"),
+    ("copies", 1, 1, 10, True, "N", "of the broadcast that starts; a drone begins anew at each that it hears"),
+]
+
+
+# ---- words
+
+def options_of(words: list[str]) -> argparse.Namespace:
+    """The tool's words."""
+    reader = parser(__doc__)
+    reader.add_argument("--radio", metavar="DRONES", help="a text with a line `NAME URI` for each drone")
+    reader.add_argument("--simulate", action="store_true", help="fly simulated drones")
+    reader.add_argument("--sim", action="append", default=[], metavar="KEY=N",
+                       help="of simulated drones: stray (mm), late (ms), loss (percent), rate (packets/s), seed, speed "
+                            "(times), dongles; blocks and dies (s): dongle 0 is gone so long after the start")
+    reader.add_argument("--fault", action="append", default=[], metavar="NAME:KIND[:S]",
+                       help="a fault of a simulated drone")
+    reader.add_argument("--pads", metavar="PADS", help="a text with a line `NAME X Y Z` in micrometres: where drones "
+                                                      "stand; without it below their first places, at height 0")
+    reader.add_argument("--below", action="store_true", help="land below the last places, and not on the pads")
+    reader.add_argument("--ceiling", type=finite.option(1, 100000, True), metavar="MM",
+                       help="nobody is lifted higher than this on the ways")
+    reader.add_argument("--only", choices=("look", "upload", "land", "stop"),
+                       help="end after the preflight, or after the upload; or land all that are heard, or stop their "
+                            "motors: for these two the show isn't read, but for simulated drones")
+    reader.add_argument("--on-silence", choices=("continue", "land"), default="continue",
+                       help="where a drone is silent in the show: fly on to its end, or land the others")
+    reader.add_argument("--low", action="store_true", help="let a show below z 0 through")
+    reader.add_argument("--yes", action="store_true", help="don't ask before upload, take-off and start")
+    reader.add_argument("--log", metavar="FILE", help="write places to this CSV file, for ./show flown")
+    for name, default, least, most, is_whole, metavar, text in NUMBERS:
+        reader.add_argument("--" + name, type=finite.option(least, most, is_whole), default=default, metavar=metavar,
+                           help=text if default is None else "%s; %s" % (text, default))
+    reader.add_argument("--unicast", action="store_true", help="start drones one after the other, without a broadcast")
+    reader.add_argument("show", metavar="SHOW", help="a file with a show")
+    options = reader.parse_args(words)
+    if bool(options.radio) == options.simulate:
+        reader.error("one of --radio and --simulate is wanted")
+    if not options.simulate and (options.sim or options.fault):
+        reader.error("--sim and --fault are of simulated drones")
+    return options
+
+
+# ---- before the link is opened
+
+def judged_show(options: argparse.Namespace):
+    """The show's text and what it flies, where the program accepts it and drones can fly it."""
+    text, flown = flown_of(options.show)
+    answer = ask_check(text)
+    if answer is None:
+        stop(missing())
+    if answer[0]:
+        print(answer[1])
+        raise SystemExit(answer[0])
+    say("check: %s" % answer[1])
+    refuse_what_none_flies(text, flown, options)
+    say_promises(flown, options)
+    return text, flown
+
+
+def refuse_what_none_flies(text: bytes, flown, options: argparse.Namespace) -> None:
+    """Raises what `./show check` warns of, where no option lets it through."""
+    most = {"accel": round(1000 * options.accel), "jump": round(1000 * options.jump)}
+    try:
+        motion = flyable.motion(program.PROGRAM, flown, text, most)
+    except flyable.NoAnswer as why:
+        raise Trouble("not flown: nobody knows whether a drone can fly it: %s" % why) from None
+    if motion:
+        raise Trouble("not flown: %s, and no drone does: ./show summary %s says where; --%s lets it through" % (
+            motion, options.show, "jump" if "jumps" in motion else "accel"))
+    low = None if options.low else flyable.below(flown)
+    if low:
+        raise Trouble("not flown: %s; --low lets it through" % low)
+    small = flyable.small(flown)
+    if small:
+        raise Trouble("not flown: %s" % small)
+
+
+def say_promises(flown, options: argparse.Namespace) -> None:
+    """Sets `stray` and `late` to the show's where they aren't given, and says where nothing is promised."""
+    (stray,), (late,) = flown.show.settings["stray"], flown.show.settings["late"]
+    options.stray, options.late = options.stray or stray or NO_STRAY, options.late or late or NO_LATE
+    if not stray:
+        say("NOTHING IS PROMISED of drones that stray: the show has no line `stray`; farther off than %g mm all land"
+            % options.stray)
+    elif options.stray > stray:
+        say("the promise is for %d mm of stray: from there to %g mm it is void, and all fly on" % (
+            stray, options.stray))
+    if not late:
+        say("NOTHING IS PROMISED of drones that are late: the show has no line `late`; starts may go out within %g ms"
+            % options.late)
+
+
+def pads_of(flown, options: argparse.Namespace) -> List[legs.Place]:
+    """The pads, in whole mm."""
+    return legs.read_pads(options.pads, flown.names) if options.pads else legs.below(legs.places_of(flown)[0])
+
+
+# ---- with drones that answer
+
+def upload(radio: crazyradio.Radio, flown, text: bytes) -> None:
+    """Uploads by the proved program, with read-back and without starts."""
+    events, begin, host, link = queue.Queue(), clock.now(), None, None
+    traffic = Traffic(flown.names, wanted_packets(flown, False, True))
+    try:
+        link = crazyradio.Link(flown.names, lambda drone, packet: events.put(("heard", drone, packet)), radio,
+                               flown.show.settings["memory"][0])
+        host = Host([program.PROGRAM, "upload", "--readback"], text, events)
+        done = carry(host, link, events, None, traffic, say)
+        ended = host.end()
+    finally:
+        if host:
+            host.kill()
+        if link:
+            radio.listeners.remove(link.came)
+    if (done.status, ended) != (0, 0):
+        words = [ENDS.get(done.status, done.rest.decode(errors="replace")[:60]), done.fault,
+                 *traffic.end_lines(done.status)]
+        raise Trouble("not flown: upload: status %s, %s" % (done.status, ": ".join(word for word in words if word)))
+    say("uploaded and read back: each drone has its trajectory (%.1f s)" % (clock.now() - begin))
+
+
+def fly(radio: crazyradio.Radio, flown, text: bytes, pads: Sequence[legs.Place], options: argparse.Namespace,
+        log: Log, watch: Watch, answers: Answers) -> int:
+    """All steps with drones that answer; the status."""
+    fleet, ways = Fleet(radio, log), None
+    try:
+        ways = Ways(flown, preflight(fleet, flown, pads, options), options)
+        ways.tell()
+        if options.only is None:
+            ways.prepare()
+        if options.only != "look":
+            confirm(options, answers, "Upload?", watch.look)
+            upload(radio, flown, text)
+        if options.only:
+            return 0
+        ways.wait(watch.look)
+        confirm(options, answers, "Take off?", watch.look)
+        return Flight(fleet, flown, ways, options, watch, answers).run()
+    finally:
+        watch.off()  # what is left is to close all
+        if ways:
+            ways.end()
+        fleet.end_logs()
+        log.close()
+        if options.log and log.fault is None:
+            say("places are in %s: ./show flown %s %s judges them" % (options.log, options.show, options.log))
+
+
+def only(radio: crazyradio.Radio, floors: Dict[str, float], options: argparse.Namespace, watch: Watch,
+         answers: Answers) -> int:
+    """Lands all drones, and stays until they are down, or stops their motors; the status. Broadcasts go to those too
+    that aren't heard."""
+    names, fleet = radio.names, Fleet(radio, Log(None, say))
+    heard = [k for k in range(len(names)) if radio.last[k] is not None]
+    mute = [name for name, last in zip(names, radio.last) if last is None]
+    say("heard: %s%s" % (", ".join(names[k] for k in heard) or "NONE", "; not heard: " + ", ".join(mute) if mute else ""))
+    descent = Descent(fleet, [floors.get(name, 0.0) for name in names], options.silence, watch, answers)
+    try:
+        if options.only == "stop":
+            confirm(options, answers, "Stop all motors? Drones in the air fall.", lambda: None)
+            return descent.cut()
+        watch.take_off()
+        watch.land()
+        _, quiet, refused = fleet.land(descent.floors, descent.all, LAND, watch.look)
+        say("told to land, in %.0f s%s%s" % (LAND, "; NO ANSWER: " + ", ".join(quiet) if quiet else "",
+                                            "; REFUSED: " + ", ".join(refused) if refused else ""))
+        begin_logs(fleet, heard)
+        descent.wait_down(heard, LAND)
+        return 0 if descent.land("landing") else EARLY
+    except Cut:
+        return descent.cut()
+
+
+def begin_logs(fleet: Fleet, drones: Sequence[int]) -> None:
+    """Has drones send where they are, as far as they let that be done."""
+    def begin(k):
+        try:
+            if k in drones:
+                fleet.begin_logs(k, EVERY, (FLIGHT,))
+        except (Trouble, crazyradio.Dead) as error:
+            say(str(error))
+    fleet.radio.each(begin)
+
+
+# ---- all of it
+
+def opened(names: Sequence[str], uris: Sequence[str], all_wanted: bool) -> crazyradio.Radio:
+    """The radio; ends the tool where it can't be opened."""
+    try:
+        return crazyradio.Radio(names, uris, all_wanted)
+    except (ImportError, ValueError, OSError) as error:
+        return stop("no radio: %s" % error)
+
+
+def emergency(options: argparse.Namespace, watch: Watch, answers: Answers, radios: List[crazyradio.Radio]) -> int:
+    """Lands drones or stops their motors: those of a text of addresses, whatever the show is. The status; the radio that
+    was opened is added to a list, to be closed."""
+    if options.simulate:
+        flown = flown_of(options.show)[1]
+        pads = pads_of(flown, options)
+        uris, floors = dict(zip(flown.names, set_simulation(flown, pads, options))), dict(zip(flown.names, pads))
+    else:
+        uris, floors = crazyradio.everybody(options.radio), {}
+    if options.pads:
+        floors = legs.pads_by_name(options.pads)
+    radios.append(opened(list(uris), list(uris.values()), False))
+    return only(radios[0], {name: pad[2] / 1000 for name, pad in floors.items()}, options, watch, answers)
+
+
+def show(options: argparse.Namespace, watch: Watch, answers: Answers, radios: List[crazyradio.Radio]) -> int:
+    """Flies the show. The status; the radio that was opened is added to a list, to be closed."""
+    text, flown = judged_show(options)
+    pads = pads_of(flown, options)
+    Ways(flown, pads, options)  # refused before the link is opened, as a log is that can't be written
+    log = Log(options.log, say)
+    uris = set_simulation(flown, pads, options) if options.simulate else crazyradio.addresses(
+        options.radio, flown.names)
+    radios.append(opened(flown.names, uris, True))
+    return fly(radios[0], flown, text, pads, options, log, watch, answers)
+
+
+def main(words: list[str]) -> int:
+    options = options_of(words)
+    watch, answers, radios = Watch(), Answers(), []
+    signal.signal(signal.SIGPIPE, signal.SIG_IGN)
+    try:
+        return (emergency if options.only in ("land", "stop") else show)(options, watch, answers, radios)
+    except (Trouble, crazyradio.Dead) as trouble:
+        say(str(trouble))
+        return EARLY
+    except Interrupted:
+        say("Ctrl-C: not flown")
+        return EARLY
+    except (OSError, ValueError) as error:  # a file of words that isn't there, or isn't one
+        return stop(str(error))
+    finally:
+        watch.off()
+        for radio in radios:
+            radio.close()
+            for line in simulated(radio.names) if options.simulate else ():
+                say(line)
+        TELLER.finish()

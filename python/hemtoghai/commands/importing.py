@@ -1,0 +1,319 @@
+"""Writes a show from trajectories that other programs made, and says how far it may leave them; --judge judges them.
+
+    ./show import SHOW.skyc > SHOW.choreo             Skybrush
+    ./show import A.csv B.csv .. > SHOW.choreo        uav_trajectories: a drone a file, a duration and 32 numbers a row
+    ./show import --waypoints A.csv .. > SHOW.choreo  t,x,y,z[,yaw] a row: seconds, metres, degrees; maybe a drone column
+    ./show import SHOW.zip > SHOW.choreo              a zip of such CSV files, or of a show.json
+    ./show import --judge SHOW.skyc                   is the show of the file apart, at every instant?
+
+NEVER TRIED with a file that another program wrote: the readers are from memory of the formats.
+
+All drones are cut at common instants. Between two of them each flies a curve with the file's place and velocity at
+both, a line, or holds. E is how far that is from the file at most, at every instant: worked out in exact fractions,
+with the program's rounding to whole millimetres. The ellipsoid of the show is the wanted one times 1 + E / (the smaller
+half axis). So status 0 of `check` says of the file's own curves that the wanted ellipsoids keep apart, if this tool
+reads the file as its own program flies it.
+
+Status 0: written, and within the tolerance. 1: written, but farther. 2: wrong words. 3: a faulty file, or too many
+drones or cues, or too far away. 4: no room in a drone's memory. With --judge that of `check`. 70: no answer.
+"""
+import argparse
+import math
+import os
+import sys
+from fractions import Fraction
+
+from hemtoghai import program
+from hemtoghai.commands import why
+from hemtoghai.companion import add_depth, many, parser, stop
+from hemtoghai.exchange import foreign
+from hemtoghai.geometry import fitting, separation
+from hemtoghai.language import choreo
+
+MOST_JUDGED = 20000  # cues of a show that is only judged
+STRETCH = 150  # cues of curves, in 23 bytes each, fit into 4,096
+STEPS = [1, 2, 5, 10, 20, 30, 50, 70, 100, 200, 500, 1000]  # millimetres
+FAULTY = 3
+
+
+# ---- the ellipsoid, and judging
+
+def grown(wanted, bound):
+    """The factor 1 + bound / (the smaller half axis), rounded up to a ten-thousandth, and the half axes times that,
+    rounded up: around a point such an ellipsoid holds the wanted one around any point within the bound."""
+    factor = Fraction(math.ceil(10000 * (1 + bound / min(wanted))), 10000)
+    return factor, tuple(math.ceil(axis * factor) for axis in wanted)
+
+
+def ask(text, deep):
+    """The status and the line of `check`."""
+    try:
+        status, output = program.ask(["check", "--depth", str(deep)], text.encode())
+    except program.Unusable as why:
+        return stop("`check` was not asked: %s" % why)
+    return status, output.decode(errors="replace").strip()
+
+
+def judge(fit, head, wanted, bound, deep):
+    """Says of the file's own curves whether the wanted ellipsoids keep apart; the status of `check`. Stretches that fit
+    into a drone's memory are judged one after the other, since a show that is only judged needs no room."""
+    for first in range(0, len(fit.cues), STRETCH):
+        chosen = slice(first, first + STRETCH)
+        status, line = ask(fit.text(head, chosen), deep)
+        print("check, from %.3f s on: %s" % (fit.cues[first][0] / 1000, line))
+        if status == 5:
+            print_why(fit, fit.text(head, chosen, fit.cues[first][0]), wanted, deep)
+        elif status:
+            print("NO ANSWER on separation: the import is refused for another reason; see docs/COMMANDS.md")
+        if status:
+            return status
+    print("APART: at every instant, by the file's own curves, ellipsoids %d %d of two drones share no point" % wanted)
+    print("(what was judged is within %.2f mm of them, and its ellipsoids are larger by that)" % bound)
+    return 0
+
+
+def share_of(fit, pair, t, wanted):
+    """The square of the share that two drones have by the file, at an instant, of the distance at which ellipsoids
+    touch, and their places in micrometres: exact. The ellipsoids share a point where it is at most 1."""
+    (r, h), places = wanted, [fit.exact[k].at(t) for k in pair]
+    x, y, z = (b - a for a, b in zip(*(place[:3] for place in places)))
+    return (h * h * (x * x + y * y) + r * r * z * z) / (4000000 * r * r * h * h), places
+
+
+def nearest(fit, pair, begin, end, wanted):
+    """An instant between two at which two drones are nearest by the file, as far as it is looked for in doubles."""
+    (r, h), paths = wanted, [fit.paths[k] for k in pair]
+
+    def far(t):
+        x, y, z = (b - a for a, b in zip(*(path.at(t)[:3] for path in paths)))
+        return h * h * (x * x + y * y) + r * r * z * z
+    step = (end - begin) / 256
+    best = min(range(257), key=lambda k: far(begin + k * step))
+    low, high = max(begin, begin + (best - 1) * step), min(end, begin + (best + 1) * step)
+    for _ in range(40):
+        a, b = low + (high - low) / 3, high - (high - low) / 3
+        low, high = (low, b) if far(a) < far(b) else (a, high)
+    return min((begin + best * step, (low + high) / 2), key=far)
+
+
+def print_why(fit, text, wanted, deep):
+    """Says of a refusal for separation whether the file is to blame, where and when, and what `why` says. The
+    text begins with a wait, so that its time is the file's."""
+    flown, explain, found = choreo.flown_of(text.encode()), why, []
+    begins = explain.begins(flown)
+    for i, j, cue, index in separation.blocked_places(flown, deep):
+        t = nearest(fit, (i, j), begins[cue], begins[cue + 1], wanted)
+        found.append((share_of(fit, (i, j), Fraction(t), wanted), t, i, j, cue, index))
+    found.sort(key=lambda row: row[0][0])
+    (square, places), t, i, j, cue, index = found[0]
+    if square <= 1:
+        print("TOO NEAR: at this instant, by the file's own curves, two ellipsoids %d %d share a point:" % wanted)
+    else:
+        print("NOT SHOWN: the larger ellipsoids of the import are apart along no direction; those of the file may be. "
+              "A smaller --tolerance may show it. Nearest by the file, as far as was looked:")
+    print("  at %.3f s of the file, with %.1f %% of the distance at which the ellipsoids touch" % (
+        t / 1000, 100 * float(square) ** 0.5))
+    for k, place in zip((i, j), places):
+        print("  %s at (%s) mm by the file" % (flown.names[k], ", ".join("%.0f" % (v / 1000) for v in place[:3])))
+    if len(found) > 1:
+        print("  and %s blocked, of this or other pairs" % many(len(found) - 1, "more place"))
+    print("./show why, of the import: its cues and lines, and its larger ellipsoids")
+    near = separation.Nearest(separation.difference(*(flown.by_cue[k][cue][1] for k in (i, j))),
+                              *flown.show.settings["ellipsoid"])
+    explain.print_place(flown, text.encode().split(b"\n"), (near, i, j, cue, index), deep, [])
+
+
+# ---- limits
+
+def too_much(fit, head):
+    """What is too much of an import for a drone or for the language: a status, words, and how many times too much, or 0
+    where less of it doesn't help; or None."""
+    if len(fit.cues) > choreo.MOST_CUES:
+        return FAULTY, "more than %d cues" % choreo.MOST_CUES, len(fit.cues) / choreo.MOST_CUES
+    try:
+        flown = choreo.flown_of(fit.text(head).encode())
+        room = flown.room()
+        most, name, segments = max((len(data), name, len(sent)) for name, data, sent in zip(
+            flown.names, flown.data(), flown.sent))
+        choreo.judge_room(flown)
+    except choreo.Refused as refusal:
+        if refusal.status == FAULTY:
+            return FAULTY, "the import would be refused: %s" % refusal, int(refusal.outcome == "too-large")
+        return refusal.status, "%s would take %d bytes of %d, in %s" % (name, most, room, many(segments, "segment")), (
+            most / room)
+    return None
+
+
+def tolerance_for(paths, options, head, times, edges):
+    """A tolerance at which a show fits, or None: greater ones are tried, from the first on at which cubics may have so
+    many times fewer pieces. No tolerance does without the edges of rests and corners."""
+    for mm in STEPS if edges <= choreo.MOST_CUES else ():
+        if mm > max(options.tolerance, options.tolerance * times ** 2):
+            if too_much(fit_of(paths, options, mm), head) is None:
+                return mm
+    return None
+
+
+def stop_for(paths, options, found, head, edges):
+    """Ends the tool for what is too much, with the tolerance at which the show would fit."""
+    status, words, times = found
+    if not times:
+        stop(words, status)
+    mm = tolerance_for(paths, options, head, times, edges)
+    return stop("%s; %s" % (words, "the show fits with --tolerance %d" % mm if mm else
+                            "no tolerance up to %d mm helps: cut the show into several" % STEPS[-1]), status)
+
+
+# ---- words
+
+def numbers(*limits):
+    """A reader of whole numbers in one word."""
+    def read(word):
+        found = [int(it) if it.isdigit() and len(it) < 9 else -1 for it in word.replace(",", " ").split()]
+        if len(found) != len(limits) or not all(low <= it <= high for it, (low, high) in zip(found, limits)):
+            raise argparse.ArgumentTypeError("%r isn't %s" % (word, " and ".join("%d to %d" % it for it in limits)))
+        return found[0] if len(limits) == 1 else tuple(found)
+    return read
+
+
+def amount(most):
+    """A reader of a number above 0."""
+    def read(word):
+        if not foreign.NUMBER.fullmatch(word) or not 0 < float(word) <= most:
+            raise argparse.ArgumentTypeError("%r isn't above 0 and at most %d" % (word, most))
+        return float(word)
+    return read
+
+
+def options_of(words: list[str]):
+    """The tool's words."""
+    reader = parser(__doc__)
+    reader.add_argument("--waypoints", action="store_true", help="the files are waypoints, joined by lines")
+    reader.add_argument("--smooth", action="store_true", help="the files are waypoints, joined by a smooth spline")
+    reader.add_argument("--tolerance", type=amount(1000), default=10.0, metavar="MM",
+                       help="how far what is flown may leave the file; 10")
+    reader.add_argument("--yaw-tolerance", type=amount(360), default=3.0, metavar="DEGREES", help="the same of yaw; 3")
+    reader.add_argument("--least", type=numbers((1, 65535)), default=50, metavar="MS",
+                       help="no cue is shorter, but for the two before a rest or the end; 50")
+    reader.add_argument("--loose", action="store_true",
+                       help="fewer cues: drones at rest may stray within the tolerance, too")
+    reader.add_argument("--ellipsoid", type=numbers((1, 2000), (1, 2000)), default=(120, 300), metavar="'R H'",
+                       help="the half axes that are wanted around the file's own curves, in mm; '120 300'")
+    reader.add_argument("--memory", type=numbers((0, 255), (0, 4095)), default=(2, 0), metavar="'ID OFFSET'",
+                       help="the show's line; '2 0'")
+    reader.add_argument("--starts", metavar="FILE", help="name,x,y,z a row (metres), added to polynomials")
+    reader.add_argument("--judge", action="store_true", help="write no show: judge the file's own curves")
+    add_depth(reader, "of --judge: 0 to 8, without it 6")
+    reader.add_argument("files", nargs="+", metavar="FILE", help="one .skyc, or CSV files")
+    options = reader.parse_args(words)
+    options.skyc, options.left_out = options.files[0].lower().endswith(".skyc"), {}
+    if options.skyc and len(options.files) > 1:
+        reader.error("one .skyc has all drones")
+    if options.starts and (options.skyc or options.waypoints or options.smooth):
+        reader.error("--starts is for polynomials")
+    return options
+
+
+def is_show(files):
+    """Whether the one file is a zip with a show.json, whatever its name."""
+    if len(files) != 1 or files[0] == "-":
+        return False
+    data = foreign.limited(files[0])
+    return foreign.is_archive(data) and "show.json" in foreign.Archive(data).names()
+
+
+def paths_of(options):
+    """The paths in the files."""
+    try:
+        options.skyc = options.skyc or is_show(options.files)
+        if options.skyc:
+            paths = foreign.read_skyc(options.files[0], options.left_out)
+        else:
+            paths = foreign.read_csv(options.files, options.waypoints or options.smooth, options.smooth, options.starts)
+    except foreign.Unreadable as error:
+        return stop(("%s: %s" % (options.files[0], error) if options.skyc else str(error)), FAULTY)
+    if len(paths) > choreo.MOST_DRONES:
+        stop("%d drones, and a show has at most %d" % (len(paths), choreo.MOST_DRONES), FAULTY)
+    return paths
+
+
+def fit_of(paths, options, tolerance):
+    """The cues for paths; those of a show that is written are no more than it may have, and one."""
+    return fitting.Fit(paths, tolerance, options.yaw_tolerance, options.least, not options.loose,
+                       MOST_JUDGED if options.judge else choreo.MOST_CUES)
+
+
+def say(*words):
+    """A line for people, beside the show's text."""
+    print(*words, file=sys.stderr)
+
+
+def say_cues(fit, bounds):
+    """Says what was made of the files, and what can't be flown."""
+    lengths = sorted(length for _, length, _ in fit.cues)
+    worst = max(range(len(bounds)), key=lambda k: bounds[k])
+    say("%s, %.3f s, %s of %d to %d ms; at most %.2f mm from the file at any instant (%s), yaw %.2f degrees" % (
+        many(len(bounds), "drone"), fit.end / 1000, many(len(lengths), "cue"), lengths[0], lengths[-1],
+        bounds[worst][0], fit.paths[worst].name, max(row[1] for row in bounds)))
+    if fit.forced:
+        say("%s could not be fitted, the first at %.3f s: a corner at speed, or too small a tolerance" % (
+            many(len(fit.forced), "cue"), fit.forced[0] / 1000))
+    corners = [(*corner, path.name) for path in fit.paths for corner in path.corners()]
+    if corners:
+        jump, when, name = max(corners)
+        say("the file has corners at speed: %s jumps by %.2f m/s at %.3f s; no drone flies that, nor the show" % (
+            name, jump / 1000, when / 1000))
+    jump, when, name = max((*row, path.name) for path in fit.paths for row in [(0, 0), *path.jumps()])
+    if jump > 1000:
+        say("the file jumps: %s by %.1f mm at %.3f s; its numbers may be rounded" % (name, jump / 1000, when / 1000))
+
+
+def say_left_out(options, paths):
+    """Says what of the files isn't in the show, and what their places may want."""
+    for what, count in options.left_out.items():
+        say("LEFT OUT: %s, of %s%s" % (what, many(count, "drone"), (
+            "; drones turn by the setpoints alone, which the file may not mean" if what == foreign.AUTOMATIC else "")))
+    if not (options.skyc or options.waypoints or options.smooth or options.starts) and foreign.is_one_place(paths):
+        say("all %d drones begin in one place: polynomials may count from each drone's start. --starts FILE adds it, by "
+            "a row name,x,y,z in metres for each file" % len(paths))
+
+
+def head_of(options, bound, turned, factor, large):
+    """The first lines of the show: source, bound and factor, and the settings."""
+    names = [os.path.basename(path) for path in options.files]
+    source = "".join(it if 32 <= ord(it) < 127 else "?" for it in ", ".join(names[:3]))
+    more = " and %d more" % (len(names) - 3) if len(names) > 3 else ""
+    return ["# Source: %.200s%s, by ./show import." % (source, more),
+            "# Bound: at any instant what is sent is at most %.2f mm (%s) from the source." % (
+                bound, "its automatic yaw is left out" if foreign.AUTOMATIC in options.left_out else
+                "yaw %.2f degrees" % turned),
+            *("# Left out: %s." % what for what in options.left_out),
+            "# Factor: %d %d is wanted around the source's curves, and %.4f times that is kept clear." % (
+                *options.ellipsoid, factor),
+            "choreo 1", "ellipsoid %d %d" % large, "memory %d %d" % options.memory]
+
+
+def main(words: list[str]) -> int:
+    options = options_of(words)
+    paths = paths_of(options)
+    fit = fit_of(paths, options, options.tolerance)
+    head = ["choreo 1", "memory %d %d" % options.memory]
+    found = None if options.judge else too_much(fit, head)
+    if found:
+        return stop_for(paths, options, found, head, len(fit.edges) - 1)
+    if options.judge and len(fit.cues) > MOST_JUDGED:
+        stop("more than %d cues: judge a part of the show, or take a greater --tolerance" % MOST_JUDGED, FAULTY)
+    bounds = fit.bounds()
+    bound, turned = max(row[0] for row in bounds), max(row[1] for row in bounds)
+    factor, large = grown(options.ellipsoid, bound)
+    if max(large) > 2000:
+        stop("the ellipsoid would be %d %d, and a show's half axes are at most 2000 mm" % large, FAULTY)
+    say_cues(fit, bounds)
+    say_left_out(options, paths)
+    head = head_of(options, bound, turned, factor, large)
+    if options.judge:
+        print("wanted: ellipsoids %d %d; judged: %d %d, %.4f times as large for %.2f mm of the import" % (
+            *options.ellipsoid, *large, factor, bound))
+        return judge(fit, head, options.ellipsoid, bound, options.depth)
+    sys.stdout.write(fit.text(head))
+    return 0 if bound <= math.ceil(100 * options.tolerance) / 100 else 1

@@ -1,0 +1,341 @@
+#!/usr/bin/env python3
+"""A second opinion on a certificate, in exact whole numbers, that shares nothing with the program or the other tools.
+
+    ./show judge SHOW PLAN CERTIFICATE
+
+It reads the plan, as docs/TRAJECTORY.md and docs/RADIO.md have its bytes and packets, the show's lines `drone`,
+`ellipsoid` (120 300 without one), `stray` and `late` (0 without them), and the certificate of either version, as
+docs/SEPARATION.md has it; nothing else. The plan has to be whole: it ends with `end`, its packets bring the bytes that
+are judged, and its drones are those of the show, in its order and at its places.
+The plan joins holds, so where all drones hold a stretch of time may be one cue or several: any way to cut it for which
+every tree is right will do, since each of them shows that all drones are apart at every instant. Status 0: the
+certificate is right. 12: it isn't, and the first tree that can't be right is named. 11: it is no certificate. 70: a
+file can't be read or is no plan of this show.
+"""
+import sys
+if __name__ == "__main__" and not sys.flags.isolated:
+    sys.path[:1] = []  # Python's own modules alone, whatever lies beside this file
+import os
+import re
+from itertools import combinations, product
+from math import comb, gcd, isqrt
+
+LARGEST = {"show": 1048576, "plan": 1 << 22, "certificate": 400000000}  # bytes
+LIMITS = {"ellipsoid": (1, 2000), "stray": (0, 1000), "late": (0, 1000)}
+NUMBER = re.compile("-?[0-9]+")
+QUANTITY = re.compile(r"(-?)([0-9]+)(?:\.([0-9]+))?([a-z]+)")
+# What a place of a show counts: the units of `choreo 2`, each as so many of the least one, and so many of that are one.
+MICROMETRES, MILLIMETRES, MILLISECONDS, TENTHS = [
+    ({"m": 1000000, "cm": 10000, "mm": 1000, "um": 1}, 1), ({"m": 1000000, "cm": 10000, "mm": 1000, "um": 1}, 1000),
+    ({"s": 1000, "ms": 1}, 1), ({"deg": 10}, 1)]
+COUNTED = {"ellipsoid": MILLIMETRES, "stray": MILLIMETRES, "late": MILLISECONDS}
+
+
+def stop(text, status=70):
+    """Ends with a line: on standard output where the certificate was judged."""
+    stream = sys.stderr if status == 70 else sys.stdout
+    try:
+        if stream is None:
+            raise OSError
+        print("judge_certificate: " + text, file=stream, flush=True)
+    except (OSError, ValueError):
+        os._exit(70)  # so that no status speaks of a line that nobody got
+    sys.exit(status)
+
+
+def read(path, kind):
+    """The bytes of a file, if they aren't too many; no more of them are read."""
+    try:
+        with open(path, "rb") as file:
+            data = file.read(LARGEST[kind] + 1)
+    except (OSError, ValueError) as error:
+        return stop("%s: %s" % (path, getattr(error, "strerror", None) or error))
+    return data if len(data) <= LARGEST[kind] else stop("%s: a %s of more than %d bytes" % (path, kind, LARGEST[kind]))
+
+
+def lines_of_show(path):
+    """The lines of the show as words, without comments, the first of them its form."""
+    lines = read(path, "show").decode("latin-1").split("\n")
+    rows = [row for row in (line.partition("#")[0].split() for line in lines) if row]
+    if rows[:1] not in ([["choreo", "1"]], [["choreo", "2"]]):
+        stop("%s: a show begins with `choreo 1` or `choreo 2`" % path)
+    return rows
+
+
+def value_of(show, word, counts):
+    """The whole number that a word of a show is in a place that counts this; None where it is none."""
+    if show[0] == ["choreo", "1"] or NUMBER.fullmatch(word):
+        found = NUMBER.fullmatch(word) and word.lstrip("-").lstrip("0")
+        if found is None or len(found) > 40 or found and show[0] == ["choreo", "2"]:
+            return None  # in `choreo 2` zero alone has no unit
+        return int("-" * (word[0] == "-") + (found or "0"))
+    (units, least), found = counts, QUANTITY.fullmatch(word)
+    if found is None or found[4] not in units:
+        return None
+    whole, places = found[2].lstrip("0"), (found[3] or "").rstrip("0")
+    if len(whole) > 40 or len(places) > 40:
+        return None  # too many, or not a whole one
+    size, rest = divmod(int(whole + places or "0") * units[found[4]], least * 10 ** len(places))
+    return None if rest else -size if found[1] else size
+
+
+def setting(show, word, *default):
+    """The numbers of the show's line of this word, which stands at most once outside of blocks."""
+    low, high = LIMITS[word]
+    found = [row[1:] for row in outside(show) if row[0] == word]
+    if not found:
+        return default
+    values = [value_of(show, it, COUNTED[word]) for it in found[0]]
+    if len(found) > 1 or len(values) != len(default) or not all(it is not None and low <= it <= high for it in values):
+        stop("the show's line `%s` is faulty" % word)
+    return tuple(values)
+
+
+def outside(show):
+    """The lines outside of formations, figures, repeats and cues: in these the first word may be a drone's name."""
+    depth = 0
+    for row in show[1:]:
+        if row == ["end"]:
+            depth -= 1
+        elif depth:
+            depth += row[0] in ("cue", "repeat") and len(row) == 2 and row[1][0].isdigit()
+        else:
+            depth += row[0] in ("formation", "figure", "cue", "repeat")
+            yield row
+
+
+def starts_of(show):
+    """The show's drones: their names, and their first places in millimetres with the yaw in tenths of a degree."""
+    out = []
+    for row in outside(show):
+        if row[0] == "drone":
+            values = [value_of(show, it, counts) for it, counts in zip(row[2:], [*[MICROMETRES] * 3, TENTHS])]
+            if len(row) != 6 or None in values:
+                stop("the show's line `%s` is faulty" % " ".join(row)[:60])
+            out.append((row[1], [*((v + 500) // 1000 for v in values[:3]), values[3]]))
+    return out
+
+
+def trajectory(data, pieces):
+    """A trajectory's segments as (begin, end, [x, y, z], whether it holds), in milliseconds and millimetres."""
+    def number(at):
+        return int.from_bytes(data[at:at + 2], "little", signed=True)
+    last, at, time, out = [number(k) for k in (0, 2, 4, 6)], 8, 0, []
+    if not 1 <= pieces <= 255 or not 8 <= len(data) <= 4096:
+        raise ValueError("%d bytes for %d segments" % (len(data), pieces))
+    for _ in range(pieces):
+        header, milliseconds = data[at], int.from_bytes(data[at + 1:at + 3], "little")
+        at += 3
+        axes = []
+        for axis in range(4):
+            count = (0, 1, 3, 7)[header >> (2 * axis) & 3]
+            axes.append([last[axis]] + [number(at + 2 * k) for k in range(count)])
+            at += 2 * count
+            last[axis] = axes[-1][-1]
+        if milliseconds == 0:
+            raise ValueError("a segment of duration 0")
+        out.append((time, time + milliseconds, axes[:3], header == 0))
+        time += milliseconds
+    if len(data) != at + 3 or any(data[at:]):
+        raise ValueError("%d bytes for %d segments" % (len(data), pieces))
+    return out
+
+
+def bytes_of(words):
+    """The bytes of words of two hexadecimal digits."""
+    return bytes.fromhex("".join(word if len(word) == 2 else "?" for word in words))
+
+
+def are_packets_of(data, pieces, packets):
+    """Whether packets bring these bytes into a memory, from their offset on, name them as so many segments, and start
+    them: docs/RADIO.md."""
+    *writes, (define, named), (start, begun) = packets if len(packets) > 2 else [("", b"")] * 3
+    offset = int.from_bytes(named[5:9], "little")
+    return (all(word == "write" and packet[:1] == b"\x4E" and packet[1] == writes[0][1][1]
+                and packet[2:6] == (offset + 24 * k).to_bytes(4, "little") and len(packet) <= 30
+                for k, (word, packet) in enumerate(writes))
+            and b"".join(packet[6:] for _, packet in writes) == data
+            and define == "define" and named[:2] + named[3:5] == b"\x8C\x06\x01\x01" and named[9:] == bytes([pieces])
+            and start == "start" and begun == bytes([0x8C, 5, 0, 0, 0, named[2], 0, 0, 0x80, 0x3F]))
+
+
+def drone_of(lines):
+    """A drone of a plan, from its lines as words: name, segments, and its first place."""
+    (_, name, *sizes), (word, *digits), *packets = lines
+    if word != "data" or sizes[0::2] != ["bytes", "pieces"] or len(sizes) != 4:
+        raise ValueError("this is no drone of a plan")
+    data, pieces = bytes_of(digits), int(sizes[3])
+    segments = trajectory(data, pieces)
+    if int(sizes[1]) != len(data) or not are_packets_of(data, pieces, [(it[0], bytes_of(it[1:])) for it in packets]):
+        raise ValueError("the packets don't bring the bytes of %s" % name)
+    return name, segments, [int.from_bytes(data[k:k + 2], "little", signed=True) for k in (0, 2, 4, 6)]
+
+
+def plan_of(path, starts):
+    """The drones of a plan, which has to be whole and one of these drones, each with its name and its segments."""
+    lines = read(path, "plan").decode("latin-1").split("\n")
+    if lines[0] != "plan 1" or lines[-2:] != ["end", ""]:
+        stop("%s: this is no plan, or not a whole one: it begins with `plan 1` and ends with `end`" % path)
+    words = [line.split(" ") for line in lines[1:-2]]
+    edges = [k for k, line in enumerate(words) if line[0] == "drone"] + [len(words)]
+    drones = []
+    for first, last in zip(edges, edges[1:]):
+        try:
+            drones.append(drone_of(words[first:last]))
+        except (ValueError, IndexError) as error:
+            stop("%s, from line %d on: %s" % (path, first + 2, error))
+    if edges[0] or [(word, start) for word, _, start in drones] != starts:
+        stop("%s: its drones, or the places where they start, aren't those of the show" % path)
+    if not drones or len({segments[-1][1] for _, segments, _ in drones}) > 1:
+        stop("%s: it has no drones, or they fly for different times" % path)
+    return [(name, segments) for name, segments, _ in drones]
+
+
+def intervals_of(drones):
+    """The stretches between which no drone has an edge; for each the three curves of each drone, and whether all
+    hold."""
+    edges = sorted({0, *(segment[1] for _, segments in drones for segment in segments)})
+    at, out = [0] * len(drones), []
+    for begin, end in zip(edges, edges[1:]):
+        curves, hold = [], True
+        for k, (name, segments) in enumerate(drones):
+            while segments[at[k]][1] <= begin:
+                at[k] += 1
+            first, last, axes, holds = segments[at[k]]
+            if (first, last) != (begin, end) and not holds:
+                stop("the plan's drones have no common cues: %s moves from %d to %d ms" % (name, first, last))
+            curves.append(axes)
+            hold = hold and holds
+        out.append((curves, hold))
+    return out
+
+
+def raised(b):
+    """The eight control values of degree seven of 5,040 times a curve."""
+    n = len(b) - 1
+    return [5040 // comb(7, k) * sum(comb(n, j) * comb(7 - n, k - j) * b[j]
+                                     for j in range(n + 1) if j <= k <= 7 - n + j) for k in range(8)]
+
+
+def halves(b):
+    """Both halves of a curve, each times 2^7, by de Casteljau's rule."""
+    left, right = [], []
+    for k in range(8):
+        left.append(b[0] << 7 - k)
+        right.insert(0, b[-1] << 7 - k)
+        b = [u + v for u, v in zip(b, b[1:])]
+    return left, right
+
+
+def reach_of(drones, late):
+    """How many millimetres any drone moves on each axis in so many milliseconds at most."""
+    fastest = [0, 0, 0]
+    for begin, end, axes in (segment[:3] for _, segments in drones for segment in segments if late):
+        for axis, b in enumerate(axes):
+            parts = [raised(b)]
+            for _ in range(6):
+                parts = [half for part in parts for half in halves(part)]
+            step = max(abs(v - u) for part in parts for u, v in zip(part, part[1:]))
+            fastest[axis] = max(fastest[axis], -(-7000000 * step // (5040 * (end - begin) << 36)))
+    return [min(65536, -(-late * speed // 1000000)) for speed in fastest]
+
+
+def ruler(n, r, h, stray, reach):
+    """A direction's weights, and how far apart drones have to be by them."""
+    w = h * n[0], h * n[1], r * n[2]
+    strays = 4 * stray * stray * sum(v * v for v in w)
+    return w, (isqrt(4 * r * r * h * h * sum(v * v for v in n)) + 1 + (isqrt(strays - 1) + 1 if strays else 0)
+               + sum(abs(v) * far for v, far in zip(w, reach)))
+
+
+def tokens(line, width):
+    """A tree's nodes: `.` and words of a given number of bytes; None where the line isn't one whole tree."""
+    nodes, owed, at = [], 1, 0
+    while at < len(line) and owed:
+        node = line[at:at + 1] if line[at:at + 1] == "." else line[at:at + width]
+        nodes.append(node)
+        at, owed = at + len(node), owed + (1 if node == "." else -1)
+    return nodes if owed == 0 and at == len(line) else None
+
+
+def certificate_of(path):
+    """The depth, the table of directions by their words, and the lines of the trees of a certificate."""
+    lines = read(path, "certificate").decode("latin-1").split("\n")
+    lines = [line[:-1] if line.endswith("\r") and k < len(lines) - 1 else line for k, line in enumerate(lines)]
+    lines = lines[:-1] if lines[-1] == "" else lines
+    version = 2 if lines[:1] == ["version 2"] else 1
+    entries = range(-version, version + 1)
+    table = [n for n in product(entries, entries, entries) if gcd(*n) == 1]
+    words = {chr(97 + k) if version == 1 else "%02d" % k: n for k, n in enumerate(table)}
+    if len(lines) < version or not re.fullmatch("certificate [0-8]", lines[version - 1]):
+        stop("error 11 line %d" % version, 11)
+    for number, line in enumerate(lines[version:], version + 1):
+        nodes = tokens(line, version)
+        if nodes is None or not all(node == "." or node in words for node in nodes):
+            stop("error 11 line %d" % number, 11)
+    return int(lines[version - 1][-1]), words, lines[version:], version
+
+
+def is_right(nodes, first, second, depth, rulers):
+    """Whether a tree shows two drones to be apart while they fly these curves."""
+    stack = [([[v - u for u, v in zip(raised(a), raised(b))] for a, b in zip(first, second)], 0)]
+    for node in nodes:
+        part, level = stack.pop()
+        if node == ".":
+            if level == depth:
+                return False
+            cut = [halves(row) for row in part]
+            stack += [([right for _, right in cut], level + 1), ([left for left, _ in cut], level + 1)]
+            continue
+        w, least = rulers[node]
+        if any(w[0] * x + w[1] * y + w[2] * z < least * 5040 << 7 * level for x, y, z in zip(*part)):
+            return False
+    return True
+
+
+def judge(drones, depth, words, trees, version, kept):
+    """What is said of a certificate, and the status."""
+    rulers = {word: ruler(n, *kept) for word, n in words.items()}
+    pairs, intervals = list(combinations(range(len(drones)), 2)), intervals_of(drones)
+    if not pairs:
+        return ("extra: a show of one drone has no tree", 12) if trees else ("valid: one drone", 0)
+    cues = max(len(intervals), len(trees) // len(pairs))
+    reached = {-1}  # the last intervals that this many cues can reach
+    for cue in range(cues):
+        ahead = {k + 1 for k in reached} | {k for k in reached if k >= 0 and intervals[k][1]}
+        ahead.discard(len(intervals))
+        for p, (i, j) in enumerate(pairs):
+            number = p * cues + cue
+            name = "pair %s %s cue %d" % (drones[i][0], drones[j][0], cue + 1)
+            if number >= len(trees):
+                return "missing %s" % name, 12
+            nodes, curves = tokens(trees[number], version), [(k, intervals[k][0][i], intervals[k][0][j]) for k in ahead]
+            ahead = {k for k, first, second in curves if is_right(nodes, first, second, depth, rulers)}
+            if not ahead:
+                return "refused at tree %d, %s" % (number + 1, name), 12
+        reached = ahead
+    if len(intervals) - 1 not in reached or len(trees) != cues * len(pairs):
+        return "%d trees for %d pairs and %d cues" % (len(trees), len(pairs), cues), 12
+    return "valid depth %d trees %d" % (depth, len(trees)), 0
+
+
+def main(words):
+    """Judges a certificate; the status."""
+    if len(words) != 3 or words[0] in ("-h", "--help"):
+        is_help = words[:1] in (["-h"], ["--help"])
+        print(__doc__.strip(), file=sys.stdout if is_help else sys.stderr)
+        return 0 if is_help else 70
+    show = lines_of_show(words[0])
+    drones, certificate = plan_of(words[1], starts_of(show)), certificate_of(words[2])
+    reach = reach_of(drones, *setting(show, "late", 0))
+    kept = *setting(show, "ellipsoid", 120, 300), *setting(show, "stray", 0), reach
+    return stop(*judge(drones, *certificate, kept))
+
+
+if __name__ == "__main__":
+    try:
+        sys.exit(main(sys.argv[1:]))
+    except (MemoryError, RecursionError) as fault:
+        stop("no answer: %s" % type(fault).__name__)
+    except KeyboardInterrupt:
+        os._exit(130)

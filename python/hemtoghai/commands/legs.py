@@ -1,0 +1,81 @@
+"""Plans the way up from the pads to a show's first places and the way down, has both judged, and says when all may
+land.
+
+    ./show legs [OPTIONS] SHOW [PADS]
+
+PADS is a text with a line `NAME X Y Z` for each drone, in micrometres: where it stands. Without it each drone stands
+straight below its first place, at height 0. Each leg is written as a show, up.choreo and down.choreo: of commands that
+the firmware flies from rest to rest, as the act `move` has it. `check` judges them, with the show's ellipsoid, with
+30 mm more of `stray` and a `late` of at least 300 ms: commands go out drone by drone. What `check` refuses as a whole
+is judged stage by stage: then each stage begins when the one before has ended, and so does ./show fly. Two that both stand
+on their pads aren't judged with each other there: their pads have to be 150 mm apart.
+
+The last lines say at which instants of the show all may land straight down, by `check` as well: where a drone that
+brakes at 5 m/s^2, 0.1 s after it should, is carried on, and between half of `late` earlier and later.
+
+Status 0: both legs are accepted. 2: wrong words. 3 to 5: the show is refused. 16: there is no way up or down. 70: no
+answer. NO DRONE EVER FLEW A LEG: take-off, go-to and landing are from memory of the firmware.
+"""
+import os
+
+from hemtoghai.companion import ask_check, flown_of, many, missing, parser, stop
+from hemtoghai.flying import legs
+from hemtoghai.flying.landings import Landings
+
+NO_WAY = 16
+
+
+def write(leg, path, name, show, top):
+    """Writes a leg as a show, and its summary; the show's own curves stay below `top`."""
+    words = "judged as a whole" if leg.whole else "judged stage by stage: the next begins when the one before has ended"
+    with open(path, "wb") as file:
+        file.write(leg.text(["# The way %s of %s, by ./show legs; %s." % (name, os.path.basename(show), words)]))
+    print("way %s: %s, %.1f s; %s; %s" % (
+        name, many(len(leg.stages), "stage"), leg.milliseconds() / 1000, words, path))
+    if leg.why_below:
+        print("  below the last places, since there is no way to the pads: %s" % leg.why_below)
+    for line in leg.lines():
+        print(line)
+    if leg.top() > top:
+        print("  goes up to %.2f m, and the show to %.2f: --ceiling keeps it lower" % (leg.top() / 1000, top / 1000))
+
+
+def main(words: list[str]) -> int:
+    reader = parser(__doc__)
+    reader.add_argument("--out", metavar="FOLDER", default=".", help="where the two shows are written; here without it")
+    reader.add_argument("--below", action="store_true", help="land below the last places, and not on the pads")
+    reader.add_argument("--ceiling", type=int, metavar="MM", help="nobody is lifted higher than this on the ways")
+    reader.add_argument("--dry", action="store_true", help="write no files")
+    reader.add_argument("show", metavar="SHOW", help="a file with a show, or - for standard input")
+    reader.add_argument("pads", metavar="PADS", nargs="?", help="a text with a line `NAME X Y Z` for each drone")
+    options = reader.parse_args(words)
+    text, flown = flown_of(options.show)
+    answer = ask_check(text)
+    if answer is None:
+        stop(missing())
+    print("check: %s" % answer[1])
+    if answer[0]:
+        return answer[0]
+    firsts, lasts, begin, end = legs.places_of(flown)
+    try:
+        pads = legs.read_pads(options.pads, flown.names) if options.pads else legs.below(firsts)
+    except (OSError, ValueError) as error:
+        stop(str(error))
+    rules = legs.Rules(flown.show.settings, ceiling=options.ceiling)
+    print("judged with: %s" % rules.words())
+    status = 0
+    for name, way in (("up", lambda: legs.way_up(flown.names, pads, firsts, begin, rules)),
+                      ("down", lambda: legs.down(flown.names, pads, lasts, end, rules, options.below))):
+        try:
+            leg = way()
+            write(leg, os.devnull if options.dry else os.path.join(options.out, name + ".choreo"), name, options.show,
+                  legs.top_of(flown))
+        except legs.NoWay as why:
+            print("no way %s: %s" % (name, why))
+            status = NO_WAY
+        except OSError as error:
+            stop(str(error))
+    print("landing of all from the show:")
+    for line in Landings(flown, [pad[2] for pad in pads], rules).lines():
+        print("  " + line)
+    return status

@@ -1,0 +1,213 @@
+"""Makes the library: the proved judge for programs in C and in what calls C.
+
+    ./show library [--kept] [--out FOLDER]
+
+FOLDER, without it library/out, has then include/hemtoghai.h, lib/libhemtoghai.a, lib/libhemtoghai.so with its two
+other names, lib/pkgconfig/hemtoghai.pc, python/hemtoghai.py, and MANIFEST.json: version, commit, toolchain, the SHA-256
+of each file and of the sources, and the last line of the proof of crates/hemtoghai, which names what it rests on. Both
+libraries show the names hemtoghai_run and hemtoghai_version, and no other. It takes the toolchain and a C compiler (the
+one that CC names, or cc) with ld, ar, nm, objcopy and size. Where `rt ci` has proved these crates on this machine, the
+crate itself is all that is proved once more; else `rt lib` proves first what isn't proved, or with --kept nothing is
+made. The library runs on x86-64 with the instructions of x86-64-v2. Status 0: the library is written. 70: it isn't.
+75: with --kept, `rt ci` has kept too little on this machine.
+"""
+import importlib.machinery
+import importlib.util
+import json
+import os
+import re
+import shutil
+import subprocess
+import sys
+import tempfile
+
+from hemtoghai import program
+from hemtoghai.companion import parser, stop
+from hemtoghai.launching.built import git, launcher
+
+TOP = program.TOP
+CRATE = "hemtoghai"
+ARCHIVE = "libhemtoghai.a"
+SOURCES = os.path.join(TOP, "library")
+NAMES = ["hemtoghai_run", "hemtoghai_version"]
+# What the objects take from the C library, and from the compiler's own; anything else would be a new thing to trust.
+WANTED = {"malloc", "realloc", "free", "memcpy", "memmove", "memset", "__udivti3", "_GLOBAL_OFFSET_TABLE_"}
+NOT_KEPT = 75
+VARIABLES = re.compile(r"\.(data|bss|tdata|tbss)\b(?!\.rel\.ro)")
+SHARED = "-Wl,-z,defs,-z,relro,-z,now,-z,noexecstack,--gc-sections,--build-id=none"
+
+
+def said(*words, place=TOP):
+    """What a command says; where it fails the tool ends with all that it said."""
+    try:
+        done = subprocess.run(words, cwd=place, stdin=subprocess.DEVNULL, stdout=subprocess.PIPE,
+                              stderr=subprocess.STDOUT)
+    except OSError as error:
+        return stop("%s: %s" % (words[0], error.strerror))
+    text = done.stdout.decode(errors="replace")
+    if done.returncode:
+        stop("%s\n%s failed with status %d" % (text.rstrip("\n"), " ".join(words), done.returncode))
+    return text
+
+
+def toolchain():
+    """The folder of the toolchain."""
+    return os.path.dirname(said("rt", "doc").strip())
+
+
+def rt_as_module():
+    """rt as a module: no command of it makes a static library over what `rt ci` has proved and kept."""
+    loader = importlib.machinery.SourceFileLoader("rt", os.path.join(toolchain(), "bin", "rt"))
+    module = importlib.util.module_from_spec(importlib.util.spec_from_loader("rt", loader))
+    loader.exec_module(module)
+    return module
+
+
+def over_kept(room):
+    """The archive and what its proof says, over the crates below as `rt ci` proved and kept them for the same files;
+    or None, where one of them isn't kept. The crate itself is proved once more: `rt ci` keeps no archive."""
+    rt, place = rt_as_module(), os.path.join(room, "proved")
+    rt.rtlib.guarded()
+    rt.copy_crates(TOP, place)
+    os.mkdir(os.path.join(place, ".git"))  # it is the top of a repository
+    rt.Crate.allowed, rt.Crate.cuts_libraries = rt.handles_of(place), True
+    crates = rt.crates_of(place)
+    crate, = (it for it in crates if it.name == CRATE)
+    kept = rt.Kept(crates)
+    for below in crate.below():
+        if not kept.give(below, False, kept.key(below)):
+            print("%s isn't kept by rt ci" % below.name, file=sys.stderr)
+            return None
+        kept.is_built(below)
+    archive = os.path.join(crate.folder, "out", ARCHIVE)
+    os.makedirs(os.path.dirname(archive), exist_ok=True)
+    with open(os.path.join(room, "said"), "w+", errors="replace") as crate.out:
+        status = crate.prove(["build", *crate.words(["--jobs", "2"], keeps=False), "--toolchain",
+                              os.path.join(toolchain(), "toolchain"), "--backend", "llvm", "-o", archive])
+        crate.out.seek(0)
+        text = crate.out.read()
+    if status:
+        stop("%s\n%s isn't proved" % (text.rstrip("\n"), CRATE))
+    return archive, text
+
+
+def prove(room, only_kept=False):
+    """The archive of the proved crate, and the last line of its proof."""
+    place = os.path.join(TOP, "crates", CRATE)
+    try:
+        made = over_kept(room)
+    except (AttributeError, ImportError, TypeError) as error:
+        print("this toolchain keeps otherwise: %s" % error, file=sys.stderr)
+        made = None
+    if made is None and only_kept:
+        raise SystemExit(NOT_KEPT)
+    archive, text = made or (os.path.join(place, "out", ARCHIVE), said("rt", "lib", place=place))
+    lines = re.findall(r"^logic=proved .*$", text, re.M)
+    if not lines:
+        stop("there is no last line of a proof")
+    return archive, lines[-1]
+
+
+def heap():
+    """The toolchain's archive with what takes memory from malloc."""
+    archive = os.path.join(toolchain(), "c", "liblibc_c.a")
+    if not os.path.exists(archive):
+        stop("%s is not there" % archive)
+    return archive
+
+
+def names_of(file, *flags):
+    """The names that a file defines or takes, by the flags of nm."""
+    lines = [line.split(" ")[0] for line in said("nm", "--format=posix", *flags, file).splitlines()]
+    return {name.split("@")[0] for name in lines if name and not name.endswith(":")}
+
+
+def need_stateless(archive):
+    """Ends the tool where the proved crate has variables of its own: then threads could disturb one another. The
+    toolchain's object has one byte of them, of which the address alone is used."""
+    lines = [line.split() for line in said("size", "--format=sysv", archive).splitlines()]
+    if any(len(line) > 1 and VARIABLES.match(line[0]) and line[1] != "0" for line in lines):
+        stop("%s has variables of its own" % archive)
+
+
+def one_object(room, archives):
+    """One object of all that the archives have, which shows the library's names alone."""
+    whole = os.path.join(room, "hemtoghai.o")
+    said("ld", "-r", "--whole-archive", *archives, "-o", whole)
+    said("objcopy", *("--keep-global-symbol=" + name for name in NAMES), whole)
+    extra = names_of(whole, "--undefined-only") - WANTED
+    if extra:
+        stop("the objects take more than is known: %s" % " ".join(sorted(extra)))
+    return whole
+
+
+def need_names(file, *flags):
+    """Ends the tool where a library shows other names than its own."""
+    shown = names_of(file, "--defined-only", *flags) - {"HEMTOGHAI_0"}
+    if shown != set(NAMES):
+        stop("%s shows other names: %s" % (file, " ".join(sorted(shown))))
+
+
+def make_libraries(lib, version, archives):
+    """Makes both libraries in a folder; their names, the links among them first."""
+    static, shared = ARCHIVE, "libhemtoghai.so." + version
+    links = ["libhemtoghai.so", "libhemtoghai.so.0"]
+    for name in (static, shared, *links):
+        if os.path.lexists(os.path.join(lib, name)):
+            os.remove(os.path.join(lib, name))
+    with tempfile.TemporaryDirectory() as room:
+        whole = one_object(room, archives)
+        said("ar", "rcsD", os.path.join(lib, static), whole)
+        said(os.environ.get("CC", "cc"), "-shared", "-static-libgcc", SHARED, "-Wl,-soname,libhemtoghai.so.0",
+             "-Wl,--version-script=" + os.path.join(SOURCES, "hemtoghai.map"), whole, "-o", os.path.join(lib, shared))
+    for name in links:
+        os.symlink(shared, os.path.join(lib, name))
+    need_names(os.path.join(lib, static), "--extern-only")
+    need_names(os.path.join(lib, shared), "--dynamic")
+    return [static, shared]
+
+
+def make(out, version, only_kept=False):
+    """Makes the files of the library in a folder. They are named, and so is what the proof rests on."""
+    lib = os.path.join(out, "lib")
+    with tempfile.TemporaryDirectory() as room:
+        archive, rests_on = prove(room, only_kept)
+        need_stateless(archive)
+        for folder in ("include", "lib/pkgconfig", "python"):
+            os.makedirs(os.path.join(out, folder), exist_ok=True)
+        made = ["lib/" + name for name in make_libraries(lib, version, [archive, heap()])]
+    for name, path in (("hemtoghai.h", "include/hemtoghai.h"), ("hemtoghai.py", "python/hemtoghai.py")):
+        shutil.copyfile(os.path.join(SOURCES, name), os.path.join(out, path))
+        made.append(path)
+    made.append("lib/pkgconfig/hemtoghai.pc")
+    with open(os.path.join(SOURCES, "hemtoghai.pc.in")) as file, open(os.path.join(out, made[-1]), "w") as copy:
+        copy.write(file.read().replace("@VERSION@", version))
+    return sorted(made), rests_on
+
+
+def main(words: list[str]) -> int:
+    reader = parser(__doc__)
+    reader.add_argument("--out", default=os.path.join(SOURCES, "out"), metavar="FOLDER", help="where the library goes")
+    reader.add_argument("--kept", action="store_true", help="only over what rt ci has proved and kept on this machine")
+    given, show = reader.parse_args(words), launcher()
+    out = os.path.abspath(given.out)
+    if os.path.exists(show.MANIFEST):
+        stop("this is a release: its library is in library/out")
+    try:
+        below = show.crates_below(CRATE)
+        before = show.stamp(below)
+        made, rests_on = make(out, show.version(), given.kept)
+        if show.stamp(below) != before:
+            stop("the sources were changed while they were proved: run it again")
+        sums = {path: show.sha256(os.path.join(out, path)) for path in made}
+        with open(os.path.join(out, "MANIFEST.json"), "w") as file:
+            json.dump({"version": show.version(), "commit": git("rev-parse", "HEAD"),
+                       "changed_since": git("status", "--porcelain") != "", "toolchain": said("rt", "version").strip(),
+                       "rests_on": rests_on, "stamp": before, "files": sums}, file, indent=1)
+            file.write("\n")
+    except OSError as error:
+        stop("%s: %s" % (error.filename, error.strerror))
+    for path, data in sums.items():
+        print("%s  %s" % (data, path))
+    print("proof: " + rests_on)
+    return 0

@@ -1,0 +1,151 @@
+"""Makes a release: one archive with the proved program and library, ./show, the tools, documents and examples.
+
+    ./show release [--out FOLDER] [--changed]
+
+hemtoghai-VERSION-x86_64-linux.tar.gz runs without the toolchain, with Python 3.9 or later, on x86-64 with glibc 2.34
+or later. VERSION is what the file VERSION says. The library is in library/out, as ./show library makes it, with its own
+manifest. MANIFEST.json says which build it is: version, commit, toolchain, the SHA-256 of each file, and the last line
+of the build, which names what the proof rests on. ./show of a release runs no other program than the one of the
+manifest, and ./show --version prints the manifest, each file that differs from it, and each that was added. README.md
+is the one of a release, launching/release.md. The same commit, program and library make the same bytes. There are no crates in it: whoever wants to read what is proved takes the commit.
+
+Refused where the program or the library isn't the one of these sources, by the stamps that ./show and ./show library
+wrote when they proved them, whatever the times of files; where the last line of a build is missing; and, without
+--changed, where files differ from the commit. Status 0: the archive is written. 70: it isn't.
+"""
+import gzip
+import hashlib
+import io
+import json
+import os
+import re
+import tarfile
+
+from hemtoghai import program
+from hemtoghai.companion import parser, stop
+from hemtoghai.launching import manual
+from hemtoghai.launching.built import git, launcher
+
+TOP = program.TOP
+SHIPPED = ["VERSION", "CHANGELOG.md", "show", "docs", "examples", "python", "tools", "library"]
+README = os.path.join("python", "hemtoghai", "launching", "release.md")  # of the release; it is its README.md
+PROGRAM = os.path.relpath(program.PROGRAM, TOP)
+LIBRARY = os.path.join("library", "out")
+COPIES = ["include/hemtoghai.h", "python/hemtoghai.py"]  # of its files these are copies of files of the repository
+LINKS = ["lib/libhemtoghai.so", "lib/libhemtoghai.so.0"]
+
+
+def judged_record(show, changed):
+    """The record of the program's build, where it is good enough for a release."""
+    if os.path.exists(show.MANIFEST):
+        stop("this is a release: another one is made in the repository")
+    if not show.is_current(show.crates_below(show.LAST)):
+        stop("the program isn't the one of these sources: ./show check FILE builds it")
+    record = show.read_record(show.PROGRAM + show.RECORD)
+    if not re.match("logic=proved ", record["rests_on"]):
+        stop("the record of the build hasn't its last line: remove %s, and build it anew" % PROGRAM)
+    if git("status", "--porcelain") and not changed:
+        stop("files differ from the commit; --changed releases them all the same, and the manifest says so")
+    return record
+
+
+def is_library(show, record):
+    """Whether the library that has this manifest is the one of these sources."""
+    def differs(path, wanted):
+        place = os.path.join(TOP, path)
+        return not os.path.isfile(place) or show.sha256(place) != wanted
+    files = record.get("files", {})
+    copies = {os.path.join("library", os.path.basename(path)): files[path] for path in files if path in COPIES}
+    return (len(copies) == len(COPIES) and record.get("version") == show.version()
+            and record.get("stamp") == show.stamp(show.crates_below("hemtoghai"))
+            and not any(differs(os.path.join(LIBRARY, path), wanted) for path, wanted in files.items())
+            and not any(differs(path, wanted) for path, wanted in copies.items()))
+
+
+def library_files(show):
+    """The files of the library, where it is good enough for a release."""
+    record = show.read_record(os.path.join(TOP, LIBRARY, "MANIFEST.json"))
+    if not is_library(show, record):
+        stop("the library isn't the one of these sources: ./show library builds it")
+    if not re.match("logic=proved ", record.get("rests_on", "")):
+        stop("the library's manifest hasn't the last line of its proof: ./show library builds it")
+    return [os.path.join(LIBRARY, path) for path in (*record["files"], "MANIFEST.json")]
+
+
+def contents_of(show):
+    """The files of a release as (path, bytes, mode): those of the commit, the program, the library, manual page and
+    completion."""
+    found = [(PROGRAM, 0o755)] + [(path, 0o644) for path in library_files(show)]
+    for line in git("ls-files", "-s", "-z", "--", *SHIPPED).split("\0"):
+        parts = re.fullmatch(r"(100644|100755) [0-9a-f]+ 0\t([^\n]*)", line)
+        if line and not parts:
+            stop("no release has such a file: %s" % line.partition("\t")[2][:100])
+        if parts and parts[2] != README:
+            found.append((parts[2], int(parts[1][3:], 8)))
+    out = []
+    for path, mode in found:
+        with open(os.path.join(TOP, path), "rb") as file:
+            out.append((path, file.read(), mode))
+    with open(os.path.join(TOP, README), encoding="utf-8") as file:
+        out.append(("README.md", file.read().replace("@VERSION@", show.version()).encode(), 0o644))
+    out += [("share/show.1", manual.page(show.version()).encode(), 0o644),
+            ("share/show.bash", manual.completion().encode(), 0o644)]
+    return sorted(out)
+
+
+def links_of(contents):
+    """The links of the library as (path, what it leads to)."""
+    shared, = (os.path.basename(path) for path, _, _ in contents if "/libhemtoghai.so." in path)
+    return [(os.path.join(LIBRARY, path), shared) for path in LINKS]
+
+
+def manifest_of(show, record, contents, links, changed):
+    """The text of the manifest. A link has the SHA-256 of the file that it leads to."""
+    files = {path: hashlib.sha256(data).hexdigest() for path, data, _ in contents}
+    for path, target in links:
+        files[path] = files[os.path.join(os.path.dirname(path), target)]
+    return json.dumps({
+        "version": show.version(), "commit": git("rev-parse", "HEAD"), "changed_since": changed,
+        **{name: record[name] for name in ("toolchain", "rests_on", "sha256", "stamp")},
+        "files": dict(sorted(files.items()))}, indent=1) + "\n"
+
+
+def archive(name, contents, links, when):
+    """The bytes of a .tar.gz of (path, bytes, mode) and links, the same for the same contents."""
+    whole = io.BytesIO()
+    with tarfile.open(fileobj=whole, mode="w", format=tarfile.USTAR_FORMAT) as tar:
+        for path, data, mode in contents:
+            entry = tarfile.TarInfo("%s/%s" % (name, path))
+            entry.size, entry.mode, entry.mtime = len(data), mode, when
+            tar.addfile(entry, io.BytesIO(data))
+        for path, target in links:
+            entry = tarfile.TarInfo("%s/%s" % (name, path))
+            entry.type, entry.linkname, entry.mode, entry.mtime = tarfile.SYMTYPE, target, 0o777, when
+            tar.addfile(entry)
+    return gzip.compress(whole.getvalue(), mtime=0)
+
+
+def main(words: list[str]) -> int:
+    reader = parser(__doc__)
+    reader.add_argument("--out", default=".", metavar="FOLDER", help="where the archive goes; without it here")
+    reader.add_argument("--changed", action="store_true", help="release files that differ from the commit")
+    options = reader.parse_args(words)
+    show = launcher()
+    record, changed = judged_record(show, options.changed), git("status", "--porcelain") != ""
+    if not re.fullmatch(r"\d+\.\d+\.\d+", show.version()):
+        stop("VERSION isn't a version: three numbers with points between them")
+    contents = contents_of(show)
+    links = links_of(contents)
+    contents.append(("MANIFEST.json", manifest_of(show, record, contents, links, changed).encode(), 0o644))
+    name = "hemtoghai-%s%s-x86_64-linux" % (show.version(), "-changed" if changed else "")
+    data = archive(name, contents, links, int(git("log", "-1", "--format=%ct")))
+    path = os.path.join(options.out, name + ".tar.gz")
+    try:
+        with open(path, "wb") as file:
+            file.write(data)
+    except OSError as error:
+        stop("%s: %s" % (path, error.strerror))
+    digest = hashlib.sha256(data).hexdigest()
+    print("%s: %d files, %d bytes, sha256 %s" % (path, len(contents) + len(links), len(data), digest))
+    print("program sha256 %s\ntoolchain %s\nproof: %s" % (record["sha256"], record["toolchain"], record["rests_on"]))
+    return 0

@@ -1,0 +1,245 @@
+"""Write a show and see the proof while you type: a page in the browser, served to this machine alone.
+
+    ./show studio [OPTIONS] SHOW
+    ./show studio --watch SHOW
+
+The page has the text at the left and the flight at the right. At each pause of typing `check` judges the text: whether
+any two drones ever come too close, at every instant. With --watch you keep your own editor, and the page follows the
+file. A show that isn't there begins as a template, and only Save writes it. Save keeps the file that was there as
+SHOW~. The page is served on 127.0.0.1 to anybody who has the address that is printed; Ctrl-C ends the studio. Where the
+program isn't built, or nothing is known of its proof, the page says NOT PROVED. Status 0: ended. 2: wrong words. 70: no
+answer.
+"""
+import argparse
+import hashlib
+import json
+import os
+import re
+import secrets
+import signal
+import sys
+import threading
+import webbrowser
+
+from hemtoghai import program
+from hemtoghai.companion import add_depth, parser, read_file, stop, tool_name
+from hemtoghai.language import choreo
+from hemtoghai.language.cures import cure_of, shown
+from hemtoghai.seeing.jobs import begin, end, Job
+from hemtoghai.seeing.sampling import regions_of
+from hemtoghai.seeing.showfile import MOST_TEXT, ShowFile, stamp_of, text_of
+from hemtoghai.seeing.studio_program import Program
+from hemtoghai.seeing.studio_server import Handler, Server
+from hemtoghai.seeing.studio_words import words_of_language
+
+PARTS = {"/*STYLE*/": "studio.css", "/*VIEW*/": "view.js", "/*TEXT*/": "studio_text.js", "/*EDIT*/": "studio_edit.js",
+         "/*FOUND*/": "studio_found.js", "/*MAIN*/": "studio.js"}
+FOLDER = os.path.join(program.PACKAGE, "seeing")  # of the page's files
+MOST_JOBS = 8  # that run at a time, of all pages together
+MOST_PAGES = 64  # whose newest text is remembered
+MARKER = ["a line `%%` ends a show's text, and nothing may stand after it here", "", "take the line out"]
+TEMPLATE = b"""choreo 1
+# Lengths are micrometres, times milliseconds, yaws tenths of a degree: see docs/LANGUAGE.md.
+
+drone a 0 0 1000000 0
+drone b 1000000 0 1000000 0
+
+cue 3000
+a move 0 1000000 1000000 0
+end
+
+cue 3000
+b move 0 0 1000000 0
+end
+"""
+
+
+def ended(_number, _frame):
+    """A signal ends the studio as Ctrl-C does."""
+    raise KeyboardInterrupt
+
+
+# ---- the studio
+
+class Studio:
+    """What all requests share: the file, the program, the random word, and by page its newest text and its job."""
+
+    def __init__(self, options: argparse.Namespace):
+        self.file, self.watch = ShowFile(options.show), options.watch
+        self.program, self.depth = Program(options.program), options.depth
+        self.regions = [os.path.abspath(options.regions)] if options.regions else []
+        self.token, self.lock, self.pages = secrets.token_urlsafe(24), threading.Lock(), {}
+        self.slots, self.spare, self.ending = threading.Semaphore(MOST_JOBS), None, threading.Event()
+
+    def newest(self, page: str, number: int):
+        """A job for a page's text, whose older one is cancelled; None where a newer text came before."""
+        with self.lock:
+            last, old = self.pages.pop(page, (-1, None))
+            if number <= last:
+                self.pages[page] = last, old
+                return None
+            job = Job()
+            self.pages[page] = number, job
+            forgotten = [self.pages.pop(other)[1] for other in list(self.pages)[:-MOST_PAGES]]
+        for other in filter(None, [old, *forgotten]):
+            other.cancel()
+        return job
+
+    def worker(self, job: Job):
+        """A process for what is shown beside the verdict; one is kept ready, since it takes a while to begin."""
+        with self.lock:
+            ready, self.spare = self.spare, None
+        if ready is None or ready.poll() is not None:
+            ready = self.new_worker()
+        return job.adopt(ready)
+
+    def new_worker(self):
+        """A process that waits for a text."""
+        return begin(program.words_of("studio_work", str(self.depth), *self.regions))
+
+    def make_ready(self) -> None:
+        """Starts the worker of the next text."""
+        if not self.ending.is_set():
+            new = self.new_worker()
+            with self.lock:
+                new, self.spare = self.spare, new
+            if new:
+                end(new)
+
+    def head(self, **more) -> bytes:
+        """The first line that a worker is given, before the text."""
+        program = self.program.runs() if self.program.state()["program"] else None
+        return json.dumps({"program": program, **more}).encode() + b"\n"
+
+    def words(self, command: str) -> list:
+        """The words of the program's command."""
+        return [self.program.runs(), command, "--depth", str(self.depth)]
+
+    def close(self) -> None:
+        """Ends all that runs."""
+        self.ending.set()
+        with self.lock:
+            jobs, spare = [job for _, job in self.pages.values()], self.spare
+        for job in jobs:
+            job.cancel()
+        if spare:
+            end(spare)
+        self.program.close()
+
+    def page(self, nonce: str) -> bytes:
+        """The page, with what it has to know at first."""
+        given = {"name": self.file.name, "watch": self.watch, "most": choreo.LONGEST_TEXT, "depth": self.depth,
+                 "language": words_of_language()}
+        page = read_file(os.path.join(FOLDER, "studio.html")).decode()
+        for mark, name in PARTS.items():
+            page = page.replace(mark, read_file(os.path.join(FOLDER, name)).decode())
+        words = json.dumps(given).replace("<", "\\u003C")  # in a script `<` could begin an end tag
+        return page.replace("./show ", program.COMMAND + " ").replace("/*GIVEN*/", words).replace("NONCE", nonce).encode()
+
+    def text(self) -> dict:
+        """The file as the page begins with it; OSError where it can't be read."""
+        data = self.file.read()
+        text, ends, mixed = text_of(TEMPLATE if data is None else data)
+        return {"text": text, "ends": ends, "mixed": bool(mixed), "new": data is None, "stamp": stamp_of(data),
+                "key": hashlib.sha256(self.file.path.encode("utf-8", "surrogateescape")).hexdigest()[:16]}
+
+    def verdict(self, text: bytes, said: str, status: int, lasted: int) -> dict:
+        """What the page shows of an answer of `check`."""
+        found = {"stage": "verdict", "status": status, "line": said, "ms": lasted, **self.program.state()}
+        faulty = re.match(r"error (?:3|11) line (\d+)(?: ([a-z-]+))?", said)
+        if faulty:
+            number, word = int(faulty[1]), faulty[2]
+            lines = text.split(b"\n")
+            line = lines[number - 1] if number <= len(lines) else b""
+            found["fault"] = {"line": number, "word": word or "marker", "text": shown(line)[0],
+                              "row": cure_of(word, line) if word else MARKER}
+        return found
+
+
+# ---- the words
+
+def port(word):
+    """A port."""
+    if not re.fullmatch("[0-9]{1,5}", word) or not 1 <= int(word) <= 65535:
+        raise argparse.ArgumentTypeError("a port is 1 to 65535, not %s" % word)
+    return int(word)
+
+
+def usual_port(path):
+    """The same port for the same file at each start, where it is free: by its port a browser knows which page may see
+    the text that wasn't saved the last time."""
+    return 20000 + int(stamp_of(os.path.realpath(path).encode("utf-8", "surrogateescape"))[:8], 16) % 12000
+
+
+def server_of(options):
+    """The server, on the port that is wanted, else on the usual one or one that is free."""
+    for number in [options.port] if options.port else [usual_port(options.show), 0]:
+        try:
+            return Server(("127.0.0.1", number), Handler)
+        except OSError as error:
+            fault = error
+    return stop("port %d: %s" % (number, fault.strerror))
+
+
+def look_at(path):
+    """Ends the tool where no show can stand there; says so where none does."""
+    if path == "-" or os.path.isdir(path):
+        stop("%s: the studio needs a file" % path)
+    folder = os.path.dirname(os.path.realpath(path))
+    if not os.path.isdir(folder):
+        stop("%s: there is no folder %s" % (path, folder))
+    if not os.path.exists(path):
+        print("%s: there is no file %s: the page begins with a template, and Save writes it" % (tool_name(), path),
+              file=sys.stderr)
+    elif not os.path.isfile(path):
+        stop("%s: this is no plain file" % path)
+    elif os.path.getsize(path) > MOST_TEXT or len(read_file(path)) > MOST_TEXT:
+        stop("%s: a show has at most %d bytes" % (path, choreo.LONGEST_TEXT))
+
+
+def read_words(words: list[str]):
+    """The options of the command line, looked at as far as the studio has to know before it begins."""
+    reader = parser(__doc__)
+    add_depth(reader)
+    reader.add_argument("--watch", action="store_true", help="no editor: the page follows the file")
+    reader.add_argument("--port", type=port, metavar="N", help="without it the one that this file has each time")
+    reader.add_argument("--no-open", action="store_true", help="open no browser")
+    reader.add_argument("--regions", metavar="FILE", help="a room and what stands in it: the regions of `boxes`")
+    reader.add_argument("--program", default=program.PROGRAM, metavar="FILE", help="without it the one that ./show built")
+    reader.add_argument("show", metavar="SHOW", help="a file with a show, or the name of a new one")
+    options = reader.parse_args(words)
+    look_at(options.show)
+    if options.regions:
+        regions_of(options.regions)  # ends the tool where they are faulty
+    return options
+
+
+def serve(server, open_browser):
+    """Answers requests until the studio is ended."""
+    url = "http://127.0.0.1:%d/%s/" % (server.server_port, server.studio.token)
+    print("%s: %s\n%s: Ctrl-C ends it" % (tool_name(), url, tool_name()), flush=True)
+    state = server.studio.program.state()
+    if not state["proved"]:
+        print("%s: NOT PROVED: %s" % (tool_name(), state["why"]), file=sys.stderr)
+    if open_browser:
+        threading.Thread(target=webbrowser.open, args=(url,), daemon=True).start()  # some browsers return when they end
+    try:
+        server.studio.make_ready()
+        server.serve_forever(0.2)
+    except KeyboardInterrupt:
+        print()
+    finally:
+        server.studio.close()
+        server.server_close()
+
+
+def main(words: list[str]) -> int:
+    options = read_words(words)
+    signal.signal(signal.SIGPIPE, signal.SIG_IGN)  # a page that is closed ends its requests, not the studio
+    for number in (signal.SIGTERM, signal.SIGHUP):
+        signal.signal(number, ended)
+    server = server_of(options)
+    server.studio = Studio(options)
+    serve(server, not options.no_open)
+    print("%s: ended" % tool_name())
+    return 0

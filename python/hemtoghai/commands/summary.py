@@ -1,0 +1,171 @@
+"""Sums a show up: room, cue sheet, speeds, accelerations, jumps of speed, box of the flight, nearest pairs, ways up and
+down, settings.
+
+Bounds on acceleration and jumps of speed are those of the program's `dynamics`, on x, y and z; without the program
+there are none. Speeds are looked at in 32 places a cue, from the curves as they are sent, and prove nothing. With --margin the
+ellipsoid, the stray and the lateness are each grown as far as `check` still accepts the show, the other two as they are
+set. The status is 0, or that of a faulty show. 70: no answer.
+"""
+from math import hypot
+
+from hemtoghai.companion import (add_depth, ask_check, ask_dynamics, begins, flown_of, many, missing, no_program,
+                                 parser, place, seconds, value)
+from hemtoghai.flying import legs
+from hemtoghai.geometry import separation
+from hemtoghai.writing.margins import greatest, MOST, with_setting
+
+PLACES = 32
+LEAST = 0.03  # metres a second: what a jump is at most that comes of rounding
+
+
+def rates(row, seconds_):
+    """The control values of a curve's rate of change in a second."""
+    return [(len(row) - 1) * (b - a) / seconds_ for a, b in zip(row, row[1:])] or [0.0]
+
+
+def look(flown, drone):
+    """A drone's top speed in metres a second, and its box in mm."""
+    speed, box = 0, [[], [], []]
+    for milliseconds, elements in flown.by_cue[drone]:
+        first = [rates(row, milliseconds / 1000) for row in elements[:3]]
+        for at in range(PLACES + 1):
+            u = at / PLACES
+            speed = max(speed, hypot(*(value(row, u) / 1000 for row in first)))
+            for axis in range(3):
+                box[axis].append(value(elements[axis], u))
+    return speed, [(min(row), max(row)) for row in box]
+
+
+def triple(numbers):
+    """Three numbers as they are printed."""
+    return ", ".join("%.2f" % v for v in numbers)
+
+
+def print_drones(flown, motions):
+    """Prints a line for each drone."""
+    room = flown.room()
+    print("%-16s %6s %6s %6s %8s  %-19s %-19s %-8s %s" % (
+        "drone", "bytes", "of", "pieces", "m/s", "m/s2: x, y, z", "jump m/s: x, y, z", "in cues", "box in mm: x, y, z"))
+    most = 0
+    for k, (name, data, segments) in enumerate(zip(flown.names, flown.data(), flown.sent)):
+        speed, box = look(flown, k)
+        forces, jumps, cues = motions[name] if motions else ((), (), ())
+        most = max(most, *jumps, 0)
+        where = ", ".join(str(cue) for jump, cue in zip(jumps, cues) if jump > LEAST)
+        print("%-16s %6d %6d %6d %8.2f  %-19s %-19s %-8s %s" % (
+            name, len(data), room, len(segments), speed, triple(forces) or "-", triple(jumps) or "-", where or "-",
+            ", ".join("%d to %d" % (round(low), round(high)) for low, high in box)))
+    if not motions:
+        print("Accelerations and jumps were not asked: the program isn't built, or refuses the show.")
+    if most > LEAST:
+        print("A jump of speed can't be flown: the drone leaves its curve there, and the promise of distance is about")
+        print("curves. Cue %d is the end of the show. Use `move`, or `curve` from rest to rest."
+              % (len(flown.cues) + 1))
+        print("docs/LANGUAGE.md, How fast, says more.")
+
+
+def print_cues(flown):
+    """Prints the cue sheet."""
+    print("%5s %12s %12s  %-12s %s" % ("cue", "from", "to", "line", "who does what"))
+    times = begins(flown)
+    for k, cue in enumerate(flown.cues):
+        by_act = {}
+        for name, (_, act, _) in cue.acts.items():
+            by_act.setdefault(act, []).append(name)
+        words = ["%s %s" % (act, ", ".join(names[:6]) + (" .." if len(names) > 6 else ""))
+                 for act, names in by_act.items()]
+        print("%5d %12s %12s  %-12d %s" % (
+            k + 1, seconds(times[k]), seconds(times[k + 1]), cue.number, "; ".join(words) or "all hold"))
+
+
+def print_nearest(flown, most):
+    """Prints the pairs that come nearest, measured by their ellipsoids."""
+    r, h = flown.show.settings["ellipsoid"]
+    rows, times = [], begins(flown)
+    for i in range(len(flown.names)):
+        for j in range(i + 1, len(flown.names)):
+            best = None
+            for cue in range(len(flown.cues)):
+                first, second = flown.by_cue[i][cue][1], flown.by_cue[j][cue][1]
+                gap = [max(0, min(b) - max(a), min(a) - max(b)) for a, b in zip(first[:3], second[:3])]
+                if best is None or hypot(gap[0] / r, gap[1] / r, gap[2] / h) / 2 < best[0].share:
+                    near = separation.Nearest(separation.difference(first, second), r, h)
+                    best = (near, cue) if best is None or near.share < best[0].share else best
+            rows.append((best[0].share, i, j, best[1], best[0].at))
+    for share, i, j, cue, u in sorted(rows)[:most]:
+        first, second = place(flown, i, cue, u), place(flown, j, cue, u)
+        words = "%s and %s: %.0f %% of the distance at which their ellipsoids touch, %.0f mm to the side and %.0f " \
+                "up, at %s in cue %d"
+        print(words % (
+            flown.names[i], flown.names[j], 100 * share, hypot(first[0] - second[0], first[1] - second[1]),
+            abs(first[2] - second[2]), seconds(times[cue] + flown.cues[cue].milliseconds * u), cue + 1))
+
+
+def print_margin(flown, text, deep):
+    """Prints by how much the ellipsoid can grow, in whole percent, and the stray and the lateness, in whole millimetres
+    and milliseconds."""
+    (r, h), (stray,), (late,) = [flown.show.settings[word] for word in ("ellipsoid", "stray", "late")]
+    share, above = greatest(deep, 100 * 2000 // max(r, h) + 1, lambda k: with_setting(
+        text, "ellipsoid", max(1, r * k // 100), max(1, h * k // 100)))
+    if share is None:
+        return print("no margin: refused even with the least ellipsoid: " + above)
+    above = "; above that " + above if above else ""
+    print("accepted at depth %d with up to %d %% of the ellipsoid %d %d, which is %d %d%s" % (
+        deep, share, r, h, max(1, r * share // 100), max(1, h * share // 100), above))
+    for word, unit, others in (("stray", "mm", "late %d" % late), ("late", "ms", "stray %d" % stray)):
+        most, above = greatest(deep, MOST + 1, lambda k: with_setting(text, word, k))
+        if most is None:
+            print("refused with %s, even with %s 0: %s" % (others, word, above))
+        else:
+            print("accepted with %s up to %d %s, and %s as it is%s" % (
+                word, most, unit, others, "; above that " + above if above else ", which is the most there is"))
+    if not ask_check(text, deep):
+        print("as the tool works it out: " + missing())
+
+
+def print_ways(flown):
+    """Prints the ways up from pads straight below the first places, and down to them, or why there are none."""
+    rules, (firsts, lasts, begin, end) = legs.Rules(flown.show.settings), legs.places_of(flown)
+    pads = legs.below(firsts)
+    for name, way in (("up", lambda: legs.way_up(flown.names, pads, firsts, begin, rules)),
+                      ("down", lambda: legs.down(flown.names, pads, lasts, end, rules))):
+        try:
+            leg = way()
+            print("way %s with pads below the first places: %s, %.1f s, judged %s; ./show legs has the rest" % (
+                name, many(len(leg.stages), "stage"), leg.milliseconds() / 1000,
+                "as a whole" if leg.whole else "stage by stage"))
+        except legs.NoWay as why:
+            print("no way %s with pads below the first places: %s" % (name, why))
+
+
+def main(words: list[str]) -> int:
+    reader = parser(__doc__)
+    add_depth(reader, "for --margin, as for check: 0 to 8, without it 6")
+    reader.add_argument("--margin", action="store_true", help="how far ellipsoid, stray and lateness can grow")
+    reader.add_argument("--pairs", type=int, default=6, metavar="N", help="the N nearest pairs, without it 6")
+    reader.add_argument("--cues", action="store_true", help="the cue sheet: when each cue is, its line, who does what")
+    reader.add_argument("--program", metavar="PATH", help="the program to ask, if not the one that is built here")
+    reader.add_argument("show", metavar="SHOW", help="a file with a show, or - for standard input")
+    options = reader.parse_args(words)
+    text, flown = flown_of(options.show)
+    settings = flown.show.settings
+    print("%s, %s, %s" % (many(len(flown.names), "drone"), many(len(flown.cues), "cue"), seconds(flown.milliseconds)))
+    print("memory %d at offset %d, trajectory %d, ellipsoid %d mm to the side and %d mm up and down" % (
+        *settings["memory"], *settings["trajectory"], *settings["ellipsoid"]))
+    if any(settings["stray"] + settings["late"]):
+        print("stray %d mm, late %d ms" % (*settings["stray"], *settings["late"]))
+    print()
+    print_drones(flown, ask_dynamics(text, options.program))
+    if options.cues:
+        print()
+        print_cues(flown)
+    if len(flown.names) > 1 and options.pairs > 0:
+        print()
+        print_nearest(flown, options.pairs)
+    if not no_program():
+        print()
+        print_ways(flown)
+    if options.margin:
+        print()
+        print_margin(flown, text, options.depth)
+    return 0

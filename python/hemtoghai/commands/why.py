@@ -1,0 +1,336 @@
+"""Says where and when drones of a show come too close, or why a show has no room, and what to change.
+
+It computes the flight by itself and proves nothing; where the program is built, `check` is asked and its answer stands
+first. With --cured it writes the show with what helps, place by place, and of several cures the one that makes the show
+least longer. The status is that of the show: 0 where nothing is wrong, 5 or 4 where it is refused so. 70: no answer.
+"""
+from math import hypot
+
+from hemtoghai.companion import (add_depth, ask_check, begins, cue_words, flown_of, many, missing, parser, place,
+                                 seconds, stop)
+from hemtoghai.geometry import separation
+from hemtoghai.geometry.causes import cause_of, is_clear, reach_with, ruler_of
+from hemtoghai.language import choreo
+from hemtoghai.writing.dealing import costs, dealt, form_lines, total
+from hemtoghai.writing.flyable import small
+from hemtoghai.writing.remedies import ENOUGH, first_of, last_of, lift_all, lifted, remedies, written
+
+MOST_CURES = 40
+
+
+def act_words(flown, lines, drone, cue):
+    """A drone's line in a cue, or that it holds."""
+    name = flown.names[drone]
+    acts = flown.cues[cue].acts
+    if name not in acts:
+        return "%s has no line and holds" % name
+    number, act, _ = acts[name]
+    text = lines[number - 1].partition(b"#")[0].decode(errors="replace").strip()
+    return "line %d: %s%s" % (number, text, "" if text.split()[:1] == [name] else " (for %s)" % name)
+
+
+def both_words(flown, i, j, cue, u):
+    """Where two drones are at a fraction of a cue, and how far apart."""
+    first, second = place(flown, i, cue, u), place(flown, j, cue, u)
+    x, y, z = (b - a for a, b in zip(first, second))
+    places = ["%s at (%d, %d, %d)" % (flown.names[k], *map(round, at)) for k, at in ((i, first), (j, second))]
+    return "%s, %s mm: %.0f mm to the side, %.0f mm up or down" % (*places, hypot(x, y), abs(z)), hypot(x, y), abs(z)
+
+
+def axes_of(flown):
+    """The half axes of what is kept clear around a drone, with the show's stray and half of the way that it may fly
+    while it is late."""
+    (r, h), (stray,), (late,) = [flown.show.settings[word] for word in ("ellipsoid", "stray", "late")]
+    x, y, z = reach_with(flown, late)
+    return r + stray + max(x, y) / 2, h + stray + z / 2
+
+
+def more_room(side, up, r, h):
+    """How much farther apart, to the side alone or up and down alone, leaves room enough."""
+    wide = r * max(0, 4 * ENOUGH ** 2 - (up / h) ** 2) ** 0.5
+    high = h * max(0, 4 * ENOUGH ** 2 - (side / r) ** 2) ** 0.5
+    return "%.0f mm to the side where they now have %.0f, or %.0f mm up and down where they now have %.0f" % (
+        wide, side, high, up)
+
+
+def layers(flown, cue, pairs, deep):
+    """By drone how much higher it may fly a cue in which many are blocked, so that none is, or None."""
+    _, h = flown.show.settings["ellipsoid"]
+    ruler, step, level = ruler_of(flown), -(-int(2 * h * ENOUGH) // 50) * 50, {}
+    drones = range(len(flown.names))
+    for drone in sorted(drones, key=lambda k: -sum(k in pair for pair in pairs)):
+        others = {a + b - drone for a, b in pairs if drone in (a, b)}
+        used = {level[other] for other in others if other in level}
+        level[drone] = min(k for k in range(len(drones) + 1) if k not in used)
+    if max(level.values()) > 3:
+        return None
+    for high in (step, 3 * step // 2, 2 * step):
+        cues = [lifted(flown.by_cue[k][cue][1], high * level[k]) for k in drones]
+        flights = [(cues[k][stage], cues[j][stage]) for stage in range(3) for k in drones for j in range(k)]
+        if all(is_clear(first, second, ruler, deep) for first, second in flights):
+            return {k: high * level[k] for k in drones if level[k]}
+    return None
+
+
+def helps(flown, drones, cue, deep):
+    """What helps, tried against all other drones of the cue: how many are still blocked, the remedy, and the names of
+    these. Those that help most come first, and of these the ones that make the show least longer."""
+    ruler, found = ruler_of(flown), []
+    for drone in drones:
+        for remedy in remedies(flown, drone, cue):
+            left = []
+            for other, name in enumerate(flown.names):
+                theirs = flown.by_cue[other][cue][1]
+                if other != drone and not all(is_clear(mine, become(theirs), ruler, deep)
+                                              for mine, become in remedy.stages):
+                    left.append(name)
+            found.append((len(left), remedy, left))
+    return sorted(found, key=lambda row: (row[0], row[1].takes))
+
+
+def standing(flown, i, j, cue, deep):
+    """At which ends of a cue two drones would be blocked if they stood there: the words."""
+    ruler, out = ruler_of(flown), []
+    first, second = flown.by_cue[i][cue][1], flown.by_cue[j][cue][1]
+    for word, become in (("begins", first_of), ("ends", last_of)):
+        if not is_clear(become(first), become(second), ruler, deep):
+            out.append(word)
+    return out
+
+
+def print_help(flown, i, j, cue, deep):
+    """Prints what helps two drones in a cue."""
+    ends = standing(flown, i, j, cue, deep)
+    for word in ends:
+        words, side, up = both_words(flown, i, j, cue, 0 if word == "begins" else 1)
+        print("  they are already blocked where the cue %s: %s" % (word, words))
+        print("    no other way between the same places helps: give one of the two another %s; room enough there is" % (
+            "start, or another end of the cue before" if word == "begins" else "end of this cue"))
+        print("    " + more_room(side, up, *axes_of(flown)))
+    if ends:
+        return
+    names = {flown.names[i], flown.names[j]}
+    tried = [row for row in helps(flown, (i, j), cue, deep) if not names & set(row[2])]
+    if not tried:
+        print("  nothing that was tried helps these two: waiting, going first, flying it higher or lower. Give one of "
+              "them another way")
+        return
+    least = tried[0][0]
+    print("  what helps%s:" % (", tried in this cue against all drones" if least == 0 else " these two, but not all"))
+    for still, remedy, left in tried[:3]:
+        if still == least:
+            print("    %s%s (%s more)" % (remedy.words, " (still blocked: %s)" % ", ".join(left) if left else "",
+                                          seconds(remedy.takes)))
+
+
+def print_place(flown, lines, found, deep, others):
+    """Prints what is known of one pair in one cue, and what helps; `others` are later cues with the same."""
+    near, i, j, cue, index = found
+    begin, time, parts = begins(flown)[cue], flown.cues[cue].milliseconds, 2 ** deep
+    print("%s and %s in cue %d, %s" % (flown.names[i], flown.names[j], cue + 1, cue_words(flown.cues[cue])))
+    if others:
+        print("  and the same in cue %s" % ", ".join(str(other + 1) for other in others))
+    print("  the cue is flown from %s to %s of the show" % (seconds(begin), seconds(begin + time)))
+    for drone in (i, j):
+        print("  " + act_words(flown, lines, drone, cue))
+    print("  first blocked part: %d of %d" % (index, parts))
+    for u, word in ((index / parts, "begins"), ((index + 1) / parts, "ends")):
+        print("    it %s at %s: %s" % (word, seconds(begin + time * u), both_words(flown, i, j, cue, u)[0]))
+    words, side, up = both_words(flown, i, j, cue, near.at)
+    print("  nearest at %s: %s" % (seconds(begin + time * near.at), words))
+    print("  there they have %.1f %% of the distance at which their ellipsoids touch" % (100 * near.share))
+    cause = None if near.touch else cause_of(flown, i, j, cue, deep)
+    if near.touch:
+        print("  TOO NEAR: no depth helps")
+    elif cause:
+        print("  APART WHILE THEY FLY EXACTLY: the cause is " + cause)
+    else:
+        print("  APART, BUT ALONG NO DIRECTION: none of the 98 directions shows it for a whole part%s"
+              % ("; --depth 8 may do" if deep < 8 and not standing(flown, i, j, cue, deep) else ""))
+    print("  room enough at this instant: " + more_room(side, up, *axes_of(flown)))
+    print_help(flown, i, j, cue, deep)
+    print()
+
+
+def alike(flown, found):
+    """The blocked places in groups in which the same pair flies the same: in the turns of a repeat."""
+    groups = {}
+    for near, i, j, cue, index in found:
+        flights = [tuple(map(tuple, flown.by_cue[k][cue][1][:3])) for k in (i, j)]
+        groups.setdefault((i, j, flown.cues[cue].number, *flights), []).append((near, i, j, cue, index))
+    return list(groups.values())
+
+
+def print_counts(flown, deep, found):
+    """Prints how many pairs, cues and places are blocked, and how near they are there."""
+    touching = sum(near.touch for near, *_ in found)
+    cues = sorted({cue + 1 for _, _, _, cue, _ in found})
+    pairs = len({(i, j) for _, i, j, _, _ in found})
+    listed = ", ".join(map(str, cues[:12])) + (" .." if len(cues) > 12 else "")
+    print("At depth %d %s blocked in %s (%s)." % (
+        deep, many(pairs, "pair") + (" is" if pairs == 1 else " are"), many(len(cues), "cue"), listed))
+    caused = sum(not near.touch and cause_of(flown, i, j, cue, deep) is not None for near, i, j, cue, _ in found)
+    print("Of %s, %d too near, %d apart but along no direction%s." % (
+        many(len(found), "place"), touching, len(found) - touching - caused,
+        ", %d apart but for `stray` or `late`" % caused if caused else ""))
+    print("Cues are counted with repeats and figures written out.\n")
+
+
+def explain_separation(flown, lines, deep, most):
+    """Prints each pair and cue that is blocked, in the order of time; the number of them."""
+    r, h = flown.show.settings["ellipsoid"]
+    found = []
+    for i, j, cue, index in separation.blocked_places(flown, deep):
+        part = separation.difference(flown.by_cue[i][cue][1], flown.by_cue[j][cue][1])
+        found.append((separation.Nearest(part, r, h), i, j, cue, index))
+    if not found:
+        return 0
+    print_counts(flown, deep, found)
+    found.sort(key=lambda row: (row[3], row[0].share))
+    groups = alike(flown, found)
+    for group in groups[:most]:
+        print_place(flown, lines, group[0], deep, [row[3] for row in group[1:]])
+    if len(groups) > most:
+        print("and %d more: --most N shows them" % (len(groups) - most))
+    print_together(flown, groups, deep)
+    return len(found)
+
+
+def print_together(flown, groups, deep):
+    """Prints what helps all pairs of a cue at once, where there are several."""
+    cues = sorted({group[0][3] for group in groups})
+    for cue in cues:
+        together = [(i, j) for group in groups for _, i, j, at, _ in group if at == cue]
+        lifts = layers(flown, cue, together, deep) if 1 < len(together) <= MOST_CURES else None
+        if lifts:
+            remedy = lift_all(flown, lifts)
+            print("What helps all of cue %d at once (%s more):" % (cue + 1, seconds(remedy.takes)))
+            print("    " + remedy.words)
+        for line in crossing_forms(flown, cue) if len(together) > 1 else []:
+            print("Line %d forms a formation whose ways cross: ./show deal deals its places anew." % line.number)
+
+
+def crossing_forms(flown, cue):
+    """The `form` lines of a cue whose places can be dealt so that the sum of the squared ways is less."""
+    out = []
+    for line, cues in form_lines(flown):
+        if cue in cues:
+            cost = costs(flown, flown.show.formations[line.values[0]].body, cues)
+            ways = dealt(cost)
+            # With a sum of nothing each drone would stay where it is.
+            out += [line] if any(j != k for k, j in ways.items()) and total(cost, ways) > 0 else []
+    return out
+
+
+def explain_room(flown):
+    """Prints what each drone takes of its memory, where one takes too much."""
+    room = flown.room()
+    rows = []
+    for name, data, segments, flight in zip(flown.names, flown.data(), flown.sent, flown.by_cue):
+        kinds = {}
+        for milliseconds, elements in segments:
+            kind = " ".join("%s %s" % (axis, {2: "line", 4: "cubic", 8: "move"}[len(e)])
+                            for axis, e in zip(choreo.AXES, elements) if len(e) > 1) or "hold"
+            often, taken = kinds.get(kind, (0, 0))
+            kinds[kind] = often + 1, taken + len(choreo.segment_bytes(milliseconds, elements))
+        if len(data) > room or len(segments) > choreo.MOST_SEGMENTS:
+            rows.append((name, len(data), len(segments), len(flight), kinds))
+    for name, size, segments, cues, kinds in rows:
+        print("%s takes %d bytes of %d, in %d segments of at most %d (%d cues)" % (
+            name, size, room, segments, choreo.MOST_SEGMENTS, cues))
+        for kind, (often, taken) in sorted(kinds.items(), key=lambda it: -it[1][1])[:6]:
+            print("  %5d bytes in %s: %s" % (taken, many(often, "segment"), kind))
+    if rows:
+        print("What saves most: in place of `move X Y Z YAW`, 14 bytes an axis, from (X0, Y0, Z0)")
+        print("`curve X0 Y0 Z0 X Y Z X Y Z YAW` is from rest to rest too, with 6. docs/LANGUAGE.md, What a cue costs.")
+    return len(rows)
+
+
+def cures_of(flown, cue, pairs, deep):
+    """What helps in a cue, that first which makes the show least longer: what helps one drone of the first pair, and
+    where no drone is in all pairs, what helps them all at once."""
+    shared = set.intersection(*map(set, pairs))
+    lifts = layers(flown, cue, pairs, deep) if not shared and len(pairs) <= MOST_CURES else None
+    if lifts:
+        yield lift_all(flown, lifts)
+    tried = [remedy for still, remedy, _ in helps(flown, pairs[0], cue, deep) if still == 0]
+    yield from sorted(tried, key=lambda remedy: remedy.takes)
+
+
+def cured(text, deep):
+    """The show's text with what helps in each place that is blocked, in the order of time, and what was done; it ends
+    where nothing is blocked, or nothing helps that can be written."""
+    done = []
+    while len(done) < MOST_CURES:
+        flown = choreo.flown_of(text)
+        found = list(separation.blocked_places(flown, deep))
+        if not found:
+            return text, done, None
+        cue = min(row[2] for row in found)
+        pairs = [(i, j) for i, j, at, _ in found if at == cue]
+        for remedy in cures_of(flown, cue, pairs, deep):
+            new = written(text, flown, cue, remedy)
+            if new is not None:
+                text = new
+                done.append("cue %d: %s (%s more)" % (cue + 1, remedy.words, seconds(remedy.takes)))
+                break
+        else:
+            return text, done, "%s and %s in cue %d" % (*(flown.names[k] for k in pairs[0]), cue + 1)
+    return text, done, "more than %d places" % MOST_CURES
+
+
+def write_cured(path, text, deep):
+    """Writes the cured show, and says what was done, how long it lasts, and what `check` says of it."""
+    try:
+        new, done, left = cured(text, deep)
+        before, after = (choreo.flown_of(it).milliseconds for it in (text, new))
+    except choreo.Refused as refusal:
+        stop("what helps leads to another refusal: %s" % refusal)
+    for line in done:
+        print("cured in " + line)
+    if done:
+        print("the show lasts %s, before %s" % (seconds(after), seconds(before)))
+    if left:
+        print("nothing that helps could be written for " + left)
+    try:
+        with open(path, "wb") as file:
+            file.write(new)
+    except OSError as error:
+        stop("%s: %s" % (path, error.strerror))
+    answer = ask_check(new, deep)
+    print("%s: %s" % (path, answer[1] if answer else "nothing is blocked" if not left else "still blocked"))
+
+
+def main(words: list[str]) -> int:
+    reader = parser(__doc__)
+    add_depth(reader)
+    reader.add_argument("--most", type=int, default=20, metavar="N", help="show at most N places, without it 20")
+    reader.add_argument("--cured", metavar="FILE", help="write the show with what helps")
+    reader.add_argument("show", metavar="SHOW", help="a file with a show, or - for standard input")
+    options = reader.parse_args(words)
+    text, flown = flown_of(options.show)
+    answer = ask_check(text, options.depth)
+    if answer:
+        print("check: " + answer[1])
+    else:
+        print(missing())
+    print()
+    if small(flown):
+        print(small(flown) + "\n")
+    lines = text.split(b"\n")
+    try:
+        choreo.judge_room(flown)
+    except choreo.Refused as refusal:
+        print(refusal)
+        explain_room(flown)
+        return 4
+    blocked = explain_separation(flown, lines, options.depth, options.most)
+    own = 5 if blocked else 0
+    if blocked and options.cured:
+        write_cured(options.cured, text, options.depth)
+    if not blocked:
+        print("Nothing is blocked at depth %d: all drones are apart." % options.depth)
+    if answer and answer[0] != own:
+        stop("check ends with %d and this tool with %d: one of them is wrong; please report the show"
+             % (answer[0], own))
+    return own

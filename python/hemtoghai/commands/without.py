@@ -1,0 +1,156 @@
+"""Writes a show without some of its drones; its cues stay as they are.
+
+    ./show without [--depth D] SHOW NAME .. > NEW
+
+For the day on which a drone stays in its box. The lines of these drones, their places in formations and their acts
+go; all other lines stay byte for byte. A formation that is left without a place goes, with the `form` lines that name
+it. A figure loses the roles that these drones have in every perform of it. Where performs of it differ in that, each
+that needs it gets a figure of its own, under a new name. A perform of which all drones are gone stays as a pause of
+the same length, so that no later cue comes earlier.
+
+What `check` says of the new show is written to standard error, and the status is that of `check`. 2: wrong words, as
+where no drone would be left. 3: the show is faulty. 70: no answer.
+"""
+import re
+import sys
+
+from hemtoghai.companion import add_depth, ask_check, flown_of, missing, parser, stop
+from hemtoghai.language import choreo
+
+IDLE = "nobody"  # the role of a figure in which nobody acts
+
+
+def ends_of(text):
+    """The numbers of the `end` lines of a good show, by those of the lines that open their blocks."""
+    blocks, ends, begun = [choreo.Line(0, "top", [])], {}, False
+    for number, line in enumerate(text.split(b"\n"), 1):
+        words = line.partition(b"#")[0].decode().split()
+        if words and begun:
+            read = choreo.line_of(number, words, blocks)
+            if read.kind == "end":
+                ends[blocks[-1].number] = number
+            choreo.add_line(read, blocks)
+        begun = begun or words != []
+    return ends
+
+
+def with_words(line, words):
+    """A line with other words; blanks before them, a comment and the line's end stay."""
+    front, _, end = re.fullmatch(rb"(\s*)([^#]*?)(\s*(?:#.*)?)", line, re.S).groups()
+    return front + " ".join(words).encode() + end
+
+
+class Editor:
+    """The lines of a show: which of them go, what stands in the place of others, and what comes after some."""
+
+    def __init__(self, text, show, gone):
+        self.lines, self.show, self.gone, self.ends = text.split(b"\n"), show, set(gone), ends_of(text)
+        self.dropped, self.changed, self.after = set(), {}, {}
+        self.left = [name for name in show.names if name not in self.gone]
+
+    def drop(self, line):
+        """A line goes, with the block that it opens."""
+        self.dropped.update(range(line.number, self.ends.get(line.number, line.number) + 1))
+
+    def drop_drones(self):
+        """Drops the drones, their places and their acts outside figures, and what is left empty."""
+        emptied = set()
+        for line in self.show.drones:
+            if line.values[0] in self.gone:
+                self.drop(line)
+        for name, formation in self.show.formations.items():
+            places = [place for place in formation.body if place.values[0] in self.gone]
+            if len(places) == len(formation.body):
+                emptied.add(name)
+                self.drop(formation)
+            for place in places:
+                self.drop(place)
+        for line in choreo.inside(self.show.top):
+            if line.kind == "form" and line.values[0] in emptied:
+                self.drop(line)
+        for block in self.show.top.body:
+            if block.kind != "figure":
+                for line in choreo.inside(block):
+                    if line.kind == "act" and line.values[0] in self.gone:
+                        self.drop(line)
+
+    def change_performs(self):
+        """Takes the drones out of performs, and their roles out of figures."""
+        performs = [line for line in choreo.inside(self.show.top) if line.kind == "perform"]
+        for name, figure in self.show.figures.items():
+            roles, cast = figure.values[1:], {}
+            for line in performs:
+                if line.values[0] == name:
+                    lost = tuple(role for role, player in zip(roles, line.values[6:]) if player in self.gone)
+                    cast.setdefault(lost, []).append(line)
+            for lost, lines in cast.items():
+                if lost:
+                    alone = len(cast) == 1
+                    new = name if alone else self.free_name(name)
+                    self.cut_figure(figure, new, set(lost), alone)
+                    for line in lines:
+                        self.cut_perform(line, new)
+
+    def free_name(self, name):
+        """A name for one more figure."""
+        taken, k = {*self.show.figures, *(new for rows in self.after.values() for new, _ in rows)}, 2
+        while True:
+            new = "%s_%d" % (name[:16 - len("_%d" % k)], k)
+            if new not in taken:
+                return new
+            k += 1
+
+    def cut_figure(self, figure, name, lost, in_place):
+        """A figure without some roles: in its own place, or once more after itself."""
+        roles = [role for role in figure.values[1:] if role not in lost] or [IDLE]
+        acts = {line.number for line in choreo.inside(figure) if line.kind == "act" and line.values[0] in lost}
+        head = with_words(self.lines[figure.number - 1], ["figure", name, *roles])
+        if in_place:
+            self.changed[figure.number] = head
+            self.dropped |= acts
+        else:
+            rows = [self.lines[number - 1] for number in range(figure.number + 1, self.ends[figure.number] + 1)
+                    if number not in acts]
+            self.after.setdefault(self.ends[figure.number], []).append((name, [head, *rows]))
+
+    def cut_perform(self, line, name):
+        """A perform of a figure without the roles of drones that are gone."""
+        players = [player for player in line.values[6:] if player not in self.gone] or self.left[:1]
+        self.changed[line.number] = with_words(
+            self.lines[line.number - 1], ["perform", name, *map(str, line.values[1:6]), *players])
+
+    def text(self):
+        """The new show."""
+        out = []
+        for number, line in enumerate(self.lines, 1):
+            if number not in self.dropped:
+                out.append(self.changed.get(number, line))
+            for _, rows in self.after.get(number, []):
+                out += rows
+        return b"\n".join(out)
+
+
+def main(words: list[str]) -> int:
+    reader = parser(__doc__)
+    add_depth(reader)
+    reader.add_argument("show", metavar="SHOW", help="a file with a show, or - for standard input")
+    reader.add_argument("names", nargs="+", metavar="NAME", help="a drone that stays on the ground")
+    options = reader.parse_args(words)
+    text, flown = flown_of(options.show)
+    strangers = [name for name in options.names if name not in flown.names]
+    if strangers:
+        stop("no drone of the show: %s; it has %s" % (", ".join(strangers), ", ".join(flown.names)), 2)
+    if set(options.names) == set(flown.names):
+        stop("no drone would be left, and a show has at least one", 2)
+    editor = Editor(text, flown.show, options.names)
+    editor.drop_drones()
+    editor.change_performs()
+    new = editor.text()
+    sys.stdout.buffer.write(new)
+    sys.stdout.flush()
+    answer = ask_check(new, options.depth)
+    if answer is None:
+        print("without: %s" % missing(), file=sys.stderr)
+        return 0
+    print("without: check: %s" % answer[1], file=sys.stderr)
+    return answer[0]

@@ -1,0 +1,213 @@
+"""What the tools have in common: reading files, asking `check`, places and times as people read them."""
+import argparse
+import re
+import sys
+
+from hemtoghai import program as proved, texts
+from hemtoghai.language import choreo
+from hemtoghai.language.choreo import Refused
+from hemtoghai.language.cures import print_cure
+from hemtoghai.program import COMMAND
+from hemtoghai.streams import tell
+
+NO_ANSWER = 70
+_running = ["hemtoghai"]  # the command, as its messages begin
+
+
+def set_tool(name):
+    """Notes which command runs."""
+    _running[0] = name
+
+
+def tool_name():
+    """The command that runs."""
+    return _running[0]
+
+
+def stop(text, status=NO_ANSWER):
+    """Ends the tool with a line on standard error."""
+    tell(tool_name(), text)
+    sys.exit(status)
+
+
+def parser(text):
+    """A parser of a tool's words."""
+    return argparse.ArgumentParser(prog="%s %s" % (COMMAND, tool_name()), description=text.replace("./show", COMMAND),
+                                   formatter_class=argparse.RawDescriptionHelpFormatter)
+
+
+def add_depth(words, text="as for check: 0 to 8, without it 6"):
+    """Adds the option --depth."""
+    words.add_argument("--depth", type=depth, default=choreo.DEPTH, metavar="D", help=text)
+
+
+def depth(word):
+    """A depth from 0 to 8."""
+    if not word.isdigit() or len(word) > 9 or int(word) > 8:
+        raise argparse.ArgumentTypeError("the depth is 0 to 8, not %s" % word)
+    return int(word)
+
+
+def read_file(path, most=texts.LOG):
+    """The bytes of a file that has at most so many; `-` is standard input."""
+    try:
+        return texts.whole_of(path, most)
+    except texts.TooLong as fault:
+        return stop("%s: %s" % (path, fault))
+    except (OSError, ValueError) as error:
+        return stop("%s: %s" % (path, getattr(error, "strerror", None) or error))
+
+
+def read_show(path):
+    """The bytes of a show's text, to one more than it may have."""
+    try:
+        return texts.front_of(path, choreo.LONGEST_TEXT + 1)
+    except (OSError, ValueError) as error:
+        return stop("%s: %s" % (path, getattr(error, "strerror", None) or error))
+
+
+def flown_of(path):
+    """What the drones of a show's file fly; a faulty show ends the tool with the program's status and line."""
+    text = read_show(path)
+    try:
+        if len(text) <= choreo.LONGEST_TEXT and choreo.parts_of(text)[2]:
+            stop("%s: a tool reads a show alone, without a marker line" % path)
+        return text, choreo.flown_of(text)
+    except Refused as refusal:
+        if refusal.number:
+            print_cure(tool_name(), refusal.number, refusal.outcome.split()[0], text)
+        return stop("%s: %s" % (path, refusal), refusal.status)
+
+
+def no_program(program=None):
+    """Why the program can't be run, or None: it isn't built, it isn't the one of its record, or this machine isn't one
+    for the release's."""
+    return proved.fault(program)
+
+
+def ask_check(text, deep=choreo.DEPTH):
+    """The status and the line of the proved program's `check` on a show, or None where it can't be run."""
+    try:
+        status, output = proved.ask(["check", "--depth", str(deep)], text)
+    except proved.Unusable:
+        return None
+    return status, output.decode(errors="replace").strip()
+
+
+MOTION = re.compile(r"^dynamics (\S+) acceleration (\d+) (\d+) (\d+) "
+                    r"jump (\d+) cue (\d+) (\d+) cue (\d+) (\d+) cue (\d+) ", re.M)
+
+
+def ask_dynamics(text, program=None):
+    """What the proved program's `dynamics` says of a show's drones, by name: bounds on acceleration in m/s^2, jumps of
+    speed in m/s and their cues, each on x, y and z; or None where the program can't be run or refuses the show."""
+    try:
+        status, output = proved.ask(["dynamics"], text, program)
+    except proved.Unusable:
+        return None
+    if status:
+        return None
+    found = {}
+    for name, *numbers in MOTION.findall(output.decode(errors="replace")):
+        numbers = [int(number) for number in numbers]
+        found[name] = ([v / 1e6 for v in numbers[:3]], [v / 1e6 for v in numbers[3::2]], numbers[4::2])
+    return found
+
+
+def missing(program=None):
+    """What to do where the program can't be run."""
+    return "`check` was not asked: %s" % (no_program(program) or "it gave no answer")
+
+
+def value(row, u):
+    """The place on an axis at a fraction of a cue, by its control values."""
+    while len(row) > 1:
+        row = [a + (b - a) * u for a, b in zip(row, row[1:])]
+    return row[0]
+
+
+def place(flown, drone, cue, u):
+    """Where a drone is at a fraction of a cue, in millimetres."""
+    return [value(row, u) for row in flown.by_cue[drone][cue][1][:3]]
+
+
+def begins(flown):
+    """The milliseconds at which each cue begins, and the end of the show."""
+    out = [0]
+    for cue in flown.cues:
+        out.append(out[-1] + cue.milliseconds)
+    return out
+
+
+def seconds(milliseconds):
+    """A time as it is printed."""
+    return "%.3f s" % (milliseconds / 1000)
+
+
+def cue_words(cue):
+    """Where a cue stands in the text: its line, and the repeats and performs that it is played in."""
+    out = "line %d" % cue.number
+    for kind, line, *rest in reversed(cue.within):
+        if kind == "repeat":
+            out += ", turn %d of %d of the repeat in line %d" % (*rest, line)
+        else:
+            out += ", in the figure %s performed in line %d" % (rest[0], line)
+    return out
+
+
+def many(number, word):
+    """A number and its word, with an s where it isn't one."""
+    return "%d %s%s" % (number, word, "" if number == 1 else "s")
+
+
+def plan_of(path):
+    """The drones of a plan's file: name, bytes and number of pieces each; anything else ends the tool."""
+    return plan_in(read_file(path, texts.PLAN), path)
+
+
+def plan_in(text, path):
+    """The same of a plan's text, which comes from this file."""
+    lines = text.decode(errors="replace").split("\n")
+    drones, name = [], None
+    if lines[:1] != ["plan 1"]:
+        stop("%s, line 1: a plan begins with `plan 1`; ./show compile FILE writes one" % path)
+    for number, line in enumerate(lines[1:], 2):
+        words = line.split(" ")
+        try:
+            if words[0] == "drone" and words[2] == "bytes" and words[4] == "pieces":
+                name, size, pieces = words[1], int(words[3]), int(words[5])
+                if not choreo.is_name(name):
+                    raise ValueError
+            elif words[0] == "data" and name:
+                data = bytes(int(word, 16) for word in words[1:])
+                if len(data) != size:
+                    raise ValueError
+                drones.append((name, data, pieces))
+                name = None
+            elif words == ["end"]:
+                return drones
+            elif words[0] not in ("write", "define", "start"):
+                raise ValueError
+        except (ValueError, IndexError):
+            stop("%s, line %d: this is no line of a plan: %s" % (path, number, line[:60]))
+    return stop("%s: the plan has no last line `end`" % path)
+
+
+def decoded(data, pieces):
+    """A trajectory's start and its segments as (milliseconds, elements), from its bytes; or None where they aren't one
+    of this many segments and the three zero bytes."""
+    def number(at, signed=True):
+        return int.from_bytes(data[at:at + 2], "little", signed=signed)
+    last, at, segments = [number(k) for k in (0, 2, 4, 6)], 8, []
+    start = list(last)
+    for _ in range(pieces):
+        if at + 3 > len(data) or number(at + 1) == 0:
+            return None
+        header, milliseconds, elements, at = data[at], number(at + 1, False), [], at + 3
+        for axis in range(4):
+            many_numbers = [0, 1, 3, 7][header >> (2 * axis) & 3]
+            elements.append([last[axis]] + [number(at + 2 * k) for k in range(many_numbers)])
+            at += 2 * many_numbers
+            last[axis] = elements[-1][-1]
+        segments.append((milliseconds, elements))
+    return (start, segments) if data[at:] == bytes(3) else None

@@ -1,0 +1,1 @@
+"""Trajectories of other programs: reading and writing them."""

@@ -1,0 +1,72 @@
+"""Writes a plan's trajectories as CSV files that Crazyswarm2 and the uav_trajectories tools read: one a drone,
+NAME.csv.
+
+    ./show export csv PLAN FOLDER
+
+Each line after the head is a segment: its duration in seconds, then for x, y, z (metres) and yaw (radians) the
+coefficients of t^0 to t^7, t in seconds from the segment's begin. They are worked out in whole numbers and then
+rounded to doubles; how far the rounded polynomial may leave the exact curve is written for each drone. The evaluation
+in doubles or floats comes on top. Nothing is proved of these files. Status 0: all files are written. 70: a file can't
+be read or written, or isn't a plan.
+"""
+import os
+from fractions import Fraction
+from math import comb
+
+from hemtoghai.companion import decoded, many, parser, plan_of, stop
+
+# A radian's tenths of a degree: pi to forty places.
+PI = Fraction(31415926535897932384626433832795028841972, 10 ** 40)
+# A segment is uploaded as 132 bytes, its duration and 32 coefficients as floats, into 4,096 bytes.
+MOST_PIECES = 31
+SCALES = [Fraction(1, 1000)] * 3 + [PI / 1800]
+HEAD = "Duration," + ",".join("%s^%d" % (axis, k) for axis in ("x", "y", "z", "yaw") for k in range(8))
+
+
+def polynomial(row, scale, duration):
+    """The eight coefficients of a curve by its control values, in the time that has passed."""
+    n, out = len(row) - 1, []
+    for k in range(n + 1):
+        power = comb(n, k) * sum((-1) ** (k - j) * comb(k, j) * row[j] for j in range(k + 1))
+        out.append(power * scale / duration ** k)
+    return out + [Fraction(0)] * (7 - n)
+
+
+def lines_of(segments):
+    """A drone's lines, and by how much the rounded polynomials may leave the exact curves: in metres and radians."""
+    lines, worst = [HEAD], [Fraction(0)] * 4
+    for milliseconds, elements in segments:
+        duration, words = Fraction(milliseconds, 1000), ["%.17g" % (milliseconds / 1000)]
+        for axis, row in enumerate(elements):
+            exact = polynomial(row, SCALES[axis], duration)
+            error = sum(abs(Fraction(float(c)) - c) * duration ** k for k, c in enumerate(exact))
+            worst[axis] = max(worst[axis], error)
+            words += ["%.17g" % float(c) for c in exact]
+        lines.append(",".join(words))
+    return lines, max(worst[:3]), worst[3]
+
+
+def main(words: list[str]) -> int:
+    reader = parser(__doc__)
+    reader.add_argument("plan", metavar="PLAN", help="a file with what ./show compile wrote, or - for standard input")
+    reader.add_argument("folder", metavar="FOLDER", help="where the files go; it is made where it isn't there")
+    options = reader.parse_args(words)
+    drones = plan_of(options.plan)
+    try:
+        os.makedirs(options.folder, exist_ok=True)
+        for name, data, pieces in drones:
+            trajectory = decoded(data, pieces)
+            if trajectory is None:
+                stop("%s: the bytes of %s are no trajectory of %s" % (options.plan, name, many(pieces, "segment")))
+            segments = trajectory[1]
+            lines, places, yaw = lines_of(segments)
+            path = os.path.join(options.folder, name + ".csv")
+            with open(path, "w", newline="\n") as file:
+                file.write("\n".join(lines) + "\n")
+            print("%s: %s, %.3f s; a double may differ by %.1e m on an axis and %.1e rad of yaw" % (
+                path, many(pieces, "segment"), sum(segment[0] for segment in segments) / 1000, places, yaw))
+            if pieces > MOST_PIECES:
+                print("  more than the %d segments that fit into 4,096 bytes as polynomials" % MOST_PIECES)
+    except OSError as error:
+        stop("%s: %s" % (error.filename, error.strerror))
+    return 0

@@ -1,0 +1,143 @@
+"""Writes what the drones of a plan or a show fly as a .skyc, as Skybrush reads them: for viewers and other programs.
+
+    ./show export skyc [--tolerance MM] PLAN|SHOW OUT.skyc
+
+A show is compiled by the proved program first, and isn't written where that refuses it. Lines and cubics are written as
+they are. A `move` is of degree seven, of which the format knows none: it is cut into cubics. How far these are from
+the plan's curves at most, at every instant, is worked out in exact fractions from the numbers that are written, and
+printed. Yaw goes evenly between setpoints. Where it doesn't in the plan it has sixteen a segment, and how far that is
+off is printed too. There are no lights, and no take-off or landing but what the show has.
+
+The format is FROM MEMORY: NO PROGRAM of Skybrush ever read such a file. What another program sends to drones from it
+are its own bytes, and nothing that is promised of the plan's bytes holds of those. Status 0: written. 3, 4, 5: a show
+that is refused so. 2: wrong words. 70: a file can't be read or written, or isn't a plan.
+"""
+import io
+import json
+import zipfile
+from fractions import Fraction
+
+from hemtoghai import program, texts
+from hemtoghai.companion import decoded, many, parser, plan_in, read_file, stop
+from hemtoghai.geometry import paths
+
+SETPOINTS = 16
+# Numbers are written in whole nanometres, nanoseconds and millionths of a degree, which doubles keep exactly.
+FINE = 10 ** 6
+
+
+def fine(v):
+    """The nearest number that is written as it is: in parts of a millimetre, a millisecond or a tenth of a degree."""
+    return Fraction(round(v * FINE), FINE)
+
+
+def written(v, scale):
+    """A fine number in a unit that is so many times as large."""
+    return round(float(v / scale), 9)
+
+
+def cubic_of(row):
+    """A cubic that begins and ends as a curve of a higher degree does, with its speeds there."""
+    share = Fraction(len(row) - 1, 3)
+    return [row[0], row[0] + share * (row[1] - row[0]), row[-1] - share * (row[-1] - row[-2]), row[-1]]
+
+
+def cubics(rows, begin, end, enough):
+    """Cubics near to a curve, as (end, rows), and the square of how far they leave it at most."""
+    degree = max(map(len, rows)) - 1
+    rows = [paths.raised(row, degree) for row in rows]
+    near = [[fine(v) for v in (cubic_of(row) if degree > 3 else row)] for row in rows]
+    gaps = [[a - b for a, b in zip(row, paths.raised(cubic, degree))] for row, cubic in zip(rows, near)]
+    middle = fine((begin + end) / 2)
+    if paths.farthest(gaps, 5, enough) <= enough or not begin < middle < end:
+        return [(end, near)], paths.farthest(gaps, 5, 0)
+    sides = [paths.split(row, (middle - begin) / (end - begin)) for row in rows]
+    first, off = cubics([side[0] for side in sides], begin, middle, enough)
+    second, also = cubics([side[1] for side in sides], middle, end, enough)
+    return first + second, max(off, also)
+
+
+def yaw_points(row, begin, end):
+    """Setpoints of a segment's yaw in milliseconds and tenths of a degree, without the first, and the square of how far
+    an even way between them is off at most."""
+    count, off, out = SETPOINTS if len(row) > 2 else 1, Fraction(0), []
+    u, a = Fraction(0), row[0]
+    for k in range(1, count + 1):
+        t = fine(begin + (end - begin) * k / count)
+        v = (t - begin) / (end - begin)
+        b, own = fine(paths.value(row, v)), paths.raised(paths.part(row, u, v), 1)
+        gap = [p - q for p, q in zip(own, paths.raised([a, b], len(own) - 1))]
+        off, u, a = max(off, paths.farthest([gap], 5, 0)), v, b
+        out.append((t, b))
+    return out, off
+
+
+def drone_of(name, start, segments, enough):
+    """A drone of the show.json, its number of pieces, and the squares of how far it is off in millimetres and in tenths
+    of a degree."""
+    points, yaws = [[0, [v / 1000 for v in start[:3]], []]], [[0, start[3] / 10]]
+    t, worst, turned = Fraction(0), Fraction(0), Fraction(0)
+    for milliseconds, elements in segments:
+        rows = [[Fraction(v) for v in row] for row in elements]
+        pieces, off = cubics(rows[:3], t, t + milliseconds, enough)
+        setpoints, also = yaw_points(rows[3], t, t + milliseconds)
+        worst, turned, t = max(worst, off), max(turned, also), t + milliseconds
+        yaws += [[written(at, 1000), written(v, 10)] for at, v in setpoints]
+        for end, own in pieces:
+            way = [[written(v, 1000) for v in point] for point in zip(*own)]
+            points.append([written(end, 1000), way[-1], way[1:-1]])
+    settings = {"name": name, "home": points[0][1], "landAt": points[-1][1],
+                "trajectory": {"version": 1, "points": points, "takeoffTime": 0}, "lights": {"version": 1, "data": ""},
+                "yawControl": {"version": 1, "setpoints": yaws, "autoYaw": False}}
+    return {"type": "generic", "settings": settings}, len(points) - 1, worst, turned
+
+
+def drones_of(path):
+    """The drones of a plan, or of a show, which the program compiles: names, bytes and numbers of segments."""
+    text = read_file(path, texts.PLAN)
+    if not text.startswith(b"plan 1"):
+        try:
+            status, text = program.ask(["compile"], text)
+        except program.Unusable as why:
+            return stop("the show can't be compiled: %s" % why)
+        if status:
+            stop("%s: %s" % (path, text.decode(errors="replace").strip()), status)
+    return plan_in(text, path)
+
+
+def amount(word):
+    """A number of millimetres from 0.001 on."""
+    if not 0.001 <= float(word) <= 1000:
+        raise ValueError
+    return Fraction(word)
+
+
+def main(words: list[str]) -> int:
+    reader = parser(__doc__)
+    reader.add_argument("--tolerance", type=amount, default=Fraction(1), metavar="MM",
+                       help="how far cubics may leave a `move`, 0.001 to 1000; 1")
+    reader.add_argument("plan", metavar="PLAN|SHOW", help="what ./show compile wrote, or a show; - for standard input")
+    reader.add_argument("out", metavar="OUT", help="the .skyc to write")
+    options = reader.parse_args(words)
+    drones, count, worst, turned = [], 0, Fraction(0), Fraction(0)
+    for name, data, pieces in drones_of(options.plan):
+        trajectory = decoded(data, pieces)
+        if trajectory is None:
+            stop("%s: the bytes of %s are no trajectory of %s" % (options.plan, name, many(pieces, "segment")))
+        drone, more, off, also = drone_of(name, *trajectory, options.tolerance ** 2)
+        drones, count, worst, turned = drones + [drone], count + more, max(worst, off), max(turned, also)
+    show = {"version": 1, "settings": {}, "environment": {"type": "indoor"}, "meta": {}, "swarm": {"drones": drones},
+            "media": {}}
+    packed = io.BytesIO()
+    with zipfile.ZipFile(packed, "w") as archive:
+        archive.writestr(zipfile.ZipInfo("show.json"), json.dumps(show), zipfile.ZIP_DEFLATED)
+    try:
+        with open(options.out, "wb") as file:
+            file.write(packed.getvalue())
+    except OSError as error:
+        stop("%s: %s" % (options.out, error.strerror))
+    print("%s: %s, %s; at any instant at most %.3f mm and %.2f degrees from the plan" % (
+        options.out, many(len(drones), "drone"), many(count, "piece"), paths.root_up(worst, 1000),
+        paths.root_up(turned / 100)))
+    print("what other programs send to drones from this file are their own bytes: nothing is promised of those")
+    return 0

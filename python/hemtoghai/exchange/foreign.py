@@ -1,0 +1,492 @@
+"""Readers of trajectories that other programs write: .skyc of Skybrush, polynomials of uav_trajectories, waypoints.
+
+The readers are WRITTEN FROM MEMORY of the formats, and were tried with files that were made from the same memory, never
+with one that another program wrote. What they don't know they refuse. All numbers are taken as they are written.
+"""
+import bisect
+import csv
+import io
+import json
+import os
+import posixpath
+import re
+import struct
+import zipfile
+import zlib
+from fractions import Fraction
+from math import comb
+
+from hemtoghai import texts
+from hemtoghai.companion import stop
+from hemtoghai.geometry.paths import part, Path
+
+LARGEST = 1 << 24  # bytes of a file, or of all members of an archive that are read
+NUMBERS = 1000000  # of all files together
+# An archive is packed less than so many times, and has fewer numbers than bytes: else it isn't a show that flies.
+PACKED, SMALLEST = 64, 20000
+NUMBER = re.compile(r"[-+]?(\d+\.?\d*|\.\d+)([eE][-+]?\d{1,3})?")
+JUMP = 100000  # micrometres that a path may jump on an axis: the polynomials of some files are rounded
+LONGEST = 36000000  # milliseconds of a show
+SHORTEST = Fraction(1, 1000)  # milliseconds of a piece
+FARTHEST, TURNED = 32767000, 32767  # micrometres and tenths of a degree that a trajectory's numbers hold
+# A radian's tenths of a degree: pi to forty places.
+PI = Fraction(31415926535897932384626433832795028841972, 10 ** 40)
+
+
+class Unreadable(Exception):
+    """A file that can't be read as what it should be."""
+
+
+class Counter:
+    """Counts numbers, up to a limit."""
+
+    def __init__(self, most):
+        self.most = self.left = most
+
+    def take(self, count=1):
+        """Counts so many more."""
+        self.left -= count
+        if self.left < 0:
+            raise Unreadable("more than %d numbers" % self.most)
+
+
+def number(word):
+    """A number as it is written."""
+    if len(word) > 60 or not NUMBER.fullmatch(word):
+        raise Unreadable("%.20r is no number" % word)
+    return Fraction(word)
+
+
+def name_of(word, taken):
+    """A drone's name in a show, from another program's: unlike all in `taken`, to which it is added."""
+    base = re.sub("[^a-z0-9_]", "_", word.lower()).strip("_") or "d"
+    base = ("" if base[0].isalpha() else "d") + base + ("_" if base in ("form", "end") else "")
+    name, k = base[:16], 2
+    while name in taken:
+        name, k = base[:15 - len(str(k))] + "_%d" % k, k + 1
+    taken.add(name)
+    return name
+
+
+def checked(name, pieces):
+    """A path of these pieces, or a refusal where no drone can be there or get there."""
+    if pieces[0][0] < 0:
+        raise Unreadable("%s begins before the time 0" % name)
+    if pieces[-1][1] > LONGEST:
+        raise Unreadable("%s flies for more than %d s" % (name, LONGEST // 1000))
+    for begin, end, rows in pieces:
+        if end - begin < SHORTEST:
+            raise Unreadable("%s has two instants less than a microsecond apart at %.6f s" % (name, begin / 1000))
+        if any(abs(v) > FARTHEST for row in rows[:3] for v in row):
+            raise Unreadable("%s is farther than 32.767 m from the origin on an axis, at %.3f s" % (name, begin / 1000))
+        if any(abs(v) > TURNED for v in rows[3]):
+            raise Unreadable("%s is turned by more than 3276.7 degrees, at %.3f s" % (name, begin / 1000))
+    path = Path(name, pieces)
+    far, when = max(path.jumps(), default=(0, 0))
+    if far > JUMP:
+        raise Unreadable("%s jumps by %.0f mm at %.3f s" % (name, far / 1000, when / 1000))
+    return path
+
+
+# ---- Skybrush
+
+KINDS = {dict: "object", list: "list", str: "text", Fraction: "number"}
+
+
+def field(node, key, kind, where, default=None):
+    """What an object has under a word."""
+    found = node.get(key, default) if isinstance(node, dict) else None
+    if found is None or not isinstance(found, kind):
+        raise Unreadable("%s has no %s" % (where, key) if found is None else
+                         "%s: %s is no %s" % (where, key, KINDS[kind]))
+    return found
+
+
+def place_of(node, where):
+    """A place in micrometres, from three metres."""
+    if not (isinstance(node, list) and len(node) == 3 and all(isinstance(v, Fraction) for v in node)):
+        raise Unreadable("%s: a place isn't three numbers" % where)
+    return [v * 1000000 for v in node]
+
+
+class Archive:
+    """A zip with JSON texts that refer to one another."""
+
+    def __init__(self, data):
+        self.texts, self.left = {}, min(LARGEST, PACKED * (SMALLEST + len(data)))
+        self.counter = Counter(min(NUMBERS, SMALLEST + len(data)))
+        try:
+            self.file = zipfile.ZipFile(io.BytesIO(data))
+        except (ValueError, NotImplementedError, OverflowError, struct.error, zipfile.BadZipFile, OSError) as error:
+            raise Unreadable("no zip: %s" % error)
+
+    def names(self):
+        """The names of the members, those of folders left out."""
+        return [name for name in self.file.namelist() if not name.endswith("/")]
+
+    def data(self, where):
+        """The bytes of a member."""
+        try:
+            about = self.file.getinfo(where)
+        except KeyError:
+            raise Unreadable("the archive has no member %.60s" % where)
+        self.left -= about.file_size
+        if self.left < 0 or about.compress_type not in (zipfile.ZIP_STORED, zipfile.ZIP_DEFLATED):
+            raise Unreadable("%.60s is larger than %d bytes, or packed in an unknown way" % (
+                where, self.left + about.file_size))
+        try:
+            return self.file.read(about)
+        except (ValueError, EOFError, RuntimeError, NotImplementedError, OverflowError, struct.error, zlib.error,
+                zipfile.BadZipFile, OSError) as error:
+            raise Unreadable("%.60s is damaged: %s" % (where, error or type(error).__name__))
+
+    def number(self, word):
+        """A number as it is written, one of not too many."""
+        self.counter.take()
+        return number(word)
+
+    def text(self, where):
+        """The JSON text of a member, its numbers as they are written."""
+        if where not in self.texts:
+            try:
+                text = self.data(where).decode("utf-8")
+                self.texts[where] = json.loads(text, parse_float=self.number, parse_int=self.number,
+                                               parse_constant=self.number)
+            except (ValueError, RecursionError) as error:
+                raise Unreadable("%.60s is damaged: %s" % (where, error or type(error).__name__))
+        return self.texts[where]
+
+    def follow(self, node, base="show.json"):
+        """What a node is, or refers to: in another member, or further on in the same one."""
+        for _ in range(8):
+            if not (isinstance(node, dict) and set(node) == {"$ref"}):
+                return node
+            target, _, inner = field(node, "$ref", str, base).partition("#")
+            if target:
+                base = posixpath.normpath(posixpath.join(posixpath.dirname(base), target))
+            node = self.text(base)
+            for key in filter(None, inner.split("/")):
+                if isinstance(node, list) and key.isdigit() and len(key) < 9 and int(key) < len(node):
+                    node = node[int(key)]
+                else:
+                    node = field(node, key, object, base)
+        raise Unreadable("%s: references that go round" % base)
+
+
+LEFT_OUT = {"lights": "lights", "pyro": "pyrotechnics"}  # what a drone's settings may have, and no show has
+
+
+def read_skyc(path, left_out=None):
+    """The paths of a .skyc of Skybrush: a zip with show.json, version 1. `left_out` gets by what isn't read, in words,
+    how many drones have it."""
+    archive = Archive(limited(path))
+    show = archive.text("show.json")
+    if field(show, "version", Fraction, "show.json") != 1:
+        raise Unreadable("show.json is of version %s, and 1 is known" % show["version"])
+    drones = field(archive.follow(field(show, "swarm", dict, "show.json")), "drones", list, "the swarm")
+    if not drones:
+        raise Unreadable("show.json has no drone")
+    words, taken, out = set(), set(), []
+    for k, drone in enumerate(drones, 1):
+        settings = archive.follow(field(archive.follow(drone), "settings", dict, "drone %d" % k))
+        word = field(settings, "name", str, "drone %d" % k, "drone %d" % k)
+        if word in words:
+            raise Unreadable("two drones have the name %.40r" % word)
+        words.add(word)
+        out.append(skyc_path(archive, "drone %d, %.40r" % (k, word), settings, name_of(word, taken)))
+        for what in left_out_of(archive, settings) if left_out is not None else ():
+            left_out[what] = left_out.get(what, 0) + 1
+    return out
+
+
+def left_out_of(archive, settings):
+    """What a drone of a .skyc has that isn't read."""
+    for key, words in LEFT_OUT.items():
+        node = archive.follow(settings.get(key))
+        if node and not (isinstance(node, dict) and not any(node.get(it) for it in node if it != "version")):
+            yield words
+    yaw = archive.follow(settings.get("yawControl"))
+    if isinstance(yaw, dict) and yaw.get("autoYaw") not in (None, False):
+        yield AUTOMATIC
+
+
+AUTOMATIC = "automatic yaw"
+
+
+def skyc_path(archive, where, settings, name):
+    """The path of a drone of a .skyc."""
+    trajectory = archive.follow(field(settings, "trajectory", dict, where))
+    if field(trajectory, "version", Fraction, where, Fraction(1)) != 1:
+        raise Unreadable("%s: a trajectory of version %s, and 1 is known" % (where, trajectory["version"]))
+    late = field(trajectory, "takeoffTime", Fraction, where, Fraction(0)) * 1000
+    points = [point_of(point, where) for point in field(trajectory, "points", list, where)]
+    if not points:
+        raise Unreadable("%s: a trajectory without a point" % where)
+    pieces = []
+    for (begin, before, _), (end, after, inner) in zip(points, points[1:]):
+        if end < begin or (end == begin and before != after):
+            raise Unreadable("%s: the time goes back, or a place jumps, at %.3f s" % (where, begin / 1000))
+        if end > begin:
+            pieces.append((late + begin, late + end, [list(row) for row in zip(before, *inner, after)]))
+    if not pieces:
+        begin = late + points[0][0]
+        pieces = [(begin, begin + 1, [[v] for v in points[0][1]])]
+    yaw = archive.follow(field(settings, "yawControl", dict, where, {"setpoints": []}))
+    setpoints = [setpoint_of(it, late, where) for it in field(yaw, "setpoints", list, where)]
+    for (a, p), (b, q) in zip(setpoints, setpoints[1:]):
+        if b < a or (a == b and p != q):
+            raise Unreadable("%s: the time of yaw goes back, or yaw jumps, at %.3f s" % (where, a / 1000))
+    return checked(name, with_yaw(pieces, setpoints or [(Fraction(0), Fraction(0))]))
+
+
+def point_of(point, where):
+    """A point of a trajectory: milliseconds, the place, and the points between it and the one before, none or two."""
+    if not (isinstance(point, list) and len(point) in (2, 3) and isinstance(point[0], Fraction)):
+        raise Unreadable("%s: a point isn't a time, a place and inner points" % where)
+    inner = point[2] if len(point) == 3 else []
+    if not isinstance(inner, list) or len(inner) not in (0, 2):
+        raise Unreadable("%s: inner points at %.3f s, and none or two are known" % (where, point[0]))
+    return point[0] * 1000, place_of(point[1], where), [place_of(it, where) for it in inner]
+
+
+def setpoint_of(node, late, where):
+    """A setpoint of yaw: milliseconds and tenths of a degree."""
+    if not (isinstance(node, list) and len(node) == 2 and all(isinstance(v, Fraction) for v in node)):
+        raise Unreadable("%s: a setpoint of yaw isn't a time and an angle" % where)
+    return late + node[0] * 1000, node[1] * 10
+
+
+def with_yaw(pieces, setpoints):
+    """Pieces, cut where a yaw that goes evenly between setpoints has them, with that yaw."""
+    times = [t for t, _ in setpoints]
+
+    def yaw(t):
+        k = bisect.bisect_left(times, t)
+        if k == 0 or k == len(times):
+            return setpoints[min(k, len(times) - 1)][1]
+        (a, p), (b, q) = setpoints[k - 1:k + 1]
+        return p + (q - p) * (t - a) / (b - a)
+    out = []
+    for begin, end, rows in pieces:
+        inner = times[bisect.bisect_right(times, begin):bisect.bisect_left(times, end)]
+        cuts = [begin, *sorted(set(inner)), end]
+        for low, high in zip(cuts, cuts[1:]):
+            u, v = (low - begin) / (end - begin), (high - begin) / (end - begin)
+            out.append((low, high, [part(row, u, v) for row in rows] + [[yaw(low), yaw(high)]]))
+    return out
+
+
+# ---- CSV
+
+def limited(path):
+    """The bytes of a file, if they aren't too many."""
+    try:
+        return texts.whole_of(path, LARGEST)
+    except texts.TooLong as fault:
+        raise Unreadable(str(fault))
+    except (OSError, ValueError) as error:
+        return stop("%s: %s" % (path, getattr(error, "strerror", None) or error))
+
+
+def separator_of(text):
+    """What parts the cells of a text: a semicolon or a tab, where its first row has one outside of quotes, else a
+    comma."""
+    for line in text.splitlines():
+        if line.strip() and not line.lstrip().startswith("#"):
+            bare = "".join(line.split('"')[::2])
+            return next((sign for sign in ";\t" if sign in bare), ",")
+    return ","
+
+
+def with_point(cell):
+    """A cell in which a decimal comma is a point."""
+    whole, comma, rest = cell.partition(",")
+    return whole + "." + rest if comma and NUMBER.fullmatch(whole + "." + rest) else cell
+
+
+def rows_of(data):
+    """The rows of the bytes of a CSV file as (line, cells), and the words of its head, which is a first row without a
+    number. Where semicolons or tabs part the cells, numbers may have a decimal comma."""
+    try:
+        text = data.decode("utf-8-sig")
+        separator = separator_of(text)
+        rows = [(k, [cell.strip() for cell in row]) for k, row in enumerate(
+            csv.reader(io.StringIO(text, newline=""), delimiter=separator), 1)]
+    except (UnicodeDecodeError, csv.Error) as error:
+        raise Unreadable("no CSV: %s" % error)
+    if separator != ",":
+        rows = [(k, [with_point(cell) for cell in row]) for k, row in rows]
+    rows = [(k, row) for k, row in rows if any(row) and not row[0].startswith("#")]
+    for _, row in rows:
+        while not row[-1]:
+            row.pop()
+    head = []
+    if rows and not any(NUMBER.fullmatch(cell) for cell in rows[0][1]):
+        head = [cell.lower() for cell in rows.pop(0)[1]]
+    if not rows:
+        raise Unreadable("no row of numbers")
+    return rows, head
+
+
+def numbers_of(line, cells):
+    """The numbers of a row."""
+    try:
+        return [number(cell) for cell in cells]
+    except Unreadable as error:
+        raise Unreadable("line %d: %s" % (line, error))
+
+
+def read_polynomials(data, name, start):
+    """The path in the bytes of a file of uav_trajectories: in each row a duration and eight coefficients an axis, in
+    metres and radians."""
+    pieces, t = [], Fraction(0)
+    for line, cells in rows_of(data)[0]:
+        row = numbers_of(line, cells)
+        if len(row) != 33:
+            raise Unreadable("line %d: %d numbers, and 33 are wanted, a duration first" % (line, len(row)))
+        if row[0] <= 0:
+            raise Unreadable("line %d: a duration of %s s" % (line, cells[0]))
+        length, rows = row[0], []
+        for axis in range(4):
+            scaled = [c * length ** k for k, c in enumerate(row[1 + 8 * axis:9 + 8 * axis])]
+            points = [sum(Fraction(comb(j, k), comb(7, k)) * scaled[k] for k in range(j + 1)) for j in range(8)]
+            rows.append([p * 1800 / PI for p in points] if axis == 3 else [(p + start[axis]) * 1000000 for p in points])
+        pieces.append((t * 1000, (t + length) * 1000, [row[:1] if len(set(row)) == 1 else row for row in rows]))
+        t += length
+    return checked(name, pieces)
+
+
+COLUMNS = {"t": "t", "time": "t", "time [s]": "t", "t [s]": "t", "time [msec]": "ms", "time [ms]": "ms", "t [ms]": "ms",
+           "x": "x", "y": "y", "z": "z", "x [m]": "x", "y [m]": "y", "z [m]": "z", "yaw": "yaw", "yaw [deg]": "yaw",
+           "drone": "drone", "name": "drone", "id": "drone"}
+
+
+def columns_of(head, first):
+    """Where a table of waypoints has what: by its head, or by its first row."""
+    if not head:
+        named = not NUMBER.fullmatch(first[0])
+        words = (["drone"] if named else []) + ["t", "x", "y", "z", "yaw"][:max(4, len(first) - named)]
+        if len(words) != len(first):
+            raise Unreadable("a row has %d cells, and t,x,y,z and maybe yaw are wanted" % len(first))
+        return {word: k for k, word in enumerate(words)}
+    found = {}
+    for k, cell in enumerate(head):
+        word = COLUMNS.get(cell)
+        if word in found:
+            raise Unreadable("two columns are called %s" % word)
+        if word is None and re.match(r"(t|time|x|y|z|yaw)\b", cell):
+            raise Unreadable("a column %.20r, whose unit isn't known" % cell)
+        found.update({word: k} if word else {})
+    if not {"x", "y", "z"} <= set(found) or ("t" in found) == ("ms" in found):
+        raise Unreadable("the head has to name t, x, y and z")
+    return found
+
+
+def read_waypoints(data, stem, smooth):
+    """The paths in the bytes of a file of waypoints by the names of their drones, as lists of pieces: t,x,y,z and maybe
+    yaw in each row (seconds, metres, degrees; or Skybrush's CSV, with milliseconds and colours), and maybe a column of
+    drones."""
+    rows, head = rows_of(data)
+    columns = columns_of(head, rows[0][1])
+    words, scale, points = [word for word in ("t", "ms", "x", "y", "z", "yaw") if word in columns], 1, {}
+    for line, cells in rows:
+        if len(cells) <= max(columns.values()) or (not head and len(cells) > len(columns)):
+            raise Unreadable("line %d: %d cells, and %d are wanted" % (line, len(cells), len(columns)))
+        row = numbers_of(line, [cells[columns[word]] for word in words])
+        scale = 1 if "ms" in columns else 1000
+        own = points.setdefault(cells[columns["drone"]] if "drone" in columns else stem, [])
+        yaw = row[4] * 10 if len(row) > 4 else Fraction(0)
+        own.append((row[0] * scale, [v * 1000000 for v in row[1:4]] + [yaw]))
+        if len(own) > 1 and own[-2][0] >= own[-1][0]:
+            raise Unreadable("line %d: the time doesn't grow" % line)
+    return {word: joined(own, smooth) for word, own in points.items()}
+
+
+def joined(points, smooth):
+    """Pieces through waypoints: lines, or a smooth spline."""
+    def slope(k):
+        if k in (0, len(points) - 1):
+            return [Fraction(0)] * 4
+        (a, p), (b, q) = points[k - 1], points[k + 1]
+        return [(y - x) / (b - a) for x, y in zip(p, q)]
+    if len(points) == 1:
+        return [(points[0][0], points[0][0] + 1, [[v] for v in points[0][1]])]
+    pieces = []
+    for k, ((begin, p), (end, q)) in enumerate(zip(points, points[1:])):
+        third = (end - begin) / 3
+        rows = [[x, x + third * u, y - third * v, y] if smooth else [x, y]
+                for x, y, u, v in zip(p, q, slope(k), slope(k + 1))]
+        pieces.append((begin, end, [row[:1] if len(set(row)) == 1 else row for row in rows]))
+    return pieces
+
+
+def read_starts(path):
+    """Places by names, from name,x,y,z a row, in metres."""
+    out = {}
+    for line, cells in rows_of(limited(path))[0]:
+        if len(cells) != 4 or cells[0] in out:
+            raise Unreadable("line %d: name,x,y,z are wanted, once for each drone" % line)
+        out[cells[0]] = numbers_of(line, cells[1:])
+    return out
+
+
+def is_archive(data):
+    """Whether bytes are those of a zip."""
+    return data[:2] == b"PK"
+
+
+def members_of(path):
+    """The CSV files that a path leads to, as (where, stem, bytes): itself, or those of a zip."""
+    data = limited(path)
+    if not is_archive(data):
+        return [(path, stem_of(path), data)]
+    archive = Archive(data)
+    names = [name for name in sorted(archive.names()) if name.lower().endswith(".csv")]
+    if not names:
+        raise Unreadable("%s: a zip without a CSV file, and without a show.json" % path)
+    return [("%s, %.60s" % (path, name), stem_of(name), archive.data(name)) for name in names]
+
+
+def stem_of(path):
+    """A file's name without folders and ending."""
+    return posixpath.splitext(posixpath.basename(path))[0]
+
+
+def has_waypoints(data):
+    """Whether a CSV file has a head that names t, x, y and z."""
+    words = {COLUMNS.get(cell) for cell in rows_of(data)[1]}
+    return {"x", "y", "z"} <= words and bool({"t", "ms"} & words)
+
+
+def one_csv(data, stem, waypoints, smooth, places):
+    """The paths in the bytes of a CSV file by the names of their drones, as lists of pieces."""
+    if waypoints or has_waypoints(data):
+        return read_waypoints(data, stem, smooth)
+    if places is not None and stem not in places:
+        raise Unreadable("the file of --starts has no place for %.40s" % stem)
+    return {stem: read_polynomials(data, "", (places or {}).get(stem, [Fraction(0)] * 3)).pieces}
+
+
+def read_csv(files, waypoints, smooth=False, starts=None):
+    """The paths of CSV files, or of zips of them: polynomials, a drone a file, or waypoints."""
+    taken, found, counter = set(), {}, Counter(NUMBERS)
+    places = read_starts(starts) if starts else None
+    for where, stem, data in (member for path in files for member in members_of(path)):
+        try:
+            counter.take(data.count(b",") + data.count(b";") + data.count(b"\t"))
+            for word, pieces in one_csv(data, stem, waypoints, smooth, places).items():
+                if word in found:
+                    raise Unreadable("two drones have the name %.40r" % word)
+                found[word] = checked(name_of(word, taken), pieces)
+        except Unreadable as error:
+            raise Unreadable("%s: %s" % (where, error))
+    lost = [word for word in places or () if word not in found]
+    if lost:
+        raise Unreadable("%s: no file is called %.40r" % (starts, lost[0]))
+    return list(found.values())
+
+
+def is_one_place(paths):
+    """Whether several paths all begin in one place, within a millimetre."""
+    firsts = [[row[0] for row in path.pieces[0][2][:3]] for path in paths]
+    return len(firsts) > 1 and all(max(column) - min(column) <= 1000 for column in zip(*firsts))

@@ -1,0 +1,1 @@
+"""Links, uploads and flights, with real and simulated drones."""

@@ -1,0 +1,493 @@
+"""UNTESTED with the library, a radio or a drone: a link over Bitcraze's library (cflib), for ./show bridge and
+./show fly.
+
+    ./show bridge --radio DRONES SHOW
+
+TRY IT FIRST with one drone, without propellers. DRONES is a text with a line `NAME URI` for each drone of the show,
+as in `a radio://0/80/2M/E7E7E7E701`. This file is written from memory of the library, and was run over a stand-in for
+it (flying/simulated) that is from the same memory. Read docs/RADIO.md ('What a bridge owes', 'Where real drones may
+differ').
+
+What it does besides carrying packets byte for byte:
+- it opens all drones or none, and closes what it opened at each failure;
+- a drone of which nothing is heard for two seconds is named, when it is opened and at any time later;
+- each drone is asked for its memories, and a show whose memory id isn't that of the memory of type 0x12 is refused
+  before the first write;
+- answers of an earlier upload are waited out: what comes before the answers to two questions of its own is dropped;
+- only memory and commander packets (ports 4 and 8) are passed, and only answers to packets that were sent;
+- each drone is sent its start once: later copies are dropped, since real firmware begins anew at each (a link may lose
+  packets; --repeat-starts sends them).
+The library's own classes (Crazyflie, its memories and parameters) stay out of it, since they would write too.
+"""
+import queue
+import random
+import re
+import threading
+import time
+from typing import Any, Callable, Dict, Iterable, List, Optional, Sequence, Tuple
+
+from hemtoghai.flying import clock, firmware
+from hemtoghai.flying.links import COMMAND, key_of, Link as Asked, MEMORY, READ, WRITE
+
+ANSWER, PATIENCE = 0.3, 5.0  # seconds until a question is put again, and until a drone that is heard counts as mute
+QUIET = 2.0  # seconds without any packet until a drone counts as silent
+LOOK = 0.05  # seconds between two looks at who is silent
+BROADCAST = (0xFF, 0xE7, 0xE7, 0xE7, 0xE7)
+RATES = {"250K": 0, "1M": 1, "2M": 2}
+URI = re.compile("radio://[0-9]+/[0-9]+/(250K|1M|2M)/[0-9A-Fa-f]{10}")
+LIMIT = 0.8  # real seconds in which a dongle has sent a broadcast, or counts as gone
+CLOSES = 3.0  # real seconds in which all is closed, or left open
+MANY = 15  # drones of one dongle above which somebody is to know
+
+Work = Callable[[], None]
+Sent = List[Any]  # when the first copy of a broadcast went, and when the last had, or what failed
+
+
+def everybody(path: str) -> Dict[str, str]:
+    """The drones' URIs by their names, from a text of lines `NAME URI`; raises ValueError where that is none."""
+    found = {}
+    with open(path, encoding="utf-8") as lines:
+        for number, line in enumerate(lines, 1):
+            words = line.partition("#")[0].split()
+            if len(words) == 2 and URI.fullmatch(words[1]):
+                words[1] = words[1][:-10] + words[1][-10:].upper()
+            if words and (len(words) != 2 or words[0] in found or words[1] in found.values()):
+                raise ValueError("%s, line %d: `NAME URI` is wanted, each once" % (path, number))
+            found.update([words] if words else [])
+            if words and not URI.fullmatch(words[1]):
+                raise ValueError("%s, line %d: %s isn't radio://DONGLE/CHANNEL/RATE/ADDRESS with 250K, 1M or 2M" % (
+                    path, number, words[1]))
+    return found
+
+
+def addresses(path: str, names: Sequence[str]) -> List[str]:
+    """The URIs of these drones, in their order."""
+    found = everybody(path)
+    missing = [name for name in names if name not in found]
+    if missing:
+        raise ValueError("%s has no address for %s" % (path, ", ".join(missing)))
+    return [found[name] for name in names]
+
+
+class Dead(Exception):
+    """Drones that don't answer."""
+
+
+class Dongle:
+    """A dongle with a channel and a rate, opened once more for broadcasts. It is used by a thread of its own: where it
+    was pulled out, the library's calls may never return."""
+
+    def __init__(self, number: str, channel: str, rate: str) -> None:
+        self.name, self.shared, self.jobs = "dongle %s" % number, None, queue.Queue()
+        self.thread = threading.Thread(target=self.run, args=(int(number), int(channel), RATES[rate]), daemon=True)
+        self.thread.start()
+
+    def run(self, number: int, channel: int, rate: int) -> None:
+        """Opens it, and sends what is to be sent."""
+        from cflib.crtp.radiodriver import RadioManager
+        while True:
+            job = self.jobs.get()
+            if job is None:
+                return
+            raw, copies, row, done = job
+            try:
+                if self.shared is None:
+                    # THE LEAST CERTAIN LINES HERE: the library shares one dongle among its drivers in this way (70 %).
+                    shared = RadioManager.open(number)
+                    shared.set_channel(channel)
+                    shared.set_address(BROADCAST)
+                    shared.set_data_rate(rate)
+                    self.shared = shared
+                row.append(clock.now())
+                for _ in range(copies):
+                    self.shared.send_packet(tuple(raw))
+                row.append(clock.now())
+            except Exception as error:
+                row.append(error)
+            done.set()
+
+    def send(self, raw: bytes, copies: int) -> Tuple[Sent, threading.Event]:
+        """Has a packet sent; a list that gets when the first copy went and when the last had, and an event once it
+        has."""
+        row, done = [], threading.Event()
+        self.jobs.put((raw, copies, row, done))
+        return row, done
+
+    def close(self) -> None:
+        """Closes it."""
+        self.jobs.put(None)
+        self.thread.join(LIMIT)
+        if self.shared is not None and not self.thread.is_alive():
+            self.shared.close()
+
+
+class Silence:
+    """For how many seconds nothing was heard of each drone. A machine that itself stands still hears nobody: of each
+    step between two looks only the first part counts."""
+
+    def __init__(self, count: int, most: float = 4 * LOOK) -> None:
+        self.most, self.looked, self.rows = most, clock.now(), [(0.0, None)] * count
+
+    def look(self, heard: Sequence[Optional[float]]) -> List[float]:
+        """The seconds for each drone, by when each was heard last."""
+        now = clock.now()
+        step, self.looked = min(now - self.looked, self.most), now
+        self.rows = [(0.0 if at != last else quiet + step, at) for (quiet, last), at in zip(self.rows, heard)]
+        return [quiet for quiet, _ in self.rows]
+
+
+class Radio:
+    """The drivers of all drones, with two threads each: one sends what waits, one hands on what comes. Neither ends
+    where a driver or a listener fails: the fault is noted, and the next packet is tried.
+
+    `listeners` are functions of a drone and a packet, called from any thread. `faults` has by drone what its driver
+    complained of last, and `last` when it was last heard.
+    """
+
+    def __init__(self, names: Sequence[str], uris: Sequence[str], all_wanted: bool = True) -> None:
+        try:
+            import cflib.crtp  # only here, so that all else runs without the library
+            from cflib.crtp.crtpstack import CRTPPacket
+        except ImportError as error:
+            raise ImportError("%s: Bitcraze's library is needed, pip install cflib" % error) from error
+        self.names, self.uris, self.packet_of = names, uris, CRTPPacket
+        self.open, self.listeners, self.faults = True, [], {}
+        self.last, self.answers, self.changed = [None] * len(names), {}, threading.Condition()
+        self.waiting, self.drivers, self.threads, self.shared = [queue.Queue() for _ in names], [], [], {}
+        self.asked = 0
+        try:
+            if not getattr(cflib.crtp, "CLASSES", None):
+                cflib.crtp.init_drivers()
+            self.connect(cflib.crtp.get_link_driver)
+            self.wait_for_all(all_wanted)
+        except BaseException:
+            self.close()
+            raise
+
+    def connect(self, driver_of: Callable[..., Any]) -> None:
+        """Opens a driver for each drone and starts its threads."""
+        for drone, uri in enumerate(self.uris):
+            driver = driver_of(uri, None, lambda words, drone=drone: self.faults.update({drone: words}))
+            if driver is None:
+                raise ValueError("no driver opens %s" % uri)
+            self.drivers.append(driver)
+        for work in (self.send_all, self.hear_all):
+            for drone in range(len(self.names)):
+                thread = threading.Thread(target=work, args=(drone,), daemon=True)
+                self.threads.append(thread)
+                thread.start()
+
+    def wait_for_all(self, all_wanted: bool = True) -> None:
+        """Waits until each drone was heard, but not for longer than two seconds; raises where all are wanted, and names
+        those that weren't."""
+        silence = Silence(len(self.names), LOOK)
+        while None in self.last:
+            quiet = silence.look(self.last)
+            self.nudge([drone for drone, last in enumerate(self.last) if last is None])
+            if max(quiet) > QUIET:
+                dead = [name for name, last in zip(self.names, self.last) if last is None]
+                if not all_wanted:
+                    return
+                raise Dead("no answer from %s: on, charged, in reach, on its channel?" % ", ".join(dead))
+            clock.wait(LOOK)
+
+    def nudge(self, drones: Iterable[int]) -> None:
+        """Asks drones something, where nothing else waits for them: one that has nothing to say may send nothing."""
+        for drone in drones:
+            if self.waiting[drone].empty():
+                self.send(drone, firmware.packet(firmware.MEMORY, 0, firmware.COUNT_MEMORIES))
+
+    def send_all(self, drone: int) -> None:
+        """Sends what waits for a drone."""
+        while True:
+            work = self.waiting[drone].get()
+            if work is None:
+                return
+            raw, before, after = work
+            try:
+                before()
+                self.drivers[drone].send_packet(self.packet_of(raw[0], raw[1:]))
+                after()
+            except Exception as error:
+                self.faults[drone] = "its packets can't be sent: %s" % error
+
+    def hear_all(self, drone: int) -> None:
+        """Hands on what comes from a drone."""
+        while self.open:
+            try:
+                came = self.drivers[drone].receive_packet(0.05)
+            except Exception as error:
+                self.faults[drone] = "nothing can be received from it: %s" % error
+                time.sleep(0.05)
+                continue
+            if came is None:
+                continue
+            raw = bytes([came.header]) + bytes(came.data)
+            self.last[drone] = clock.now()
+            self.hand_on(drone, raw)
+            for listener in list(self.listeners):
+                try:
+                    listener(drone, raw)
+                except Exception as error:
+                    self.faults[drone] = "a packet of it can't be read: %r" % error
+
+    def hand_on(self, drone: int, raw: bytes) -> None:
+        """Hands a packet on to those who wait for an answer like it."""
+        port, channel, data = firmware.parts(raw)
+        with self.changed:
+            for (asked, *where, length, least, front), found in self.answers.items():
+                if (asked, where) == (drone, [port, channel]) and data.startswith(front) and (
+                        length in (None, len(data))) and len(data) >= least:
+                    found.append(data)
+                    self.changed.notify_all()
+
+    def send(self, drone: int, raw: bytes, before: Work = lambda: None, after: Work = lambda: None) -> None:
+        """Takes a packet for a drone; the functions are called when it goes to the driver and when that has it."""
+        self.waiting[drone].put((raw, before, after))
+
+    def ask(self, drone: int, port: int, channel: int, data: bytes, same: Optional[int] = None,
+            seconds: float = PATIENCE, length: Optional[int] = None, least: int = 0, every: float = ANSWER) -> bytes:
+        """The answer to a question, which is put again `every` so many seconds until it comes: one that begins with the
+        first `same` bytes of the question's data, all where it is None, and has so many bytes where a length is given,
+        at least so many where the least is. A question that was dropped isn't put again."""
+        key, found = (drone, port, channel, length, least, bytes(data[:same])), []
+        with self.changed:
+            self.answers[key] = found
+            asked = self.asked
+        until = clock.now() + seconds
+        try:
+            while clock.now() < until:
+                with self.changed:
+                    if asked != self.asked:
+                        break
+                    self.send(drone, firmware.packet(port, channel, data))
+                    self.changed.wait_for(lambda: found or asked != self.asked, clock.real(every))
+                    if found:
+                        return found[0]
+        finally:
+            with self.changed:
+                self.answers.pop(key, None)
+        raise Dead("%s doesn't answer a question on port %d: %s" % (
+            self.names[drone], port, self.faults.get(drone, "packets are lost")))
+
+    def drop(self) -> None:
+        """Has all questions end that are still put again: what they ask isn't wanted any more. Nothing of them goes out
+        after this."""
+        with self.changed:
+            self.asked += 1
+            for waiting in self.waiting:
+                try:
+                    while True:
+                        waiting.get_nowait()
+                except queue.Empty:
+                    pass
+            self.changed.notify_all()
+
+    def each(self, work: Callable[[int], Any], look: Optional[Work] = None) -> List[Any]:
+        """What a function gives for each drone, side by side; the first failure is raised once all have ended. All the
+        while `look` is called, where one is given, and what it raises ends the wait."""
+        out, failed = [None] * len(self.names), []
+
+        def run(drone: int) -> None:
+            try:
+                out[drone] = work(drone)
+            except Exception as error:
+                failed.append(error)
+        threads = [threading.Thread(target=run, args=(drone,), daemon=True) for drone in range(len(self.names))]
+        for thread in threads:
+            thread.start()
+        for thread in threads:
+            while thread.is_alive():
+                thread.join(0.02 if look else None)
+                if look:
+                    look()
+        if failed:
+            raise failed[0]
+        return out
+
+    def memories(self, drone: int) -> List[Tuple[int, int]]:
+        """A drone's list of memories: their types and sizes."""
+        count = self.ask(drone, firmware.MEMORY, 0, firmware.COUNT_MEMORIES, least=2)[1]
+        return [firmware.memory_of(self.ask(drone, firmware.MEMORY, 0, firmware.ask_memory(k), least=7))
+                for k in range(count)]
+
+    def fence(self, drone: int, memory: int) -> None:
+        """Waits until all that a drone was sent before is answered: each port answers in order. Both questions have a
+        mark by chance, so that no answer to an earlier one is taken for theirs: a byte of the memory, of which an
+        upload reads more at once, and a byte that the commander gives back."""
+        mark = random.randrange(MEMORY)
+        self.ask(drone, firmware.MEMORY, 1, firmware.read(memory, mark, 1), 5, length=7)
+        self.ask(drone, firmware.COMMANDER, 0, firmware.group() + bytes([0x80 | mark & 0x7F]), 3)
+
+    def dongles(self) -> List[Dongle]:
+        """The dongles, channels and rates of all drones, opened for broadcasts."""
+        for key in sorted({tuple(uri.split("/")[2:5]) for uri in self.uris}):
+            if key not in self.shared:
+                self.shared[key] = Dongle(*key)
+        return list(self.shared.values())
+
+    def crowded(self) -> List[Tuple[str, int]]:
+        """The dongles with more drones than are usual, and how many these are."""
+        counts = {}
+        for uri in self.uris:
+            counts[uri.split("/")[2]] = counts.get(uri.split("/")[2], 0) + 1
+        return [(number, count) for number, count in sorted(counts.items()) if count > MANY]
+
+    def broadcast_beside(self, raw: bytes, copies: int = 1) -> List[Tuple[Dongle, Sent, threading.Event]]:
+        """Has a packet sent to all drones at once, so many times, by each dongle, and returns at once: for each dongle
+        its row and its event."""
+        return [(dongle, *dongle.send(raw, copies)) for dongle in self.dongles()]
+
+    def broadcast(self, raw: bytes, copies: int = 1) -> Tuple[float, float]:
+        """Sends a packet to all drones at once, so many times, by each dongle and channel; when the first went out and
+        when the last had. It has no answer by itself; drones answer by their own links. A dongle that doesn't send it
+        in time is named, after all others have sent it."""
+        sent, until, gone = self.broadcast_beside(raw, copies), time.monotonic() + LIMIT, []
+        for dongle, row, done in sent:
+            if not done.wait(max(0.0, until - time.monotonic())):
+                gone.append("%s doesn't send" % dongle.name)
+            elif isinstance(row[-1], Exception):
+                gone.append("%s: %s" % (dongle.name, row[-1]))
+        if gone:
+            raise Dead("; ".join(gone))
+        return min(row[0] for _, row, _ in sent), max(row[1] for _, row, _ in sent)
+
+    def close(self) -> None:
+        """Closes all that was opened, as far as it can be closed in time."""
+        self.open = False
+        for waiting in self.waiting:
+            waiting.put(None)
+        closing = [threading.Thread(target=self.close_one, args=(it,), daemon=True)
+                   for it in [*self.drivers, *self.shared.values()]]
+        until = time.monotonic() + CLOSES
+        for thread in self.threads:
+            thread.join(max(0.01, until - time.monotonic()))
+        until = time.monotonic() + CLOSES
+        for thread in closing:
+            thread.start()
+        for thread in closing:
+            thread.join(max(0.01, until - time.monotonic()))
+        if any(thread.is_alive() for thread in closing):
+            print("radio: closing failed: a dongle doesn't answer")
+        self.drivers, self.shared = [], {}
+
+    @staticmethod
+    def close_one(driver: Any) -> None:
+        """Closes a driver."""
+        try:
+            driver.close()
+        except Exception as error:
+            print("radio: closing failed: %s" % error)
+
+
+class Link(Asked):
+    """The link of ./show bridge and ./show fly over a radio, to drones whose trajectory memory has this id. `fault`
+    says why it sends no more, or is None. `starts` has by drone when its start went out first and was answered
+    last."""
+    answer_time = 0.1
+
+    def __init__(self, names: Sequence[str], heard: Callable[[int, bytes], None], radio: Radio, memory: int,
+                 repeat_starts: bool = False) -> None:
+        super().__init__(names, heard)
+        self.radio, self.memory, self.repeat_starts = radio, memory, repeat_starts
+        self.fault, self.asked, self.lock, self.silence = None, set(), threading.Lock(), Silence(len(names))
+        self.starts, self.copies, self.strangers, self.answer_time = {}, 0, 0, clock.real(self.answer_time)
+        self.lists = radio.each(radio.memories)
+        wrong = [line for line in map(self.wrong_memory, range(len(names))) if line]
+        if wrong:
+            raise ValueError("%s; the show's line `memory` has to name the drones' memory of type 12, one id for all"
+                             % "; ".join(wrong))
+        radio.each(lambda drone: radio.fence(drone, memory))
+        radio.listeners.append(self.came)
+
+    def wrong_memory(self, drone: int) -> Optional[str]:
+        """What is wrong with the show's memory id for a drone, or None."""
+        good, rows = trajectory_memories(self.lists[drone]), self.lists[drone]
+        if self.memory in good:
+            return None
+        kind = "of type %02X" % rows[self.memory][0] if self.memory < len(rows) else "not there"
+        return "%s: memory %d is %s; its trajectory memory is %s" % (
+            self.names[drone], self.memory, kind, " ".join(map(str, good)) or "missing")
+
+    def send(self, drone: int, packet: bytes) -> None:
+        key = key_of(packet, False)
+        if key is None or key[0] != COMMAND and packet[1] != self.memory:
+            self.fault = "%s: %s is no packet of this upload" % (self.names[drone], packet.hex(" ").upper())
+        is_start = key is not None and key[0] == COMMAND and packet[1] == 5
+        with self.lock:
+            again = is_start and drone in self.starts and not self.repeat_starts
+            if is_start and drone not in self.starts:
+                self.starts[drone] = [None, None]
+            if self.fault or again:
+                self.left, self.copies = self.left + 1, self.copies + again
+                return
+            self.asked.add((drone, key))
+        self.radio.send(drone, packet, lambda: self.going(drone, is_start), self.gone)
+
+    def going(self, drone: int, is_start: bool) -> None:
+        """A packet goes to the driver: a start isn't taken before."""
+        if is_start and self.starts[drone][0] is None:
+            self.starts[drone][0] = clock.now()
+
+    def gone(self) -> None:
+        """The driver has a packet."""
+        with self.lock:
+            self.left += 1
+
+    def came(self, drone: int, raw: bytes) -> None:
+        """A packet came from a drone: an answer to one that was sent is handed on."""
+        key = key_of(raw, True)
+        if key is None:
+            return
+        with self.lock:
+            known = (drone, key) in self.asked
+            self.strangers += not known
+        if known:
+            if key[0] == COMMAND and key[1][0] == 5 and raw[4] == 0:
+                self.starts[drone][1] = clock.now()
+            self.heard(drone, raw)
+
+    def ailing(self) -> Optional[str]:
+        """Why the upload can't go on, or None."""
+        silent = self.silence.look(self.radio.last)
+        self.radio.nudge([drone for drone, quiet in enumerate(silent) if quiet > QUIET / 2])
+        for drone, quiet in enumerate(silent):
+            if quiet > QUIET:
+                return "%s is silent for %.0f s: %s" % (
+                    self.names[drone], QUIET, self.radio.faults.get(drone, "no packet came"))
+        return self.fault
+
+    def close(self) -> None:
+        if self.came in self.radio.listeners:
+            self.radio.listeners.remove(self.came)
+        self.radio.close()
+
+    def report(self) -> List[str]:
+        out = ["trajectory memories: %s" % ", ".join("%s %d" % (name, self.memory) for name in self.names)]
+        if self.strangers:
+            out.append("%d answers came to packets that were not sent, and were dropped" % self.strangers)
+        return out + start_lines(self.names, self.starts, self.repeat_starts)
+
+
+def trajectory_memories(rows: Iterable[Tuple[int, int]]) -> List[int]:
+    """The ids of a drone's memories for trajectories, by its list of types and sizes."""
+    return [k for k, (kind, size) in enumerate(rows) if kind == firmware.TRAJECTORY_MEMORY and size >= MEMORY]
+
+
+def start_lines(names: Sequence[str], starts: Dict[int, List[Optional[float]]], repeated: bool = False) -> List[str]:
+    """When each drone can have taken its start, between when that went out first and when it was answered last, and
+    the spread of all. Milliseconds count from when the first one went out."""
+    if not starts:
+        return []
+    rows = {names[drone]: row for drone, row in sorted(starts.items())}
+    zero = min([sent for sent, _ in rows.values() if sent is not None] or [0.0])
+    quiet = [name for name, (sent, heard) in rows.items() if sent is None or heard is None]
+    out = ["%s can have taken its start from %.0f to %.0f ms" % (name, 1000 * (sent - zero), 1000 * (heard - zero))
+           for name, (sent, heard) in rows.items() if name not in quiet]
+    if quiet:
+        return out + ["started, or not: %s: the start %s and wasn't answered" % (
+            ", ".join(quiet), "was repeated" if repeated else "went out once")]
+    sent, heard = [row[0] for row in rows.values()], [row[1] for row in rows.values()]
+    words = "starts were REPEATED, and a drone begins anew at each" if repeated else "each drone was sent one start"
+    return out + ["%s; taken within %.0f ms of one another at most, %.0f at least" % (
+        words, 1000 * (max(heard) - min(sent)), 1000 * max(0, max(sent) - min(heard)))]

@@ -1,0 +1,169 @@
+"""The crew at a terminal: lines for it, its answers, and Ctrl-C. For ./show fly.
+
+Nothing here holds up a flight: lines are written by a thread of their own, so that a terminal that stands still (Ctrl-S,
+a pager) or is gone keeps nothing from landing.
+"""
+import atexit
+import os
+import queue
+import select
+import signal
+import threading
+import time
+import termios
+from typing import Callable, Optional
+
+
+class Interrupted(BaseException):
+    """Ctrl-C, or another signal that ends programs. No `except Exception` catches it."""
+
+
+class Cut(BaseException):
+    """A second Ctrl-C in flight: all motors are to stop."""
+
+
+class Watch:
+    """What the crew presses, and a terminal that is closed.
+
+    On the ground a signal raises `Interrupted` at once, the first time. In flight it is only noted: nothing is broken
+    off in the middle, `look` raises it where the flight looks, every 50 ms, and all land; where all land already it
+    says so. The second Ctrl-C since take-off stops the motors: `stop_motors` is called by a thread of its own, whatever
+    the flight does at that moment, and `look` raises `Cut`. No other signal does: what ends programs sends more than
+    one, and none of them may stop motors. Ctrl-Z does nothing, since a program that stands still lands nobody."""
+
+    def __init__(self) -> None:
+        self.flies, self.lands, self.was_pressed, self.presses, self.over = False, False, False, 0, False
+        self.is_answered = False  # whether the crew was told what the first signal did
+        self.stop_motors: Callable[[], None] = lambda: None
+        self.pipe = os.pipe()
+        threading.Thread(target=self.wait_for_cut, daemon=True).start()
+        for number in (signal.SIGINT, signal.SIGTERM, signal.SIGHUP, signal.SIGQUIT):
+            signal.signal(number, self.pressed)
+        for number in (signal.SIGTSTP, signal.SIGTTIN, signal.SIGTTOU):
+            signal.signal(number, signal.SIG_IGN)
+
+    def pressed(self, number: int, _: object) -> None:
+        """A signal came."""
+        if self.over:
+            return
+        if self.flies:
+            self.presses += number == signal.SIGINT
+            if self.presses == 2 and number == signal.SIGINT:
+                os.write(self.pipe[1], b"!")
+        elif not self.was_pressed:
+            self.was_pressed = True
+            raise Interrupted
+        self.was_pressed = True
+
+    def wait_for_cut(self) -> None:
+        """Stops the motors at the second Ctrl-C."""
+        if os.read(self.pipe[0], 1):
+            self.stop_motors()
+
+    def look(self) -> None:
+        """Raises what was pressed in flight, as far as it still changes something."""
+        if self.over or not self.was_pressed:
+            return
+        if self.flies and self.presses >= 2:
+            raise Cut
+        if not self.lands:
+            self.is_answered = True
+            raise Interrupted
+        if not self.is_answered:
+            self.is_answered = True
+            say("the landing goes on; %s" % self.stops())
+
+    def stops(self) -> str:
+        """How the crew stops the motors."""
+        return "Ctrl-C%s stops all motors" % ("" if self.presses else " twice")
+
+    def take_off(self) -> None:
+        """From now on drones fly."""
+        self.flies = True
+
+    def land(self) -> None:
+        """From now on all land: a first Ctrl-C changes nothing any more."""
+        self.lands = True
+
+    def off(self) -> None:
+        """From now on a signal does nothing, and nothing is raised."""
+        self.over = True
+
+    def end(self) -> None:
+        """Ends the watch over a flight: a second Ctrl-C that came before has stopped the motors, and is raised. One
+        that comes now does nothing: handlers run in this thread, so that there is no instant in between."""
+        self.over = True
+        if self.presses >= 2:
+            raise Cut
+
+
+class Teller:
+    """Writes lines to the terminal, by a thread of its own, in the order in which they come."""
+
+    def __init__(self) -> None:
+        self.lines: "queue.Queue[str]" = queue.Queue()
+        self.thread = threading.Thread(target=self.run, daemon=True)
+        self.thread.start()
+
+    def run(self) -> None:
+        """Writes what comes; a terminal that is gone loses it."""
+        while True:
+            data = self.lines.get().encode(errors="replace")
+            try:
+                while data:
+                    data = data[os.write(1, data):]
+            except OSError:
+                pass
+            self.lines.task_done()
+
+    def finish(self, seconds: float = 2.0) -> None:
+        """Waits until all is written, but not for long."""
+        until = time.monotonic() + seconds
+        while self.lines.unfinished_tasks and time.monotonic() < until:
+            time.sleep(0.005)
+
+
+TELLER = Teller()
+atexit.register(TELLER.finish)
+
+
+def say(text: str) -> None:
+    """A line for the crew."""
+    TELLER.lines.put(text + "\n")
+
+
+class Answers:
+    """What the crew types. A terminal's line counts only where it was typed after its question; what comes by a pipe
+    is taken line by line. `ended` is whether nobody answers any more."""
+
+    def __init__(self) -> None:
+        self.waiting, self.ended = b"", False
+
+    def flush(self) -> None:
+        """Forgets what was typed before."""
+        try:
+            if os.isatty(0):
+                self.waiting = b""
+                termios.tcflush(0, termios.TCIFLUSH)
+        except (OSError, termios.error):
+            pass
+
+    def line(self, text: str, look: Callable[[], object], every: float = 0.05) -> Optional[str]:
+        """The answer to a question, while what flies is looked after; None where nobody answers any more, or where the
+        look gives something else than None."""
+        TELLER.finish(1.0)
+        self.flush()
+        TELLER.lines.put(text)
+        while b"\n" not in self.waiting and not self.ended:
+            if look() is not None:
+                return None
+            try:
+                if select.select([0], [], [], every)[0]:
+                    came = os.read(0, 4096)
+                    self.waiting, self.ended = self.waiting + came, not came
+            except (OSError, ValueError):
+                self.ended = True
+        if not self.waiting:
+            return None
+        line, _, self.waiting = self.waiting.partition(b"\n")
+        return line.decode(errors="replace").strip()

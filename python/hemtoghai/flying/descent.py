@@ -1,0 +1,204 @@
+"""Drones that are brought down, whatever happened before, and looked after until they are: for ./show fly."""
+from typing import Callable, Iterable, List, Optional, Sequence, Set
+
+from hemtoghai.flying import clock, firmware
+from hemtoghai.flying.crew import Answers, Cut, say, Watch
+from hemtoghai.flying.fleet import Fleet, LEAST, SINK
+
+DOWN = 0.12  # metres above its pad up to which a drone counts as down
+HIGHEST = 40.0  # metres above its floor at which a drone may be, whatever it says: the language ends at 33
+STAYS = 4.0  # seconds that a landing may take longer than it should
+REPEAT = 5.0  # seconds after which drones are told to land once more where nobody answers
+AIRBORNE = 900.0  # seconds that no battery of these drones lasts: one that is silent for longer isn't in the air
+EARLY, CUT = 1, 60
+
+
+class Descent:
+    """Drones that are brought down. `floors` are the heights, in metres, of what they land on, and `silence` the seconds
+    without a sample after which nothing is known of a drone. Only what a drone says counts: one is down where its last
+    sample, no older than that, says so."""
+
+    def __init__(self, fleet: Fleet, floors: Sequence[float], silence: float, watch: Watch, answers: Answers) -> None:
+        self.fleet, self.floors, self.longest, self.watch, self.answers = fleet, floors, silence, watch, answers
+        self.names, self.all, self.landed = fleet.names, list(range(len(fleet.names))), set()
+        self.rising: Set[int] = set()  # told to take off a moment ago: on the floor they aren't down
+        watch.stop_motors = fleet.cut
+
+    # ---- what is known
+
+    def is_fresh(self, k: int) -> bool:
+        """Whether a drone's last sample isn't too old."""
+        heard = self.fleet.states[k].heard
+        return heard is not None and clock.now() - heard <= self.longest
+
+    def is_down(self, k: int) -> bool:
+        """Whether a drone says that it is down."""
+        return self.is_fresh(k) and self.fleet.states[k].place[2] <= self.floors[k] + DOWN
+
+    def up(self, drones: Iterable[int]) -> List[int]:
+        """Which of these drones aren't seen to be down: in the air, or silent."""
+        return [k for k in drones if not self.is_down(k)]
+
+    def words_of(self, drones: Iterable[int]) -> str:
+        """Drones' names."""
+        return ", ".join(self.names[k] for k in sorted(drones))
+
+    def seconds_down(self, drones: Iterable[int]) -> float:
+        """How long a landing of drones takes. None sets the pace of the others by a height that no room has."""
+        heights = [min(HIGHEST, self.fleet.states[k].place[2] - self.floors[k]) for k in drones
+                   if self.fleet.states[k].place]
+        return max([LEAST, *(height / SINK for height in heights or [HIGHEST / 20])])
+
+    def account(self) -> None:
+        """Says of each drone what is known of it in the end."""
+        for k, (name, state) in enumerate(zip(self.names, self.fleet.states)):
+            at, age = "(%.2f, %.2f, %.2f) m" % tuple(state.place) if state.place else "", 0.0
+            if state.measured is not None:
+                age = clock.now() - state.measured
+            if not state.place:
+                words = "NOT KNOWN: no sample of it came: WHERE IT IS NOBODY KNOWS"
+            elif not self.is_fresh(k) and state.senseless is not None:
+                words = "NOT KNOWN: sends a place that is no number, and was at %s %.1f s ago: IT MAY BE IN THE AIR" % (
+                    at, age)
+            elif not self.is_fresh(k):
+                words = "NOT KNOWN: silent for %.1f s, and was at %s then: IT MAY BE IN THE AIR" % (age, at)
+            elif not self.is_down(k):
+                words = "IN THE AIR, it said %.1f s ago, at %s" % (age, at)
+            else:
+                words = "down, it says, at %s, %s" % (at, self.arming(state.info))
+            say("end: %s: %s" % (name, words))
+
+    @staticmethod
+    def arming(info: Optional[int]) -> str:
+        """What a supervisor's bits say of arming and of a fall."""
+        if info is None:
+            return "and doesn't say whether it is armed"
+        return "%s%s" % ("ARMED" if info & firmware.IS_ARMED else "disarmed",
+                         ", and has tumbled" if info & firmware.WRECKED else "")
+
+    # ---- landing
+
+    def wait_down(self, drones: List[int], seconds: float) -> List[int]:
+        """Waits as long as a landing takes, and longer where not all are down then, but not for long; who isn't."""
+        begin = clock.now()
+        while clock.now() < begin + seconds or self.up(drones) and clock.now() < begin + seconds + STAYS:
+            self.fleet.revive()
+            self.watch.look()
+            clock.wait(0.05)
+        return self.up(drones)
+
+    def bring_down(self, drones: List[int], seconds: Optional[float] = None, told: float = float("inf")) -> List[int]:
+        """Lands drones, and waits; who isn't down. Where commands are answered later than in `told` seconds it says so.
+        Ctrl-C counts as long as others are still in the air."""
+        if not set(self.all) - self.landed - set(drones):
+            self.watch.land()
+        seconds = seconds or self.seconds_down(drones)
+        late, quiet, refused = self.fleet.land(self.floors, drones, seconds, self.watch.look)
+        if late > told and len(drones) > 1:
+            say("OUTSIDE OF WHAT WAS JUDGED: landings were answered within %.0f ms, and %.0f were judged" % (
+                1000 * late, 1000 * told))
+        if quiet:
+            say("NO ANSWER to the landing: %s" % ", ".join(quiet))
+        refused = [words for words in refused if not self.is_down(self.names.index(words.partition(" ")[0]))]
+        if refused:  # by drones on the floor it may be: they have nothing to land from
+            say("THE LANDING IS REFUSED: %s" % ", ".join(refused))
+        up = self.wait_down(drones, seconds)
+        self.landed |= set(drones) - set(up)
+        return up
+
+    def land(self, words: str, warn: Callable[[], None] = lambda: None, told: float = float("inf")) -> bool:
+        """Lands all drones that aren't down, and once more those that aren't then; disarms those that are down, since a
+        drone that is disarmed in the air falls. A second Ctrl-C stops the motors. Says who isn't down, and stays with
+        them. Whether all are down."""
+        self.watch.land()
+        up = sorted(self.rising | set(self.up(self.all)))
+        self.rising = set()
+        if up:
+            say(words)
+            warn()
+        for _ in range(2):
+            up = self.bring_down(up, None, told) if up else []
+            if not up:
+                break
+            told = float("inf")
+            self.say_up(up)
+        self.disarm(self.all)
+        up = self.stay(self.up(self.all))
+        self.watch.end()
+        say("landed" if not up else "landed, but for %s: not disarmed; --only land and --only stop still reach them" %
+            self.words_of(up))
+        self.account()
+        return not up
+
+    def say_up(self, up: List[int]) -> None:
+        """Says who isn't seen to be down, and what reaches them."""
+        heard = [k for k in up if clock.now() - (self.fleet.radio.last[k] or 0.0) < self.longest]
+        say("NOT SEEN TO BE DOWN: %s; %s" % (
+            self.words_of(up), self.watch.stops() if heard else "nothing from here reaches them"))
+
+    def stay(self, up: List[int]) -> List[int]:
+        """Stays with drones that aren't down: asks what to do with them, and where nobody answers tells them to land
+        again and again. It goes on until all are down, until somebody leaves them, or until those who aren't seen to
+        be down can't be in the air any more; who isn't down then."""
+        while up and not self.answers.ended:
+            answer = self.answers.line("%s: type land, stop or leave: " % self.words_of(up), lambda: self.look_after(up))
+            if answer == "stop":
+                raise Cut
+            if answer == "leave":
+                return up
+            if answer == "land":
+                self.bring_down(up)
+            up = self.down_now(up)
+        if up:
+            say("NOBODY ANSWERS: %s are told to land every %.0f s" % (self.words_of(up), REPEAT))
+        while up and any(self.may_fly(k) for k in up):
+            self.bring_down(up)
+            until = clock.now() + REPEAT
+            while clock.now() < until and self.look_after(up) is None:
+                clock.wait(0.05)
+            up = self.down_now(up)
+        return up
+
+    def may_fly(self, k: int) -> bool:
+        """Whether a drone that isn't seen to be down may still be in the air."""
+        last = max([at for at in (self.fleet.radio.last[k], self.fleet.states[k].heard) if at is not None], default=None)
+        return last is not None and clock.now() - last < AIRBORNE
+
+    def look_after(self, up: List[int]) -> Optional[str]:
+        """Looks whether drones are down now, and what is pressed."""
+        self.fleet.revive()
+        self.watch.look()
+        return None if len(self.up(up)) == len(up) else "down"
+
+    def down_now(self, up: List[int]) -> List[int]:
+        """Disarms those of these drones that are down now; the others."""
+        down = [k for k in up if self.is_down(k)]
+        if down:
+            self.landed |= set(down)
+            self.disarm(down)
+        return [k for k in up if k not in down]
+
+    def disarm(self, drones: Iterable[int]) -> None:
+        """Disarms those of these drones that say at this moment that they are down."""
+        drones = [k for k in drones if self.is_down(k)]
+        if not drones:
+            return
+        self.fleet.radio.drop()
+        self.fleet.rest(drones)
+        wrong = self.fleet.arm(False, drones)
+        auto = [k for k in drones if (self.fleet.states[k].info or 0) & firmware.AUTO_ARM]
+        if wrong:
+            say("STILL ARMED: %s" % ", ".join(wrong))
+        if auto:
+            say("arm by themselves, and are as they were switched on: %s" % self.words_of(auto))
+
+    def cut(self) -> int:
+        """Stops all motors; the status."""
+        self.watch.off()
+        self.fleet.cut()
+        mute = [k for k in self.all if clock.now() - (self.fleet.radio.last[k] or 0.0) > self.longest]
+        say("MOTORS STOPPED: emergency stop sent to all%s" % (
+            "; NOT KNOWN TO HAVE REACHED %s, silent for more than %.1f s" % (self.words_of(mute), self.longest)
+            if mute else ""))
+        self.account()
+        return CUT

@@ -1,0 +1,34 @@
+"""Numbers from words, files and drones: each is finite and within a range, or is refused where it comes in, so that no
+comparison further on meets one that is none. For ./show fly, ./show flown and ./show legs."""
+import argparse
+import math
+from typing import Callable, Iterable
+
+FAR = 100.0  # metres from the origin beyond which a place is none: the language ends at 33
+
+
+def number(word: str, least: float = -1e9, most: float = 1e9) -> float:
+    """The number of a word; ValueError where it is none, isn't finite, or is out of its range."""
+    found = float(word)
+    if not least <= found <= most:  # also where it isn't a number
+        raise ValueError("%s isn't between %g and %g" % (word, least, most))
+    return found
+
+
+def option(least: float, most: float, is_whole: bool = False) -> Callable[[str], float]:
+    """What reads an option's number, for argparse."""
+    def read(word: str) -> float:
+        try:
+            found = number(word, least, most)
+        except ValueError:
+            found = math.nan
+        if math.isnan(found) or is_whole and found != int(found):
+            raise argparse.ArgumentTypeError("%s from %g to %g is wanted, not %s" % (
+                "a whole number" if is_whole else "a number", least, most, word[:40]))
+        return int(found) if is_whole else found
+    return read
+
+
+def is_place(values: Iterable[float]) -> bool:
+    """Whether these are coordinates of a place in metres: finite, and no farther from the origin than any room is."""
+    return all(math.isfinite(v) and abs(v) <= FAR for v in values)

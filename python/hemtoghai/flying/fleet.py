@@ -1,0 +1,421 @@
+"""A fleet of drones by radio: what they say of themselves, and the commands of a flight. For ./show fly.
+
+As firmware.py it is from memory, and was run with simulated drones alone.
+"""
+import csv
+import math
+import random
+import threading
+from typing import Callable, Dict, Iterable, List, Optional, Sequence, Set, Tuple
+
+from hemtoghai.flying import clock, finite, firmware
+from hemtoghai.flying.crazyradio import ANSWER, Dead, Radio
+from hemtoghai.flying.stages import SAME_FLOOR
+
+FLIGHT, SETTLING = 1, 2  # log blocks
+MARK = 0x5A  # a byte by which the answer to a broadcast is told from others
+LOGGED = {FLIGHT: ["stateEstimate.x", "stateEstimate.y", "stateEstimate.z", "stateEstimate.yaw", "pm.vbat",
+                   "supervisor.info"],
+          SETTLING: ["kalman.varPX", "kalman.varPY", "kalman.varPZ"]}
+OPTIONAL = ("supervisor.info", "stateEstimate.yaw")  # old firmware hasn't them all
+REVIVE = 1.0  # seconds without samples of a drone whose link is heard, after which its blocks are made anew
+SINK, LEAST = 0.4, 2.0  # metres a second of a landing, and its least seconds
+AGAIN = 0.05  # seconds after which a landing that isn't answered is commanded again
+TAKEN = (0, 1)  # statuses of a landing: carried out; refused, since the drone lands already or is on the floor
+WRAP = 2 ** 24  # milliseconds after which a drone's stamps begin anew
+HISTORY = 20  # samples that are kept to see whether a drone is settled
+
+Look = Callable[[], None]  # what looks after a flight while others wait
+Table = Dict[str, Tuple[int, int]]  # by an item's name its number and its type
+# When a start went out first and last, when it was answered, and with which status.
+Started = Tuple[float, float, Optional[float], Optional[int]]
+
+
+class Trouble(Exception):
+    """What keeps a flight from going on."""
+
+
+class State:
+    """What a drone said of itself last: place in metres, yaw in degrees, volts, the supervisor's bits or None, and the
+    estimator's variances, with when it was heard. `low` is since when all samples were below its least voltage,
+    `places` are its last ones, and `senseless` is since when its samples have no numbers, or None. `measured` is when
+    the place was measured, by the drone's own clock: its packets are late by chance, and the least late one sets that
+    clock. `between` are the milliseconds between its last two samples."""
+
+    def __init__(self) -> None:
+        self.place: Optional[List[float]] = None
+        self.places: List[List[float]] = []
+        self.variances: List[float] = []
+        self.volts: Optional[float] = None
+        self.yaw: Optional[float] = None
+        self.info: Optional[int] = None
+        self.heard: Optional[float] = None
+        self.measured: Optional[float] = None
+        self.low: Optional[float] = None
+        self.senseless: Optional[float] = None
+        self.stamp: Optional[int] = None
+        self.least: Optional[float] = None
+        self.least_volts, self.between = 0.0, 0
+
+    def take(self, values: Dict[str, float], at: float, stamp: int) -> bool:
+        """Takes a sample that came at an instant; whether it has numbers. One that has none changes nothing else, so
+        that the drone goes silent."""
+        place = [values["stateEstimate." + axis] for axis in "xyz"]
+        yaw, volts = values.get("stateEstimate.yaw", 0.0), values["pm.vbat"]
+        if not (finite.is_place(place) and math.isfinite(yaw) and math.isfinite(volts)):
+            self.senseless = at if self.senseless is None else self.senseless
+            return False
+        self.place, self.info, self.yaw = place, values.get("supervisor.info"), values.get("stateEstimate.yaw")
+        self.senseless = None
+        self.measure(at, stamp)
+        self.weigh(volts, at)
+        self.places = (self.places + [place])[-HISTORY:]
+        return True
+
+    def weigh(self, volts: float, at: float) -> None:
+        """Notes a voltage: under thrust single samples sag."""
+        self.volts = volts
+        self.low = None if volts >= self.least_volts else self.low if self.low is not None else at
+
+    def is_empty(self, seconds: float) -> bool:
+        """Whether the voltage was too low for so long."""
+        return self.low is not None and self.heard - self.low >= seconds
+
+    def measure(self, heard: float, stamp: int) -> None:
+        """Notes when a sample came, and the drone's milliseconds in it, which begin anew after WRAP."""
+        turns = 0 if self.stamp is None else round((self.stamp - stamp) / WRAP)
+        self.between = 0 if self.stamp is None else stamp + turns * WRAP - self.stamp
+        self.stamp = stamp + turns * WRAP
+        late = heard - self.stamp / 1000
+        self.least = late if self.least is None else min(self.least, late)
+        self.heard, self.measured = heard, self.stamp / 1000 + self.least
+
+    def says_it_flies(self) -> bool:
+        """Whether the drone says that it flies."""
+        return self.info is not None and bool(self.info & firmware.IS_FLYING)
+
+    def speed(self) -> float:
+        """Its speed in metres a second by its last two samples, by its own clock."""
+        if len(self.places) < 2 or self.between <= 0:
+            return 0.0
+        return 1000 * math.dist(*self.places[-2:]) / self.between
+
+
+class Log:
+    """The file to which places go, as ./show flown reads it; before the start rows wait. A thread of its own writes it,
+    so that a slow or full disk holds up nobody: what can't be written is said once, and lost. Opening it raises
+    OSError."""
+
+    def __init__(self, path: Optional[str], tell: Callable[[str], None]) -> None:
+        self.path, self.tell, self.fault, self.lock = path, tell, None, threading.Lock()
+        self.waiting, self.zero, self.over = [], None, threading.Event()
+        self.file = open(path, "w", newline="", encoding="utf-8") if path else None
+        self.rows, self.thread = csv.writer(self.file) if path else None, None
+        if path:
+            self.rows.writerow(["time", "drone", "x", "y", "z", "stamp"])
+            self.file.flush()
+            self.thread = threading.Thread(target=self.run, daemon=True)
+            self.thread.start()
+
+    def put(self, at: float, name: str, place: Sequence[float], stamp: int) -> None:
+        """A sample."""
+        if self.path and self.fault is None:
+            with self.lock:
+                self.waiting.append((at, name, place, stamp))
+
+    def start(self, zero: float) -> None:
+        """The instant of the start."""
+        self.zero = zero
+
+    def run(self) -> None:
+        """Writes what waits, five times a second, until the log is closed or can't be written."""
+        try:
+            while not self.over.wait(0.2):
+                self.write()
+            self.write()
+            self.file.close()
+        except (OSError, ValueError) as error:
+            self.fault = error
+            self.tell("THE LOG CAN'T BE WRITTEN any more: %s; all else goes on" % error)
+
+    def write(self) -> None:
+        """Writes what waits, once the instant of the start is known."""
+        if self.zero is None:
+            return
+        with self.lock:
+            rows, self.waiting = self.waiting, []
+        for at, name, place, stamp in rows:
+            self.rows.writerow(["%.4f" % (at - self.zero), name, *("%.5f" % v for v in place), stamp])
+        self.file.flush()
+
+    def close(self) -> None:
+        """Has all written that waits, by the time of its last sample where nothing was started, but not for long."""
+        if self.zero is None and self.waiting:
+            self.start(self.waiting[-1][0])
+        self.over.set()
+        if self.thread:
+            self.thread.join(2.0)
+            if self.thread.is_alive():
+                self.fault = "the disk doesn't answer"
+                self.tell("THE LOG ISN'T WRITTEN to its end: %s" % self.fault)
+
+
+class Fleet:
+    """The drones of a show by a radio."""
+
+    def __init__(self, radio: Radio, log: Log) -> None:
+        self.radio, self.names, self.log = radio, radio.names, log
+        self.states = [State() for _ in self.names]
+        self.tables: Dict[Tuple[int, int, int], Table] = {}
+        self.kinds: List[Dict[int, List[Tuple[str, int]]]] = [{} for _ in self.names]
+        self.started: Dict[int, Tuple[float, int]] = {}
+        self.heard_broadcast: Set[int] = set()
+        self.lock = threading.Lock()
+        self.every, self.revived = 100, [0.0] * len(self.names)
+        radio.listeners.append(self.came)
+
+    # ---- what drones say
+
+    def came(self, drone: int, raw: bytes) -> None:
+        """Takes what a drone sends: samples, and answers to starts."""
+        port, channel, data = firmware.parts(raw)
+        if (port, channel) == (firmware.COMMANDER, 0) and len(data) >= 4 and data[0] == 5:
+            with self.lock:
+                self.started[drone] = clock.now(), data[3]
+        if (port, channel) == (firmware.COMMANDER, 0) and data[:3] == firmware.group() + bytes([MARK]):
+            self.heard_broadcast.add(drone)
+        kinds = self.kinds[drone].get(data[0] if data else None)
+        if (port, channel) != (firmware.LOGS, 2) or not kinds:
+            return
+        found, state = firmware.logged(data, [kind for _, kind in kinds]), self.states[drone]
+        if found is None:
+            return
+        block, stamp, values = found
+        if block == SETTLING:
+            most = max(values) if all(map(math.isfinite, values)) else math.inf
+            state.variances = (state.variances + [most])[-HISTORY:]
+        elif state.take(dict(zip((name for name, _ in kinds), values)), clock.now(), stamp):
+            self.log.put(state.heard, self.names[drone], state.place, stamp)
+
+    def table(self, drone: int, port: int) -> Table:
+        """A drone's table of parameters or logs: numbers and types by name. Equal tables are read once."""
+        count, checksum = firmware.table_of(self.radio.ask(drone, port, 0, firmware.ASK_TABLE, least=7))
+        key = port, count, checksum
+        if key not in self.tables:
+            found = {}
+            for number in range(count):
+                try:
+                    name, kind = firmware.item_of(self.radio.ask(drone, port, 0, firmware.ask_item(number), least=5))
+                except ValueError:
+                    raise Trouble("%s: item %d of its table on port %d has no name" % (
+                        self.names[drone], number, port)) from None
+                found[name] = number, kind
+            self.tables[key] = found
+        return self.tables[key]
+
+    def versions(self, drone: int) -> Tuple[int, str]:
+        """A drone's protocol and firmware."""
+        protocol = self.radio.ask(drone, firmware.PLATFORM, 1, firmware.ASK_PROTOCOL, least=2)[1]
+        return protocol, firmware.text_of(self.radio.ask(drone, firmware.PLATFORM, 1, firmware.ASK_FIRMWARE, 1))
+
+    def set(self, drone: int, name: str, value: int) -> None:
+        """Sets a parameter; nothing is done where a drone hasn't it."""
+        found = self.table(drone, firmware.PARAMETERS).get(name)
+        if found and found[1] in firmware.PARAMETER_TYPES:
+            data = firmware.write_parameter(*found, value)
+            self.radio.ask(drone, firmware.PARAMETERS, 2, data, 2)
+
+    def reset_estimator(self, drone: int) -> None:
+        """Has a drone's estimator begin anew, where it has one that can."""
+        self.set(drone, "kalman.resetEstimation", 1)
+        clock.wait(0.1)
+        self.set(drone, "kalman.resetEstimation", 0)
+
+    def revive(self) -> None:
+        """Makes the logs of drones anew that are heard and send no samples: a link that was gone for two seconds, or a
+        drone that started anew, has lost them."""
+        now = clock.now()
+        for drone, state in enumerate(self.states):
+            last = self.radio.last[drone]
+            if last is None or now - last > REVIVE or state.heard is None or now - state.heard < REVIVE:
+                continue
+            if now - self.revived[drone] < 3 * REVIVE:
+                continue
+            self.revived[drone] = now
+            threading.Thread(target=self.try_logs, args=(drone,), daemon=True).start()
+
+    def try_logs(self, drone: int) -> None:
+        """Makes a drone's logs anew, if it lets that be done."""
+        try:
+            self.begin_logs(drone, self.every, (FLIGHT,))
+        except Exception:
+            pass
+
+    def begin_logs(self, drone: int, milliseconds: int, blocks: Sequence[int] = (FLIGHT, SETTLING)) -> None:
+        """Has a drone send its places, battery and estimator's variances."""
+        self.every = milliseconds
+        table = self.table(drone, firmware.LOGS)
+        self.radio.ask(drone, firmware.LOGS, 1, firmware.RESET_LOGS, 1)
+        for block, names in LOGGED.items():
+            if block not in blocks:
+                continue
+            missing = [name for name in names if name not in table and name not in OPTIONAL]
+            if missing:
+                raise Trouble("%s has no log %s: another firmware or estimator?" % (
+                    self.names[drone], ", ".join(missing)))
+            items = [(name, *table[name]) for name in names if name in table]
+            strange = [name for name, _, kind in items if kind not in firmware.LOG_TYPES]
+            if strange:
+                raise Trouble("%s: its log %s is of a type that this tool doesn't know" % (
+                    self.names[drone], ", ".join(strange)))
+            self.kinds[drone][block] = [(name, kind) for name, _, kind in items]
+            made = self.radio.ask(drone, firmware.LOGS, 1, firmware.create_block(block, [it[1:] for it in items]), 2,
+                                  least=3)
+            begun = self.radio.ask(drone, firmware.LOGS, 1, firmware.start_block(block, milliseconds), 2, least=3)
+            if (made[2], begun[2]) != (0, 0):
+                raise Trouble("%s refuses to log: %d %d" % (self.names[drone], made[2], begun[2]))
+
+    def end_settling(self) -> None:
+        """Has all drones send no variances any more: a radio has no room for them in flight."""
+        self.radio.each(lambda drone: self.radio.ask(drone, firmware.LOGS, 1, firmware.stop_block(SETTLING), 2))
+
+    def end_logs(self) -> None:
+        """Has all drones that answer stop sending samples."""
+        for drone in range(len(self.names)):
+            self.radio.send(drone, firmware.packet(firmware.LOGS, 1, firmware.RESET_LOGS))
+
+    def deaf(self, tries: int = 3) -> List[int]:
+        """The drones that answer no broadcast of a question that changes nothing."""
+        raw = firmware.packet(firmware.COMMANDER, 0, firmware.group() + bytes([MARK]))
+        for _ in range(tries):
+            self.radio.broadcast(raw)
+            until = clock.now() + 1
+            while clock.now() < until and len(self.heard_broadcast) < len(self.names):
+                clock.wait(0.02)
+        return [drone for drone in range(len(self.names)) if drone not in self.heard_broadcast]
+
+    # ---- commands
+
+    def command(self, drone: int, data: bytes, word: str) -> Tuple[float, float]:
+        """A command to one drone, until it is answered; when it went out first and when it was answered. A take-off
+        that is asked for once more, since its answer was lost, is refused: then it was taken."""
+        begin = clock.now()
+        answer = self.radio.ask(drone, firmware.COMMANDER, 0, data, 3, seconds=2, least=4)
+        again = answer[3] == 1 and clock.now() - begin > 0.9 * ANSWER
+        if answer[3] and not again:
+            raise Trouble("%s refuses to %s: status %d" % (self.names[drone], word, answer[3]))
+        return begin, clock.now()
+
+    def commands(self, rows: Dict[int, bytes], word: str, look: Optional[Look]) -> float:
+        """Commands to drones, side by side: data by drone. The seconds within which all went out and were answered."""
+        times = self.radio.each(lambda k: self.command(k, rows[k], word) if k in rows else None, look)
+        times = [row for row in times if row]
+        return max(row[1] for row in times) - min(row[0] for row in times)
+
+    def holds(self, drone: int, memory: Sequence[int], data: bytes) -> bool:
+        """Whether a drone's memory still begins with these bytes: one that started anew has lost them."""
+        data = data[:20]
+        return self.radio.ask(drone, firmware.MEMORY, 1, firmware.read(memory[0], memory[1], len(data)), 5, seconds=2,
+                              length=6 + len(data))[6:] == data
+
+    def arm(self, on: bool, drones: Sequence[int], look: Optional[Look] = None) -> List[str]:
+        """Arms or disarms drones; which of them aren't as they should be afterwards, by their own supervisors, or
+        didn't answer where they have none. A drone that arms by itself can't be disarmed."""
+        quiet = set()
+
+        def arm(drone: int) -> object:
+            try:
+                return drone in drones and self.radio.ask(drone, firmware.PLATFORM, 0, firmware.arm(on), 1, seconds=2)
+            except Dead:
+                quiet.add(drone)
+        self.radio.each(arm, look)
+        until, wrong = clock.now() + 2, []
+        while clock.now() < until:
+            wrong = [self.names[drone] for drone in drones if (
+                drone in quiet if self.states[drone].info is None else
+                bool(self.states[drone].info & firmware.IS_ARMED) != on
+                and (on or not self.states[drone].info & firmware.AUTO_ARM))]
+            if not wrong:
+                break
+            if look:
+                look()
+            clock.wait(0.05)
+        return wrong
+
+    def start(self, trajectory: int, copies: int, by_broadcast: bool) -> Dict[int, Started]:
+        """Starts a trajectory in all drones: by a broadcast that each hears at once, or one by one. By drone when its
+        start went out first and last, and when it was answered last and with which status, or None. Nobody is sent a
+        second start of its own, since it would begin anew. A drone answers in order: one that answers a question
+        after the start and not the start didn't take it."""
+        with self.lock:
+            self.started = {}
+        raw = firmware.packet(firmware.COMMANDER, 0, firmware.start(trajectory))
+        if by_broadcast:
+            sent = dict.fromkeys(range(len(self.names)), self.radio.broadcast(raw, copies))
+        else:
+            sent = {}
+            for drone in range(len(self.names)):
+                sent[drone] = (clock.now(),) * 2
+                self.radio.send(drone, raw)
+        self.radio.each(self.pass_by)
+        with self.lock:
+            return {drone: (*sent[drone], *self.started.get(drone, (None, None))) for drone in sent}
+
+    def pass_by(self, drone: int) -> None:
+        """Waits until a drone has answered all commands before, but not for long. The question has a mark by chance, so
+        that no answer to an earlier one is taken for its own."""
+        mark = firmware.group() + bytes([0x80 | random.randrange(0x80)])
+        try:
+            self.radio.ask(drone, firmware.COMMANDER, 0, mark, 3, seconds=1)
+        except Dead:
+            pass
+
+    def beside(self, raw: bytes, copies: int) -> None:
+        """A broadcast that goes out beside commands to each drone, so that nothing rests on it, nor waits for it."""
+        try:
+            self.radio.broadcast_beside(raw, copies)
+        except Exception:
+            pass
+
+    def land(self, floors: Sequence[float], drones: List[int], seconds: float,
+             look: Optional[Callable[[], None]] = None) -> Tuple[float, List[str], List[str]]:
+        """Lands drones where they are within so many seconds, each by a command of its own, and beside that by a
+        broadcast where all land on floors of one height: the seconds until the last one that answers did, who didn't
+        answer, and who refused, with the status."""
+        self.radio.drop()
+        begin, answered, quiet, refused = clock.now(), [0.0], [], []
+        if len(drones) == len(self.names) and 1000 * (max(floors) - min(floors)) <= SAME_FLOOR:
+            self.beside(firmware.packet(firmware.COMMANDER, 0, firmware.land(min(floors), seconds)), 2)
+
+        def land(drone: int) -> None:
+            if drone not in drones:
+                return
+            try:
+                status = self.radio.ask(drone, firmware.COMMANDER, 0, firmware.land(floors[drone], seconds), 3,
+                                        seconds=1.5, least=4, every=AGAIN)[3]
+                answered.append(clock.now() - begin)
+                if status not in TAKEN:
+                    refused.append("%s with status %d" % (self.names[drone], status))
+            except Dead:
+                quiet.append(self.names[drone])
+        self.radio.each(land, look)
+        return max(answered), quiet, refused
+
+    def rest(self, drones: Iterable[int]) -> None:
+        """Has the commanders of drones that are down stop: some let motors idle until then."""
+        for drone in drones:
+            self.radio.send(drone, firmware.packet(firmware.COMMANDER, 0, firmware.STOP))
+
+    def cut(self) -> None:
+        """Stops all motors, at once and for good: each drone falls, and has to be started anew."""
+        self.radio.drop()
+        for port, channel, data in ((firmware.PLACES, 1, firmware.EMERGENCY_STOP),
+                                    (firmware.COMMANDER, 0, firmware.STOP)):
+            raw = firmware.packet(port, channel, data)
+            for drone in range(len(self.names)):
+                self.radio.send(drone, raw)
+            self.beside(raw, 2)
+            for _ in range(2):
+                for drone in range(len(self.names)):
+                    self.radio.send(drone, raw)
+        clock.wait(0.5)

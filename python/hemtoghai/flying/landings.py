@@ -1,0 +1,385 @@
+"""At which instants of a show all may land at once: straight down from where they are.
+
+A landing of the firmware begins at the setpoint of the moment with speed 0, whatever the speed was, and goes straight
+down from rest to rest, which is the act `move`. The drone itself has to brake: it is carried on by v^2 / 2a and by what
+passes until it reacts, and then comes back to its column. Nor do all hear of it at once: one that misses the broadcast
+is told by a packet of its own, up to TOLD later, and flies its curve until then. Where floors have several heights, or
+not all land, there is no broadcast, and packets of their own are up to LATE apart. So of each instant is taken all that
+a drone may reach around it: its places from `late` before it to when it is told, with half a step at both ends, and
+each of them carried on. What is judged, by the proved program's `check`, is a landing from the middle of these, with a
+stray that is larger by how far they are from it.
+
+A drone that is silent flies its curve on: that is judged with those who land by curves that are cut finely. One that
+left its curve is judged from where it says that it is. The stages of the ways up and down have landings of their own,
+judged alike. Millimetres and milliseconds.
+"""
+from itertools import combinations
+from math import ceil, dist, hypot
+from typing import Dict, Iterable, Iterator, List, Optional, Sequence, Set, Tuple
+
+from hemtoghai.companion import value
+from hemtoghai.flying.legs import (apart, ask_all, LAND, LATE, Leg, LIFT, Place, refusal_of, Rules, SAME_FLOOR, Stage,
+                                   stage_texts, standing_apart, text_of)
+from hemtoghai.geometry.curves import curves_of
+
+BRAKE, REACT = 5.0, 0.1  # m/s^2 with which a drone brakes at least, and seconds until it does
+TOLD = 100  # until a drone that missed the broadcast is told by a packet of its own; without a broadcast it is LATE
+FINE = 20  # between the instants that are looked at around one
+LEAST, SINK = 2000, 400  # of a landing, and mm a second
+STEP = 200  # between instants of a stage of a way
+PIECE = 250  # of the curves of a silent drone
+MOST = 1000  # of a stray and of lateness, in the language
+MOST_CUES = 900  # of the show of a silent drone
+ROUNDED = 2  # by which a cut curve may be off by rounding
+TOO_FAR = "drones are carried on too far"
+
+Reach = Tuple[Place, float]  # the middle of what a drone may reach, and how far it is from that at most
+Cubic = List[List[float]]  # four control points
+
+
+def landing_ms(heights: Iterable[float]) -> int:
+    """How long a landing takes from such heights above the floors."""
+    return max(LEAST, ceil(1000 * max(heights) / SINK))
+
+
+def carried(speed: float) -> float:
+    """How far a drone is carried on, in mm, by its speed in mm a second."""
+    return speed * speed / (2000 * BRAKE) + REACT * speed
+
+
+def told_within(floors: Sequence[float]) -> int:
+    """The milliseconds within which all hear of a landing on floors of such heights, in mm."""
+    return TOLD if max(floors) - min(floors) <= SAME_FLOOR else LATE
+
+
+def off_reach(place: Sequence[float], speed: float) -> Reach:
+    """What a drone may reach that isn't on its curve, by its own place in mm and its speed in mm a second."""
+    return tuple(round(v) for v in place), carried(speed) + speed * LATE / 1000  # told by a packet of its own
+
+
+class Landings:
+    """The landings of a show: `floors` are by drone, in mm. A step is how far apart the instants are that stand for
+    all. Drones are `before` late at most in what they fly, and told of a landing within `told`."""
+
+    def __init__(self, flown, floors: Sequence[int], rules: Rules, step: Optional[int] = None) -> None:
+        self.names, self.curves, self.floors, self.rules = flown.names, list(curves_of(flown).values()), floors, rules
+        self.end, self.stray, self.before, self.told = (
+            flown.milliseconds, rules.show_stray, rules.show_late, told_within(floors))
+        self.step = step or max(100, 50 * ceil(self.end / 60000))
+        self.cues, t = [], 0
+        for cue in flown.cues:
+            self.cues.append((t, t + cue.milliseconds))
+            t += cue.milliseconds
+        self.rows: Optional[List[Tuple[int, Optional[str]]]] = None
+
+    # ---- what drones may reach
+
+    def speed(self, k: int, t: float) -> List[float]:
+        """A drone's speed by axis, in mm a second."""
+        low, high = max(0, t - 2), min(self.end, t + 2)
+        return [1000 * (b - a) / (high - low) for a, b in zip(self.curves[k].at(low), self.curves[k].at(high))]
+
+    def reach(self, k: int, t: float, told: Optional[int] = None) -> Reach:
+        """What a drone may reach where all land at an instant, and are told within so many milliseconds."""
+        low, high, points = t - self.before - self.step / 2, t + (told or self.told) + self.step / 2, []
+        count = ceil((high - low) / FINE)
+        for n in range(count + 1):
+            at = min(max(low + (high - low) * n / count, 0), self.end)
+            place, speed = self.curves[k].at(at), self.speed(k, at)
+            size = hypot(*speed)
+            on = carried(size) / size if size > 0.01 else 0.0
+            points += [place, [v + on * w for v, w in zip(place, speed)]]
+        middle = [round((min(row) + max(row)) / 2) for row in zip(*points)]
+        return tuple(middle), max(dist(middle, point) for point in points)
+
+    def after_start(self, t: float) -> Optional[str]:
+        """Why not all may land so long after a start that some took and others didn't, or None: each drone is anywhere
+        between its first place and where it should be."""
+        rows = {}
+        for k, curve in enumerate(self.curves):
+            points = [self.reach(k, at) for at in range(0, ceil(t) + self.step, self.step)]
+            middle = tuple(round((a + b) / 2) for a, b in zip(curve.at(0), points[-1][0]))
+            rows[k] = middle, max(dist(middle, place) + more for place, more in [*points, (curve.at(0), 0.0)])
+        return self.ask(rows, max(row[1] for row in rows.values()))
+
+    def reaches(self, t: float, drones: Iterable[int], off: Dict[int, Reach],
+                told: Optional[int] = None) -> Dict[int, Reach]:
+        """What drones may reach, none of them below its floor; `off` has those that aren't on their curves."""
+        rows = {k: off[k] if k in off else self.reach(k, t, told) for k in drones}
+        return {k: ((*at[:2], max(at[2], self.floors[k])), more) for k, (at, more) in rows.items()}
+
+    def late(self, told: Optional[int] = None) -> int:
+        """How far apart landings may begin."""
+        return min(MOST, self.before + (told or self.told))
+
+    # ---- landings of all
+
+    def stage(self, at: Dict[int, Place]) -> Stage:
+        """The stage in which drones land from places."""
+        to = {k: (*place[:2], self.floors[k]) for k, place in at.items()}
+        return Stage(LAND, landing_ms([at[k][2] - self.floors[k] for k in at]), to)
+
+    def texts(self, rows: Dict[int, Reach], more: float, told: Optional[int] = None) -> List[bytes]:
+        """The show that a landing is from the middle of what drones may reach, with so much more stray."""
+        at = {k: row[0] for k, row in rows.items()}
+        return [text_of(self.names, at, [0] * len(self.names), [self.stage(at)], self.rules, late=self.late(told),
+                        stray=self.stray + ceil(more))]
+
+    def ask(self, rows: Dict[int, Reach], more: float, told: Optional[int] = None) -> Optional[str]:
+        """The refusal of a landing, or None."""
+        if self.stray + ceil(more) > MOST:
+            return TOO_FAR
+        return next((why for why in map(refusal_of, self.texts(rows, more, told)) if why), None)
+
+    def refusal(self, t: float, off: Optional[Dict[int, Reach]] = None, told: Optional[int] = None) -> Optional[str]:
+        """Why not all may land at an instant, or None; `off` are drones that aren't on their curves. Where drones are
+        carried on by various ways, they are judged in sets that have each pair with no more stray than that has."""
+        rows = self.reaches(t, range(len(self.names)), off or {}, told)
+        line = self.ask(rows, max(row[1] for row in rows.values()), told)
+        if line is None or len(rows) < 2:
+            return line
+        for drones in self.sets_of(rows):
+            pairs = list(combinations(drones, 2))
+            part = {k: rows[k] for k in drones}
+            if self.ask(part, max((rows[i][1] + rows[j][1]) / 2 for i, j in pairs), told) is None:
+                continue
+            for i, j in pairs:
+                line = self.ask({i: rows[i], j: rows[j]}, (rows[i][1] + rows[j][1]) / 2, told)
+                if line:
+                    return line
+        return None
+
+    def sets_of(self, rows: Dict[int, Reach]) -> List[List[int]]:
+        """Sets of drones that have each pair in one of them, the nearest first. In a set only those are near to each
+        other for whom it was begun, so that few sets are refused for another pair's stray."""
+        wide = 2 * (self.rules.radius + self.stray + max(row[1] for row in rows.values())) + 100
+        far = {(i, j): apart(rows[i][0], rows[j][0]) for i in rows for j in rows}
+        sets: List[List[int]] = []
+        have: Set[Tuple[int, int]] = set()
+        for pair in sorted(combinations(rows, 2), key=far.get):
+            if pair in have:
+                continue
+            for drones in sets:
+                new = [k for k in pair if k not in drones]
+                if all(far[k, other] > wide for k in new for other in drones if other not in pair):
+                    drones.extend(new)
+                    break
+            else:
+                drones = list(pair)
+                sets.append(drones)
+            have.update((i, j) for i in drones for j in drones)
+        return sets
+
+    def table(self) -> List[Tuple[int, Optional[str]]]:
+        """The instants that stand for all, each with why not all may land then, or None."""
+        if self.rows is None:
+            instants = range(0, self.end + self.step, self.step)
+            texts = []
+            for t in instants:
+                rows = self.reaches(t, range(len(self.names)), {})
+                texts += self.texts(rows, max(row[1] for row in rows.values()))
+            ask_all(texts)
+            self.rows = [(t, self.refusal(t)) for t in instants]
+        return self.rows
+
+    def now(self, t: float) -> Optional[str]:
+        """Why not all may land at any instant, by the table; None where they may."""
+        rows = self.table()
+        return rows[min(max(0, round(t / self.step)), len(rows) - 1)][1]
+
+    def next(self, t: float) -> Optional[int]:
+        """The first instant from one on at which all may land, or None."""
+        return next((at for at, why in self.table() if at >= t and why is None), None)
+
+    # ---- for people
+
+    def lines(self) -> Iterator[str]:
+        """A line for each cue, or for cues that follow each other in all of which all may land at every instant."""
+        first = None
+        for number, (begin, end) in enumerate([*self.cues, (self.end, self.end)], 1):
+            last = number > len(self.cues)
+            rows = [row for row in self.table() if begin <= row[0] < end] or [(begin, self.now(begin))]
+            bad = [(at, why) for at, why in rows if why]
+            if not bad and not last:
+                first = first or (number, begin)
+                continue
+            if first:
+                yield "%s, %.1f to %.1f s: land now" % (
+                    "cue %d" % first[0] if first[0] == number - 1 else "cues %d to %d" % (first[0], number - 1),
+                    first[1] / 1000, begin / 1000)
+                first = None
+            if last:
+                return
+            yield "cue %d, %.1f to %.1f s: %s" % (number, begin / 1000, end / 1000, self.words(begin, end, bad))
+
+    def words(self, begin: int, end: int, bad: Sequence[Tuple[int, str]]) -> str:
+        """What to do in a cue at some of whose instants not all may land."""
+        free, share = self.next(bad[-1][0]), self.share_good(bad)
+        return "land now, but from %.1f to %.1f s fly on to %s: %s%s" % (
+            max(begin, bad[0][0] - self.step / 2) / 1000, min(end, bad[-1][0] + self.step / 2) / 1000,
+            "the way down" if free is None else "%.1f s" % (free / 1000), short(bad[0][1]),
+            "; there %d %% is apart" % round(100 * share) if share else "")
+
+    def share_good(self, bad: Sequence[Tuple[int, str]]) -> float:
+        """The share of instants between the first and the last bad one that are good."""
+        rows = [row for row in self.table() if bad[0][0] <= row[0] <= bad[-1][0]]
+        return sum(row[1] is None for row in rows) / len(rows)
+
+    # ---- where some fly on
+
+    def with_silent(self, t: float, silent: Iterable[int], off: Optional[Dict[int, Reach]] = None,
+                    told: Optional[int] = None) -> Optional[str]:
+        """Why others may not land at an instant while silent drones fly their curves on to the end, or None; `off` are
+        drones that aren't on their curves."""
+        land = [k for k in range(len(self.names)) if k not in silent]
+        if not land:
+            return None
+        rows = self.reaches(t, land, off or {}, told)
+        at = {k: row[0] for k, row in rows.items()}
+        stage = self.stage(at)
+        ways = {k: (at[k], stage.to[k], stage.milliseconds) for k in land}
+        more = max(row[1] for row in rows.values())
+        text = self.cut_text(self.times(t, stage.milliseconds), ways, silent, more, told)
+        return TOO_FAR if text is None else refusal_of(text)
+
+    def times(self, t: float, milliseconds: int) -> List[int]:
+        """The instants at which curves are cut: the ends of cues, of the landing, and so that no stretch is longer than
+        a piece, and each cue has four, as far as the language's number of cues lets that be."""
+        t = round(t)
+        marks, piece = sorted({t, t + milliseconds, *(end for _, end in self.cues if end > t)}), PIECE
+        for least in (4, 2, 1, 1, 1, 1):
+            out = [t]
+            for mark in marks[1:]:
+                first = out[-1]
+                pieces = min(mark - first, max(least, ceil((mark - first) / piece)))
+                out += [first + (mark - first) * n // pieces for n in range(1, pieces + 1)]
+            if len(out) <= MOST_CUES:
+                break
+            piece *= 2 if least == 1 else 1
+        return out
+
+    def cut_text(self, times: Sequence[int], ways: Dict[int, Tuple[Place, Place, int]], silent: Iterable[int],
+                 more: float, told: Optional[int] = None) -> Optional[bytes]:
+        """A show of cubics: drones that land by their ways, and silent ones on their curves. By how much the cubics are
+        off, where it is looked, comes to the stray, half of it more, and the rounding. None where that is too much."""
+        movers = {k: Mover(times[0], ways[k]) for k in ways}
+        movers.update((k, self.curves[k]) for k in silent)
+        off, cues = 0.0, []
+        for begin, end in zip(times, times[1:]):
+            cue = {k: cubic_of(mover, begin, end) for k, mover in movers.items()}
+            off = max([off, *(off_by(movers[k], cubic, begin, end) for k, cubic in cue.items())])
+            cues.append((end - begin, cue))
+        stray = self.stray + ceil(more + 1.5 * off) + ROUNDED
+        if stray > MOST or len(cues) > MOST:
+            return None
+        out = ["choreo 1", "ellipsoid %d %d" % (self.rules.radius, self.rules.height), "stray %d" % stray,
+               "late %d" % self.late(told)]
+        for k, mover in movers.items():
+            out.append("drone %s %d %d %d 0" % (self.names[k], *(round(1000 * v) for v in mover.at(times[0]))))
+        for milliseconds, cue in cues:
+            out += ["cue %d" % milliseconds, *curve_lines(self.names, cue), "end"]
+        return ("\n".join(out) + "\n").encode()
+
+
+class StageLandings(Landings):
+    """The landings from a stage of a way, by its number from 0, over floors in mm. Commands to single drones are up to
+    `late` apart in it, and so are those of a landing. Who stands on the floor is judged by the rule of stages.py."""
+
+    def __init__(self, leg: Leg, number: int, floors: Sequence[int]) -> None:
+        stage, at = leg.stages[number], leg.places(number)
+        self.leg, self.names, self.floors, self.rules = leg, leg.names, floors, leg.rules
+        self.curves = [Mover(0, (at[k], stage.to.get(k, at[k]), stage.milliseconds)) for k in range(len(at))]
+        self.end, self.stray, self.before, self.told = stage.milliseconds, leg.rules.stray, leg.rules.late, LATE
+        self.standing = {k: place for k, place in at.items() if k not in stage.to and place[2] <= floors[k]}
+        self.step, self.rows, self.cues = STEP, None, [(0, self.end)]
+        self.landing = set(stage.to) if stage.kind == LAND else set()
+
+    def reach(self, k: int, t: float, told: Optional[int] = None) -> Reach:
+        """What a drone may reach: one that holds stays where it is."""
+        return (self.curves[k].first, 0.0) if self.curves[k].holds() else super().reach(k, t, told)
+
+    def texts(self, rows: Dict[int, Reach], more: float, told: Optional[int] = None) -> List[bytes]:
+        """The shows that a landing is of those who don't stand."""
+        at = {k: row[0] for k, row in rows.items()}
+        fly = {k: place for k, place in at.items() if k not in self.standing}
+        if not fly:
+            return []
+        return stage_texts(self.names, [0] * len(self.names), self.stage(fly), self.standing, at, self.rules,
+                           stray=self.stray + ceil(more), late=self.late(told))
+
+    def refusal(self, t: float, off: Optional[Dict[int, Reach]] = None, told: Optional[int] = None) -> Optional[str]:
+        """Why not all may land at an instant, or None. Who lands already goes on: it refuses another landing."""
+        if not self.landing:
+            return super().refusal(t, off, told)
+        land = [k for k in range(len(self.names)) if k not in self.standing and k not in self.landing]
+        if not land:
+            return None
+        rows = self.reaches(t, land, {})
+        stage, more = self.stage({k: row[0] for k, row in rows.items()}), max(row[1] for row in rows.values())
+        ways = {k: (rows[k][0], stage.to[k], stage.milliseconds) for k in land}
+        for row in standing_apart(self.standing, self.rules, self.stray + ceil(more), self.late()):
+            hold = {k: (self.standing[k], self.standing[k], stage.milliseconds) for k in row}
+            text = self.cut_text(self.times(t, stage.milliseconds), {**ways, **hold}, self.landing, more)
+            why = TOO_FAR if text is None else refusal_of(text)
+            if why:
+                return why
+        return None
+
+    def table(self) -> List[Tuple[int, Optional[str]]]:
+        """The instants that stand for all, each with why not all may land then, or None."""
+        if self.rows is None and self.landing:
+            self.rows = [(t, self.refusal(t)) for t in range(0, self.end + self.step, self.step)]
+        return super().table()
+
+    def has(self, k: int, t: float, place: Sequence[float]) -> bool:
+        """Whether a drone that says that it is at a place, in mm, is where the stage has it at a time."""
+        if k in self.standing:
+            return dist(place, self.standing[k]) < LIFT
+        curve = self.curves[k]
+        times = [t - self.before + FINE * n for n in range(ceil((self.before + 2 * FINE) / FINE) + 1)]
+        return min(dist(place, curve.at(at)) for at in times) <= self.stray
+
+
+class Mover:
+    """A drone on its way from an instant on, from rest to rest: where it is, as a curve says it."""
+
+    def __init__(self, begin: float, way: Tuple[Place, Place, int]) -> None:
+        self.begin, (self.first, self.last, self.milliseconds) = begin, way
+
+    def holds(self) -> bool:
+        """Whether it stays where it is."""
+        return self.first == self.last
+
+    def at(self, t: float) -> List[float]:
+        """The place at a time."""
+        u = min(1.0, max(0.0, (t - self.begin) / self.milliseconds))
+        s = u ** 4 * (35 - 84 * u + 70 * u ** 2 - 20 * u ** 3)
+        return [v + (w - v) * s for v, w in zip(self.first, self.last)]
+
+
+def cubic_of(mover, begin: float, end: float) -> Cubic:
+    """A cubic with a curve's places and speeds at two times."""
+    def speed(at, way):
+        return [way * (b - a) / 0.5 for a, b in zip(mover.at(at), mover.at(at + way * 0.5))]
+    a, b, third = mover.at(begin), mover.at(end), (end - begin) / 3
+    return [a, [v + third * w for v, w in zip(a, speed(begin, 1))],
+            [v - third * w for v, w in zip(b, speed(end, -1))], b]
+
+
+def off_by(mover, cubic: Cubic, begin: float, end: float) -> float:
+    """How far a cubic is from a curve, at seven instants."""
+    return max(dist(mover.at(begin + n / 8 * (end - begin)), [value(axis, n / 8) for axis in zip(*cubic)])
+               for n in range(1, 8))
+
+
+def curve_lines(names: Sequence[str], cue: Dict[int, Cubic]) -> Iterator[str]:
+    """The lines of a cue for those who move in it."""
+    for k, points in cue.items():
+        if max(dist(points[0], point) for point in points) > 0.01:
+            yield "%s curve %s 0" % (names[k], " ".join("%d" % round(1000 * v) for point in points[1:] for v in point))
+
+
+def short(line: str) -> str:
+    """A refusal in few words."""
+    words = line.split()
+    return "%s and %s" % (words[3], words[4]) if words[:2] == ["error", "5"] and len(words) > 4 else line

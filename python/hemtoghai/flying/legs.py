@@ -1,0 +1,91 @@
+"""The legs of a flight: the way up from the pads to the first places, and the way down, as shows.
+
+Each leg is a list of stages (flying/stages.py), which is looked for (flying/routes.py) and then judged by the proved
+program's `check`: what searches proves nothing, and has not to. Millimetres and milliseconds.
+"""
+import re
+from typing import Dict, Iterable, List, Sequence, Tuple
+
+from hemtoghai.flying.routes import GROUND, LIFT, Planner
+from hemtoghai.flying.stages import (AIM, apart, ask_all, GO_TO, judge_stages, judged, LAND, LATE, Leg,
+                                     milliseconds_for, NoWay, Place, refusal_of, Rules, SAME_FLOOR, Stage, stage_texts,
+                                     standing_apart, TAKE_OFF, text_of)
+
+__all__ = ["AIM", "GO_TO", "GROUND", "LAND", "LATE", "LIFT", "Leg", "NoWay", "Place", "Planner", "Rules", "SAME_FLOOR",
+           "Stage", "TAKE_OFF", "apart", "ask_all", "below", "down", "judge_stages", "judged", "milliseconds_for", "pads_by_name",
+           "places_of", "read_pads", "refusal_of", "stage_texts", "standing_apart", "text_of", "top_of", "way_down", "way_up"]
+
+
+def way_up(names: Sequence[str], pads: Sequence[Place], firsts: Sequence[Place], yaws: Sequence[int], rules: Rules) -> Leg:
+    """The leg from pads to first places; raises NoWay."""
+    return Planner(names, pads, firsts, yaws, rules).plan()
+
+
+def way_down(names: Sequence[str], pads: Sequence[Place], lasts: Sequence[Place], yaws: Sequence[int], rules: Rules,
+             fixed: Iterable[int] = ()) -> Leg:
+    """The leg from last places to pads, which is a way up backwards; raises NoWay. Who ends the show at the height of
+    its pad stays where it is."""
+    pads = [last if abs(last[2] - pad[2]) <= GROUND else pad for pad, last in zip(pads, lasts)]
+    leg = Planner(names, pads, lasts, yaws, rules, fixed, 0).plan().reversed()
+    refusal = leg.judge({k: tuple(pad) for k, pad in enumerate(pads) if k not in fixed})
+    if refusal:
+        raise NoWay(refusal)
+    return leg
+
+
+def down(names: Sequence[str], pads: Sequence[Place], lasts: Sequence[Place], yaws: Sequence[int], rules: Rules,
+         is_below: bool = False, fixed: Iterable[int] = ()) -> Leg:
+    """The leg from last places to the pads, or straight down below them where that is wanted or nothing else is
+    accepted; raises NoWay."""
+    why = None
+    if not is_below:
+        try:
+            return way_down(names, pads, lasts, yaws, rules, fixed)
+        except NoWay as refusal:
+            why = refusal
+    try:
+        leg = way_down(names, [(*last[:2], pad[2]) for pad, last in zip(pads, lasts)], lasts, yaws, rules, fixed)
+    except NoWay as refusal:
+        raise why or refusal
+    leg.why_below = why
+    return leg
+
+
+def places_of(flown) -> Tuple[List[Place], List[Place], List[int], List[int]]:
+    """The first and the last places of a show in whole mm, as they are sent, and its yaws there."""
+    firsts = [tuple(int(row[0]) for row in flight[0][1][:3]) for flight in flown.sent]
+    lasts = [tuple(int(row[-1]) for row in flight[-1][1][:3]) for flight in flown.sent]
+    return firsts, lasts, [flight[0][1][3][0] for flight in flown.sent], [flight[-1][1][3][-1] for flight in flown.sent]
+
+
+def top_of(flown) -> int:
+    """A height in mm that no curve of a show leaves upwards."""
+    return max(v for flight in flown.sent for _, elements in flight for v in elements[2])
+
+
+def pads_by_name(path: str) -> Dict[str, Place]:
+    """The pads of a text with lines `NAME X Y Z` in micrometres, as a show has them, in whole mm; raises ValueError."""
+    found: Dict[str, Place] = {}
+    with open(path, encoding="utf-8") as lines:
+        for number, line in enumerate(lines, 1):
+            words = line.partition("#")[0].split()
+            if words and (len(words) != 4 or words[0] in found
+                          or not all(re.fullmatch("-?[0-9]{1,8}", word) for word in words[1:])):
+                raise ValueError("%s, line %d: `NAME X Y Z` in micrometres is wanted, each once" % (path, number))
+            if words:
+                found[words[0]] = tuple(round(int(word) / 1000) for word in words[1:])
+    return found
+
+
+def read_pads(path: str, names: Sequence[str]) -> List[Place]:
+    """The pads of these drones, in their order; raises ValueError where one is missing."""
+    found = pads_by_name(path)
+    lacking = [name for name in names if name not in found]
+    if lacking:
+        raise ValueError("%s has no pad for %s" % (path, ", ".join(lacking)))
+    return [found[name] for name in names]
+
+
+def below(places: Iterable[Place], height: int = 0) -> List[Place]:
+    """Pads straight below places."""
+    return [(*place[:2], height) for place in places]

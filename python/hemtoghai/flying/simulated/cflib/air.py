@@ -1,0 +1,530 @@
+"""The simulated air, and drones that fly: their firmware's side of the packets, from memory, and the places where
+they are.
+
+A drone stands on its pad, takes off, goes to places, flies the trajectory that its own memory decodes to, lands,
+and keeps a small way off all the while. Time is that of flying/clock.py. Of a drone's dynamics one thing is simulated: a
+landing begins at the setpoint with speed 0, and what flew at speed is carried on and comes back. Else a drone is where
+its commander has it, but for the stray that it is given. The commander takes off from idle alone, and refuses a landing
+while it is idle or lands; at the end of a landing it is idle, and motors stop, at whatever height.
+"""
+import math
+import random
+import struct
+import threading
+import time
+from typing import Any, Dict, Iterator, List, Optional, Sequence, Tuple
+
+from hemtoghai.companion import value
+from hemtoghai.flying import clock, firmware
+
+EBUSY, EIO, ENOEXEC, EACCES = 16, 5, 8, 13
+MEMORIES = [(0x00, 8192), (0x10, 36), (0x12, 4096), (0x15, 4096)]
+PARAMETERS = [("commander.enHighLevel", 0x08, 0), ("kalman.resetEstimation", 0x08, 0),
+              ("stabilizer.estimator", 0x08, 2)]
+LOGGED = [("stateEstimate.x", 7), ("stateEstimate.y", 7), ("stateEstimate.z", 7), ("stateEstimate.yaw", 7),
+          ("pm.vbat", 7), ("supervisor.info", 2),
+          ("kalman.varPX", 7), ("kalman.varPY", 7), ("kalman.varPZ", 7)]
+PADDING = 20  # further items of the tables, so that reading them is no single packet
+NOTHING = b"\xF3\x01\x3C"  # what an acknowledgement carries where a drone has nothing to say
+FULL, SINKS = 4.1, 0.0008  # volts, and volts a second in flight
+FORGETS, TIMEOUT, OFF = 2.0, 30.0, 1.0  # seconds: without a poll until logs go, from arming to flight, of a reboot
+
+Segment = Tuple[int, List[List[int]]]  # milliseconds, and control values by axis
+
+# What --fault and tests can ask for; the number behind some is seconds after the start of the show.
+FAULTS = {
+    "dead": "answers nothing",
+    "outdated": "has a protocol that is too old",
+    "silent": "its link is gone so many seconds after its start",
+    "empty": "its battery is low",
+    "unsettled": "its estimator isn't settled",
+    "astray": "stands half a metre off",
+    "memory": "has another list of memories",
+    "wanders": "leaves its curve by half a metre a second, so many seconds after its start",
+    "deaf": "hears no broadcast",
+    "deafens": "hears no broadcast once it has taken off",
+    "locked": "can't be armed",
+    "unarmed": "says that it can be armed, and isn't",
+    "lost": "its link is gone once it was written to",
+    "forgets": "keeps nothing that is written",
+    "stays": "refuses to take off",
+    "stuck": "takes off, it says, and stays where it is",
+    "drains": "its battery is empty so many seconds after its start",
+    "hovers": "doesn't land",
+    "refuses": "refuses its start",
+    "falls": "its motors stop so many seconds after its start",
+    "old": "has answers of an earlier upload under way",
+    "gap": "its link is gone for three seconds, so many seconds after its start, and its logs with it",
+    "sag": "says for a moment that its battery is empty, so many seconds after its start",
+    "high": "believes to be higher than it is, by so many metres",
+    "riser": "stands on a riser of half a metre",
+    "turned": "looks another way",
+    "flying": "says on the floor that it flies",
+    "auto": "arms by itself, and can't be disarmed",
+    "timeout": "disarms half a minute after it was armed, unless it flies",
+    "reboots": "starts anew once its memory was read back",
+    "senseless": "says that its place is no number",
+    "loses": "says that its place is no number, so many seconds after its start",
+    "volts": "says that its voltage is no number",
+    "short": "gives answers that are cut off to questions on its memories and tables",
+}
+
+
+def smooth(u: float) -> float:
+    """From 0 to 1 from rest to rest."""
+    u = min(1.0, max(0.0, u))
+    return u ** 4 * (35 - 84 * u + 70 * u ** 2 - 20 * u ** 3)
+
+
+def carried_on(speed: float, seconds: float) -> float:
+    """How far a drone is from its setpoint, along the way that it flew, so long after this has stopped: 0.07 s of speed
+    and 0.06 s^2/m of its square at most, from memory of what others saw (0.4 m at 2 m/s)."""
+    last = 0.2 + 0.163 * speed
+    return speed * seconds * math.exp(-seconds / last)
+
+
+def segments_at(memory: bytes, offset: int, pieces: int) -> List[Segment]:
+    """The segments of a trajectory in a memory, as (milliseconds, control values by axis); none where there is none."""
+    last, at, out = list(struct.unpack_from("<hhhh", memory, offset)), offset + 8, []
+    for _ in range(pieces):
+        header, milliseconds = struct.unpack_from("<BH", memory, at)
+        at, elements = at + 3, []
+        for axis in range(4):
+            count = (0, 1, 3, 7)[header >> 2 * axis & 3]
+            elements.append([last[axis], *struct.unpack_from("<%dh" % count, memory, at)])
+            at, last[axis] = at + 2 * count, elements[-1][-1]
+        if milliseconds == 0:
+            return []
+        out.append((milliseconds, elements))
+    return out
+
+
+class Drone:
+    """A drone: radio with safelink, memories, tables, commander, and where it is, in metres."""
+    memory_bytes = bytearray
+
+    def __init__(self, world: "World", uri: str, home: Sequence[float], faults: Dict[str, float]) -> None:
+        self.world, self.uri, self.faults, self.lock = world, uri, faults, threading.RLock()
+        home = [home[0] + (0.5 if "astray" in faults else 0), home[1], 0.5 if "riser" in faults else home[2]]
+        self.place, self.plan, self.began, self.armed, self.cut = home, None, 0.0, False, False
+        self.floor, self.flies, self.curve, self.curve_began, self.starts = home[2], False, None, None, []
+        self.memories = [(kind, self.memory_bytes(b"\xFF" * size)) for kind, size in MEMORIES]
+        self.lands, self.thrown, self.hits, self.armed_at, self.off_until, self.yaw = False, None, 0.0, None, None, 0.0
+        self.polled, self.refused, self.is_read = clock.now(), [], False
+        self.heard_at = None  # where a packet was heard at another instant than this one
+        if "memory" in faults:
+            self.memories.insert(2, (0x11, self.memory_bytes(b"\xFF" * 8192)))
+        self.table, self.parameters = [None] * 10, [row[2] for row in PARAMETERS]
+        self.blocks, self.up_queue = {}, []
+        if "old" in faults:
+            self.up_queue = [bytes([0x4E, 2]) + struct.pack("<IB", 24 * k, 0) for k in range(8)]
+            self.up_queue.append(bytes([0x8C, 6, 0, 1, 0]))
+        self.safelink, self.last_up, self.down, self.held, self.late_share = False, 1, 0, None, 0.0
+        self.is_written = False
+        self.phase, self.booted = world.chance.random() * 7, clock.now() - 10 - 50 * world.chance.random()
+
+    # ---- the way
+
+    def flown(self, now: Optional[float] = None) -> Optional[float]:
+        """Seconds since the start of its trajectory, or None."""
+        return None if self.curve_began is None else (now or clock.now()) - self.curve_began
+
+    def is_due(self, fault: str) -> bool:
+        """Whether a fault of some seconds after the start has come."""
+        return fault in self.faults and self.flown() is not None and self.flown() >= self.faults[fault]
+
+    def is_gone(self) -> bool:
+        """Whether its link is gone."""
+        if "reboots" in self.faults and self.is_read and self.table[0] is not None:
+            self.reboot()
+        gap = self.is_due("gap") and self.flown() < self.faults["gap"] + 3
+        off = self.off_until is not None and clock.now() < self.off_until
+        return gap or off or "dead" in self.faults or self.is_due("silent") or "lost" in self.faults and self.is_written
+
+    def reboot(self) -> None:
+        """Starts anew: its memory is zero, and all that it was told is gone."""
+        del self.faults["reboots"]
+        self.memories = [(kind, self.memory_bytes(size)) for kind, size in MEMORIES]
+        self.table, self.blocks, self.up_queue, self.parameters = [None] * 10, {}, [], [row[2] for row in PARAMETERS]
+        self.safelink, self.armed, self.booted, self.off_until = False, False, clock.now(), clock.now() + OFF
+
+    def planned(self, now: Optional[float] = None) -> List[float]:
+        """Where its commander has it."""
+        now = now or clock.now()
+        if self.plan is None:
+            return list(self.place)
+        kind, begin, *rest = self.plan
+        if kind == "way":
+            first, last, seconds = rest
+            u = smooth((now - begin) / seconds) if seconds > 0 else 1.0
+            return [a + (b - a) * u for a, b in zip(first, last)]
+        segments, at = rest[0], max(0.0, (now - begin) * 1000)
+        for milliseconds, elements in segments:
+            if at <= milliseconds:
+                return [value(row, at / milliseconds) / 1000 for row in elements[:3]]
+            at -= milliseconds
+        return [row[-1] / 1000 for row in segments[-1][1][:3]]
+
+    def is_at(self, now: Optional[float] = None) -> List[float]:
+        """Where it is: as planned, but for its stray."""
+        self.is_idle()
+        now = now or clock.now()
+        at = self.planned(now)
+        if self.cut or self.is_due("falls"):
+            if not self.cut:
+                self.drop()
+            fallen = now - self.cut
+            return [self.place[0], self.place[1], max(self.floor, self.place[2] - 4.9 * fallen * fallen)]
+        if self.thrown is not None and now >= self.thrown[0]:
+            seconds, speed = now - self.thrown[0], math.hypot(*self.thrown[1])
+            far = carried_on(speed, seconds) / speed
+            at = [v + far * w for v, w in zip(at, self.thrown[1])]
+        if self.flies and self.world.stray:
+            a, b = self.phase + 0.9 * now, self.phase + 0.37 * now
+            way = [math.cos(a) * math.cos(b), math.sin(a) * math.cos(b), math.sin(b)]
+            at = [v + self.world.stray / 1000 * w for v, w in zip(at, way)]
+        if self.is_due("wanders"):
+            at[0] += 0.5 * (self.flown(now) - self.faults["wanders"])
+        return [at[0], at[1], max(self.floor, at[2])]
+
+    def drop(self) -> None:
+        """The motors stop, once."""
+        if self.cut:
+            return
+        self.place, self.lands = self.planned(), False
+        self.cut, self.armed, self.plan = clock.now(), False, None
+
+    def go(self, to: Sequence[float], seconds: float) -> None:
+        """Flies from where its setpoint is to a place. A way begins with speed 0, and the drone is carried on."""
+        now = clock.now()
+        here, before = self.planned(now), self.planned(now - 0.01)
+        speed = [100 * (a - b) for a, b in zip(here, before)]
+        self.thrown = (now, speed) if self.flies and 0.02 < math.hypot(*speed) < 20 else None
+        self.plan = "way", now, here, to, max(0.01, seconds)
+
+    def is_idle(self) -> bool:
+        """Whether its commander has nothing to fly: on the floor, and after a landing has ended."""
+        plan = self.plan
+        if self.lands and plan is not None and clock.now() >= plan[1] + plan[4]:
+            self.end_landing(plan)
+        return self.plan is None
+
+    def end_landing(self, plan: Sequence[Any]) -> None:
+        """The landing ends, and its motors stop, at whatever height it is."""
+        _, _, first, last, seconds = plan
+        if last[2] < self.floor - 0.05 and first[2] > self.floor:
+            # It met what it stands on before the end: at the speed that its way had there.
+            u = next(k / 100 for k in range(101) if first[2] + (last[2] - first[2]) * smooth(k / 100) <= self.floor)
+            rate = 140 * u ** 3 * (1 - u) ** 3 * (first[2] - last[2]) / seconds
+            self.hits = max(self.hits, rate)
+        self.place, self.plan, self.lands, self.flies = [last[0], last[1], self.floor], None, False, False
+
+    # ---- the radio
+
+    def poll(self, raw: bytes) -> bytes:
+        """A packet of the radio that arrived; the acknowledgement's payload."""
+        with self.lock:
+            self.log_what_is_due()
+            if raw == b"\xFF\x05\x01":
+                self.safelink, self.last_up, self.down, self.held = True, 1, 0, None
+                return raw
+            if not self.safelink:
+                self.take(raw)
+                return self.up_queue.pop(0) if self.up_queue else NOTHING
+            if self.held is not None and (raw[0] >> 2 & 1) != self.down:
+                self.held, self.down = None, 1 - self.down
+            if self.held is None:
+                self.held = self.up_queue.pop(0) if self.up_queue else NOTHING
+            answer = bytes([self.held[0] & 0xF3 | self.down << 2]) + self.held[1:] if self.held else b""
+            self.held = self.held or None
+            fresh, self.last_up = (raw[0] >> 3 & 1) != self.last_up, raw[0] >> 3 & 1
+            if fresh:
+                self.take(raw)
+            return answer
+
+    def take(self, raw: bytes) -> None:
+        """Carries a packet out; its answer waits for the next poll."""
+        port, channel, data = firmware.parts(bytes(raw))
+        answer = {firmware.PARAMETERS: self.parameter, firmware.MEMORY: self.memory, firmware.LOGS: self.log,
+                  firmware.COMMANDER: self.command, firmware.PLATFORM: self.platform,
+                  firmware.PLACES: self.emergency}.get(port, lambda *_: None)(channel, data)
+        if answer is not None and "short" in self.faults and channel == 0 and port != firmware.COMMANDER:
+            answer = answer[:3]
+        if answer is not None:
+            self.up_queue.append(firmware.packet(port, channel, answer))
+
+    def emergency(self, channel: int, data: bytes) -> None:
+        """Port 6: the emergency stop."""
+        if (channel, data[:1]) == (1, firmware.EMERGENCY_STOP):
+            self.drop()
+
+    def platform(self, channel: int, data: bytes) -> Optional[bytes]:
+        """Port 13: arming and versions."""
+        if channel == 1:
+            return bytes([0, 3 if "outdated" in self.faults else 6]) if data[0] == 0 else b"\x01simulated\0"
+        if channel == 0 and data[0] == 1:
+            if not data[1] and self.flies and not self.cut and self.is_at()[2] > self.floor + 0.05:
+                self.drop()  # disarmed in the air
+            can = not {"locked", "unarmed"} & set(self.faults) and not self.cut
+            self.armed_at = clock.now() if data[1] and not self.armed else self.armed_at
+            self.armed = can and (bool(data[1]) or "auto" in self.faults)
+            return bytes([1, int(can), self.armed])
+        return None
+
+    def memory(self, channel: int, data: bytes) -> bytes:
+        """Port 4: the list of memories, reads and writes."""
+        if channel == 0:
+            if data[0] == 1:
+                return bytes([1, len(self.memories)])
+            kind, whole = self.memories[data[1]]
+            return struct.pack("<BBBI8s", 2, data[1], kind, len(whole), bytes(8))
+        number, address = struct.unpack_from("<BI", data)
+        whole = self.memories[number][1] if number < len(self.memories) else b""
+        if channel == 1:
+            good, self.is_read = address + data[5] <= len(whole), self.is_read or 1 < data[5] < 20  # the last read
+            return data[:5] + (b"\0" + bytes(whole[address:address + data[5]]) if good else bytes([EIO]))
+        good = address + len(data) - 5 <= len(whole)
+        if good and "forgets" not in self.faults:
+            whole[address:address + len(data) - 5] = data[5:]
+        self.is_written = True
+        return data[:5] + bytes([0 if good else EIO])
+
+    def table_answer(self, data: bytes, items: Sequence[Sequence[Any]], checksum: int) -> bytes:
+        """The answer to a question for a table or an item of it."""
+        if data[0] == 3:
+            return struct.pack("<BHI", 3, len(items) + PADDING, checksum)
+        number = int.from_bytes(data[1:3], "little")
+        name, kind = items[number - PADDING][:2] if number >= PADDING else ("filling.item%d" % number, items[0][1])
+        return data[:3] + bytes([kind]) + name.replace(".", "\0").encode() + b"\0"
+
+    def parameter(self, channel: int, data: bytes) -> bytes:
+        """Port 2: parameters."""
+        if channel == 0:
+            return self.table_answer(data, PARAMETERS, 0xA1)
+        number = int.from_bytes(data[:2], "little") - PADDING
+        form = "<" + firmware.PARAMETER_TYPES[PARAMETERS[number][1]]
+        if channel == 1:
+            return data[:2] + b"\0" + struct.pack(form, self.parameters[number])
+        self.parameters[number] = struct.unpack_from(form, data, 2)[0]
+        return data
+
+    def log(self, channel: int, data: bytes) -> Optional[bytes]:
+        """Port 5: logs."""
+        if channel == 0:
+            return self.table_answer(data, LOGGED, 0xB2)
+        if channel != 1:
+            return None
+        if data[0] == 5:
+            self.blocks = {}
+            return bytes([5, 0, 0])
+        if data[0] == 6:
+            items = [struct.unpack_from("<BH", data, k) for k in range(2, len(data) - 2, 3)]
+            self.blocks[data[1]] = [[(kind & 15, number) for kind, number in items], None, 0]
+            return data[:2] + b"\0"
+        if data[0] == 4 and data[1] in self.blocks:
+            self.blocks[data[1]][1] = None
+        if data[0] == 3 and data[1] in self.blocks:
+            self.blocks[data[1]][1:] = data[2] / 100, clock.now()
+        return data[:2] + b"\0"
+
+    def log_what_is_due(self) -> None:
+        """Puts log blocks that are due into what goes up. Where nobody polled for two seconds, they are gone."""
+        if self.is_due("gap") and clock.now() - self.polled > FORGETS:
+            self.blocks, self.up_queue = {}, []
+        self.polled = clock.now()
+        for block, row in self.blocks.items():
+            items, period, at = row
+            if period is not None and clock.now() >= at and len(self.up_queue) < 50:
+                now = clock.now()
+                row[2] = max(at + period, now - period)
+                values = [self.variable(LOGGED[number - PADDING][0], now) for _, number in items]
+                form = "<" + "".join(firmware.LOG_TYPES[kind] for kind, _ in items)
+                stamp = int((now - self.booted) * 1000) % 2 ** 24
+                self.up_queue.append(firmware.packet(firmware.LOGS, 2, bytes([block]) + stamp.to_bytes(3, "little")
+                                                     + struct.pack(form, *values)))
+
+    def variable(self, name: str, now: float) -> float:
+        """The value of a log variable at an instant."""
+        group, _, item = name.partition(".")
+        if item == "yaw":
+            return self.yaw + (90.0 if "turned" in self.faults else 0.0)
+        if group == "stateEstimate" and ("senseless" in self.faults or self.is_due("loses")):
+            return math.nan
+        if name == "pm.vbat" and "volts" in self.faults:
+            return math.nan
+        if group == "stateEstimate":
+            high = self.faults.get("high", 0.0) if item == "z" else 0.0
+            return self.is_at(now)["xyz".index(item)] + high
+        if group == "kalman":
+            return 0.05 if "unsettled" in self.faults else 0.00002
+        if name == "pm.vbat":
+            low = 3.3 if "empty" in self.faults else 3.0 if self.is_due("drains") else FULL
+            if self.is_due("sag") and self.flown() < self.faults["sag"] + 0.5:
+                low = 3.1
+            return low - SINKS * (self.flown() or 0)
+        flying = self.flies and not self.cut and self.is_at()[2] > self.floor + 0.05
+        if "auto" in self.faults and not self.cut:
+            self.armed = True
+        if "timeout" in self.faults and self.armed and not self.flies and now > (self.armed_at or now) + TIMEOUT:
+            self.armed = False
+        info = firmware.CAN_ARM * ("locked" not in self.faults) | firmware.IS_ARMED * self.armed
+        info |= firmware.AUTO_ARM * ("auto" in self.faults)
+        flying = flying or "flying" in self.faults
+        return info | firmware.CAN_FLY * self.armed | firmware.IS_FLYING * flying | firmware.IS_TUMBLED * bool(self.cut)
+
+    def command(self, channel: int, data: bytes) -> bytes:
+        """Port 8: the commander."""
+        return (data + bytes(3))[:3] + bytes([self.commanded(data, self.heard_at)])
+
+    def commanded(self, data: bytes, at: Optional[float] = None) -> int:
+        """Carries a command out, which was heard at an instant; its status."""
+        kind = data[0]
+        if kind == 0:
+            return 0
+        if kind == 3:
+            if self.is_at()[2] > self.floor + 0.05:
+                self.drop()
+            elif not self.cut:
+                self.place, self.plan, self.lands, self.flies = self.planned()[:2] + [self.floor], None, False, False
+            return 0
+        if kind == 6:
+            number, where, form, offset, pieces = struct.unpack_from("<BBBIB", data, 1)
+            if number > 9:
+                return ENOEXEC
+            self.table[number] = where, form, offset, pieces
+            return 0
+        if not self.parameters[0]:
+            return 0  # the commander is off: taken, and nothing is done
+        if not self.armed:
+            return EBUSY
+        if kind == 7 and "stays" in self.faults:
+            return EBUSY
+        if kind == 7 and "stuck" in self.faults or kind == 8 and "hovers" in self.faults:
+            return 0
+        if kind in (7, 8) and (self.is_idle() == (kind == 8) or self.lands):
+            self.refused.append(kind)
+            return 1
+        if kind in (7, 8):
+            height, seconds = struct.unpack_from("<f", data, 2)[0], struct.unpack_from("<f", data, 11)[0]
+            here = self.planned()
+            self.go([here[0], here[1], height], seconds)
+            self.flies, self.lands = True, kind == 8
+            return 0
+        if kind == 4:
+            x, y, z, yaw, seconds = struct.unpack_from("<fffff", data, 3)
+            self.go([x, y, z], seconds)
+            self.flies, self.lands, self.yaw = True, False, math.degrees(yaw)
+            return 0
+        return self.begin(data, at) if kind == 5 else ENOEXEC
+
+    def begin(self, data: bytes, at: Optional[float] = None) -> int:
+        """Starts a trajectory that was heard of at an instant, anew each time, after its own lateness."""
+        number = data[4]
+        if "refuses" in self.faults:
+            return EBUSY
+        if number > 9 or self.table[number] is None:
+            return 0  # also where nothing was started
+        _, _, offset, pieces = self.table[number]
+        segments = segments_at([whole for kind, whole in self.memories if kind == 0x12][0], offset, pieces)
+        if not segments:
+            return ENOEXEC
+        self.curve_began = (clock.now() if at is None else at) + self.world.late / 1000 * self.late_share
+        self.plan, self.flies, self.lands, self.thrown = ("curve", self.curve_began, segments), True, False, None
+        self.starts.append(self.curve_began)
+        return 0
+
+
+class World:
+    """The air that drones share, and the drones."""
+
+    def __init__(self) -> None:
+        self.reset({}, {})
+
+    def reset(self, homes: Dict[str, Sequence[float]], faults: Dict[str, Dict[str, float]], stray: float = 0.0,
+              late: float = 0.0, loss: float = 0.0, rate: float = 900.0, seed: int = 1, unplugged: Sequence[str] = (),
+              blocks: Optional[float] = None, dies: Optional[float] = None) -> None:
+        """Sets drones at places (metres) by their URIs, each with its faults and their numbers. So many seconds after
+        the first start calls of dongle 0 don't return any more (blocks), or return and nothing is sent (dies)."""
+        self.blocks, self.dies, self.nearest, self.watching = blocks, dies, None, False
+        self.stray, self.late, self.loss, self.rate, self.unplugged = stray, late, loss, rate, unplugged
+        self.chance, self.lock, self.free = random.Random(seed), threading.Lock(), {}
+        self.drones = {uri: Drone(self, uri, home, faults.get(uri, {})) for uri, home in homes.items()}
+        # The first and the last start are `late` apart, the others lie evenly between them.
+        shares = [k / max(1, len(homes) - 1) for k in range(len(homes))]
+        self.chance.shuffle(shares)
+        for drone, share in zip(self.drones.values(), shares):
+            drone.late_share = share
+
+    def ails(self, dongle: object, after: Optional[float]) -> bool:
+        """Whether something that comes over dongle 0 so long after the first start has come over this one."""
+        starts = [drone.starts[0] for drone in self.drones.values() if drone.starts]
+        return str(dongle) == "0" and after is not None and bool(starts) and clock.now() >= min(starts) + after
+
+    def watch(self) -> None:
+        """Notes how near two drones of which one flies come to each other, looking all the while."""
+        self.watching = True
+        threading.Thread(target=self.look, daemon=True).start()
+
+    def look(self) -> None:
+        """Looks, every twenty-five real milliseconds."""
+        while self.watching:
+            time.sleep(0.025)
+            rows = [(drone.is_at(), drone) for drone in list(self.drones.values())]
+            for k, (at, drone) in enumerate(rows):
+                for n, (other, second) in enumerate(rows[:k]):
+                    if max(at[2] - drone.floor, other[2] - second.floor) > 0.15:
+                        far = math.dist(at, other)
+                        if self.nearest is None or far < self.nearest[0]:
+                            self.nearest = far, n, k
+
+    def lines(self, names: Sequence[str]) -> Iterator[str]:
+        """Where the drones are, whether they are armed, how often they began a trajectory, and how long after the
+        first one: lines for people."""
+        first = min([drone.starts[0] for drone in self.drones.values() if drone.starts] or [0.0])
+        for name, drone in zip(names, self.drones.values()):
+            after = " after %.0f ms" % (1000 * (drone.starts[0] - first)) if drone.starts else ""
+            yield "simulated: %s at (%.2f, %.2f, %.2f) m, %s, %d start%s%s" % (
+                name, *drone.is_at(), "cut" if drone.cut else "armed" if drone.armed else "disarmed",
+                len(drone.starts), "" if len(drone.starts) == 1 else "s", after)
+            if drone.hits:
+                yield "simulated: %s hit what it stands on at %.1f m/s" % (name, drone.hits)
+        self.watching = False
+        if self.nearest:
+            yield "simulated: nearest two of which one flew: %s and %s, %.2f m" % (
+                names[self.nearest[1]], names[self.nearest[2]], self.nearest[0])
+
+    def take_turn(self, dongle: str) -> Tuple[bool, bool]:
+        """Waits for a dongle's next transfer."""
+        with self.lock:
+            at = max(clock.now(), self.free.get(dongle, 0.0))
+            self.free[dongle] = at + 1 / self.rate
+            lost, lost_back = self.chance.random() < self.loss, self.chance.random() < self.loss
+        clock.wait(at + 1 / self.rate - clock.now())
+        return lost, lost_back
+
+    def transfer(self, uri: str, raw: bytes) -> Tuple[bool, bytes]:
+        """A packet to a drone: whether it was acknowledged, and what came back."""
+        lost, lost_back = self.take_turn(uri.split("/")[2])
+        drone = self.drones.get(uri)
+        if lost or drone is None or drone.is_gone() or self.ails(uri.split("/")[2], self.dies):
+            return False, b""
+        came = drone.poll(raw)
+        return (False, b"") if lost_back else (True, came)
+
+    def broadcast(self, dongle: object, channel: object, raw: bytes) -> None:
+        """A packet to all drones of a channel, each of which may miss it. Nobody acknowledges it, so the dongle
+        repeats it three times at once: that is from memory, too. All hear it at one instant."""
+        self.take_turn(str(dongle))
+        now = clock.now()
+        for uri, drone in self.drones.items():
+            if uri.split("/")[2:4] == [str(dongle), str(channel)] and "deaf" not in drone.faults:
+                is_deaf = drone.is_gone() or "deafens" in drone.faults and drone.flies
+                is_deaf = is_deaf or self.ails(dongle, self.dies)
+                if not is_deaf and self.chance.random() >= self.loss ** 4:
+                    with drone.lock:
+                        drone.heard_at = now
+                        drone.take(raw)
+                        drone.heard_at = None
+
+
+WORLD = World()

@@ -1,0 +1,136 @@
+"""The radio driver and its thread, with safelink and the library's queues."""
+import queue
+import re
+import threading
+import time
+from typing import Any, Callable, Optional, Sequence, Tuple
+
+from hemtoghai.flying import clock
+
+from .. import air
+from .crtpstack import CRTPPacket
+
+RETRIES = 100
+RELAXED = 0.01  # seconds between transfers where nothing comes
+OPEN = []  # the drivers that are open, for tests
+
+
+class WrongUriType(Exception):
+    pass
+
+
+class RadioDriver:
+    def __init__(self) -> None:
+        self.uri, self.link_error_callback, self._thread = "", None, None
+        self.in_queue = self.out_queue = None
+
+    def connect(self, uri: str, radio_link_statistics_callback: Any,
+                link_error_callback: Optional[Callable[[str], None]]) -> None:
+        if not re.search("^radio://", uri):
+            raise WrongUriType("Not a radio URI")
+        if uri in air.WORLD.unplugged:
+            raise Exception("Cannot find a Crazyradio Dongle")
+        self.uri, self.link_error_callback = uri, link_error_callback
+        self.in_queue, self.out_queue = queue.Queue(), queue.Queue(1)
+        self._thread = _RadioDriverThread(uri, self)
+        OPEN.append(self)
+        self._thread.start()
+
+    def receive_packet(self, wait: float = 0) -> Optional[CRTPPacket]:
+        try:
+            if wait == 0:
+                return self.in_queue.get(False)
+            return self.in_queue.get(True, None if wait < 0 else wait)
+        except queue.Empty:
+            return None
+
+    def send_packet(self, pk: CRTPPacket) -> None:
+        try:
+            self.out_queue.put(pk, True, clock.real(2))
+        except queue.Full:
+            if self.link_error_callback:
+                self.link_error_callback("RadioDriver: Could not send packet to copter")
+
+    def close(self) -> None:
+        self._thread.open = False
+        self._thread.join()
+        OPEN.remove(self)
+        self.link_error_callback = None
+
+
+class _RadioDriverThread(threading.Thread):
+    def __init__(self, uri: str, link: RadioDriver) -> None:
+        threading.Thread.__init__(self, daemon=True)
+        self.uri, self.link, self.open, self.left = uri, link, True, RETRIES
+        self.up = self.down = 0
+        self.safelink = False
+
+    def exchange(self, data: bytes) -> Tuple[bool, bytes]:
+        """A transfer, with safelink's numbers; none ends where the dongle is gone and the library waits for it."""
+        while air.WORLD.ails(self.uri.split("/")[2], air.WORLD.blocks):
+            time.sleep(0.05)
+        if not self.safelink:
+            return air.WORLD.transfer(self.uri, data)
+        ack, came = air.WORLD.transfer(self.uri, bytes([data[0] & 0xF3 | self.up << 3 | self.down << 2]) + data[1:])
+        if ack and came and (came[0] >> 2 & 1) == self.down:
+            self.down = 1 - self.down
+        if ack:
+            self.up = 1 - self.up
+        return ack, came
+
+    def run(self) -> None:
+        for _ in range(10):
+            ack, came = air.WORLD.transfer(self.uri, b"\xFF\x05\x01")
+            if came == b"\xFF\x05\x01":
+                self.safelink = True
+                break
+        out, empty = b"\xFF", 0
+        while self.open:
+            ack, came = self.exchange(out)
+            if not ack:
+                self.left -= 1
+                if self.left == 0 and self.link.link_error_callback is not None:
+                    self.link.link_error_callback("Too many packets lost")
+                continue
+            self.left = RETRIES
+            if came:
+                self.link.in_queue.put(CRTPPacket(came[0], came[1:]))
+            # After ten transfers in which nothing came it waits a little for what is to be sent.
+            empty = empty + 1 if not came or came[0] & 0xF3 == 0xF3 else 0
+            try:
+                packet = self.link.out_queue.get(empty > 10, clock.real(RELAXED))
+                out = bytes([packet.header]) + bytes(packet.data)
+            except queue.Empty:
+                out = b"\xFF"
+
+
+class RadioManager:
+    """A dongle that is shared: its `open` gives an instance with a channel and an address of its own."""
+
+    @staticmethod
+    def open(devid: int) -> "_SharedRadioInstance":
+        return _SharedRadioInstance(devid)
+
+
+class _SharedRadioInstance:
+    def __init__(self, devid: int) -> None:
+        self.devid = devid
+        self.channel = self.address = self.rate = None
+
+    def set_channel(self, channel: int) -> None:
+        self.channel = channel
+
+    def set_address(self, address: Sequence[int]) -> None:
+        self.address = tuple(address)
+
+    def set_data_rate(self, dr: int) -> None:
+        self.rate = dr
+
+    def send_packet(self, data: Sequence[int]) -> None:
+        while air.WORLD.ails(self.devid, air.WORLD.blocks):
+            time.sleep(0.05)
+        if self.address == (0xFF, 0xE7, 0xE7, 0xE7, 0xE7):
+            air.WORLD.broadcast(self.devid, self.channel, bytes(data))
+
+    def close(self) -> None:
+        pass

@@ -1,0 +1,267 @@
+"""The stages of a way up or down, as shows that the proved program's `check` judges. For ./show legs and ./show fly.
+
+In a stage some drones fly one command of the firmware's planner, from rest to rest, which is the act `move`: a take-off
+straight up, a go-to, or a landing straight down. All others hold, and a stage begins when the one before has ended. So a
+leg is a show in the project's language, and `check` judges it, with the show's own ellipsoid. To the show's `stray`
+comes how far a drone may have moved since its place was measured, and `late` is at least that of commands that go out
+drone by drone.
+
+Where `check` refuses a leg as a whole, each stage is judged by itself, by several shows of which each pair is in one.
+`check` gives all pairs what the fastest flies in the time by which drones may be late. So two that both hold in a
+stage are judged without those who move, and these with all who hold. Two that both stand on their pads aren't judged
+with each other: their pads have to be PADS mm apart. Millimetres and milliseconds.
+"""
+import concurrent.futures
+import subprocess
+from math import ceil, dist
+from typing import Dict, Iterable, Iterator, List, Optional, Sequence, Tuple
+
+from hemtoghai import program
+from hemtoghai.companion import missing, no_program
+
+AIM = 30  # how far a drone's estimate may have moved since its place was measured
+LATE = 300  # how far apart commands to single drones may be
+SAME_FLOOR = 30  # between floors up to which one broadcast may land all
+PADS = 150  # between two that both stand
+LEAST, CLIMB, GO, SINK = 2000, 500, 500, 400  # of a stage; mean speeds, in mm a second
+PEAK = 2.19  # the greatest speed of a move, in mean speeds
+TAKE_OFF, GO_TO, LAND = "take-off", "go-to", "landing"
+PATIENCE = 10  # seconds in which `check` has to answer
+AT_ONCE = 4  # texts that `check` is asked about side by side
+MOST = 1000  # of a stray and of lateness, in the language
+
+Place = Tuple[int, int, int]
+
+
+class NoWay(Exception):
+    """Why there is no leg: words for people."""
+
+
+class Stage:
+    """Drones that fly one command each, to a place each, all in the same time."""
+
+    def __init__(self, kind: str, milliseconds: int, to: Dict[int, Place]) -> None:
+        self.kind, self.milliseconds, self.to = kind, milliseconds, to
+
+    def without(self, drones: Iterable[int]) -> "Stage":
+        """The same stage, in which these drones hold."""
+        return Stage(self.kind, self.milliseconds, {k: place for k, place in self.to.items() if k not in drones})
+
+
+class Rules:
+    """What a leg is judged by: a show's ellipsoid, stray and late, and what legs add to them. A stray that is larger
+    than the language has is refused by `check`."""
+
+    def __init__(self, settings: Dict[str, Sequence[int]], aim: float = AIM, ceiling: Optional[int] = None) -> None:
+        (self.radius, self.height), (stray,), (late,) = [settings[word] for word in ("ellipsoid", "stray", "late")]
+        self.show_late, self.show_stray = late, stray
+        self.aim, self.ceiling = ceil(aim), ceiling
+        self.stray, self.late = stray + self.aim, min(MOST, max(late, LATE))
+
+    def words(self) -> str:
+        """All of it, for people."""
+        return "ellipsoid %d %d, stray %d (the show's %d, and %d for the pads), late %d (the show's %d)" % (
+            self.radius, self.height, self.stray, self.show_stray, self.aim, self.late, self.show_late)
+
+    def side(self) -> int:
+        """How far apart from above two places are that need no further look; a check says so only from here on."""
+        return 2 * (self.radius + self.stray)
+
+
+def text_of(names: Sequence[str], at: Dict[int, Place], yaws: Sequence[int], stages: Iterable[Stage], rules: Rules,
+            **more) -> bytes:
+    """A show's text: where drones begin, and a cue for each stage. Further lines for its `head`, and another `stray`
+    and `late` than the rules', are given by name."""
+    rows = ["choreo 1", *more.get("head", ()), "ellipsoid %d %d" % (rules.radius, rules.height),
+            "stray %d" % more.get("stray", rules.stray), "late %d" % more.get("late", rules.late)]
+    rows += ["drone %s %d %d %d %d" % (names[k], *(1000 * v for v in place), yaws[k]) for k, place in at.items()]
+    for stage in stages:
+        rows += ["cue %d" % stage.milliseconds]
+        rows += ["%s move %d %d %d %d" % (names[k], *(1000 * v for v in place), yaws[k])
+                 for k, place in stage.to.items()]
+        rows += ["end"]
+    return ("\n".join(rows) + "\n").encode()
+
+
+ASKED: Dict[bytes, Tuple[int, str]] = {}
+
+
+def judged(text: bytes) -> Tuple[int, str]:
+    """The status and the line of `check` on a text, which is asked once. Where it can't be asked, or doesn't answer, the
+    status isn't 0 and the line says why. It has a process group of its own, since Ctrl-C at a terminal ends all that
+    the terminal's group has."""
+    if text in ASKED:
+        return ASKED[text]
+    if no_program():
+        return -1, missing()
+    try:
+        done = subprocess.run([program.PROGRAM, "check"], input=text, stdout=subprocess.PIPE, stderr=subprocess.DEVNULL,
+                              timeout=PATIENCE, start_new_session=True)
+    except (OSError, subprocess.TimeoutExpired) as error:
+        return -1, "`check` doesn't answer: %s" % error
+    line = done.stdout.decode(errors="replace").strip()
+    if done.returncode not in (0, 3, 4, 5):
+        return -1, "`check` ended with %d: %s" % (done.returncode, line)
+    ASKED[text] = done.returncode, line
+    return ASKED[text]
+
+
+def ask_all(texts: Iterable[bytes]) -> None:
+    """Asks `check` about texts side by side, so that each is answered at once afterwards."""
+    with concurrent.futures.ThreadPoolExecutor(AT_ONCE) as pool:
+        list(pool.map(judged, texts))
+
+
+def refusal_of(text: bytes) -> Optional[str]:
+    """Why `check` doesn't accept a text, or None where it does."""
+    status, line = judged(text)
+    return line or "`check` ended with %d" % status if status else None
+
+
+def apart(one: Sequence[float], other: Sequence[float]) -> float:
+    """How far two places are from each other as seen from above."""
+    return dist(one[:2], other[:2])
+
+
+class Leg:
+    """A way of all drones: where they begin, and its stages. `whole` is whether `check` accepts it as one show,
+    `why_below` why it doesn't lead to the pads, where it doesn't, and `hint` what would make it shorter, or None."""
+
+    def __init__(self, names: Sequence[str], at: Dict[int, Place], yaws: Sequence[int], rules: Rules) -> None:
+        self.names, self.begin, self.yaws, self.rules = names, {k: tuple(v) for k, v in at.items()}, yaws, rules
+        self.stages: List[Stage] = []
+        self.whole, self.late, self.why_below, self.hint = False, rules.late, None, None
+
+    def places(self, count: Optional[int] = None) -> Dict[int, Place]:
+        """Where drones are after so many stages, or all."""
+        at = dict(self.begin)
+        for stage in self.stages[:count]:
+            at.update(stage.to)
+        return at
+
+    def milliseconds(self) -> int:
+        """How long the leg takes, without the waits between stages."""
+        return sum(stage.milliseconds for stage in self.stages)
+
+    def text(self, head: Sequence[str] = ()) -> bytes:
+        """The leg as a show."""
+        return text_of(self.names, self.begin, self.yaws, self.stages, self.rules, late=self.late, head=head)
+
+    def reversed(self) -> "Leg":
+        """The same way back: a move from rest to rest is the same curve backwards."""
+        back = Leg(self.names, self.places(), self.yaws, self.rules)
+        for number in reversed(range(len(self.stages))):
+            stage, before = self.stages[number], self.places(number)
+            kind = {TAKE_OFF: LAND, LAND: TAKE_OFF}.get(stage.kind, GO_TO)
+            back.stages.append(Stage(kind, stage.milliseconds, {k: before[k] for k in stage.to}))
+        return back
+
+    def rest(self, count: int, at: Dict[int, Place], hold: Iterable[int] = ()) -> "Leg":
+        """What is left of a leg after so many stages, from other places; some hold in it."""
+        leg = Leg(self.names, at, self.yaws, self.rules)
+        leg.stages = [stage for stage in (it.without(hold) for it in self.stages[count:]) if stage.to]
+        return leg
+
+    def judge(self, pads: Dict[int, Place]) -> Optional[str]:
+        """Judges the leg, as a whole or else stage by stage; the refusal, or None."""
+        self.late = self.rules.late
+        self.whole = refusal_of(self.text()) is None
+        if self.whole:
+            return None
+        refusal = judge_stages(self, self.stages, pads, self.begin)
+        self.late = self.late if refusal else 0
+        return refusal
+
+    def top(self) -> int:
+        """The highest that the leg goes, in mm."""
+        return max(place[2] for at in [self.begin, *(stage.to for stage in self.stages)] for place in at.values())
+
+    def lines(self) -> Iterator[str]:
+        """The stages, for people."""
+        for number, stage in enumerate(self.stages, 1):
+            at = self.places(number - 1)
+            rows = ["%s to (%.2f, %.2f, %.2f)" % (self.names[k], *(v / 1000 for v in place))
+                    for k, place in stage.to.items() if stage.kind != LAND or place != at[k]]
+            yield "%3d. %-8s %5.1f s  %s" % (number, stage.kind, stage.milliseconds / 1000, "; ".join(rows))
+
+
+def classes_of(standing: Iterable[int], at: Dict[int, Place], side: float) -> List[List[int]]:
+    """The drones that stand, in lists in each of which all are farther apart than this."""
+    out = []
+    for k in standing:
+        for row in out:
+            if all(apart(at[k], at[other]) > side for other in row):
+                row.append(k)
+                break
+        else:
+            out.append([k])
+    return out or [[]]
+
+
+def texts_of(leg: Leg, stage: Stage, pads: Dict[int, Place], at: Dict[int, Place]) -> List[bytes]:
+    """The texts by which a stage of a leg is judged by itself, from places, with those who stand as their rule says.
+    Where one drone moves, nobody is late."""
+    late = leg.rules.late if sum(place != at[k] for k, place in stage.to.items()) > 1 else 0
+    return stage_texts(leg.names, leg.yaws, stage, standing_of(stage, pads, at), at, leg.rules, leg.rules.stray, late)
+
+
+def stage_texts(names: Sequence[str], yaws: Sequence[int], stage: Stage, standing: Iterable[int],
+                at: Dict[int, Place], rules: Rules, stray: int, late: int) -> List[bytes]:
+    """The texts by which a stage is judged by itself, from places, with a stray and a lateness: those who move with
+    some of those who hold, and those who hold with some of those who stand."""
+    stand = {k: at[k] for k in standing if k in at}
+    hold = {k: place for k, place in at.items() if k not in stage.to}
+    move = {k: place for k, place in at.items() if k in stage.to}
+
+    def text(rows: Dict[int, Place], to: Dict[int, Place], late: int) -> bytes:
+        cue = Stage(stage.kind, stage.milliseconds, to)
+        return text_of(names, {k: rows[k] for k in at if k in rows}, yaws, [cue], rules, stray=stray, late=late)
+    texts = [text({**move, **{k: at[k] for k in row}}, stage.to, late)
+             for row in standing_apart(hold, rules, stray, late)] if move else []
+    hover = {k: place for k, place in hold.items() if k not in stand}
+    if hover:
+        texts += [text({**hover, **{k: at[k] for k in row}}, {}, 0) for row in standing_apart(stand, rules, stray, 0)]
+    return texts
+
+
+def standing_apart(standing: Dict[int, Place], rules: Rules, stray: int, late: int) -> List[List[int]]:
+    """Those who hold, in lists in each of which `check` refuses no two of them: it adds to all pairs what the fastest
+    flies in that time."""
+    side = 2.12 * (rules.radius + stray) + PEAK * late * max(CLIMB, GO, SINK) / 1000 + 10
+    return classes_of(standing, standing, side)
+
+
+def standing_of(stage: Stage, pads: Dict[int, Place], at: Dict[int, Place]) -> List[int]:
+    """Who stands on its pad in a stage."""
+    return [k for k in at if k in pads and k not in stage.to and at[k] == tuple(pads[k])]
+
+
+def pads_refusal(leg: Leg, stage: Stage, pads: Dict[int, Place], at: Dict[int, Place]) -> Optional[str]:
+    """The first two that stand in a stage on pads that are too near to each other, or None."""
+    standing = standing_of(stage, pads, at)
+    for number, i in enumerate(standing):
+        for j in standing[number + 1:]:
+            if dist(at[i], at[j]) < PADS:
+                return "pads of %s and %s are %.0f mm apart, and %d are wanted" % (
+                    leg.names[i], leg.names[j], dist(at[i], at[j]), PADS)
+    return None
+
+
+def judge_stages(leg: Leg, stages: Iterable[Stage], pads: Dict[int, Place], at: Dict[int, Place]) -> Optional[str]:
+    """Judges stages that follow each other from places, each by itself; the first refusal, or None."""
+    rows, at = [], dict(at)
+    for stage in stages:
+        rows.append((pads_refusal(leg, stage, pads, at), texts_of(leg, stage, pads, at)))
+        at.update(stage.to)
+    ask_all(text for _, texts in rows for text in texts)
+    for refusal, texts in rows:
+        for why in (refusal, *map(refusal_of, texts)):
+            if why:
+                return why
+    return None
+
+
+def milliseconds_for(kind: str, ways: Sequence[float]) -> int:
+    """How long a stage takes with these ways, a multiple of a hundred milliseconds."""
+    speed = {TAKE_OFF: CLIMB, GO_TO: GO, LAND: SINK}[kind]
+    return max(LEAST, 100 * ceil(max(ways or [0]) / speed * 10))

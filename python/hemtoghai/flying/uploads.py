@@ -1,0 +1,319 @@
+"""An upload by the proved program, over pipes: its process, what goes by, the pace of its ticks, and the loop that
+carries packets between it and a link. Shared by ./show bridge and ./show fly; nothing here is proved.
+"""
+import os
+import queue
+import subprocess
+import threading
+import time
+
+from hemtoghai import program as proved
+from hemtoghai.companion import stop
+from hemtoghai.flying.links import COMMAND, key_of, READ, words_of, WRITE
+
+TICK, PACKET, END = 0x54, 0x50, 0x45
+GIVES_UP = 20  # ticks for which a packet is in flight; at each but the last it is sent
+ENDS = {0: "done: each drone has what it is to fly", 3: "the show is faulty", 4: "the show has no room in a drone",
+        5: "two drones of the show come too close", 6: "the program could not read", 8: "stopped before its end",
+        9: "given up: a packet had no good answer for twenty ticks", 10: "refused by a drone",
+        11: "the program was given a faulty byte", 13: "given up: 4,000,000 frames",
+        14: "a drone's memory holds something else"}
+
+
+class Host:
+    """The program's `upload` over pipes. What it sends comes by `events`: ("packet", drone, bytes), ("end", status),
+    and ("closed", bytes that are no frame) where it ends without an end frame."""
+
+    def __init__(self, command, text, events):
+        self.events = events
+        try:
+            if os.path.abspath(command[0]) == proved.PROGRAM:
+                command = [proved.runs(), *command[1:]]
+        except proved.Unusable as why:
+            stop(str(why))
+        try:
+            self.process = subprocess.Popen(command, stdin=subprocess.PIPE, stdout=subprocess.PIPE, bufsize=0)
+        except OSError as error:
+            stop("%s: %s" % (command[0], error.strerror))
+        self.write(text + (b"" if text.endswith(b"\n") or not text else b"\n") + b"%%\n")
+        self.reader = threading.Thread(target=self.listen, daemon=True)
+        self.reader.start()
+
+    def write(self, data):
+        """Writes to the program; where it has ended, its end frame is under way."""
+        try:
+            while data:
+                data = data[self.process.stdin.write(data):]
+        except (BrokenPipeError, ValueError):
+            pass
+
+    def tick(self):
+        """A tick."""
+        self.write(bytes([TICK]))
+
+    def hear(self, drone, packet):
+        """A packet that came from a drone; none longer than a packet may be can come."""
+        if 1 <= len(packet) <= 31:
+            self.write(bytes([PACKET, drone + 1, len(packet)]) + packet)
+
+    def listen(self):
+        """Reads frames until the end, and puts them into `events`."""
+        with open(self.process.stdout.fileno(), "rb", closefd=False) as stream:
+            while True:
+                kind = stream.read(1)
+                if kind == bytes([PACKET]):
+                    head = stream.read(2)
+                    packet = stream.read(head[1]) if len(head) == 2 else b""
+                    if len(head) == 2 and len(packet) == head[1]:
+                        self.events.put(("packet", head[0] - 1, packet))
+                        continue
+                    kind += head + packet
+                elif kind == bytes([END]):
+                    status = stream.read(1)
+                    if len(status) == 1:
+                        return self.events.put(("end", status[0]))
+                return self.events.put(("closed", kind + stream.read(200)))
+
+    def close_input(self):
+        """Ends the program's input: an upload that is still going ends with 8."""
+        try:
+            self.process.stdin.close()
+        except OSError:
+            pass
+
+    def end(self):
+        """Ends the program's input and waits for it; its status."""
+        self.close_input()
+        return self.process.wait()
+
+    def kill(self):
+        """Ends the program where it still runs, and all that belongs to it here."""
+        self.process.kill()
+        self.process.wait()
+        self.close_input()
+        self.reader.join(5)
+        self.process.stdout.close()
+
+
+class Traffic:
+    """What went by in an upload: each drone's packets by their keys, in the order in which the program first sent
+    them, which is that of their numbers; how often each was sent; and which had a good answer. `wanted` is how many
+    packets each drone is to have, for people. `refused` is the first answer that ended the upload with 10, `differs`
+    the one with 14."""
+
+    def __init__(self, names, wanted):
+        self.names, self.wanted = names, wanted
+        self.packets, self.times = [{} for _ in names], [{} for _ in names]
+        self.good, self.held = [set() for _ in names], [{} for _ in names]
+        self.refused = self.differs = None
+        self.begun = self.ended = None
+
+    def sent(self, drone, packet):
+        """The program sends a packet."""
+        self.begun = self.begun or time.monotonic()
+        key = key_of(packet, False)
+        self.packets[drone].setdefault(key, packet)
+        self.times[drone][key] = self.times[drone].get(key, 0) + 1
+        if key and key[0] == WRITE:
+            address = int.from_bytes(packet[2:6], "little")
+            self.held[drone].update(enumerate(packet[6:], address))
+
+    def heard(self, drone, raw):
+        """An answer goes to the program, which judges it as docs/RADIO.md says."""
+        key = key_of(raw, True)
+        packet = self.packets[drone].get(key)
+        if packet is None or key in self.good[drone]:
+            return
+        status = raw[4] if key[0] == COMMAND else raw[6]
+        if key[0] == READ and status == 0:
+            if len(raw) - 7 != packet[6]:
+                return
+            address = int.from_bytes(packet[2:6], "little")
+            for at, byte in enumerate(raw[7:], address):
+                if byte != self.held[drone].get(at):
+                    self.differs = self.differs or (drone, key, at, self.held[drone].get(at), byte)
+                    return
+        if status:
+            self.refused = self.refused or (drone, key, status)
+        else:
+            self.good[drone].add(key)
+
+    def open(self, drone):
+        """The keys of a drone's packets that have no good answer yet, in the order of their numbers."""
+        return [key for key in self.packets[drone] if key not in self.good[drone]]
+
+    def count_open(self, drone):
+        """How many these are."""
+        return len(self.packets[drone]) - len(self.good[drone])
+
+    def seconds(self):
+        """How long it took from the first packet to the end, or now."""
+        return 0.0 if self.begun is None else (self.ended or time.monotonic()) - self.begun
+
+    def line(self):
+        """How far each drone is."""
+        return "%.0f s: %s" % (self.seconds(), ", ".join(
+            "%s %d/%d" % row for row in zip(self.names, map(len, self.good), self.wanted)))
+
+    def about(self, drone, key):
+        """A drone, a packet's number and what it is."""
+        return "%s, packet %d: %s" % (
+            self.names[drone], list(self.packets[drone]).index(key), words_of(self.packets[drone][key]))
+
+    def times_of(self, drone, key):
+        """How often a packet was sent, in words."""
+        times = self.times[drone][key]
+        return "sent once" if times == 1 else "sent %d times" % times
+
+    def end_lines(self, status):
+        """Which drone, packet and address an end is about."""
+        if status == 10 and self.refused:
+            drone, key, answer = self.refused
+            return ["%s was answered with status %d" % (self.about(drone, key), answer)]
+        if status == 14 and self.differs:
+            drone, key, at, wanted, got = self.differs
+            return ["%s: address %d holds %02X, and %s is wanted" % (
+                self.about(drone, key), at, got, "nothing" if wanted is None else "%02X" % wanted)]
+        rows = [(drone, key) for drone in range(len(self.names)) for key in self.open(drone)]
+        if status == 9 and rows:
+            late = [row for row in rows if self.times[row[0]][row[1]] >= GIVES_UP]
+            row = late[0] if late else max(rows, key=lambda it: self.times[it[0]][it[1]])
+            return ["%s had no good answer, %s" % (self.about(*row), self.times_of(*row))]
+        if status == 8:
+            firsts = {}
+            for drone, key in rows:
+                firsts.setdefault(drone, key)
+            return ["%s is open, %s" % (self.about(*row), self.times_of(*row)) for row in firsts.items()]
+        return []
+
+
+class Pace:
+    """When to tick. A packet that is still in the link, or whose answer may still come, isn't lost, and a tick would
+    send it once more. So it is time where all packets have left and nothing came for an answer's time. Where some
+    drones go on and one stands still for longer, it is time once eight packets went for each that a tick repeats. A
+    link from which nothing leaves any more is ticked all the same, so that the program gives up."""
+    STUCK = 10  # answer times after which a packet that is still in the link counts as gone
+    ROUNDS, PATIENCE = 8, 5  # packets for each that a tick repeats, and answer times, where only some stand still
+
+    def __init__(self, answer_time, traffic):
+        now = time.monotonic()
+        self.answer_time, self.traffic, self.ticks = answer_time, traffic, 0
+        self.handed, self.at_tick, self.left, self.moved = 0, 0, 0, now
+        self.last, self.since = [0] * len(traffic.names), [now] * len(traffic.names)
+
+    def step(self):
+        """The seconds after which to look again."""
+        return max(0.001, self.answer_time / 5)
+
+    def gives(self, drone):
+        """A packet was handed to the link."""
+        self.handed += 1
+        self.last[drone], self.since[drone] = self.handed, None
+
+    def hears(self, drone):
+        """A drone was heard."""
+        if self.since[drone] is not None:
+            self.since[drone] = time.monotonic()
+
+    def look(self, left):
+        """Notes how many packets have left the link."""
+        if left == self.left and None not in self.since:
+            return
+        now = time.monotonic()
+        if left != self.left:
+            self.left, self.moved = left, now
+        for drone, since in enumerate(self.since):
+            if since is None and (self.last[drone] <= left or now > self.moved + self.STUCK * self.answer_time):
+                self.since[drone] = now
+
+    def is_due(self, left):
+        """Whether it is time for a tick, where this many packets have left the link."""
+        self.look(left)
+        now, counts = time.monotonic(), [self.traffic.count_open(k) for k in range(len(self.since))]
+        wait = self.answer_time if any(counts) else self.STUCK * self.answer_time
+        still = [0.0 if since is None else now - since for since in self.since]
+        rows = [it for it, count in zip(still, counts) if count] or still
+        is_enough = self.handed - self.at_tick >= self.ROUNDS * sum(counts) and max(rows) >= self.PATIENCE * wait
+        if min(rows) < wait and not is_enough:
+            return False
+        self.ticks, self.at_tick = self.ticks + 1, self.handed
+        self.since = [None if since is None else now for since in self.since]
+        return True
+
+
+class Carrying:
+    """Carries packets between the program and a link until the program ends. `status` is that of its end frame, or
+    None where it ended without one, `rest` what else it wrote, and `fault` why the upload was stopped from here, or
+    None."""
+
+    def __init__(self, host, link, events, tick, traffic, tell=None):
+        self.host, self.link, self.events, self.traffic, self.tell = host, link, events, traffic, tell
+        self.pace = Pace(link.answer_time if tick is None else tick / 1000, traffic)
+        self.status, self.rest, self.fault, self.done = None, b"", None, False
+        self.told, self.next = 1, 0.0
+
+    def stop(self, why):
+        """Ends the upload: the program is told that nothing comes any more, and ends it with 8."""
+        if self.fault:
+            raise KeyboardInterrupt
+        self.fault = why
+        self.host.close_input()
+
+    def step(self):
+        """Waits for what happens next, and handles it."""
+        try:
+            what, *rest = self.events.get(timeout=self.pace.step() if self.traffic.begun else None)
+        except queue.Empty:
+            what, rest = "nothing", []
+        if what == "end" or what == "closed":
+            self.status, self.rest = (rest[0], b"") if what == "end" else (None, rest[0])
+            self.traffic.ended, self.done = time.monotonic(), True
+        elif self.fault:
+            return
+        elif what == "packet":
+            self.give(*rest)
+        elif what == "heard":
+            self.traffic.heard(*rest)
+            self.pace.hears(rest[0])
+            self.host.hear(*rest)
+        self.look()
+
+    def give(self, drone, packet):
+        """Hands a packet of the program to the link."""
+        if drone >= len(self.link.names):
+            stop("the program sends to drone %d, and the show has %d" % (drone + 1, len(self.link.names)))
+        self.traffic.sent(drone, packet)
+        self.pace.gives(drone)
+        self.link.send(drone, packet)
+
+    def look(self):
+        """Ticks where it is time, looks whether the link is well, and says how far the drones are."""
+        now = time.monotonic()
+        if self.done or self.fault or not self.traffic.begun or now < self.next:
+            return
+        self.next = now + self.pace.step()
+        if self.pace.is_due(self.link.left):
+            self.host.tick()
+        ailing = self.link.ailing()
+        if ailing:
+            self.stop(ailing)
+        if self.tell and self.traffic.seconds() >= self.told:
+            self.told = int(self.traffic.seconds()) + 1
+            self.tell(self.traffic.line())
+
+
+def carry(host, link, events, tick, traffic, tell=None):
+    """Carries packets until the program ends; what came of it. Ctrl-C stops the upload, the second one this loop."""
+    carrying = Carrying(host, link, events, tick, traffic, tell)
+    while not carrying.done:
+        try:
+            carrying.step()
+        except KeyboardInterrupt:
+            carrying.stop("Ctrl-C")
+    return carrying
+
+
+def wanted_packets(flown, start, readback):
+    """How many packets each drone is to have: writes, a define, with read-back its reads, and a start where it is
+    wanted."""
+    return [-(-len(data) // 24) + 1 + (-(-len(data) // 20) if readback else 0) + bool(start) for data in flown.data()]

@@ -1,0 +1,1 @@
+"""Curves, the distances between drones, and the paths of other programs."""

@@ -1,0 +1,161 @@
+"""Common cues for the paths of several drones, and what each drone flies in them. For ./show import.
+
+Micrometres, milliseconds and tenths of a degree. All control values that are flown are whole millimetres, as the
+program sends them: its rounding changes nothing. Cues are looked for in doubles, and `bounds` says in exact fractions
+how far what was found leaves the paths.
+"""
+import bisect
+import math
+from fractions import Fraction
+
+from hemtoghai.geometry.paths import farthest, root_up, roughly_farthest
+from hemtoghai.language import choreo
+
+REST = 300  # milliseconds from which on a drone's rest is kept as it is
+LONGEST = choreo.LONGEST_SEGMENT
+
+
+def whole(v):
+    """The nearest whole millimetre, in micrometres, as the program rounds."""
+    return 1000 * choreo.rounded(round(v))
+
+
+class Fit:
+    """The cues of a show for paths, as (begin, milliseconds, for each drone its words and its rows of control values).
+    `forced` has the instants at which a cue begins that leaves a path farther than the tolerance."""
+
+    def __init__(self, paths, tolerance, yaw_tolerance, least, pinned=True, most=None):
+        self.exact, self.paths, self.least = paths, [path.in_doubles() for path in paths], least
+        # A little less, for what doubles are off.
+        self.enough = (tolerance * 999.999) ** 2, (yaw_tolerance * 9.99999) ** 2
+        self.end = max(1, max(math.ceil(path.pieces[-1][1]) for path in paths))
+        self.now = [self.goal(path.at(0.0)) for path in self.paths]
+        self.cues, self.forced, self.order = [], [], list(range(len(paths)))
+        self.edges, self.sides = self.edges_of(REST if pinned else math.inf)
+        begin = 0
+        while begin < self.end and (most is None or len(self.cues) <= most):
+            begin = self.add_cue(begin)
+
+    def goal(self, place):
+        """Where a drone is flown for a place: whole millimetres and tenths of a degree."""
+        return [*map(whole, place[:3]), round(place[3])]
+
+    def edges_of(self, rest):
+        """The instants at which cues end in any case, and for each drone, at those of them at which its speed jumps,
+        its velocities before and after. Drones begin or end to rest there, so that one at rest holds and no curve dips
+        below the floor; or they turn a corner at speed. None is nearer to another one than the least cue."""
+        stills = {edge for path in self.paths for begin, end in path.stills(self.end, rest)
+                  for edge in (math.ceil(begin), math.floor(end))}
+        corners = [(k, t) for k, path in enumerate(self.paths) for _, t in path.corners()]
+        near = {t: min([edge for edge in stills if abs(edge - t) <= 1], default=round(t)) for _, t in corners}
+        kept = [0, self.end]
+        for edge in sorted(stills) + sorted(set(near.values()) - stills):
+            place = bisect.bisect(kept, edge)
+            if 0 < place < len(kept) and kept[place - 1] + self.least <= edge <= kept[place] - self.least:
+                kept.insert(place, edge)
+        sides = [{} for _ in self.paths]
+        for k, t in corners:
+            sides[k].setdefault(near[t], self.paths[k].slopes(t))
+        return kept, sides
+
+    def velocities(self, k, t):
+        """A drone's velocities before and after an instant: two only where its speed jumps."""
+        if t in self.sides[k]:
+            return self.sides[k][t]
+        one = self.paths[k].slope(float(t))
+        return one, one
+
+    def rest_of(self, begin):
+        """How long it is until the next instant at which a cue ends in any case."""
+        return self.edges[bisect.bisect(self.edges, begin)] - begin
+
+    def act(self, k, begin, end):
+        """What a drone does between two instants: its words, and its rows of control values."""
+        path, now, third = self.paths[k], self.now[k], (end - begin) / 3
+        place = path.at(float(end))
+        goal, first, last = self.goal(place), self.velocities(k, begin)[1], self.velocities(k, end)[0]
+        if path.rests(begin, end) and goal[3] == now[3] and all(abs(a - b) <= 501 for a, b in zip(now[:3], place)):
+            return ["hold"], [[a] for a in now]
+        rows = [[a, whole(a + s * third), whole(b - e * third), b]
+                for a, b, s, e in zip(now[:3], goal, first, last)]
+        turn = [now[3], goal[3]] if goal[3] != now[3] else [now[3]]
+        if all(len(set(row)) == 1 for row in [*rows, turn]):
+            return ["hold"], [[a] for a in now]
+        if all(abs(3 * row[j] - (row[0] * (3 - j) + row[3] * j)) <= 3000 for row in rows for j in (1, 2)):
+            return ["line", *goal], [[row[0], row[3]] for row in rows] + [turn]
+        return ["curve", *(row[j] for j in (1, 2, 3) for row in rows), goal[3]], rows + [turn]
+
+    def fits(self, begin, end, forced=False):
+        """What all drones do between two instants, or None where one leaves its path too far."""
+        out = [None] * len(self.paths)
+        for place, k in enumerate(self.order):
+            out[k] = self.act(k, begin, end)
+            if not forced:
+                far = self.paths[k].leaves(begin, end, out[k][1], 4, self.enough, roughly_farthest)
+                if far[0] > self.enough[0] or far[1] > self.enough[1]:
+                    self.order.insert(0, self.order.pop(place))  # who failed last is looked at first
+                    return None
+        return out
+
+    def longest_from(self, begin):
+        """The greatest length of a cue that fits, as far as doubling and halving find it, and what is flown."""
+        rest = self.rest_of(begin)
+        most, low, found, length = min(LONGEST, rest), 0, None, min(self.least, rest)
+        while found is None or low < length:
+            fit = self.fits(begin, begin + length)
+            if fit is None:
+                break
+            low, found, length = length, fit, min(2 * length, most)
+        if found is None:
+            self.forced.append(begin)
+            return length, self.fits(begin, begin + length, forced=True)
+        while length - low > max(1, low // 50):
+            middle = (low + length) // 2
+            fit = self.fits(begin, begin + middle)
+            if fit is None:
+                length = middle
+            else:
+                low, found = middle, fit
+        return low, found
+
+    def balanced(self, begin, length, found):
+        """The same, but shorter where the last cue before an edge would be a sliver: about half of what is left."""
+        rest = self.rest_of(begin) - length
+        for share in (50, 60, 40, 70, 80, 90) if 0 < rest < self.least else ():
+            less = min(length - 1, (length + rest) * share // 100)
+            fit = self.fits(begin, begin + less) if less > 0 else None
+            if fit is not None:
+                return less, fit
+        return length, found
+
+    def add_cue(self, begin):
+        """Finds the next cue; its end."""
+        length, found = self.balanced(begin, *self.longest_from(begin))
+        self.cues.append((begin, length, found))
+        self.now = [[row[-1] for row in rows] for _, rows in found]
+        return begin + length
+
+    def bounds(self):
+        """For each drone how far what it flies leaves its path at most, at every instant: millimetres and degrees of
+        yaw, exact fractions, rounded up to a hundredth."""
+        out = []
+        for k, path in enumerate(self.exact):
+            worst = Fraction(0), Fraction(0)
+            for begin, length, acts in self.cues:
+                rows = [[Fraction(v) for v in row] for row in acts[k][1]]
+                worst = path.leaves(Fraction(begin), Fraction(begin + length), rows, 6, worst, farthest)
+            out.append((root_up(worst[0] / 1000000), root_up(worst[1] / 100)))
+        return out
+
+    def text(self, head, cues=slice(None), wait=0):
+        """The show's text, or that of some of its cues after a wait."""
+        chosen = self.cues[cues]
+        starts = [[row[0] for row in rows] for _, rows in chosen[0][2]]
+        lines = head + ["drone %s %d %d %d %d" % (path.name, *start) for path, start in zip(self.paths, starts)]
+        lines += ["cue %d\nend" % min(LONGEST, wait - k) for k in range(0, wait, LONGEST)]
+        for begin, length, acts in chosen:
+            lines.append("cue %d   # from %.3f s" % (length, begin / 1000))
+            lines += ["%s %s" % (path.name, " ".join(map(str, words)))
+                      for path, (words, _) in zip(self.paths, acts) if words != ["hold"]]
+            lines.append("end")
+        return "\n".join(lines) + "\n"

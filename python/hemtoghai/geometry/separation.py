@@ -1,0 +1,314 @@
+"""Whether drones are apart: directions, thresholds, parts of a cue, certificates of both versions, and how near two
+drones come.
+
+It is written from docs/SEPARATION.md alone, in exact whole numbers, and shares nothing with the program. `choreo` has
+the reader of the language; flights come from there, as control values in millimetres. It proves nothing.
+"""
+import heapq
+from itertools import combinations
+from math import comb, gcd, isqrt, lcm
+
+from hemtoghai.language.choreo import LONGEST_CERTIFICATE, Refused
+
+
+def directions(most):
+    """The vectors with entries from -most to most whose greatest common divisor is 1, in lexicographic order."""
+    entries = range(-most, most + 1)
+    return [(x, y, z) for x in entries for y in entries for z in entries if gcd(x, y, z) == 1]
+
+
+TABLES = {1: directions(1), 2: directions(2)}  # by the version of a certificate: 26 and 98
+
+
+def word_of(version, number):
+    """The word of a direction: a letter in version 1, two digits in version 2."""
+    return chr(ord("a") + number) if version == 1 else "%02d" % number
+
+
+# ---- parts of a cue
+
+def raised(b):
+    """The eight control values of degree seven of 5,040 times a curve."""
+    n = len(b) - 1
+    return [sum(5040 // comb(7, k) * comb(n, j) * comb(7 - n, k - j) * b[j]
+                for j in range(n + 1) if 0 <= k - j <= 7 - n) for k in range(8)]
+
+
+def difference(first, second):
+    """Where the second drone is from the first in a cue: on x, y and z eight control values, times 5,040."""
+    return [[v - u for u, v in zip(raised(a), raised(b))] for a, b in zip(first[:3], second[:3])]
+
+
+def halves(b):
+    """Both halves of a curve with eight control values, each times 2^7."""
+    row, left, right = list(b), [], []
+    for k in range(8):
+        left.append(row[0] << (7 - k))
+        right.append(row[-1] << (7 - k))
+        row = [u + v for u, v in zip(row, row[1:])]
+    return left, right[::-1]
+
+
+def cut(part):
+    """Both halves of a part of a cue."""
+    pairs = [halves(b) for b in part]
+    return [left for left, _ in pairs], [right for _, right in pairs]
+
+
+# ---- how far a drone moves while it is late
+
+FARTHEST = 65536  # no two positions are farther apart on an axis, in millimetres
+REACH_DEPTH = 6   # by parts of this depth speeds are bounded
+
+
+def speed(milliseconds, b):
+    """How fast a segment is at most on an axis, in micrometres per second, by its parts."""
+    parts = [raised(b)]
+    for _ in range(REACH_DEPTH):
+        parts = [half for part in parts for half in halves(part)]
+    step = max(abs(v - u) for part in parts for u, v in zip(part, part[1:]))
+    return -(-7000000 * 2 ** REACH_DEPTH * step // (5040 * 2 ** (7 * REACH_DEPTH) * milliseconds))
+
+
+def reach_of(flown):
+    """How many millimetres any drone moves on x, y and z at most in the time by which one may be late."""
+    (late,) = flown.show.settings["late"]
+    if not late:
+        return 0, 0, 0
+    fastest = [max(speed(ms, elements[axis]) for flight in flown.by_cue for ms, elements in flight) for axis in range(3)]
+    return tuple(min(FARTHEST, -(-late * v // 1000000)) for v in fastest)
+
+
+class Ruler:
+    """The directions of a version with their weights and thresholds, for half axes r and h, a stray and a reach."""
+
+    def __init__(self, r, h, version=2, stray=0, reach=(0, 0, 0)):
+        self.r, self.h, self.version = r, h, version
+        self.weights = [(x * h, y * h, z * r) for x, y, z in TABLES[version]]
+        self.thresholds = []
+        for n, w in zip(TABLES[version], self.weights):
+            strays = 4 * stray * stray * sum(v * v for v in w)
+            self.thresholds.append(5040 * (
+                isqrt(4 * r * r * h * h * sum(v * v for v in n)) + 1
+                + (isqrt(strays - 1) + 1 if strays else 0) + sum(abs(v) * far for v, far in zip(w, reach))))
+        axes = [TABLES[version].index(n) for n in ((1, 0, 0), (0, 1, 0), (0, 0, 1))]
+        self.axes = [(max(self.weights[k]), self.thresholds[k] // 5040) for k in axes]
+
+    def low_control(self, part, depth, number):
+        """The first of the eight control values that is below the threshold of a direction, or None."""
+        x, y, z = self.weights[number]
+        least = self.thresholds[number] << (7 * depth)
+        for k, (a, b, c) in enumerate(zip(*part)):
+            if x * a + y * b + z * c < least:
+                return k
+        return None
+
+    def separates(self, part, depth, number):
+        """Whether a direction separates a part; both ends are looked at first."""
+        x, y, z = self.weights[number]
+        least = self.thresholds[number] << (7 * depth)
+        a, b, c = part
+        return all(x * a[k] + y * b[k] + z * c[k] >= least for k in (0, 7, 1, 2, 3, 4, 5, 6))
+
+    def first(self, part, depth):
+        """The number of the first direction that separates a part, or None."""
+        return next((n for n in range(len(self.weights)) if self.separates(part, depth, n)), None)
+
+
+def tree(part, ruler, most, depth=0):
+    """The tree with the largest leaves, in each the first direction, as a line; or None where a part of depth `most`
+    has none."""
+    number = ruler.first(part, depth)
+    if number is not None:
+        return word_of(ruler.version, number)
+    if depth == most:
+        return None
+    trees = [tree(half, ruler, most, depth + 1) for half in cut(part)]
+    return None if None in trees else "." + trees[0] + trees[1]
+
+
+def blocked(part, ruler, most, depth=0, index=0, hint=0):
+    """The index of the first part of depth `most` along which no direction separates the two, or None."""
+    numbers = [hint, *range(len(ruler.weights))]
+    number = next((n for n in numbers if ruler.separates(part, depth, n)), None)
+    if number is not None:
+        return None
+    if depth == most:
+        return index
+    left, right = cut(part)
+    found = blocked(left, ruler, most, depth + 1, 2 * index, hint)
+    return blocked(right, ruler, most, depth + 1, 2 * index + 1, hint) if found is None else found
+
+
+def ruler_of(flown, version=2):
+    """The ruler of a show."""
+    (stray,) = flown.show.settings["stray"]
+    return Ruler(*flown.show.settings["ellipsoid"], version, stray, reach_of(flown))
+
+
+def are_far(first, second, ruler):
+    """Whether the boxes around two curves are so far apart along one axis that this axis' direction separates the whole
+    cue."""
+    for a, b, (weight, least) in zip(first, second, ruler.axes):
+        if weight * max(min(b) - max(a), min(a) - max(b)) >= least:
+            return True
+    return False
+
+
+def slots(flown):
+    """Each pair of drones and each cue, in the order of certificates: two drones and a cue, numbered from 0."""
+    for i, j in combinations(range(len(flown.names)), 2):
+        for cue in range(len(flown.cues)):
+            yield i, j, cue
+
+
+def blocked_places(flown, depth, version=2):
+    """Each pair and cue that has a part without a direction, as (first, second, cue, first such part), all from 0."""
+    ruler = ruler_of(flown, version)
+    for i, j, cue in slots(flown):
+        first, second = flown.by_cue[i][cue][1], flown.by_cue[j][cue][1]
+        if not are_far(first, second, ruler):
+            index = blocked(difference(first, second), ruler, depth)
+            if index is not None:
+                yield i, j, cue, index
+
+
+def judge_separation(flown, depth, version=2):
+    """Refuses a show with a part in which no direction separates two drones."""
+    for i, j, cue, index in blocked_places(flown, depth, version):
+        names = flown.names[i], flown.names[j]
+        raise Refused(5, "pair %s %s cue %d part %d of %d" % (*names, cue + 1, index, 2 ** depth), "too near")
+
+
+# ---- certificates
+
+def head(version, depth):
+    """The first lines of a certificate."""
+    return ("version 2\n" if version == 2 else "") + "certificate %d\n" % depth
+
+
+def certificate(flown, depth, version=2):
+    """The text of the certificate with the largest leaves of a show that isn't refused at this depth."""
+    ruler = ruler_of(flown, version)
+    lines = [tree(difference(flown.by_cue[i][c][1], flown.by_cue[j][c][1]), ruler, depth) for i, j, c in slots(flown)]
+    return head(version, depth) + "".join(line + "\n" for line in lines)
+
+
+def nodes_of(line, version):
+    """The nodes of a tree in preorder, None for a split and else the number of a direction; or None where it isn't one
+    tree."""
+    nodes, owed, at, width = [], 1, 0, version
+    while at < len(line):
+        if owed == 0:
+            return None
+        if line[at:at + 1] == b".":
+            nodes.append(None)
+            owed, at = owed + 1, at + 1
+            continue
+        leaf = line[at:at + width]
+        number = leaf[0] - 97 if version == 1 else int(leaf) if len(leaf) == 2 and leaf.isdigit() else -1
+        if not 0 <= number < len(TABLES[version]):
+            return None
+        nodes.append(number)
+        owed, at = owed - 1, at + width
+    return nodes if owed == 0 else None
+
+
+def read_certificate(text):
+    """The version, the depth and the trees of a certificate's text, or a refusal 11."""
+    if len(text) > LONGEST_CERTIFICATE:
+        raise Refused(11, "too-large", "certificate too large")
+    lines = text.split(b"\n")
+    lines = [line[:-1] if line.endswith(b"\r") else line for line in lines[:-1]] + lines[-1:]
+    if lines[-1] == b"":
+        lines.pop()
+    version = 2 if lines[:1] == [b"version 2"] else 1
+    number = version
+    if len(lines) < number or lines[number - 1] not in [b"certificate %d" % depth for depth in range(9)]:
+        raise Refused(11, "line %d" % number, "faulty certificate", number)
+    depth, trees = lines[number - 1][-1] - 48, []
+    for number, line in enumerate(lines[number:], number + 1):
+        trees.append(nodes_of(line, version))
+        if trees[-1] is None:
+            raise Refused(11, "line %d" % number, "faulty certificate", number)
+    return version, depth, trees
+
+
+def tree_fault(part, nodes, ruler, most):
+    """What is wrong with a tree of a cue, or None: `too-deep`, or a leaf that fails, its place and control value."""
+    stack = [(part, 0, 0)]
+    for node in nodes:
+        part, depth, index = stack.pop()
+        if node is None:
+            if depth == most:
+                return "too-deep", ""
+            left, right = cut(part)
+            stack += [(right, depth + 1, 2 * index + 1), (left, depth + 1, 2 * index)]
+        else:
+            control = ruler.low_control(part, depth, node)
+            if control is not None:
+                words = depth, index, word_of(ruler.version, node), control
+                return "fails", " part %d %d direction %s control %d" % words
+    return None
+
+
+def judge_certificate(flown, text):
+    """The line of `verify` on a certificate's text, or a refusal 11 or 12."""
+    version, depth, trees = read_certificate(text)
+    ruler, places = ruler_of(flown, version), list(slots(flown))
+    for k, nodes in enumerate(trees):
+        if k == len(places):
+            raise Refused(12, "extra line %d" % (k + 1 + version), "extra tree")
+        i, j, cue = places[k]
+        pair = "pair %s %s cue %d" % (flown.names[i], flown.names[j], cue + 1)
+        found = tree_fault(difference(flown.by_cue[i][cue][1], flown.by_cue[j][cue][1]), nodes, ruler, depth)
+        if found:
+            raise Refused(12, "%s %s%s" % (found[0], pair, found[1]), found[0])
+    if len(trees) < len(places):
+        i, j, cue = places[len(trees)]
+        raise Refused(12, "missing pair %s %s cue %d" % (flown.names[i], flown.names[j], cue + 1), "missing tree")
+    return "valid depth %d trees %d\n" % (depth, len(trees))
+
+
+# ---- how near
+
+SCALE = lcm(*(comb(14, k) for k in range(15)))
+
+
+def square(b):
+    """The fifteen control values, times SCALE, of the square of a curve with eight control values."""
+    weighted = [comb(7, k) * v for k, v in enumerate(b)]
+    return [SCALE // comb(14, k) * sum(weighted[i] * weighted[k - i] for i in range(max(0, k - 7), min(7, k) + 1))
+            for k in range(15)]
+
+
+class Nearest:
+    """Where two drones come nearest in a cue, measured by their ellipsoids: at `index` / 2^`depth` of its time. There
+    `squared` and `needed` are the squares of their distance and of the one at which the ellipsoids touch, in one
+    scale of whole numbers. At no other instant of the cue is the square of the distance less by a 4,096th or more."""
+
+    def __init__(self, part, r, h):
+        rows = [square(b) for b in part]
+        curve = [h * h * (x + y) + r * r * z for x, y, z in zip(*rows)]
+        needed = 4 * r * r * h * h * 5040 * 5040 * SCALE
+        self.index, self.depth, self.squared = 0, 0, curve[0]
+        heap = [(min(curve), 0, 0, curve)]
+        while heap:
+            _, depth, index, curve = heapq.heappop(heap)
+            for at, value in ((index, curve[0]), (index + 1, curve[-1])):
+                if value << (14 * self.depth) < self.squared << (14 * depth):
+                    self.index, self.depth, self.squared = at, depth, value
+            # What is least in this part is at least its least control value, and this part has the least of all.
+            if depth == 24 or min(curve) * 4097 << (14 * self.depth) >= self.squared * 4096 << (14 * depth):
+                break
+            row, left, right = curve, [], []
+            for k in range(15):
+                left.append(row[0] << (14 - k))
+                right.append(row[-1] << (14 - k))
+                row = [u + v for u, v in zip(row, row[1:])]
+            for half, at in ((left, 2 * index), (right[::-1], 2 * index + 1)):
+                heapq.heappush(heap, (min(half) / 2 ** (14 * (depth + 1)), depth + 1, at, half))
+        self.needed = needed << (14 * self.depth)
+        self.at = self.index / 2 ** self.depth
+        self.share = (self.squared / self.needed) ** 0.5
+        self.touch = self.squared <= self.needed

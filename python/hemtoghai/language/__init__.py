@@ -1,0 +1,1 @@
+"""The second reader of the language, and the cures of faulty lines."""

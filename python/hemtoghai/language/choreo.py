@@ -1,0 +1,581 @@
+"""The reader of the language that tools and benches share: from a show's text to its plan and its certificate.
+
+It is written from the documents alone and shares nothing with the program: lines, names and cues by docs/LANGUAGE.md,
+the order of refusals and fault lines by docs/COMMANDS.md, curves, rounding and bytes by docs/TRAJECTORY.md,
+separation and certificates by docs/SEPARATION.md. All numbers are whole, those of `choreo 2` too once they are read. It
+proves nothing; where it and the program differ, one of them is wrong.
+"""
+from __future__ import annotations
+
+import re
+from math import comb, isqrt
+from typing import NamedTuple
+
+from hemtoghai.language import quantities
+from hemtoghai.language.quantities import MICROMETRES, MILLIMETRES, MILLISECONDS, TENTHS
+
+LONGEST_TEXT = 1048576
+LONGEST_CERTIFICATE = 400000000
+MEMORY = 4096
+MOST_DRONES = 32
+MOST_CUES = 1000
+MOST_SEGMENTS = 255
+LONGEST_SEGMENT = 65535
+DEPTH = 6
+ALLOWED = bytes([9, 13, *range(32, 127)])
+FORMS = {("choreo", "1"): 1, ("choreo", "2"): 2}  # the form of the language by the words of a text's first line
+
+
+class Number(NamedTuple):
+    """The slot of a number: its limits, and what it counts where a text of `choreo 2` has a quantity. Without that it
+    is a whole number in both forms."""
+
+    least: int
+    most: int
+    counts: quantities.Counts | None = None
+
+
+COORDINATE, YAW = Number(-100000000, 100000000, MICROMETRES), Number(-32768, 32767, TENTHS)
+HALF_AXIS = Number(1, 2000, MILLIMETRES)
+POINT = [COORDINATE] * 3
+AXES = ["x", "y", "z", "yaw"]
+ARCS = ["arc", "swing", "arc_in", "arc_out"]
+# The slots of a line after its first word: a name, one or more names, a number, or a set of fixed words.
+LINES = {
+    "memory": [Number(0, 255), Number(0, 4095)], "trajectory": [Number(0, 9)], "ellipsoid": [HALF_AXIS, HALF_AXIS],
+    "stray": [Number(0, 1000, MILLIMETRES)], "late": [Number(0, 1000, MILLISECONDS)],
+    "drone": ["name", *POINT, YAW], "formation": ["name"], "at": ["name", *POINT, YAW], "figure": ["name", "names"],
+    "cue": [Number(1, LONGEST_SEGMENT, MILLISECONDS)], "repeat": [Number(1, 1000000000)],
+    "perform": ["name", {"none", "x", "y"}, Number(0, 3), *POINT, "names"],
+    "form": ["name", {"line", "move"}], "end": [],
+}
+ACTS = {"hold": [], "line": [*POINT, YAW], "move": [*POINT, YAW], "turn": [YAW],
+        "curve": [*POINT * 3, YAW], **{act: [{"ccw", "cw"}, COORDINATE, COORDINATE, YAW] for act in ARCS}}
+SETTINGS = ["memory", "trajectory", "ellipsoid", "stray", "late"]
+PLAYED = ["cue", "repeat", "perform"]
+PLACES = {"top": [*SETTINGS, "drone", "formation", "figure", *PLAYED], "formation": ["at", "end"],
+          "figure": ["cue", "repeat", "end"], "repeat": [*PLAYED, "end"], "cue": ["form", "end"]}
+OPENING = [kind for kind in PLACES if kind != "top"]
+LINE_FAULTS = ["bad-byte", "header", "bad-word", "bad-name", "bad-count", "bad-number", "range", "double-setting",
+               "nesting", "empty-block", "no-end"]
+# The faults of names on one line, in the order of their table: the word, and what tells its row from others with it.
+NAME_FAULTS = ["double-name drone", "double-name formation, figure", "double-name role", "unknown-name at",
+               "double-act at", "unknown-name act", "unknown-name act in a figure", "double-act act",
+               "unknown-name form", "double-act form", "double-act act after form", "unknown-name figure", "role-count",
+               "unknown-name performer", "double-act perform"]
+
+
+# ---- lines
+
+class Refused(Exception):
+    """A refusal: its status, the words of its fault line, the outcome that it counts as, and its line number if it has
+    one."""
+
+    def __init__(self, status, words, outcome, number=None):
+        super().__init__("error %d %s" % (status, words))
+        self.status, self.outcome, self.number, self.output = status, outcome, number, "error %d %s\n" % (status, words)
+
+
+def fault(number, word, outcome=None):
+    """The refusal of a line of a show."""
+    return Refused(3, "line %d %s" % (number, word), outcome or word, number)
+
+
+class Line:
+    """A line: its number, its kind, the values of its words, and the lines of the block that it opens. The root of a
+    text, of the kind `top`, has the form of the language as its value."""
+
+    def __init__(self, number, kind, values):
+        self.number, self.kind, self.values, self.body = number, kind, values, []
+
+
+def is_name(word):
+    """Whether a word is a name."""
+    return re.fullmatch("[a-z][a-z0-9_]{0,15}", word) is not None and word not in ("form", "end")
+
+
+def form_of(text: bytes) -> int:
+    """The form of the language that the first line with words of a text names, and 1 where it names none."""
+    for line in text.split(b"\n"):
+        words = line.partition(b"#")[0].decode("ascii", "replace").split()
+        if words:
+            return FORMS.get(tuple(words), 1)
+    return 1
+
+
+def number_of(slot: Number, word: str, form: int) -> int | None:
+    """The number that a word is in its slot, or None where it is none; beyond every range it may be a smaller one."""
+    if form == 2 and slot.counts:
+        return quantities.value_of(slot.counts, word)
+    if not re.fullmatch("-?[0-9]+", word):
+        return None
+    return quantities.number_of(word.lstrip("-")) * (-1 if word[0] == "-" else 1)
+
+
+def value_of(number, slot, word, form=1):
+    """The value of a word in its slot."""
+    if slot in ("name", "names"):
+        if not is_name(word):
+            raise fault(number, "bad-name")
+        return word
+    if isinstance(slot, set):
+        if word not in slot:
+            raise fault(number, "bad-word")
+        return word
+    value = number_of(slot, word, form)
+    if value is None:
+        raise fault(number, "bad-number")
+    if not slot.least <= value <= slot.most:
+        raise fault(number, "range")
+    return value
+
+
+def slots_of(number, words, blocks):
+    """What a line is, where these blocks are open: its kind, the first words that say so, and the slots of those after
+    them, one for each."""
+    place, in_figure = blocks[-1].kind, any(block.kind == "figure" for block in blocks)
+    if place == "cue" and words[0] != "end" and (in_figure or words[0] != "form"):
+        if not is_name(words[0]):
+            raise fault(number, "bad-name")
+        if len(words) > 1 and words[1] not in ACTS:
+            raise fault(number, "bad-word")
+        kind, front, slots = "act", words[:2], ACTS[words[1]] if len(words) > 1 else ["name"]
+    else:
+        if words[0] not in PLACES[place] or (words[0] == "perform" and in_figure):
+            raise fault(number, "bad-word")
+        kind, front, slots = words[0], [], LINES[words[0]]
+    rest = words[2:] if kind == "act" else words[1:]
+    most = len(slots) + 31 if slots[-1:] == ["names"] else len(slots)
+    if not len(slots) <= len(rest) <= most:
+        raise fault(number, "bad-count")
+    return kind, front, slots + ["name"] * (len(rest) - len(slots))
+
+
+def line_of(number, words, blocks):
+    """A line as its words say it, where these blocks are open, in the form of the outermost."""
+    kind, front, slots = slots_of(number, words, blocks)
+    form = (blocks[0].values or [1])[0]
+    values = [value_of(number, slot, word, form) for slot, word in zip(slots, words[len(words) - len(slots):])]
+    return Line(number, kind, front + values)
+
+
+def add_line(line, blocks):
+    """Puts a line into the open blocks, or refuses it for what earlier lines leave open."""
+    if line.kind in SETTINGS and any(other.kind == line.kind for other in blocks[0].body):
+        raise fault(line.number, "double-setting")
+    if line.kind == "repeat" and sum(block.kind == "repeat" for block in blocks) == 8:
+        raise fault(line.number, "nesting")
+    if line.kind == "end":
+        if blocks[-1].kind != "cue" and not blocks[-1].body:
+            raise fault(line.number, "empty-block")
+        blocks.pop()
+        return
+    blocks[-1].body.append(line)
+    if line.kind in OPENING:
+        blocks.append(line)
+
+
+def read(text):
+    """A show's lines as a tree, whose root is `top`."""
+    lines = [line.partition(b"#")[0] for line in text.split(b"\n")]
+    for number, line in enumerate(lines, 1):
+        if line.translate(None, ALLOWED):
+            raise fault(number, "bad-byte")
+    blocks, begun = [Line(0, "top", [])], False
+    for number, line in enumerate(lines, 1):
+        words = line.decode().split()
+        if words and begun:
+            add_line(line_of(number, words, blocks), blocks)
+        elif words and tuple(words) not in FORMS:
+            raise fault(number, "header")
+        elif words:
+            blocks[0].values, begun = [FORMS[tuple(words)]], True
+    if not begun:
+        raise fault(1, "header")
+    if len(blocks) > 1:
+        raise fault(blocks[-1].number, "no-end")
+    return blocks[0]
+
+
+# ---- names and cues
+
+class Show:
+    """A show whose lines are all right: its lines by kind, and what the names of formations and figures mean."""
+
+    def __init__(self, top):
+        def firsts(kind):
+            return {line.values[0]: line for line in reversed(top.body) if line.kind == kind}
+        self.top, self.form = top, top.values[0]
+        self.drones = [line for line in top.body if line.kind == "drone"]
+        self.names = [line.values[0] for line in self.drones]
+        self.body = [line for line in top.body if line.kind in PLAYED]
+        self.formations, self.figures = firsts("formation"), firsts("figure")
+        self.settings = {"memory": [2, 0], "trajectory": [0], "ellipsoid": [120, 300], "stray": [0], "late": [0]}
+        self.settings.update((line.kind, line.values) for line in top.body if line.kind in SETTINGS)
+
+
+def inside(line):
+    """All lines inside a line's block, also in blocks within it."""
+    for inner in line.body:
+        yield inner
+        yield from inside(inner)
+
+
+def faults_of_declarations(show, drones):
+    """The faults of names of drones, formations, figures and places, as (line, word and row)."""
+    for kind, row in (("drone", "drone"), ("formation", "formation, figure"), ("figure", "formation, figure")):
+        lines = [line for line in show.top.body if line.kind == kind]
+        for k, line in enumerate(lines):
+            if any(line.values[0] == other.values[0] for other in lines[:k]):
+                yield line.number, "double-name " + row
+            if kind == "figure" and len(set(line.values[1:])) < len(line.values[1:]):
+                yield line.number, "double-name role"
+            for j, place in enumerate(line.body if kind == "formation" else []):
+                if place.values[0] not in drones:
+                    yield place.number, "unknown-name at"
+                if any(place.values[0] == other.values[0] for other in line.body[:j]):
+                    yield place.number, "double-act at"
+
+
+def faults_of_cue(show, cue, known, in_figure):
+    """The faults of names in a cue."""
+    acted, formed = set(), set()
+    for line in cue.body:
+        name = line.values[0]
+        if line.kind == "act":
+            if name not in known:
+                yield line.number, "unknown-name act in a figure" if in_figure else "unknown-name act"
+            if name in acted | formed:
+                yield line.number, "double-act act" if name in acted else "double-act act after form"
+            acted.add(name)
+        elif name not in show.formations:
+            yield line.number, "unknown-name form"
+        else:
+            places = {place.values[0] for place in show.formations[name].body}
+            if places & (acted | formed):
+                yield line.number, "double-act form"
+            formed |= places
+
+
+def faults_of_perform(show, line, drones):
+    """The faults of names of a perform."""
+    figure, players = show.figures.get(line.values[0]), line.values[6:]
+    if figure is None:
+        yield line.number, "unknown-name figure"
+    elif len(players) != len(figure.values) - 1:
+        yield line.number, "role-count"
+    if not set(players) <= drones:
+        yield line.number, "unknown-name performer"
+    if len(set(players)) < len(players):
+        yield line.number, "double-act perform"
+
+
+def faults_of_names(show):
+    """All faults of names of a show, in any order."""
+    drones = set(show.names)
+    yield from faults_of_declarations(show, drones)
+    for block in show.top.body:
+        known = set(block.values[1:]) if block.kind == "figure" else drones
+        for line in [block, *inside(block)]:
+            if line.kind == "cue":
+                yield from faults_of_cue(show, line, known, block.kind == "figure")
+            elif line.kind == "perform":
+                yield from faults_of_perform(show, line, drones)
+
+
+def count(show, lines):
+    """How many cues some lines stand for."""
+    total = 0
+    for line in lines:
+        if line.kind == "cue":
+            total += 1
+        elif line.kind == "repeat":
+            total += line.values[0] * count(show, line.body)
+        else:
+            total += count(show, show.figures[line.values[0]].body)
+    return total
+
+
+def judge_names(show):
+    """Refuses a show for its names or its number of drones or cues."""
+    if not show.drones:
+        raise fault(1, "no-drone")
+    if len(show.drones) > MOST_DRONES:
+        raise fault(show.drones[MOST_DRONES].number, "too-many-drones")
+    faults = sorted((number, NAME_FAULTS.index(row)) for number, row in faults_of_names(show))
+    if faults:
+        number, row = faults[0]
+        raise fault(number, NAME_FAULTS[row].split()[0], NAME_FAULTS[row])
+    if not show.body:
+        raise fault(1, "no-cue")
+    total = 0
+    for line in show.body:
+        total += count(show, [line])
+        if total > MOST_CUES:
+            raise fault(line.number, "too-many-cues")
+
+
+# ---- cues written out
+
+def put(frame, x, y, z, yaw):
+    """A point and a yaw put through a frame: its mirror, its quarter turns, its shift."""
+    mirror, turns, dx, dy, dz = frame
+    if mirror == "x":
+        x, yaw = -x, 1800 - yaw
+    elif mirror == "y":
+        y, yaw = -y, -yaw
+    for _ in range(turns):
+        x, y, yaw = -y, x, yaw + 900
+    return [x + dx, y + dy, z + dz, yaw]
+
+
+def goal(frame, act, numbers):
+    """The numbers of an act in the show's frame, grouped as `controls` takes them."""
+    if act == "hold":
+        return None
+    if act == "turn":
+        return put(frame, 0, 0, 0, numbers[0])[3:]
+    if act in ARCS:
+        x, y, _, yaw = put(frame, numbers[1], numbers[2], 0, numbers[3])
+        other = {"cw": "ccw", "ccw": "cw"}
+        return numbers[0] if frame[0] == "none" else other[numbers[0]], x, y, yaw
+    if act == "curve":
+        points = [put(frame, *numbers[k:k + 3], numbers[9]) for k in (0, 3, 6)]
+        return [point[:3] for point in points] + [points[2][3]]
+    return put(frame, *numbers)
+
+
+class Cue:
+    """A cue written out: milliseconds, by drone the line, the act and its goal, its line, and what it stands in, from
+    outside in: ("repeat", line, turn, of) and ("perform", line, figure)."""
+
+    def __init__(self, milliseconds, acts, number, within):
+        self.milliseconds, self.acts, self.number, self.within = milliseconds, acts, number, within
+
+
+def written_out(show, lines, frame=("none", 0, 0, 0, 0), players=None, within=()):
+    """The cues that some lines stand for."""
+    for line in lines:
+        if line.kind == "repeat":
+            for turn in range(1, line.values[0] + 1):
+                yield from written_out(show, line.body, frame, players,
+                                       (*within, ("repeat", line.number, turn, line.values[0])))
+        elif line.kind == "perform":
+            figure = show.figures[line.values[0]]
+            yield from written_out(show, figure.body, line.values[1:6], dict(zip(figure.values[1:], line.values[6:])),
+                                   (*within, ("perform", line.number, line.values[0])))
+        else:
+            acts = {}
+            for inner in line.body:
+                if inner.kind == "form":
+                    formation, act = inner.values
+                    for place in show.formations[formation].body:
+                        acts[place.values[0]] = inner.number, act, goal(frame, act, place.values[1:])
+                else:
+                    name, act, *numbers = inner.values
+                    acts[players[name] if players else name] = inner.number, act, goal(frame, act, numbers)
+            yield Cue(line.values[0], acts, line.number, within)
+
+
+# ---- curves and bytes
+
+KINDS = {1: 0, 2: 1, 4: 2, 8: 3}
+
+
+def rounded(micrometres):
+    """The nearest millimetre, and of two that are equally near the upper one."""
+    return (micrometres + 500) // 1000
+
+
+# The millionths of the ways to the start and to the end in each of the eight control points of an eased quarter circle.
+TO_START = {"swing": [1000000, 1000000, 1000000, 1063179, 696647, 0, 0, 0],
+            "arc_in": [1000000, 1000000, 1000144, 993507, 974935, 785073, 473387, 0],
+            "arc_out": [1000000, 1000000, 741519, 507934, 186897, 114406, 0, 0]}
+TO_END = {"swing": [0, 0, 0, 696647, 1063179, 1000000, 1000000, 1000000],
+          "arc_in": [0, 0, 114406, 186897, 507934, 741519, 1000000, 1000000],
+          "arc_out": [0, 473387, 785073, 974935, 993507, 1000144, 1000000, 1000000]}
+
+
+def millionths(share, s):
+    """Millionths of a number, rounded."""
+    return (share * s + 500000) // 1000000
+
+
+def ways(at, to):
+    """The ways from the centre of a quarter circle to its start and to its end, on x and y."""
+    vx, vy = at[0] - to[1], at[1] - to[2]
+    return (vx, vy), (-vy, vx) if to[0] == "ccw" else (vy, -vx)
+
+
+def yaws(act, begin, end):
+    """The yaw's control values of an eased quarter circle."""
+    turn = end - begin
+    if act == "arc_in":
+        return [begin + (turn * k * (k - 1) + 21) // 42 for k in range(8)]
+    if act == "arc_out":
+        return [end - (turn * (7 - k) * (6 - k) + 21) // 42 for k in range(8)]
+    return [begin] * 4 + [end] * 4
+
+
+def round_controls(act, at, to):
+    """The control values of a quarter circle."""
+    start, end = ways(at, to)
+    if act == "arc":
+        rows = [[a, a + millionths(552285, w), c + w + millionths(552285, v), c + w]
+                for a, c, v, w in zip(at, to[1:3], start, end)]
+        return [*rows, [at[2]], [at[3], to[3]]]
+    rows = [[c + millionths(a, v) + millionths(b, w) for a, b in zip(TO_START[act], TO_END[act])]
+            for c, v, w in zip(to[1:3], start, end)]
+    return [*rows, [at[2]], yaws(act, at[3], to[3])]
+
+
+def controls(act, at, to):
+    """The control values of an act on x, y, z and yaw, from where the drone is."""
+    if act == "hold":
+        return [[v] for v in at]
+    if act == "line":
+        return [[a, b] for a, b in zip(at, to)]
+    if act == "move":
+        return [[a] * 4 + [b] * 4 for a, b in zip(at, to)]
+    if act == "turn":
+        return [[at[0]], [at[1]], [at[2]], [at[3]] * 4 + [to[0]] * 4]
+    if act in ARCS:
+        return round_controls(act, at, to)
+    first, second, third, yaw = to
+    return [[at[k], first[k], second[k], third[k]] for k in range(3)] + [[at[3], yaw]]
+
+
+def element(values, axis):
+    """The rounded control values on an axis; one where all are equal."""
+    whole = [rounded(v) if axis < 3 else v for v in values]
+    return whole[:1] if len(set(whole)) == 1 else whole
+
+
+def fit(number, values):
+    """Refuses control values that two bytes cannot hold."""
+    for axis, row in enumerate(values):
+        for value in row:
+            if not -32768 <= (rounded(value) if axis < 3 else value) <= 32767:
+                raise fault(number, "out-of-range %s %d" % (AXES[axis], value), "out-of-range " + AXES[axis])
+
+
+def joined(flight):
+    """A flight's segments with whole holds joined from the left, as long as they last at most 65,535 ms together."""
+    out, held = [], False
+    for milliseconds, elements in flight:
+        holds = all(len(e) == 1 for e in elements)
+        if holds and held and out[-1][0] + milliseconds <= LONGEST_SEGMENT:
+            out[-1] = out[-1][0] + milliseconds, elements
+        else:
+            out.append((milliseconds, elements))
+        held = holds
+    return out
+
+
+def two_bytes(v):
+    """A signed number, its lower byte first."""
+    return v.to_bytes(2, "little", signed=True)
+
+
+def segment_bytes(milliseconds, elements):
+    """The bytes of a segment."""
+    header = sum(KINDS[len(e)] << (2 * k) for k, e in enumerate(elements))
+    numbers = b"".join(two_bytes(v) for e in elements for v in e[1:])
+    return bytes([header]) + milliseconds.to_bytes(2, "little") + numbers
+
+
+def bytes_of(start, segments):
+    """A trajectory's bytes: its start in micrometres, its segments as (milliseconds, elements), and the ending."""
+    out = b"".join(two_bytes(rounded(v) if k < 3 else v) for k, v in enumerate(start))
+    return out + b"".join(segment_bytes(*segment) for segment in segments) + bytes(3)
+
+
+class Flown:
+    """What a show's drones fly: its cues, and for each drone its start in micrometres and tenths of a degree, one
+    segment a cue as (milliseconds, elements) in `by_cue`, and what it is sent, holds joined, in `sent`."""
+
+    def __init__(self, show):
+        self.show, self.names = show, show.names
+        self.starts = [line.values[1:] for line in show.drones]
+        for line in show.drones:
+            fit(line.number, [[value] for value in line.values[1:]])
+        self.cues = list(written_out(show, show.body))
+        at, self.by_cue = list(self.starts), [[] for _ in self.starts]
+        for cue in self.cues:
+            for k, name in enumerate(self.names):
+                number, act, to = cue.acts.get(name, (0, "hold", None))
+                values = controls(act, at[k], to)
+                fit(number, values)
+                self.by_cue[k].append((cue.milliseconds, [element(row, axis) for axis, row in enumerate(values)]))
+                at[k] = [row[-1] for row in values]
+        self.sent = [joined(flight) for flight in self.by_cue]
+        self.milliseconds = sum(cue.milliseconds for cue in self.cues)
+
+    def data(self):
+        """Each drone's bytes."""
+        return [bytes_of(start, segments) for start, segments in zip(self.starts, self.sent)]
+
+    def room(self):
+        """How many bytes of a drone's memory the show may take."""
+        return MEMORY - self.show.settings["memory"][1]
+
+    def plan(self):
+        """The text of the plan."""
+        memory, offset = self.show.settings["memory"]
+        (trajectory,) = self.show.settings["trajectory"]
+        out = "plan 1\n"
+        for name, segments, data in zip(self.names, self.sent, self.data()):
+            out += "drone %s bytes %d pieces %d\ndata %s\n" % (name, len(data), len(segments), digits(data))
+            for word, packet in packets(memory, offset, trajectory, data, len(segments)):
+                out += "%s %s\n" % (word, digits(packet))
+        return out + "end\n"
+
+
+def digits(data):
+    """Bytes in two hexadecimal digits each."""
+    return " ".join("%02X" % b for b in data)
+
+
+def packets(memory, offset, trajectory, data, pieces):
+    """The packets that write a trajectory's bytes, define it and start it (docs/RADIO.md), each with its word."""
+    for begin in range(0, len(data), 24):
+        address = (offset + begin).to_bytes(4, "little")
+        yield "write", bytes([0x4E, memory]) + address + data[begin:begin + 24]
+    yield "define", bytes([0x8C, 6, trajectory, 1, 1]) + offset.to_bytes(4, "little") + bytes([pieces])
+    yield "start", bytes([0x8C, 5, 0, 0, 0, trajectory, 0, 0, 0x80, 0x3F])
+
+
+def parts_of(whole):
+    """The show's text, the second text or None where there is no marker line, and the lines of the first two marker
+    lines."""
+    lines, markers = whole.split(b"\n"), []
+    for number, line in enumerate(lines, 1):
+        if line in (b"%%", b"%%\r"):
+            markers.append(number)
+    if not markers:
+        return whole, None, []
+    text = b"".join(line + b"\n" for line in lines[:markers[0] - 1])
+    if len(markers) > 1:
+        second = b"".join(line + b"\n" for line in lines[markers[0]:markers[1] - 1])
+    else:
+        second = b"\n".join(lines[markers[0]:])
+    return text, second, markers[:2]
+
+
+def flown_of(text):
+    """What the drones of a show's text fly, or a refusal 3."""
+    if len(text) > LONGEST_TEXT:
+        raise Refused(3, "too-large", "too-large")
+    show = Show(read(text))
+    judge_names(show)
+    return Flown(show)
+
+
+def judge_room(flown):
+    """Refuses a show with a trajectory that has too many segments or too many bytes."""
+    room = flown.room()
+    for name, data, segments in zip(flown.names, flown.data(), flown.sent):
+        if len(segments) > MOST_SEGMENTS:
+            raise Refused(4, "drone %s segments %d" % (name, len(segments)), "too many segments")
+        if len(data) > room:
+            raise Refused(4, "drone %s bytes %d room %d" % (name, len(data), room), "no room")

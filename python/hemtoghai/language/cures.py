@@ -1,0 +1,260 @@
+"""What a faulty line of a show needs, by the table 'Faults' of docs/LANGUAGE.md; of a number that is none, or is out of
+its range, by the number that it is, in the form of the language that the text has. For ./show and the tools.
+"""
+from __future__ import annotations
+
+import os
+import re
+import sys
+from fractions import Fraction
+
+from hemtoghai.program import TOP
+
+LANGUAGE = "docs/LANGUAGE.md"
+METRES = "a coordinate", "micrometres", "a number that was multiplied twice", \
+    "one metre is 1000000, and no drone flies farther than 32 m from the origin"
+DEGREES = "a yaw", "tenths of a degree", "a yaw that goes on counting for more than nine turns", \
+    "90 degrees are 900; turn back before, or say the same direction by a smaller number"
+# By the first word of a line and the place of a number in it: what the number is, its unit, the commonest cause that it
+# is out of range, and the cure.
+NUMBERS = {
+    ("cue", 1): ("the length of a cue", "milliseconds", "a cue of more than 65,535 ms",
+                 "one second is 1000; split a longer cue: a cue without lines is a pause"),
+    ("late", 1): ("`late`", "milliseconds", "microseconds in place of milliseconds",
+                  "at most 1000, which is one second; drones that start farther apart can't be judged"),
+    ("stray", 1): ("`stray`", "millimetres", "micrometres in place of millimetres, which coordinates are in",
+                   "at most 1000, which is one metre"),
+    ("ellipsoid", 1): ("R of `ellipsoid`", "millimetres",
+                       "micrometres in place of millimetres, which coordinates are in",
+                       "the half axis to the side, at most 2000, which is two metres: `ellipsoid 120 300`"),
+    ("ellipsoid", 2): ("H of `ellipsoid`", "millimetres",
+                       "micrometres in place of millimetres, which coordinates are in",
+                       "the half axis up and down, at most 2000, which is two metres: `ellipsoid 120 300`"),
+    ("repeat", 1): ("the count of a `repeat`", "turns", "",
+                    "take a count of at least 1; a show has at most 1,000 cues"),
+    ("perform", 3): ("TURNS of `perform`", "quarter turns counter-clockwise", "degrees in place of quarter turns",
+                     "take 0, 1, 2 or 3: three quarter turns are one clockwise"),
+    ("memory", 1): ("ID of `memory`", "a memory's number", "", "leave the line out: without it `memory 2 0` holds"),
+    ("memory", 2): ("OFFSET of `memory`", "bytes", "", "take 0: the whole memory is for the show then"),
+    ("trajectory", 1): ("ID of `trajectory`", "an entry's number", "",
+                        "leave the line out: without it `trajectory 0` holds"),
+}
+
+
+# The commonest cause and the cure where they are others in `choreo 2`, whose numbers have units.
+IN_UNITS = {
+    "a coordinate": ("a unit too large", "no drone flies farther than 32m from the origin"),
+    "a yaw": (DEGREES[2], "turn back before, or say the same direction by a smaller number"),
+    "the length of a cue": ("a cue of more than 65.535s", "split a longer cue: a cue without lines is a pause"),
+    "`late`": ("a unit too large", "at most 1s; drones that start farther apart can't be judged"),
+    "`stray`": ("a unit too large", "at most 1m"),
+    "R of `ellipsoid`": ("a unit too large", "the half axis to the side, at most 2m: `ellipsoid 120mm 300mm`"),
+    "H of `ellipsoid`": ("a unit too large", "the half axis up and down, at most 2m: `ellipsoid 120mm 300mm`"),
+}
+LONGEST_SHOWN = 40  # bytes of a word of which other ways of writing it are named
+
+
+def row_of(word: str):
+    """What a fault of a line means, its commonest cause or nothing, and its cure; None where the table has no such
+    word."""
+    with open(os.path.join(TOP, LANGUAGE), encoding="utf-8") as lines:
+        for line in lines:
+            cells = [cell.strip() for cell in line.strip().strip("|").split("|")]
+            if cells[0] == "`%s`" % word and len(cells) == 4:
+                return cells[1:]
+    return None
+
+
+def short(digits: str) -> str:
+    """A number as it can be printed."""
+    return digits if len(digits) <= 24 else "%s.. (%d digits)" % (digits[:12], len(digits.lstrip("-")))
+
+
+# ---- numbers
+
+def numbers_of(line: bytes):
+    """The numbers of a line of a text: for each its word, its slot, and its row as NUMBERS has it."""
+    from hemtoghai.language.choreo import ACTS, LINES, YAW, Number  # where it is needed: ./show has to begin fast
+    words = line.partition(b"#")[0].decode("ascii", "replace").split()
+    is_act = len(words) > 1 and words[1] in ACTS
+    slots = ["name", "act", *ACTS[words[1]]] if is_act else ["word", *LINES.get("".join(words[:1]), [])]
+    for at, (word, slot) in enumerate(zip(words, slots)):
+        if isinstance(slot, Number):
+            usual = DEGREES if slot == YAW else METRES
+            yield word, slot, usual if is_act else NUMBERS.get((words[0], at), usual)
+
+
+def range_row(line: bytes, form: int = 1):
+    """The row of the number of a line that is out of its range; None where none is found. `line` is a line of a text,
+    in bytes, in a form of the language."""
+    from hemtoghai.language.choreo import number_of
+    from hemtoghai.language.quantities import FAR, written
+    for word, slot, (name, unit, cause, cure) in numbers_of(line):
+        value = number_of(slot, word, form)
+        if value is None or slot.least <= value <= slot.most:
+            continue
+        if form == 1 or slot.counts is None:
+            return ["%s is %s, and may be %d to %d (%s)" % (name, short(word), *slot[:2], unit), cause, cure]
+        read = "" if value == 0 or abs(value) == FAR else f" ({value} {unit})"
+        limits = f"{written(slot.counts, slot.least)} to {written(slot.counts, slot.most)}"
+        return [f"{name} is {short(word)}{read}, and may be {limits}", *IN_UNITS[name]]
+    return None
+
+
+def number_row(line: bytes, form: int):
+    """The row of the word of a line that stands in the place of a number and is none; None where nothing more is known
+    of it."""
+    from hemtoghai.language.choreo import number_of
+    for word, slot, (name, *_) in numbers_of(line):
+        if number_of(slot, word, form) is None:
+            if len(word) > LONGEST_SHOWN:
+                return None
+            if slot.counts is None:
+                return unitless_row(name, word)
+            return quantity_row(name, slot, word) if form == 2 else whole_row(name, slot, word)
+    return None
+
+
+def unitless_row(name: str, word: str):
+    """The row of a word with a unit where none is wanted, in both forms."""
+    found = re.fullmatch("(-?[0-9]+)([a-z]+)", word)
+    return found and [f"{name} is {word}, and has no unit", "", f"write {found[1]}"]
+
+
+def kind_of(unit: str) -> str:
+    """The kind of quantities that have a unit, with its article; empty where there is no such unit."""
+    from hemtoghai.language.quantities import KINDS
+    return {"length": "a length", "time": "a time", "angle": "an angle"}.get(KINDS.get(unit, ""), "")
+
+
+def whole_row(name: str, slot, word: str):
+    """The row of a word that is no whole number, in `choreo 1`."""
+    from hemtoghai.language.quantities import value_of
+    found = re.fullmatch("-?[0-9]+([.][0-9]+)?([a-z]*)", word)
+    kind = found and kind_of(found[2])
+    if not found or found[2] and not kind:
+        return None
+    first = next(iter(slot.counts.units))
+    meant = word if found[2] else word + first
+    value = value_of(slot.counts, meant)
+    what = f"{name} is {word}, which is {kind}" if kind else f"{name} is {word}, which isn't whole"
+    cause = "a number with a unit, as in `choreo 2`: this text is in `choreo 1`" if kind else f"{meant} is meant"
+    if value is None or not slot.least <= value <= slot.most:
+        return [what, cause, f"write whole numbers, here of {slot.counts.name}"]
+    return [what, cause, f"write whole numbers: {meant} is {value} {slot.counts.name}. Or begin the text with "
+                         f"`choreo 2`, and write {meant}: there each length, time and angle has a unit"]
+
+
+# ---- numbers with units
+
+def listed(words) -> str:
+    """Words as a choice."""
+    words = list(words)
+    return ", ".join(words[:-1]) + " or " * (len(words) > 1) + words[-1]
+
+
+def fits(slot, word: str) -> bool:
+    """Whether a word is a quantity in a slot and in its range."""
+    from hemtoghai.language.quantities import value_of
+    value = value_of(slot.counts, word)
+    return value is not None and slot.least <= value <= slot.most
+
+
+def quantity_row(name: str, slot, word: str):
+    """The row of a word that is no quantity in its place, in `choreo 2`."""
+    sign, whole, point, fraction, unit = re.fullmatch(r"([+-]?)([0-9]*)([.,]?)([0-9]*)(.*)", word, re.S).groups()
+    units = slot.counts.units
+    if not whole + fraction:
+        return [f"{name} is {word}, which has no digits", "", f"write a number with its unit: {listed(units)}"]
+    if not unit:
+        return bare_row(name, slot, word, point == "")
+    if unit not in units:
+        kind, zero = kind_of(unit), "" if (whole + fraction).strip("0") else "; zero needs no unit: write 0"
+        return [f"{name} is {word}, which is {kind}" if kind else f"{name} is {word}, and {unit} is no unit here", "",
+                f"{name} is {kind_of(slot.counts.usual)}: write its number with {listed(units)} right after it{zero}"]
+    plain = sign.replace("+", "") + (whole or "0") + ("." + fraction if fraction else "") + unit
+    if plain != word:
+        cause = "a `+`" if sign == "+" else "a comma in place of the point" if point == "," else \
+            "no digit before the point or after it"
+        return [f"{name} is {word}", cause, f"write {plain}"]
+    return finer_row(name, slot.counts, word, unit)
+
+
+def finer_row(name: str, counts, word: str, unit: str):
+    """The row of a quantity that isn't whole in its place: it lies between two that are."""
+    from hemtoghai.language.quantities import in_unit
+    size = Fraction(word[:-len(unit)]) * Fraction(10) ** counts.units[unit]
+    below = size.numerator // size.denominator
+    near = [in_unit(counts, value, unit) if value else "0" for value in (below, below + 1)]
+    return [f"{name} is {word}, which is no whole number of {counts.name}",
+            f"more digits than fit: the next after 0 is {in_unit(counts, 1, unit)}", f"write {listed(near)}"]
+
+
+def bare_row(name: str, slot, word: str, is_whole: bool):
+    """The row of a number without a unit: with the units that may be meant, and what `choreo 1` reads."""
+    from hemtoghai.language.quantities import in_unit, value_of, written
+    what, digits = f"{name} is {word}, without a unit", word.lstrip("+").replace(",", ".")
+    if not digits.strip("-0."):
+        return [what, "", "write 0: zero alone needs no unit"]
+    fitting = [digits + unit for unit in slot.counts.units if fits(slot, digits + unit)]
+    value = int(digits) if is_whole else slot.least - 1
+    meant = ", whichever is meant" * (len(fitting) > 1)
+    if not slot.least <= value <= slot.most:
+        cure = f"write {listed(fitting)}" if fitting else f"write {listed(slot.counts.units)} right after the number"
+        return [what, "", cure + meant]
+    first = written(slot.counts, value)
+    if all(value_of(slot.counts, it) == value for it in fitting):
+        same = [in_unit(slot.counts, value, unit) for unit in list(slot.counts.units)[:3]]
+        return [what, f"a number of `choreo 1`, which reads it as {first}", f"write {listed(same)}"]
+    return [what, "", f"write {listed(fitting)}{meant}; `choreo 1` reads it as {first}"]
+
+
+def count_row(line: bytes):
+    """The row of a line that has a word too many, since a unit stands alone; None where none does."""
+    from hemtoghai.language.quantities import KINDS
+    found = re.search(rb"(?<!\S)(-?[0-9.]+)\s+(" + "|".join(KINDS).encode() + rb")(?!\S)", line.partition(b"#")[0])
+    row = row_of("bad-count")
+    if not found or not row:
+        return None
+    number, unit = found[1].decode(), found[2].decode()
+    return [row[0], f"a blank between a number and its unit, which makes two words: `{number} {unit}`",
+            f"write {number}{unit}"]
+
+
+def cure_of(word: str, line: bytes, form: int = 1):
+    """What a fault of a line means, its commonest cause or nothing, and its cure; None where there is none. `form` is
+    that of the text: choreo.form_of gives it."""
+    row = None
+    if word == "range":
+        row = range_row(line, form)
+    elif word == "bad-number":
+        row = number_row(line, form)
+    elif word == "bad-count" and form == 2:
+        row = count_row(line)
+    return row or row_of(word)
+
+
+def shown(line: bytes) -> tuple:
+    """A line of a text as it can be printed, and the place of its first byte that may not stand there, or None."""
+    text, place = "", None
+    for at, byte in enumerate(line):
+        if place is None and b"#" not in line[:at] and byte not in (9, 13) and not 32 <= byte <= 126:
+            place = at
+        text += chr(byte) if 32 <= byte <= 126 else " " if byte in (9, 13) else "\\x%02X" % byte
+    return text, place
+
+
+def print_cure(who: str, number: int, word: str, text: bytes) -> None:
+    """Writes the line of a text and what helps to standard error."""
+    from hemtoghai.language.choreo import form_of
+    lines = text.split(b"\n")
+    line, place = shown(lines[number - 1]) if number <= len(lines) else ("", None)
+    print("%6d | %s" % (number, line[:200]), file=sys.stderr)
+    if word == "bad-byte" and place is not None:
+        print("%s: byte %d of the line is %02X" % (who, place + 1, lines[number - 1][place]), file=sys.stderr)
+    row = cure_of(word, lines[number - 1] if number <= len(lines) else b"", form_of(text))
+    if row:
+        for label, cell in zip((word, "most often", "cure"), row):
+            if cell:
+                print("%s: %s: %s" % (who, label, cell), file=sys.stderr)
+    print("%s: read on: %s, Faults" % (who, LANGUAGE), file=sys.stderr)

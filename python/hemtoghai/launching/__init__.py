@@ -1,0 +1,1 @@
+"""What ./show does beside the program: proving, building, records, releases."""

@@ -1,0 +1,24 @@
+"""What was built of which sources, for the tools that ship it: the records of ./show, and git."""
+import subprocess
+
+from hemtoghai import program
+from hemtoghai.companion import stop
+from hemtoghai.launching import records
+
+TOP = program.TOP
+
+
+def launcher():
+    """What ./show knows of builds, as a module."""
+    return records
+
+
+def git(*words: str) -> str:
+    """What git says."""
+    try:
+        done = subprocess.run(["git", *words], cwd=TOP, stdout=subprocess.PIPE, stderr=subprocess.PIPE)
+    except OSError as error:
+        return stop("git: %s" % error.strerror)
+    if done.returncode:
+        stop("git %s: %s" % (" ".join(words), done.stderr.decode(errors="replace").strip()))
+    return done.stdout.decode().strip()

@@ -1,0 +1,55 @@
+"""Whether an accepted show may be one that no drone flies, found out without reading it as a show: the program's
+`dynamics` and `boxes` are asked, and the lines of its drones are looked at. Where it may be, `flyable` has the words.
+For ./show, which has to be fast.
+"""
+from __future__ import annotations
+
+import os
+from math import hypot
+
+from hemtoghai.launching import running
+
+ACCEL, JUMP = 10000, 300  # as flyable.MOST
+SMALL = 40  # millimetres, as flyable.SMALL
+ABOVE = b"%%\nvolume -40000 -40000 0 40000 40000 40000\n"
+
+
+def rounded(micrometres: int) -> int:
+    """The nearest millimetre, and of two that are equally near the upper one."""
+    return (micrometres + 500) // 1000
+
+
+def whole(word: bytes) -> bool:
+    """Whether a word is a number of the language."""
+    return word.removeprefix(b"-").isdigit()
+
+
+def begin_badly(text: bytes) -> bool:
+    """Whether drones may begin above each other, or all of them within some millimetres of the origin; also where that
+    isn't clear from lines that begin with `drone`."""
+    radius, stray, places = 120, 0, []
+    for line in text.split(b"\n"):
+        words = line.partition(b"#")[0].split()
+        if words[:1] == [b"drone"]:
+            if len(words) != 6 or not all(map(whole, words[2:])):
+                return True
+            places.append([rounded(int(word)) for word in words[2:5]])
+        elif words[:1] == [b"ellipsoid"] and len(words) == 3 and whole(words[1]):
+            radius = int(words[1])
+        elif words[:1] == [b"stray"] and len(words) == 2 and whole(words[1]):
+            stray = int(words[1])
+    near = any(hypot(x - u, y - v) <= 2 * (radius + stray)
+               for k, (x, y, _) in enumerate(places) for u, v, _ in places[:k])
+    return near or all(abs(v) <= SMALL for place in places for v in place)
+
+
+def may_be_unflyable(file: str, text: bytes) -> bool:
+    """Whether something of an accepted show may be nothing that drones fly; also where the program doesn't say."""
+    ends = b"" if text.endswith(b"\n") else b"\n"
+    null = os.open(os.devnull, os.O_WRONLY)
+    try:
+        return (begin_badly(text)
+                or running.fed(file, ["dynamics", "--accel", str(ACCEL), "--jump", str(JUMP)], [text], null) != 0
+                or running.fed(file, ["boxes"], [text + ends + ABOVE], null) != 0)
+    finally:
+        os.close(null)

@@ -1,0 +1,231 @@
+"""Runs the program for ./show, on files and standard input. In a checkout it is proved and built first where it isn't
+the one of these sources; in a release and where it is installed it is the one of the manifest.
+
+No more is imported here than there has to be, so that ./show begins fast.
+"""
+from __future__ import annotations
+
+import os
+import sys
+
+from hemtoghai import program, streams, texts
+from hemtoghai.launching import running, seen, words as commands
+
+REFUSALS = (2, 3, 4, 5, 11, 12, 15, 16, 18)  # statuses with a fault line about the words or the input
+STARTS = 3  # how often a program that is exchanged meanwhile is looked at anew
+
+
+def say(text: str) -> None:
+    """Says a line of the launcher's own."""
+    streams.tell(program.NAME, text)
+
+
+def stop(text: str) -> None:
+    """Ends the launcher without an answer of the program."""
+    say(text)
+    sys.exit(streams.NO_ANSWER)
+
+
+# ---- which program runs
+
+def unproved_path() -> str:
+    """Where the program is that --unproved built."""
+    return program.PROGRAM + ".unproved"
+
+
+def file_of_release() -> str:
+    """The file that runs in a release: the program of its manifest, and no other."""
+    from hemtoghai import machine
+    try:
+        data, _ = program.read_program(program.PROGRAM)
+    except OSError:
+        data = b""
+    if not os.access(program.PROGRAM, os.X_OK) or (
+            program.digest_of(data) != program.record_of(program.MANIFEST).get("sha256")):
+        stop("the program isn't the one of MANIFEST.json: unpack the release anew")
+    if machine.fault():
+        stop(machine.fault())
+    return program.in_memory(data) or program.PROGRAM
+
+
+def file_if_current(path: str) -> str | None:
+    """The file that runs for a program that was built from the sources as they are, or None where none is there. Its
+    bytes are those that were looked at."""
+    for _ in range(STARTS):
+        if not seen.is_known_current(path):
+            return None
+        data, looks = program.read_program(path)
+        record = path + program.RECORD
+        if seen.is_same(path, looks) or program.digest_of(data) == program.record_of(record).get("sha256"):
+            return program.in_memory(data) or path
+    return stop("the program is exchanged while it is started: run it again")
+
+
+def file_for(unproved: bool) -> str | None:
+    """The file that is to run, or None where there is only the sources' own try."""
+    if os.path.exists(program.MANIFEST):
+        if unproved:
+            stop("a release has no sources to run")
+        return file_of_release()
+    if unproved:
+        say("nothing is proved in this run")
+        return file_if_current(unproved_path())
+    found = file_if_current(program.PROGRAM)
+    if found is None:
+        from hemtoghai.launching import building
+        building.build()
+        found = file_if_current(program.PROGRAM) or stop("the program that was built isn't that of the sources")
+    return found
+
+
+# ---- words and files
+
+def near_files(file: str) -> list[str]:
+    """The names of files in the folder of one that isn't there."""
+    folder = os.path.dirname(file)
+    try:
+        return [os.path.join(folder, name) for name in os.listdir(folder or ".")[:1000]]
+    except (OSError, ValueError):
+        return []
+
+
+def fault_of_file(file: str) -> str | None:
+    """What is wrong with a file, or None."""
+    if "\0" in file or os.path.isdir(file):
+        return "%s is a directory" % file
+    if not os.path.exists(file):
+        return "there is no file %s%s" % (file, commands.meant(file, near_files(file)))
+    return None if os.access(file, os.R_OK) else "%s can't be read: no permission" % file
+
+
+def has_regions(file: str) -> bool:
+    """Whether a text has a marker line, as far as it may be long; also where it isn't a file whose bytes stay."""
+    if not os.path.isfile(file):
+        return True
+    lines = texts.front_of(file, 2 * texts.SHOW).split(b"\n")
+    return any(line in (b"%%", b"%%\r") for line in lines)
+
+
+def fault_of_files(words: list[str], files: list[str]) -> str | None:
+    """What is wrong with the files, or None."""
+    command, second = words[0], commands.SECOND.get(words[0])
+    for file in files:
+        fault = fault_of_file(file) if file != "-" else None
+        if fault:
+            return fault
+    if second == "frames" and len(files) > 1 and "-" in files:
+        return "upload reads frames while it writes: { cat SHOW; echo %%%%; cat; } | %s upload" % program.COMMAND
+    if command in commands.NO_INPUT and files:
+        return "%s reads no file" % command
+    if command == "upload" and len(files) == 1 and sys.stdout.isatty():
+        return "upload writes frames for a bridge, and nothing for people: %s bridge %s" % (program.COMMAND, files[0])
+    if len(files) > (2 if second else 1):
+        return "%s reads %s" % (command, "two files: a show and its " + second if second else "one file")
+    if files.count("-") > 1:
+        return "standard input is one of the two files, not both"
+    if command == "boxes" and len(files) == 1 and files[0] != "-" and not has_regions(files[0]):
+        return "boxes reads regions too: %s boxes SHOW REGIONS" % program.COMMAND
+    return None
+
+
+def refuse(words: list[str], fault: str) -> int:
+    """Says what is wrong with the words, and lets the program refuse them; nothing is built for that."""
+    say(fault)
+    found = file_for(False) if os.path.exists(program.MANIFEST) else file_if_current(program.PROGRAM)
+    if found is None:
+        return 2
+    null = os.open(os.devnull, os.O_RDONLY)
+    return running.ended(running.started(found, words, null))
+
+
+# ---- running
+
+def input_number(words: list[str], files: list[str]) -> int:
+    """The open file that is the input of a command with one part."""
+    if files and files != ["-"]:
+        return os.open(files[0], os.O_RDONLY)
+    if words[0] in commands.NO_INPUT:
+        return os.open(os.devnull, os.O_RDONLY)
+    if os.isatty(0):
+        say("reading standard input; Ctrl-D ends it")
+    return 0
+
+
+def text_of(number: int | None, begin: int, files: list[str]) -> bytes | None:
+    """The show's text once more, to its limit, where it lies in a file whose bytes stay; else None."""
+    if number is None:
+        return texts.front_of(files[0], texts.SHOW + 1) if os.path.isfile(files[0]) else None
+    if not texts.is_plain(number):
+        return None
+    return os.pread(number, texts.SHOW + 1, begin)
+
+
+def answer(found: str | None, words: list[str], files: list[str]) -> int:
+    """Runs the program on its input, and helps where it refused, or where no drone flies what it accepted."""
+    number = None if len(files) == 2 else input_number(words, files)
+    begin = os.lseek(number, 0, os.SEEK_CUR) if number is not None and texts.is_plain(number) else 0
+    if found is None:
+        from hemtoghai.launching import building
+        status = building.try_sources(words, number, files)
+        found = file_if_current(unproved_path())
+    elif number is None:
+        status = running.fed(found, words, running.joined(files))
+    else:
+        status = running.ended(running.started(found, words, number))
+    if found and (status in REFUSALS or status == 0 and words[0] in ("check", "compile")):
+        text = text_of(number, begin, files) if words[0] not in commands.NO_INPUT else None
+        if text is not None:
+            (warn if status == 0 else explain)(found, text, status, files)
+    return status
+
+
+# ---- what helps
+
+def explain(found: str, text: bytes, status: int, files: list[str]) -> None:
+    """Says what helps after a refusal. The line that is faulty is asked for once more: the program's own output went
+    where it should."""
+    if status == 3:
+        output = running.said(found, ["check"], text)[1].split()
+        if len(output) >= 5 and output[2] == b"line":
+            from hemtoghai.language.cures import print_cure
+            return print_cure(program.NAME, int(output[3]), output[4].decode(), text)
+    if status in (4, 5):
+        from hemtoghai.writing.flyable import small_text
+        small = small_text(text)
+        if small:
+            say(small)
+        return say("%s why %s says more, and what to change" % (program.COMMAND, files[0] if files else "SHOW"))
+    return say("read on: docs/COMMANDS.md, Statuses and fault lines")
+
+
+def warn(found: str, text: bytes, _status: int, _files: list[str]) -> None:
+    """Says what of an accepted show no drone flies."""
+    from hemtoghai.launching import glance
+    if glance.may_be_unflyable(found, text):
+        from hemtoghai.writing.flyable import warning
+        words = warning(found, text)
+        if words:
+            say(words)
+
+
+def main(words: list[str]) -> int:
+    """Reads the words, and runs the program."""
+    running.watch_signals()
+    unproved = words[:1] == ["--unproved"]
+    words = words[1:] if unproved else words
+    if not words or words[0] in ("-h", "--help"):
+        from hemtoghai.launching import help as helping
+        sys.stdout.write(helping.help_text())
+        return 0
+    if words == ["--version"]:
+        from hemtoghai.launching import records
+        return records.print_version()
+    if words[0] in commands.FORMS and ("--help" in words or "-h" in words):
+        from hemtoghai.launching import help as helping
+        sys.stdout.write(helping.usage_of(words[0]))
+        return 0
+    front, files, fault = commands.split(words)
+    fault = fault or fault_of_files(front, files)
+    if fault:
+        return refuse(words, fault)
+    return answer(file_for(unproved), front, files)

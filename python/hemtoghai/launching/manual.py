@@ -1,0 +1,77 @@
+"""The manual page and the completion for Bash of ./show, made from the tables of docs/COMMANDS.md: for ./show manual
+and ./show release."""
+import re
+
+from hemtoghai.launching import words as commands
+
+COMPLETION = """# Completion of ./show for Bash: . show.bash
+_show() {
+  local word=${COMP_WORDS[COMP_CWORD]} command= at=1
+  [ "${COMP_WORDS[1]}" != --unproved ] || at=2
+  [ "$COMP_CWORD" -le "$at" ] || command=${COMP_WORDS[at]}
+  local options=
+  case $command in
+  '')
+    options='%s --help --version'
+    [ "$at" = 2 ] || options+=' --unproved' ;;
+%s
+  esac
+  case ${COMP_WORDS[COMP_CWORD-1]} in
+%s
+  esac
+  if [ -z "$command" ] || [ "${word:0:1}" = - ]; then
+    mapfile -t COMPREPLY < <(compgen -W "$options" -- "$word")
+  else
+    mapfile -t COMPREPLY < <(compgen -f -- "$word")
+  fi
+}
+complete -o filenames -F _show show ./show
+"""
+
+
+def completion():
+    """The text of the completion: commands, then each one's options, numbers where few are possible, and files."""
+    options, numbers = [], {}
+    for command in commands.FORMS:
+        known = commands.options_of(command)
+        options.append("  %s) options='%s' ;;" % (command, " ".join([*known, "--help"])))
+        for option, number in known.items():
+            if number and commands.NUMBERS[number][1] < 10:
+                numbers[option] = number
+    few = []
+    for option, number in sorted(numbers.items()):
+        low, high = commands.NUMBERS[number]
+        few.append("  %s) mapfile -t COMPREPLY < <(compgen -W '%s' -- \"$word\"); return ;;" % (
+            option, " ".join(map(str, range(low, high + 1)))))
+    return COMPLETION % (" ".join(commands.FORMS), "\n".join(options), "\n".join(few))
+
+
+def roff(text):
+    """A cell of a table, or a line, as troff has it."""
+    text = re.sub(r"\[([^]]*)\]\([^)]*\)", r"\1", text).replace("\\", "\\e").replace("-", "\\-")
+    text = re.sub(r"`([^`]*)`", r"\\fB\1\\fR", text).replace("**", "")
+    return re.sub(r"^([.'])", r"\\&\1", text)
+
+
+def page(version):
+    """The text of the manual page."""
+    out = ['.TH SHOW 1 "" "hemtoghai %s" "Hemtoghai"' % version, ".SH NAME",
+           "show \\- compiles and judges shows of drones", ".SH SYNOPSIS"]
+    for form in commands.FORMS.values():
+        out += [".B ./show %s" % roff(form), ".br"]
+    out += [".B ./show \\-\\-unproved COMMAND ..", ".br", ".B ./show \\-\\-version", ".SH COMMANDS"]
+    for form, what in commands.COMMANDS:
+        second = commands.SECOND.get(form.split()[0])
+        out += [".TP", ".B " + roff(form), roff(what[0].upper() + what[1:]) + "."]
+        if second:
+            out.append("Link frames follow the show." if second == "frames" else "The second part: %s." % second)
+    out += [".SH OPTIONS", "Options may stand before and behind the files."]
+    for option, number, without in commands.table(commands.page, "| Option | Number | Without it |"):
+        out += [".TP", roff(option), "%s. Without it: %s." % (roff(number[0].upper() + number[1:]), roff(without))]
+    out.append(".SH EXIT STATUS")
+    for status, said, happened, do in commands.table(commands.page, "| Status | Output | What happened | What to do |"):
+        out += [".TP", "%s: %s" % (roff(status), roff(said)), roff(happened[:1].upper() + happened[1:]) + "."]
+        if do:
+            out.append("What to do: %s." % roff(do))
+    out += [".SH SEE ALSO", "docs/COMMANDS.md, docs/LANGUAGE.md and docs/TOOLS.md of the release."]
+    return "\n".join(out) + "\n"

@@ -1,0 +1,147 @@
+"""The commands of the program, with their options, numbers and files, as the first two tables of docs/COMMANDS.md have
+them: for ./show, its help (help.py), the manual page and the completion. The program's own `help` has the same forms.
+"""
+from __future__ import annotations
+
+import os
+
+from hemtoghai.program import TOP
+
+PAGE = os.path.join(TOP, "docs", "COMMANDS.md")
+READ = ("page", "ROWS", "OPTIONS", "COMMANDS", "FORMS", "PURPOSES", "SECOND", "NO_INPUT", "NUMBERS")
+
+
+def table(document: str, head: str) -> list[list[str]]:
+    """The rows of the table of a document that has this head; ValueError where it has none."""
+    _, found, rest = ("\n" + document).partition("\n%s\n" % head)
+    rows = []
+    for line in rest.split("\n") if found else ():
+        if not line.startswith("|"):
+            break
+        rows.append([cell.strip() for cell in line.strip("|").split("|")])
+    if len(rows) < 2:
+        raise ValueError("%s has no table %s" % (PAGE, head))
+    return rows[1:]
+
+
+def plain(cell: str) -> str:
+    """A cell of a table without links and backquotes."""
+    if "](" not in cell:
+        return cell.replace("`", "").replace("**", "")
+    out, at, quoted = "", 0, False
+    while at < len(cell):
+        if cell[at] == "`":
+            quoted = not quoted
+        elif cell[at] == "]" and not quoted and cell[at + 1:at + 2] == "(" and ")" in cell[at:]:
+            front, _, label = out.rpartition("\0")
+            out, at = front + label, cell.index(")", at)
+        elif cell[at] == "[" and not quoted:
+            out += "\0"
+        else:
+            out += cell[at]
+        at += 1
+    return out.replace("\0", "[").replace("**", "")
+
+
+def limits_of(words: str) -> tuple[int, int] | None:
+    """The least and the greatest value that the words of a number begin with, or None."""
+    first = words.replace(",", "").split()[:3]
+    if len(first) == 3 and first[1] == "to" and first[0].isdigit() and first[2].rstrip(":;").isdigit():
+        return int(first[0]), int(first[2].rstrip(":;"))
+    return None
+
+
+def read() -> dict:
+    """What the tables say, by the names in READ."""
+    with open(PAGE, encoding="utf-8") as file:
+        document = file.read()
+    rows = [[plain(cell) for cell in row] for row in table(document, "| Words | Input | Output at status 0 |")]
+    options = [[plain(cell) for cell in row] for row in table(document, "| Option | Number | Without it |")]
+    numbers = {}  # the least and greatest value of a number, by its name: that of an option, or the first word of a row
+    for option, range_of, _ in options:
+        limits = limits_of(range_of)
+        if limits:
+            numbers[option.split()[1] if option.startswith("--") else option.split()[0]] = limits
+    return {"page": document, "ROWS": rows, "OPTIONS": options, "NUMBERS": numbers,
+            "COMMANDS": [(form, written) for form, _, written in rows],
+            "FORMS": {form.split()[0]: form for form, _, _ in rows},
+            "PURPOSES": {form.split()[0]: written for form, _, written in rows},
+            # What stands behind the show and a marker line, in the commands that read two parts.
+            "SECOND": {form.split()[0]: given.split()[-1] for form, given, _ in rows if ", a marker line, " in given},
+            "NO_INPUT": [form.split()[0] for form, given, _ in rows if given == "nothing"]}
+
+
+def __getattr__(name: str):
+    """What the tables say, read once where it is first asked for."""
+    if name not in READ:
+        raise AttributeError(name)
+    globals().update(read())
+    return globals()[name]
+
+
+def known(name: str):
+    """The same for this module itself."""
+    return globals()[name] if name in globals() else __getattr__(name)
+
+
+def options_of(command: str) -> dict:
+    """A command's options, each with the name of its number, or None where it has none."""
+    words = [part.partition("]")[0].split() for part in known("FORMS")[command].split("[")[1:]]
+    return {word[0]: word[1] if len(word) > 1 else None for word in words if word[0].startswith("--")}
+
+
+def number_of(command: str) -> str | None:
+    """The name of the number that follows the command itself, or None."""
+    words = known("FORMS")[command].split()
+    return words[1] if len(words) > 1 and words[1].isupper() else None
+
+
+def meant(word: str, choices) -> str:
+    """A question after a word that isn't known, where one that is known is near to it."""
+    import difflib
+    near = difflib.get_close_matches(word[:200], list(choices), 1, 0.7)
+    return "; did you mean %s?" % near[0] if near else ""
+
+
+def fault_of_number(name: str, word) -> str | None:
+    """What is wrong with a number, or None."""
+    low, high = known("NUMBERS")[name]
+    if word is not None and word.isascii() and word.isdigit() and len(word) < 10 and low <= int(word) <= high:
+        return None
+    return "%s is %d to %d%s" % (name, low, high, "" if word is None else ", not %s" % word)
+
+
+def split(words: list) -> tuple:
+    """The program's words, the files, and what is wrong with the words or None. Options may stand anywhere, and as
+    --depth=6; after -- all words are files."""
+    command, left, files = words[0], list(words[1:]), []
+    if command not in known("FORMS"):
+        better = meant(command, known("FORMS")) or "; ./show --help lists them"
+        return words, [], "there is no command %s%s" % (command, better)
+    front, its, seen = [command], options_of(command), set()
+    if number_of(command):
+        number = left.pop(0) if left else None
+        if fault_of_number(number_of(command), number):
+            return words, [], "%s N: %s" % (command, fault_of_number("N", number))
+        front.append(number)
+    while left:
+        word = left.pop(0)
+        option, equals, number = word.partition("=")
+        if word == "--":
+            files += left
+            break
+        if word == "-" or word[:1] != "-":
+            files.append(word)
+            continue
+        if option not in its or equals and not its[option]:
+            return words, [], "%s has no option %s%s" % (command, word, meant(option, its))
+        if option in seen:
+            return words, [], "%s stands twice" % option
+        seen.add(option)
+        front.append(option)
+        if its[option]:
+            number = number if equals else left.pop(0) if left else None
+            if fault_of_number(its[option], number):
+                return words, [], "%s %s: %s" % (option, its[option], fault_of_number(its[option], number))
+            front.append(number)
+    return front, files, None

@@ -1,0 +1,185 @@
+"""The proved program: where it is, what is known of its proof, and the file that runs.
+
+The record beside it, or the manifest of a release, has the SHA-256 of the program that was proved. The bytes that were
+hashed are the ones that run: where the system has files in memory they are copied into one that nobody can change. A
+program that isn't the recorded one is run by no tool. One that a tool was told to take, by `--program`, is run as it
+is.
+"""
+from __future__ import annotations
+
+import os
+import sys
+
+PACKAGE = os.path.dirname(os.path.abspath(__file__))
+# What lies beside the package in a checkout and in a release lies in it where it is installed.
+IS_INSTALLED = os.path.exists(os.path.join(PACKAGE, "MANIFEST.json"))
+TOP = PACKAGE if IS_INSTALLED else os.path.dirname(os.path.dirname(PACKAGE))
+NAME = "hemtoghai" if IS_INSTALLED else "show"  # of the command, in its messages
+COMMAND = "hemtoghai" if IS_INSTALLED else "./show"  # as somebody types it
+PROGRAM = os.path.join(TOP, "crates", "show_cli", "out", "show_cli")
+RECORD = ".built"  # stands after a program's name: what is known of its build, and the stamp of its sources
+MANIFEST = os.path.join(TOP, "MANIFEST.json")  # the same, where this is a release: then nothing is built
+MOST_BYTES = 1 << 28  # of a program, 256 MiB
+SEALS, ADD_SEALS = 0x0F, 1033  # of a file in memory: neither these seals, nor its size, nor its bytes change
+NO_ANSWER = 70
+
+
+class Unusable(Exception):
+    """Why the program can't be run."""
+
+
+# By a program's path what its file and its record looked like, the file that runs, and the last line of its proof.
+_copies: dict[str, tuple[tuple, str, str | None]] = {}
+
+
+def looks(path: str) -> tuple:
+    """What changes where a file is exchanged or written, without reading it; nothing where it isn't there."""
+    try:
+        return looks_of(os.stat(path))
+    except OSError:
+        return ()
+
+
+def looks_of(found: os.stat_result) -> tuple:
+    """The same of a file that was looked at."""
+    return found.st_dev, found.st_ino, found.st_size, found.st_mtime_ns, found.st_ctime_ns, found.st_mode
+
+
+def record_of(path: str) -> dict:
+    """What is noted of a program's build, or a release's manifest; nothing where there is none, or a damaged one."""
+    import json
+    try:
+        with open(path, encoding="utf-8") as file:
+            found = json.loads(file.read(1 << 24))
+    except (OSError, ValueError, RecursionError):
+        return {}
+    return found if isinstance(found, dict) else {}
+
+
+def digest_of(data: bytes) -> str:
+    """The SHA-256 of bytes in hexadecimal digits."""
+    import hashlib
+    return hashlib.sha256(data).hexdigest()
+
+
+def record_path(path: str = PROGRAM) -> str:
+    """Where a program's record is."""
+    return MANIFEST if path == PROGRAM and os.path.exists(MANIFEST) else path + RECORD
+
+
+def read_program(path: str) -> tuple[bytes, tuple]:
+    """A program's bytes and what its file looked like, before they were read and after."""
+    with open(path, "rb") as file:
+        before = looks_of(os.fstat(file.fileno()))
+        data = file.read(MOST_BYTES + 1)
+        if len(data) > MOST_BYTES or before != looks_of(os.fstat(file.fileno())):
+            raise Unusable("%s is written right now, or is no program" % path)
+    return data, before
+
+
+def in_memory(data: bytes) -> str | None:
+    """The path of a file in memory with these bytes, which never change, or None where there are no such files. It
+    stays as long as this process."""
+    if not hasattr(os, "memfd_create") or not os.path.isdir("/proc/self/fd"):
+        return None
+    import fcntl
+    try:
+        number = os.memfd_create("program", os.MFD_CLOEXEC | os.MFD_ALLOW_SEALING)
+        left = memoryview(data)
+        while left:
+            left = left[os.write(number, left):]
+        os.fchmod(number, 0o555)
+        fcntl.fcntl(number, ADD_SEALS, SEALS)
+    except OSError:
+        return None
+    path = "/proc/%d/fd/%d" % (os.getpid(), number)
+    return path if os.access(path, os.X_OK) else None
+
+
+def fault_of_machine(path: str) -> str | None:
+    """Why this machine isn't one for the program of a release, or None."""
+    from hemtoghai import machine
+    return machine.fault() if path == PROGRAM else None
+
+
+def fault(path: str | None = None) -> str | None:
+    """Why a program can't be run, or None: it isn't built, it isn't the one of its record, or this machine isn't one
+    for the release's."""
+    try:
+        runs(path)
+    except Unusable as why:
+        return str(why)
+    return None
+
+
+def runs(path: str | None = None) -> str:
+    """The path of the file to run for a program, without one for the program that was proved here; raises Unusable."""
+    path = os.path.abspath(path) if path else PROGRAM
+    if not os.path.isfile(path) or not os.access(path, os.X_OK):
+        raise Unusable("the program isn't built; ./show check FILE builds it")
+    if path != PROGRAM:
+        return path
+    fault = fault_of_machine(path)
+    if fault:
+        raise Unusable(fault)
+    return copy_of(path)[0]
+
+
+def proof() -> str | None:
+    """The last line of the proof of the program that runs, by its record or manifest, or None where none is known;
+    raises Unusable where it can't be run."""
+    runs()
+    return _copies[PROGRAM][2] if PROGRAM in _copies else None
+
+
+def copy_of(path: str) -> tuple[str, str | None]:
+    """The file to run for a program that has a record, made where that or the program changed since the last time, and
+    the last line of its proof or None; raises Unusable where it isn't the recorded one."""
+    seen, copy, proved = _copies.get(path, ((), "", None))
+    if copy and seen == (looks(path), looks(record_path(path))) and os.path.exists(copy):
+        return copy, proved
+    noted = looks(record_path(path))
+    try:
+        data, seen = read_program(path)
+    except OSError as error:
+        raise Unusable("%s: %s" % (path, error.strerror)) from None
+    record, digest = record_path(path), digest_of(data)
+    known = record_of(record)
+    wanted = known.get("sha256")
+    if wanted != digest and (wanted is not None or os.path.exists(record)):
+        raise Unusable("the program isn't the one of %s: %s" % (os.path.basename(record), (
+            "unpack the release anew" if record == MANIFEST else "./show check FILE builds it")))
+    line = known.get("rests_on")
+    proved = line if wanted and isinstance(line, str) and line.startswith("logic=proved ") else None
+    _copies[path] = (seen, noted), in_memory(data) or path, proved
+    return _copies[path][1:]
+
+
+def words_of(*words: str) -> list[str]:
+    """What starts a command of this package in a process of its own, over the same files."""
+    return [sys.executable, "-IS", os.path.join(PACKAGE, "__main__.py"), *words]
+
+
+def is_recorded(path: str | None = None) -> bool:
+    """Whether a record says how a program was built."""
+    return os.path.exists(record_path(os.path.abspath(path) if path else PROGRAM))
+
+
+def ask(words: list[str], text: bytes, path: str | None = None, seconds: float | None = None) -> tuple[int, bytes]:
+    """The status and output of a program on a text; raises Unusable where there is no answer."""
+    import subprocess
+    import tempfile
+    file = runs(path)
+    try:
+        with tempfile.TemporaryFile() as source:  # and no pipe: a program that refuses early doesn't read on
+            source.write(text)
+            source.seek(0)
+            done = subprocess.run([file, *words], stdin=source, stdout=subprocess.PIPE, stderr=subprocess.DEVNULL,
+                                  timeout=seconds)
+    except subprocess.TimeoutExpired:
+        raise Unusable("the program has no answer within %g s" % (seconds or 0)) from None
+    except OSError as error:
+        raise Unusable("the program can't be run: %s" % error.strerror) from None
+    if done.returncode < 0:
+        raise Unusable("the program was ended by signal %d" % -done.returncode)
+    return done.returncode, done.stdout

@@ -1,0 +1,1 @@
+"""Pictures, and the studio with the files of its page."""

@@ -1,0 +1,134 @@
+"""Where drones are at samples of time, which pairs come nearest there, where two are blocked, and regions: the data of
+a page. For ./show picture and ./show studio. It looks at single instants and proves nothing."""
+import os
+import subprocess
+from itertools import combinations
+
+from hemtoghai.companion import begins, cue_words, no_program, place, read_file, seconds, stop, value
+from hemtoghai.geometry import separation
+from hemtoghai.geometry.causes import cause_of
+from hemtoghai.language import choreo
+
+MOST_PLACES = 48000  # of all drones together, so that a page has about a megabyte
+MOST_PAIRS = 12
+
+
+def step_of(flown: choreo.Flown, wanted, most_places: int = MOST_PLACES) -> int:
+    """The milliseconds from one sample to the next: as wanted, or so that the page stays small."""
+    if wanted:
+        return wanted
+    most = min(2000, most_places // len(flown.names))
+    least = -(-flown.milliseconds // most)
+    return min(60000, next((step for step in (10, 20, 25, 50, 100, 200, 250, 500) if step >= least),
+                           -(-least // 1000) * 1000))
+
+
+def ask(program: str, words: list, text: bytes):
+    """The status and output of the program, or None where it can't be run."""
+    if no_program(program):
+        return None
+    done = subprocess.run([os.path.abspath(program), *words], input=text, stdout=subprocess.PIPE)
+    return done.returncode, done.stdout.decode(errors="replace")
+
+
+# ---- positions
+
+def played(rows: list, names: list) -> tuple:
+    """The instants and, for each, the drones' places in millimetres and yaws in degrees, by the rows of `play`."""
+    times, places = [], []
+    for k, row in enumerate(rows):
+        instant, name, x, y, z, yaw = row.split(" ")
+        if name != names[k % len(names)]:
+            stop("play wrote a row of %s where %s comes next" % (name, names[k % len(names)]))
+        if k % len(names) == 0:
+            times.append(int(instant))
+            places.append([])
+        places[-1].append((int(x) / 1000, int(y) / 1000, int(z) / 1000, int(yaw) / 100))
+    return times, places
+
+
+def worked_out(flown: choreo.Flown, step: int, also=()) -> tuple:
+    """The same, by the tool: at each step, at the end, and at further instants."""
+    times = sorted({*range(0, flown.milliseconds, step), flown.milliseconds, *also})
+    edges, places, cue = begins(flown), [], 0
+    for instant in times:
+        while edges[cue + 1] < instant:
+            cue += 1
+        u = (instant - edges[cue]) / flown.cues[cue].milliseconds
+        places.append([(*place(flown, k, cue, u), value(flown.by_cue[k][cue][1][3], u) / 10)
+                       for k in range(len(flown.names))])
+    return times, places
+
+
+def shares(flown: choreo.Flown, places: list) -> tuple:
+    """At each sample the nearest pair as (share, first, second), and of each pair the sample at which it is nearest."""
+    r, h = flown.show.settings["ellipsoid"]
+    nearest, pairs = [], {}
+    for k, row in enumerate(places):
+        best = None
+        for (i, a), (j, b) in combinations(enumerate(row), 2):
+            squared = ((a[0] - b[0]) ** 2 + (a[1] - b[1]) ** 2) / (4 * r * r) + (a[2] - b[2]) ** 2 / (4 * h * h)
+            squared = round(squared, 9)  # so that of equal ones the first counts
+            if best is None or squared < best[0]:
+                best = squared, i, j
+            if (i, j) not in pairs or squared < pairs[i, j][0]:
+                pairs[i, j] = squared, k
+        if best:
+            nearest.append([round(100 * best[0] ** 0.5, 1), best[1], best[2]])
+    rows = sorted((squared, i, j, k) for (i, j), (squared, k) in pairs.items())
+    return nearest, [[round(100 * squared ** 0.5, 1), i, j, k] for squared, i, j, k in rows[:MOST_PAIRS]]
+
+
+# ---- what is refused
+
+def mark_of(flown: choreo.Flown, deep: int, i: int, j: int, cue: int, index: int) -> dict:
+    """A place in which two drones are blocked: from, to, both drones, cue, the nearest instant, all in milliseconds,
+    how near they are there, whether they touch, the cause where it is the show's `stray` or `late`, and words."""
+    r, h = flown.show.settings["ellipsoid"]
+    begin, lasts, parts = begins(flown)[cue], flown.cues[cue].milliseconds, 2 ** deep
+    part = separation.difference(flown.by_cue[i][cue][1], flown.by_cue[j][cue][1])
+    near = separation.Nearest(part, r, h)
+    cause = None if near.touch else cause_of(flown, i, j, cue, deep)
+    words = "%s and %s in cue %d, %s: nearest at %s with %.1f %% of what their ellipsoids need, %s" % (
+        flown.names[i], flown.names[j], cue + 1, cue_words(flown.cues[cue]), seconds(begin + lasts * near.at),
+        100 * near.share, "too near" if near.touch else "apart while they fly exactly: the cause is " + cause.replace(
+            "`", "") if cause else "apart, but along no direction")
+    return {"from": begin + lasts * index / parts, "to": begin + lasts * (index + 1) / parts, "pair": [i, j],
+            "cue": cue, "nearest": begin + lasts * near.at, "words": words, "share": round(100 * near.share, 1),
+            "touch": near.touch, "cause": cause, "named": False}
+
+
+def blocked_marks(flown: choreo.Flown, deep: int) -> list:
+    """The places in which two drones are blocked, that first in which they come nearest; `named` is the one that
+    `check` names."""
+    marks = [mark_of(flown, deep, *found) for found in separation.blocked_places(flown, deep)]
+    for mark in marks[:1]:
+        mark["named"] = True
+    return sorted(marks, key=lambda mark: mark["share"])
+
+
+# ---- regions
+
+def regions_of(path: str) -> list:
+    """The regions of a file as (kind, six numbers): docs/COMMANDS.md, boxes."""
+    out = []
+    for number, line in enumerate(read_file(path).decode(errors="replace").split("\n"), 1):
+        words = line.split()
+        try:
+            if words:
+                kind, *limits = words[0], *map(int, words[1:])
+                if kind not in ("keepout", "volume") or len(limits) != 6 or any(
+                        not -40000 <= low <= high <= 40000 for low, high in zip(limits, limits[3:])):
+                    raise ValueError
+                out.append([kind, *limits])
+        except ValueError:
+            stop("%s, line %d: this is no region: %s" % (path, number, line[:60]))
+    return out
+
+
+def boxes_said(program: str, text: bytes, path: str, deep: int) -> str:
+    """What the program's `boxes` says of the regions of a file, or nothing."""
+    end = b"" if text.endswith(b"\n") else b"\n"
+    whole = text + end + b"%%\n" + read_file(path)
+    answer = ask(program, ["boxes", "--depth", str(deep)], whole)
+    return answer[1].strip() if answer else ""

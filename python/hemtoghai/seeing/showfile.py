@@ -1,0 +1,106 @@
+"""The one file that ./show studio reads and writes: as a whole, with a backup, and only over what was read; its bytes as
+the text of a page; and how two texts differ."""
+import contextlib
+import difflib
+import hashlib
+import os
+import re
+import shutil
+import tempfile
+import threading
+
+from hemtoghai.language import choreo
+
+MOST_TEXT = choreo.LONGEST_TEXT + 4096  # a little more than a show may have, so that the program can say so
+MOST_DIFF = 30000  # lines that are compared
+
+
+def stamp_of(data) -> str:
+    """What a file's bytes are known by; that of a file that isn't there is empty."""
+    return "" if data is None else hashlib.sha256(data).hexdigest()
+
+
+class ShowFile:
+    """The one file that is read and written."""
+
+    def __init__(self, path):
+        self.name, self.path, self.lock = os.path.basename(path), os.path.realpath(path), threading.Lock()
+
+    def look(self) -> tuple:
+        """What tells whether the file changed, without reading it."""
+        try:
+            found = os.stat(self.path)
+        except OSError:
+            return ()
+        return found.st_ino, found.st_size, found.st_mtime_ns
+
+    def read(self):
+        """The file's bytes, or None where it isn't there."""
+        try:
+            with open(self.path, "rb") as file:
+                return file.read(MOST_TEXT + 1)
+        except FileNotFoundError:
+            return None
+
+    def save(self, data: bytes, stamp):
+        """Writes the file at once as a whole, and keeps what was there as `SHOW~`; the stamp of what is there instead
+        where that isn't what the page read, or None."""
+        with self.lock:
+            old = self.read()
+            if stamp is not None and stamp != stamp_of(old):
+                return stamp_of(old)
+            self.replace(data, old)
+            return None
+
+    def replace(self, data: bytes, old) -> None:
+        """Writes a file beside it, and gives it the name; what was there gets another name in the same way."""
+        with self.beside() as (path, file):
+            file.write(data)
+            file.flush()
+            os.fsync(file.fileno())
+            if old is None:
+                mask = os.umask(0)
+                os.umask(mask)
+                os.chmod(path, 0o666 & ~mask)
+            else:
+                shutil.copymode(self.path, path)
+                with self.beside() as (kept, _):
+                    shutil.copy2(self.path, kept)
+                    os.replace(kept, self.path + "~")
+            os.replace(path, self.path)
+
+    @contextlib.contextmanager
+    def beside(self):
+        """A new file in the same folder, with its path; it is gone where it got no other name."""
+        number, path = tempfile.mkstemp(prefix=".%s." % self.name[:80], dir=os.path.dirname(self.path))
+        try:
+            with os.fdopen(number, "wb") as file:
+                yield path, file
+        finally:
+            with contextlib.suppress(FileNotFoundError):
+                os.unlink(path)
+
+
+def text_of(data: bytes) -> tuple:
+    """A file's bytes as the page has them: with line feeds alone, and what they were."""
+    text = data.decode("utf-8", "surrogateescape")
+    pairs, alone = text.count("\r\n"), text.count("\n")
+    ends = "\r\n" if pairs and pairs == alone else "\n"
+    plain = text.replace("\r\n", "\n")
+    # In the page a carriage return would be a line of its own; in the language it is a blank.
+    return plain.replace("\r", " "), ends, "\r" in plain or (pairs and ends == "\n")
+
+
+def bytes_of(text: str) -> bytes:
+    """The bytes of a text of the page."""
+    return text.encode("utf-8", "surrogateescape")
+
+
+def difference(old: str, new: str) -> list:
+    """Two texts as lines with a mark each: + new, - old, a blank for both, @ for a gap."""
+    old, new = old.split("\n"), new.split("\n")
+    if len(old) + len(new) > MOST_DIFF:
+        return [["@", "%d lines before, %d lines now: too many to show what changed" % (len(old), len(new))]]
+    rows = list(difflib.unified_diff(old, new, lineterm="", n=2))[2:]
+    return [["@", re.sub(r"@@ -(\d+).* \+(\d+).*", r"line \2", row)] if row.startswith("@@") else [row[:1], row[1:]]
+            for row in rows]

@@ -1,0 +1,339 @@
+// Writing without counting micrometres in ./show studio: the number under the cursor in metres or seconds, new drones,
+// cues and acts with the numbers of where each drone is, cues that are dragged longer or shorter, and a drone's lines.
+
+// By the unit of a number in the text: how many of it are one of the unit that is shown, its name, and a step.
+const UNITS = {um: [1000000, "m", 100000], mm: [1000, "m", 10], ms: [1000, "s", 100], deg10: [10, "°", 100]};
+const OPENING = ["formation", "figure", "cue", "repeat"];  // what a line may open
+
+// ---- the number under the cursor
+
+let target = null;  // that number: from and to in the text, its line, its place among the words, unit, name, value
+let writing = false;  // while a number of the field is written, the field isn't left
+const wordsOf = line => [...line.replace(/#.*/, "").matchAll(/\S+/g)].map(it => ({at: it.index, text: it[0]}));
+const isFirstForm = () => /^\s*choreo\s+1\b/.test(lines.find(line => line.replace(/#.*/, "").trim()) || "");
+// What the words of a line after its first ones are, with the name of the drone, or null.
+function slotsOf(words) {
+  const {acts, lines: kinds} = given.language;
+  if (words.length > 1 && Object.hasOwn(acts, words[1].text)) {
+    return {slots: acts[words[1].text], first: 2, name: words[0].text};
+  }
+  if (!words.length || !Object.hasOwn(kinds, words[0].text)) return null;
+  const named = ["drone", "at"].includes(words[0].text) && words[1];
+  return {slots: kinds[words[0].text], first: 1, name: named ? words[1].text : words[0].text};
+}
+// The number that stands at an offset of a line, or null.
+function numberAt(line, column) {
+  const words = wordsOf(lines[line - 1] || ""), row = isFirstForm() ? slotsOf(words) : null;
+  const place = words.findIndex(word => word.at <= column && column <= word.at + word.text.length);
+  if (!row || place < row.first) return null;
+  const slot = row.slots[place - row.first], text = words[place].text;
+  if (!Array.isArray(slot) || !UNITS[slot[1]] || !/^-?[0-9]{1,9}$/.test(text)) return null;
+  const from = offsetOf(line) + words[place].at;
+  const named = `${slot[0]} of ${row.name}`;
+  return {from, to: from + text.length, text, unit: slot[1], line, place, named, value: Number(text)};
+}
+const asShown = (value, unit) => {
+  const [factor] = UNITS[unit], digits = Math.round(Math.log10(factor));
+  return (value / factor).toFixed(digits).replace(/\.?0+$/, "") || "0";
+};
+// Shows the number of the cursor; while somebody writes into the field itself it stays.
+function showNumber(force) {
+  const input = byId("number-value");
+  if (document.activeElement === input && !force) return;
+  const line = cursorLine();
+  target = given.watch ? null : numberAt(line, field.selectionStart - offsetOf(line));
+  byId("number").hidden = target === null;
+  if (!target) return;
+  byId("number").firstElementChild.textContent = target.named;
+  byId("number").lastElementChild.textContent = UNITS[target.unit][1];
+  input.value = asShown(target.value, target.unit);
+  input.setCustomValidity("");
+}
+// Writes a number of the field into the text, where the text still has the one that is shown; whether it was written.
+function writeNumber(value) {
+  const input = byId("number-value"), text = `${value}`;
+  if (!target || !Number.isFinite(value) || Math.abs(value) > 999999999) return false;
+  if (field.value.slice(target.from, target.to) !== target.text) return false;
+  if (text !== target.text) {
+    const focused = document.activeElement === input;
+    writing = true;
+    writeText(target.from, target.to, text);
+    target = {...target, to: target.from + text.length, text, value};
+    if (focused) input.focus();
+    writing = false;
+  }
+  return true;
+}
+// The number of the field in the unit of the text, or NaN.
+function numberOfField() {
+  const words = byId("number-value").value.trim().replace(",", ".");
+  return /^-?([0-9]+\.?[0-9]*|\.[0-9]+)$/.test(words) ? Math.round(Number(words) * UNITS[target.unit][0]) : NaN;
+}
+function onNumber() {
+  if (target) byId("number-value").setCustomValidity(writeNumber(numberOfField()) ? "" : "no number");
+}
+function onNumberKey(event) {
+  const step = {ArrowUp: 1, ArrowDown: -1}[event.key];
+  if (event.key === "Escape") {
+    event.preventDefault();
+    field.focus();
+  } else if ((event.ctrlKey || event.metaKey) && event.key.toLowerCase() === "z") {
+    event.preventDefault();  // of the text, whose number this is
+    field.focus();
+    document.execCommand(event.shiftKey ? "redo" : "undo");
+  } else if (event.key === "Enter") {
+    event.preventDefault();
+    onNumber();
+    nextNumber();
+  } else if (step && target) {
+    event.preventDefault();
+    const value = target.value + step * UNITS[target.unit][2] / (event.shiftKey ? 10 : 1);
+    if (writeNumber(Math.round(value))) byId("number-value").value = asShown(target.value, target.unit);
+  }
+}
+// The number can be written over at once, in metres or seconds.
+function selectNumber() {
+  byId("number-value").focus();
+  byId("number-value").select();
+}
+// Goes to the next number of the line, and after the last one back to the text.
+function nextNumber() {
+  const words = wordsOf(lines[target.line - 1] || "");
+  for (let place = target.place + 1; place < words.length; place += 1) {
+    const next = numberAt(target.line, words[place].at);
+    if (!next) continue;
+    field.setSelectionRange(next.from, next.to);
+    showNumber(true);
+    return selectNumber();
+  }
+  field.setSelectionRange(target.to, target.to);
+  return field.focus();
+}
+
+// ---- the menu
+
+// Before which line it writes, or in place of it, of which text, and the blanks before the words there.
+let menuLine = 0, menuReplaces = false, menuVersion = 0, menuIndent = "";
+let actKind = "move";  // the act that the menu wrote last, with the sense of a quarter circle
+const ACT_WORDS = {hold: "stay", line: "straight, at one speed", move: "straight, rest to rest", turn: "on the spot",
+  curve: "by three points", arc: "quarter circle, at one speed", swing: "quarter circle, rest to rest",
+  arc_in: "quarter circle, from rest", arc_out: "quarter circle, to rest"};
+// Something new is written in place of the cursor's line where that is empty, before it where the cursor is at its
+// beginning, else after it; and never before the first line with words, which says that this is a show.
+function chooseLine() {
+  const line = cursorLine(), column = field.selectionStart - offsetOf(line);
+  const header = lines.findIndex(text => text.replace(/#.*/, "").trim()) + 1;
+  menuReplaces = line > header && !lines[line - 1].trim();
+  menuLine = Math.max(header + 1, menuReplaces || column === 0 ? line : line + 1);
+  menuVersion = version;
+}
+async function openMenu() {
+  if (given.watch || !file) return;
+  chooseLine();
+  placeMenu();
+  byId("menu").replaceChildren(element("p", "Looking where the drones are"));
+  byId("menu").hidden = false;
+  try {
+    const answer = await post("places", {line: menuLine});
+    if (!answer.ok) throw new Error(await answer.text());
+    let places = null;
+    await readStages(answer, stage => { if (stage.stage === "places") places = stage; }, () => false);
+    if (menuVersion === version && places && !byId("menu").hidden) fillMenu(places);
+    else closeMenu(false);
+  } catch (error) {
+    closeMenu(false);
+    tell("The studio doesn't answer.");
+  }
+}
+// Puts the menu below the line of the cursor, or above it where there is more room.
+function placeMenu() {
+  const menu = byId("menu"), below = ABOVE + LINE * cursorLine() - field.scrollTop, high = field.clientHeight;
+  menu.style.left = `${LEFT + 12}px`;
+  const above = below > high / 2;
+  menu.style.top = above ? "auto" : `${Math.max(4, below + 2)}px`;
+  menu.style.bottom = above ? `${Math.max(4, field.offsetHeight - below + LINE + 2)}px` : "auto";
+  menu.style.maxHeight = `${Math.max(120, above ? below - LINE - 10 : high - below - 8)}px`;
+}
+function closeMenu(back) {
+  byId("menu").hidden = true;
+  if (back) field.focus();
+}
+function menuButton(words, work) {
+  const button = element("button", words, byId("menu"));
+  button.type = "button";
+  button.setAttribute("role", "menuitem");
+  button.onclick = () => { closeMenu(true); if (menuVersion === version) work(); };
+}
+function onMenuKey(event) {
+  const step = {ArrowDown: 1, ArrowUp: -1}[event.key];
+  if (event.key === "Escape") {
+    event.stopPropagation();
+    closeMenu(true);
+  } else if (step && event.target.tagName === "BUTTON") {
+    event.preventDefault();
+    const buttons = [...byId("menu").querySelectorAll("button")], at = buttons.indexOf(document.activeElement);
+    buttons[(at + step + buttons.length) % buttons.length].focus();
+  }
+}
+function fillMenu(places) {
+  const menu = byId("menu"), inCue = places.where === "cue";
+  const free = places.drones.filter(row => !places.acted.includes(row[0]));
+  menuIndent = places.where === "top" ? "" : (lines[menuLine - 1] || lines[menuLine - 2] || "").match(/^\s*/)[0];
+  menu.replaceChildren();
+  if (!places.exact) {
+    element("p", "The text before this line isn't right yet: the numbers are those of the starts.", menu);
+  }
+  if (inCue || ["top", "repeat", "figure"].includes(places.where)) addActChoice(menu, places);
+  if (inCue) fillActs(places, free);
+  else if (places.where === "formation") fillPlaces(free);
+  else fillBlocks(places);
+  const first = menu.querySelector("button");
+  if (first) first.focus();
+  else element("p", "Each drone has a line here already.", menu);
+}
+function addActChoice(menu, places) {
+  const label = element("label", "act ", menu), choice = element("select", "", label);
+  for (const [act, slots] of Object.entries(given.language.acts)) {
+    const sense = slots.find(isSense);
+    for (const kind of sense ? sense.map(it => `${act} ${it}`) : [act]) {
+      const option = element("option", ACT_WORDS[act] ? `${kind}: ${ACT_WORDS[act]}` : kind, choice);
+      option.value = kind;
+      option.selected = kind === actKind;
+    }
+  }
+  choice.onchange = () => {
+    actKind = choice.value;
+    fillMenu(places);
+    menu.querySelector("select").focus();
+  };
+}
+const isSense = slot => Array.isArray(slot) && slot.includes("ccw");
+function fillActs(places, free) {
+  const middle = middleOf(places.drones);
+  for (const row of free) menuButton(row[0], () => insert(actLine(row, middle)));
+  if (free.length > 1) {
+    menuButton(`all ${free.length}`, () => insert(free.map(row => actLine(row, middle)).join("\n")));
+  }
+  if (places.in_figure) return;
+  for (const name of places.formations) menuButton(`form ${name}`, () => insert(`form ${name} move`));
+}
+function fillPlaces(free) {
+  const line = row => `at ${row.join(" ")}`;
+  for (const row of free) menuButton(`place of ${row[0]}`, () => insert(line(row)));
+  if (free.length > 1) menuButton(`places of all ${free.length}`, () => insert(free.map(line).join("\n")));
+}
+function fillBlocks(places) {
+  const middle = middleOf(places.drones), all = places.drones, cue = body => insertBlock(`cue 3000\n${body}end`);
+  if (all.length) {
+    menuButton(`cue of 3 s with a line of each ${places.in_figure ? "role" : "drone"}: ${actKind}`,
+      () => cue(all.map(row => `${actLine(row, middle)}\n`).join("")));
+  }
+  menuButton("cue of 3 s without a line", () => cue(""));
+  if (places.where !== "top") return;
+  menuButton("drone", () => insert(droneLine(all)));
+  if (!all.length) return;
+  const name = freeName("place", [...places.formations, ...places.figures]);
+  const rows = all.map(row => `at ${row.join(" ")}\n`).join("");
+  menuButton("formation with all drones where they are", () => insertBlock(`formation ${name}\n${rows}end`));
+}
+// The middle of all drones, in whole millimetres, for acts around a centre.
+function middleOf(rows) {
+  const mean = k => rows.reduce((sum, row) => sum + row[k], 0) / Math.max(1, rows.length);
+  return [1, 2].map(k => 1000 * Math.round(mean(k) / 1000));
+}
+// A line with an act of a drone that leaves it where it is, or turns it by a quarter around the middle.
+function actLine([name, x, y, z, yaw], [cx, cy]) {
+  const [act, sense] = actKind.split(" ");
+  const own = {x, y, z, "centre x": cx, "centre y": cy, yaw: act === "turn" ? yaw + 900 : yaw};
+  const numbers = given.language.acts[act].map(slot => {
+    if (slot === "name") return name;
+    if (isSense(slot)) return sense;
+    return UNITS[slot[1]] ? own[slot[0]] ?? own[slot[0][0]] ?? 0 : slot[0];
+  });
+  return [name, act, ...numbers].join(" ");
+}
+// A new drone half a metre beside the others, at the height of the last one.
+function droneLine(rows) {
+  const names = rows.map(row => row[0]), last = rows[rows.length - 1] || ["", -500000, 0, 1000000, 0];
+  const x = Math.max(...rows.map(row => row[1]), last[1]) + 500000;
+  return `drone ${nextName(names)} ${x} ${last[2]} ${last[3]} ${last[4]}`;
+}
+function nextName(names) {
+  const letters = [..."abcdefghijklmnopqrstuvwxyz"], last = names[names.length - 1] || "";
+  if (names.every(name => /^[a-z]$/.test(name))) {
+    const free = letters.filter(letter => !names.includes(letter));
+    if (free.length) return free.find(letter => letter > last) || free[0];
+  }
+  const number = Number((last.match(/[0-9]+$/) || ["0"])[0]);
+  return freeName(last.replace(/[0-9]+$/, "").slice(0, 12) || "d", names, number + 1);
+}
+function freeName(front, names, from = 1) {
+  let number = from;
+  while (names.includes(`${front}${number}`)) number += 1;
+  return `${front}${number}`;
+}
+// Writes lines at the menu's line, and selects their first number.
+function insert(words) {
+  const isAfterLast = menuLine > lines.length;
+  const block = words.split("\n").map(line => line && menuIndent + line).join("\n");
+  const from = isAfterLast ? field.value.length : offsetOf(menuLine);
+  if (isAfterLast) writeText(from, from, `\n${block}`);
+  else if (!menuReplaces) writeText(from, from, `${block}\n`);
+  else writeText(from, from + lines[menuLine - 1].length, menuLine === lines.length ? `${block}\n` : block);
+  const last = menuLine + words.split("\n").length - 1, number = firstNumber(menuLine, last);
+  const end = offsetOf(menuLine) + lines[menuLine - 1].length;
+  field.setSelectionRange(number ? number.from : end, number ? number.to : end);
+  scrollToLines(menuLine, last);
+  showNumber(true);
+  if (number) selectNumber();
+}
+// A block at top stands apart from the one above it.
+function insertBlock(words) {
+  const above = menuLine > 1 ? lines[menuLine - 2] : "";
+  insert(above.trim() && !menuIndent ? `\n${words}` : words);
+}
+function firstNumber(first, last) {
+  for (let k = first; k <= last; k += 1) {
+    for (const word of wordsOf(lines[k - 1] || "")) {
+      const number = numberAt(k, word.at);
+      if (number) return number;
+    }
+  }
+  return null;
+}
+
+// ---- a cue that is dragged longer or shorter
+
+// Writes the length of a cue into the text, where the flight that is drawn is that of the text.
+function stretchCue(cue, milliseconds) {
+  if (given.watch || flightVersion !== version || !flight.lines) return;
+  const line = flight.lines[cue][0][0], words = wordsOf(lines[line - 1] || "");
+  if (words.length < 2 || words[0].text !== "cue") return;
+  const number = numberAt(line, words[1].at), value = `${Math.max(1, Math.min(65535, Math.round(milliseconds)))}`;
+  if (!number || value === words[1].text) return;
+  writeText(number.from, number.to, value);
+  field.setSelectionRange(number.from, number.from + value.length);
+  scrollToLines(line, line);
+  showNumber(true);
+}
+
+// ---- the lines of a drone
+
+let picked = null;  // the name of the drone that was clicked in space
+// All lines of that drone: where it is declared, where formations place it, its acts.
+function pickedLines() {
+  const k = flight && picked !== null && flightVersion === version ? flight.names.indexOf(picked) : -1;
+  if (k < 0 || !found.lines) return [];
+  return new Set([found.lines.drones[k], ...found.lines.acts[k]].filter(Boolean));
+}
+// Marks the lines of a drone, and shows the one that it flies at this instant; null takes the marks away.
+function pickDrone(k) {
+  picked = k === null ? null : flight.names[k];
+  [chosen, isChosenByMark] = [new Set(k === null ? [] : [k]), false];
+  press();
+  draw();
+  markLines();
+  if (k === null || !found.lines || flightVersion !== version) return;
+  const line = found.lines.acts[k][cueAt(now)] || found.lines.drones[k];
+  if (!given.watch) scrollToLines(line, line);
+}

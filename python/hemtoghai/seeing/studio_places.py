@@ -1,0 +1,170 @@
+"""What stands around a line of a show's text, and where each drone is there: for the menu of ./show studio, which writes
+new drones, cues and acts with these numbers. The text may be half written: then what stands before the line is
+taken."""
+import re
+
+from hemtoghai.language import choreo
+
+START = [0, 0, 1000000, 0]  # of a role whose place in its figure isn't known: a metre above the origin
+DECLARED = ("drone", "formation", "figure", *choreo.SETTINGS)
+
+
+def word_of(line: bytes) -> str:
+    """The first word of a line, or nothing."""
+    words = line.partition(b"#")[0].split(None, 1)
+    return words[0].decode(errors="replace") if words else ""
+
+
+class Block:
+    """A block that is open at a line: the number of the line that opens it, and its kind."""
+
+    def __init__(self, number, kind):
+        self.number, self.kind = number, kind
+
+
+def steps(lines: list):
+    """For each line its number, its first word, and the blocks that are open before it, in a list that changes with the
+    next line. In a cue and in a formation nothing opens a block: a drone may have any name."""
+    opened = []
+    for number, line in enumerate(lines, 1):
+        word = word_of(line)
+        yield number, word, opened
+        if word == "end" and opened:
+            opened.pop()
+        elif word in choreo.OPENING and (not opened or opened[-1].kind in ("figure", "repeat")):
+            opened.append(Block(number, word))
+
+
+def last_lines(text: bytes) -> dict:
+    """By the line that opens a block the line that closes it."""
+    return {opened[-1].number: number for number, word, opened in steps(text.split(b"\n")) if word == "end" and opened}
+
+
+def around(lines: list, line: int) -> list:
+    """The blocks that are open before a line, those outside first."""
+    for number, _, opened in steps([*lines, b""]):
+        if number == min(line, len(lines) + 1):
+            return list(opened)
+    return []
+
+
+def later_declarations(lines: list, line: int) -> list:
+    """The lines at top after a line that declare drones, formations, figures and settings, with what is in them."""
+    out = []
+    for number, word, opened in steps(lines):
+        declared = opened[0].kind in DECLARED if opened else word in DECLARED
+        begin = opened[0].number if opened else number
+        if declared and begin >= line:
+            out.append(lines[number - 1])
+    return out
+
+
+def before(lines: list, line: int, opened: list) -> list:
+    """The lines that are flown before a line: a repeat that is open there is flown once so far, and a cue that is open
+    there isn't flown yet."""
+    end = opened[-1].number if opened and opened[-1].kind in ("cue", "formation") else line
+    repeats = {block.number for block in opened if block.kind == "repeat"}
+    return [b"" if number in repeats else it for number, it in enumerate(lines[:end - 1], 1)]
+
+
+def read(lines: list):
+    """What the drones of these lines fly, with a pause at the end so that there is a cue; None where they are
+    faulty."""
+    for pause in ([b"cue 1", b"end"], []):
+        try:
+            return choreo.flown_of(b"\n".join([*lines, *pause, b""]))
+        except choreo.Refused:
+            pass
+    return None
+
+
+def ends_of(flown) -> dict:
+    """By drone where it is at the end of a show, in micrometres and tenths of a degree."""
+    places = {name: list(start) for name, start in zip(flown.names, flown.starts)}
+    for cue in flown.cues:
+        for name, (_, act, goal) in cue.acts.items():
+            places[name] = [row[-1] for row in choreo.controls(act, places[name], goal)]
+    return places
+
+
+def starts_of(lines: list) -> dict:
+    """By drone where its line puts it, of a text that can't be read as a whole."""
+    found = {}
+    for line in lines:
+        match = re.fullmatch(rb"\s*drone\s+([a-z][a-z0-9_]{0,15})((?:\s+-?[0-9]{1,9}){4})\s*(?:#.*)?", line)
+        if match:
+            found.setdefault(match[1].decode(), [int(word) for word in match[2].split()])
+    return dict(list(found.items())[:choreo.MOST_DRONES])
+
+
+def in_figure(lines: list, line: int, opened: list) -> dict:
+    """By role where it is at a line of a figure, in the figure's own frame: the figure is flown by drones of its roles'
+    names, each of which begins where its first line puts it, else a metre above the origin."""
+    figure = opened[0]
+    roles = [word for word in lines[figure.number - 1].partition(b"#")[0].decode(errors="replace").split()[2:]
+             if choreo.is_name(word)][:choreo.MOST_DRONES]
+    inner = [b"" if number == figure.number else it
+             for number, it in enumerate(before(lines, line, opened), 1) if number >= figure.number]
+    begins = [b"drone %s %d %d %d %d" % (role.encode(), *START) for role in dict.fromkeys(roles)]
+    flown = read([b"choreo 1", *begins, *inner])
+    return ends_of(flown) if flown else {role: list(START) for role in roles}
+
+
+def words_in(lines: list, block: Block):
+    """The words of each line of an open cue or formation, as far as such lines follow one another."""
+    for line in lines[block.number:]:
+        words = line.partition(b"#")[0].decode(errors="replace").split()
+        fits = words[:1] == ["at"] if block.kind == "formation" else (
+            words[:1] == ["form"] or len(words) > 1 and words[1] in choreo.ACTS)
+        if words and not fits:
+            return
+        if len(words) > 1:
+            yield words
+
+
+def acted(lines: list, block: Block) -> list:
+    """Who has a line in an open cue or formation."""
+    return [words[1] if block.kind == "formation" else words[0]
+            for words in words_in(lines, block) if words[0] != "form"]
+
+
+def names_declared(lines: list, kind: str) -> list:
+    """The names after a word at top."""
+    out = []
+    for number, word, opened in steps(lines):
+        words = lines[number - 1].split()
+        if word == kind and not opened and len(words) > 1:
+            out.append(words[1].decode(errors="replace"))
+    return out
+
+
+def formed(lines: list, block: Block) -> list:
+    """The drones that get their acts from the `form` lines of an open cue."""
+    names, out = {words[1] for words in words_in(lines, block) if words[0] == "form"}, []
+    for number, word, opened in steps(lines):
+        words = lines[number - 1].decode(errors="replace").split()
+        if word == "at" and opened and opened[-1].kind == "formation" and len(words) > 1:
+            opener = lines[opened[-1].number - 1].decode(errors="replace").split()
+            out += [words[1]] if opener[1:2] and opener[1] in names else []
+    return out
+
+
+def places_at(text: bytes, line: int) -> dict:
+    """What stands around a line, and where each drone is: the kind of the innermost block, the drones or roles with
+    their places in micrometres and tenths of a degree, who has a line in that block, the names of formations and
+    figures, and whether the places could be computed or are the starts."""
+    lines = text.split(b"\n")
+    opened = around(lines, line)
+    where, exact = opened[-1].kind if opened else "top", True
+    if opened and opened[0].kind == "figure":
+        places = in_figure(lines, line, opened)
+    else:
+        flown_before = before(lines, line, opened)
+        flown = read([*flown_before, *later_declarations(lines, line)]) or read(flown_before)
+        places, exact = (ends_of(flown), True) if flown else (starts_of(lines), False)
+    has_lines = acted(lines, opened[-1]) if where in ("cue", "formation") else []
+    if where == "cue" and opened[0].kind != "figure":
+        has_lines += formed(lines, opened[-1])
+    return {"where": where, "in_figure": bool(opened) and opened[0].kind == "figure", "exact": exact,
+            "drones": [[name, *place] for name, place in places.items()], "acted": has_lines,
+            "formations": names_declared(lines, "formation"), "figures": names_declared(lines, "figure")}

@@ -1,0 +1,268 @@
+"""What ./show studio shows of a text beside its verdict, in a process of its own, so that it can be ended when a newer
+text comes:
+
+    python3 seeing/studio_work.py DEPTH [REGIONS]
+
+Standard input has a line of JSON and then the show's text. The line has the path of the `program` or null, and what
+the page `want`s: "places", with a `line`, is what stands around that line (seeing/studio_places.py); "flight", with the
+status and the words of `check` as `answer`, or null where the tools are to judge, is all the rest. Each line of
+standard output is a stage in JSON, as soon as it is known: `verdict` where the tools judged, `flight`, `explained` of a
+show that is refused for nearness, `lines`, `notes`, `regions` where there is a file of them for `boxes`, `marks` of a
+show that is refused for nearness, several times until all are found, `margin` of one that is accepted. It is trusted
+for nothing: only what the program says is proved.
+"""
+import json
+import os
+import re
+import sys
+import time
+from typing import Optional
+
+from hemtoghai.companion import ask_dynamics, begins, cue_words, no_program
+from hemtoghai.geometry import separation
+from hemtoghai.language import choreo
+from hemtoghai.seeing.sampling import ask, boxes_said, mark_of, played, regions_of, step_of, worked_out
+from hemtoghai.seeing.studio_places import last_lines, places_at
+from hemtoghai.writing.flyable import below, MOST as FASTEST, motion, NoAnswer, small
+from hemtoghai.writing.margins import greatest, MOST, with_setting
+
+MOST_PLACES = 32000  # of all drones together: the page has to keep up with typing
+MOST_MARKS = 200  # that are listed; the others are counted
+MOST_MEASURED = 2000  # of which it is computed how near they are
+MARK_TIME = 1.0  # seconds from one list of blocked places to the next, while more are looked for
+QUIET = 0.6  # seconds before the margins are looked for, which take many checks
+
+
+def put(stage: str, **more) -> None:
+    """Writes a stage."""
+    sys.stdout.write(json.dumps({"stage": stage, **more}, separators=(",", ":")) + "\n")
+    sys.stdout.flush()
+
+
+# ---- the verdict, without the program
+
+def refusal_of(text: bytes, deep: int) -> tuple:
+    """The status and the words by which the tools refuse a text, or those of an accepted one."""
+    try:
+        flown = choreo.flown_of(text)
+        choreo.judge_room(flown)
+        separation.judge_separation(flown, deep)
+    except choreo.Refused as refusal:
+        return refusal.status, refusal.output.strip()
+    return 0, "ok drones %d cues %d duration_ms %d" % (len(flown.names), len(flown.cues), flown.milliseconds)
+
+
+def judged(text: bytes, deep: int) -> tuple:
+    """The same; a marker line is refused as the program does."""
+    show, second, markers = choreo.parts_of(text)
+    answer = refusal_of(show, deep)
+    return answer if second is None or answer[0] == 3 else (11, "error 11 line %d" % markers[0])
+
+
+# ---- lines of the text
+
+def know_forms(flown: choreo.Flown) -> None:
+    """Notes for each `form` line by drone the `at` line of its formation."""
+    flown.forms = {line.number: {place.values[0]: place.number for place in flown.show.formations[line.values[0]].body}
+                   for line in choreo.inside(flown.show.top) if line.kind == "form"
+                   and line.values[0] in flown.show.formations}
+
+
+def lines_of_pair(flown: choreo.Flown, pair: list, cue: choreo.Cue) -> list:
+    """The lines by which two drones fly a cue: their acts, or the `form` line and their places."""
+    out = set()
+    for k in pair:
+        name = flown.names[k]
+        if name in cue.acts:
+            number = cue.acts[name][0]
+            out |= {number, flown.forms.get(number, {}).get(name, number)}
+    return sorted(out or {cue.number})
+
+
+def formed_lines(flown: choreo.Flown, text: bytes) -> list:
+    """For each cue the lines that stand for it elsewhere: of performs, repeats and formations, as (first, last)."""
+    closing, bodies = last_lines(text), {}
+    cues = {line.number: line for line in choreo.inside(flown.show.top) if line.kind == "cue"}
+    for number, line in cues.items():
+        forms = [flown.show.formations[inner.values[0]].number for inner in line.body if inner.kind == "form"]
+        bodies[number] = [[first, closing.get(first, first)] for first in forms]
+    out = []
+    for cue in flown.cues:
+        around = [[line, line] for kind, line, *_ in cue.within if kind == "perform"]
+        out.append([[cue.number, closing.get(cue.number, cue.number)], *bodies[cue.number], *around])
+    return out
+
+
+def drone_lines(flown: choreo.Flown) -> dict:
+    """For each drone its `drone` line, and by cue the line of its act there, of a formation that of its place; 0 where
+    it has none."""
+    acts = []
+    for name in flown.names:
+        numbers = [cue.acts[name][0] if name in cue.acts else 0 for cue in flown.cues]
+        acts.append([flown.forms.get(number, {}).get(name, number) for number in numbers])
+    return {"drones": [line.number for line in flown.show.drones], "acts": acts}
+
+
+# ---- stages
+
+def rows_of_play(text: bytes, program: str, deep: int, step: int):
+    """The rows of the program's `play`, or None where it isn't there."""
+    answer = ask(program, ["play", "--depth", str(deep), "--step", str(step)], text) if program else None
+    return answer[1].splitlines() if answer and answer[0] == 0 else None
+
+
+def flight_of(flown: choreo.Flown, text: bytes, step: int, rows: list, mark: dict, regions: list) -> dict:
+    """What the page draws, by rows of `play` or, where there are none, by the tools, a sample each so many
+    milliseconds."""
+    source = "tool"
+    if rows:
+        source, (times, places) = "play", played(rows, flown.names)
+    else:
+        times, places = worked_out(flown, step, {round(mark["nearest"])} if mark else ())
+    (r, h), (stray,), (late,) = [flown.show.settings[word] for word in ("ellipsoid", "stray", "late")]
+    columns = list(zip(*places))
+    return {
+        "source": source, "step": step, "r": r, "h": h, "stray": stray, "late": late, "regions": regions,
+        "names": flown.names, "times": times, "end": flown.milliseconds,
+        "xyz": [[round(number) for sample in column for number in sample[:3]] for column in columns],
+        "yaw": [[round(sample[3]) for sample in column] for column in columns],
+        "cues": [[begin, cue_words(cue)] for begin, cue in zip(begins(flown), flown.cues)],
+        "lines": formed_lines(flown, text), "marks": [mark] if mark else [],
+    }
+
+
+def first_mark(flown: choreo.Flown, said: str, deep: int) -> dict:
+    """The place that `check` names."""
+    words = said.split()
+    i, j = flown.names.index(words[3]), flown.names.index(words[4])
+    cue = int(words[6]) - 1
+    return with_lines(flown, {**mark_of(flown, deep, i, j, cue, int(words[8])), "named": True})
+
+
+def with_lines(flown: choreo.Flown, mark: dict) -> dict:
+    """A mark with the lines of both drones."""
+    return {**mark, "lines": lines_of_pair(flown, mark["pair"], flown.cues[mark["cue"]])}
+
+
+def put_marks(flown: choreo.Flown, deep: int) -> None:
+    """Writes all blocked places, those first in which two come nearest; the list so far at times while it looks."""
+    marks, many, told = [], 0, time.monotonic()
+    for found in separation.blocked_places(flown, deep):
+        many += 1
+        if many <= MOST_MEASURED:
+            marks.append({**mark_of(flown, deep, *found), "named": many == 1})
+        if time.monotonic() - told > MARK_TIME:
+            put_marks_so_far(flown, marks, many, False)
+            told = time.monotonic()
+    put_marks_so_far(flown, marks, many, True)
+
+
+def put_marks_so_far(flown: choreo.Flown, marks: list, many: int, are_all: bool) -> None:
+    """Writes the blocked places that are known."""
+    marks.sort(key=lambda mark: mark["share"])
+    put("marks", marks=[with_lines(flown, mark) for mark in marks[:MOST_MARKS]], many=many, all=are_all)
+
+
+def explained(flown: choreo.Flown, text: bytes, program: str, deep: int):
+    """What the program's `explain` says of a show that is refused for nearness: the two whose ellipsoids share a point
+    at an instant, with their cue and the instant in milliseconds, which is proved where the program is; or at how many
+    instants none do. None where the program can't be asked."""
+    answer = ask(program, ["explain", "--depth", str(deep)], text) if program else None
+    if not answer or answer[0]:
+        return None
+    touch = re.search(r"^touch pair (\S+) (\S+) cue (\d+) at (\d+) of (\d+)$", answer[1], re.M)
+    if touch:
+        cue, at, parts = int(touch[3]) - 1, int(touch[4]), int(touch[5])
+        return {"pair": [flown.names.index(touch[k]) for k in (1, 2)], "cue": cue,
+                "at": begins(flown)[cue] + flown.cues[cue].milliseconds * at / parts}
+    looked = re.search(r"^no-touch instants (\d+)$", answer[1], re.M)
+    return {"pair": None, "instants": int(looked[1])} if looked else None
+
+
+def speeds_of(text: bytes, program: str) -> dict:
+    """Bounds on speed by drone, in m/s, by the program's `speed`; none where it isn't there."""
+    answer = ask(program, ["speed"], text) if program else None
+    rows = [line.split() for line in answer[1].splitlines()] if answer and answer[0] == 0 else []
+    return {row[1]: [int(word) / 1e6 for word in row[2:5]] for row in rows if row[:1] == ["speed"]}
+
+
+def motion_of(flown: choreo.Flown, text: bytes, program: str) -> Optional[str]:
+    """What `dynamics` refuses of the show; None where it refuses nothing, or doesn't judge a show that doesn't fit."""
+    try:
+        return motion(program, flown, text) if program else None
+    except NoAnswer:
+        return None
+
+
+def faults_of(flown, text, program):
+    """What no drone flies, as ./show says it: by line, cue and words, each None where there is none."""
+    found = [motion_of(flown, text, program), below(flown), small(flown)]
+    for words in filter(None, found):
+        where = re.fullmatch(r"line (\d+), (?:cue (\d+)|the end): (.*)", words)
+        line, cue, rest = where.groups() if where else (None, None, words)
+        yield {"line": line and int(line), "cue": cue and int(cue) - 1, "words": rest.replace("m/s^2", "m/s²")}
+
+
+def notes_of(flown: choreo.Flown, text: bytes, program: str) -> dict:
+    """Memory, speeds, accelerations, jumps, and what no drone flies."""
+    motions, speeds, room = ask_dynamics(text, program or os.devnull), speeds_of(text, program), flown.room()
+    drones = []
+    for name, data, segments in zip(flown.names, flown.data(), flown.sent):
+        forces, jumps, _ = motions[name] if motions else ([None], [None], [])
+        drones.append({"name": name, "bytes": len(data), "left": room - len(data), "segments": len(segments),
+                       "speed": max(speeds[name]) if name in speeds else None,
+                       "force": max(forces) if motions else None,
+                       "jump": max(jumps) if motions else None})
+    return {"drones": drones, "room": room, "asked": motions is not None,
+            "faults": list(faults_of(flown, text, program)), "small": small(flown),
+            "most": {"force": FASTEST["accel"] / 1000, "jump": FASTEST["jump"] / 1000}}
+
+
+def margin_of(text: bytes, program: str, deep: int, name: str):
+    """The greatest number of a setting with which the show is accepted."""
+    def judge(changed, depth):
+        answer = ask(program, ["check", "--depth", str(depth)], changed) if program else None
+        return (answer[0], answer[1].strip()) if answer else judged(changed, depth)
+    return greatest(deep, MOST + 1, lambda k: with_setting(text, name, k), judge)[0]
+
+
+def put_flight(text, deep, program, answer, path):
+    """Writes all that is known of a text, given what `check` said of it, or null."""
+    status, said = answer or judged(text, deep)
+    if answer is None:
+        put("verdict", status=status, line=said, judge="tools")
+    if status not in (0, 4, 5):
+        return
+    flown = choreo.flown_of(choreo.parts_of(text)[0])
+    know_forms(flown)
+    first = first_mark(flown, said, deep) if status == 5 else None
+    step = step_of(flown, None, MOST_PLACES)
+    rows = rows_of_play(text, program, deep, step) if status == 0 else None
+    put("flight", flight=flight_of(flown, text, step, rows, first, regions_of(path) if path else []))
+    if status == 5:
+        put("explained", touch=explained(flown, text, program, deep))
+    put("lines", **drone_lines(flown))
+    put("notes", **notes_of(flown, text, program))
+    if path:
+        put("regions", line=boxes_said(program, text, path, deep) if program else "")
+    if status == 5:
+        put_marks(flown, deep)
+    if status == 0 and len(flown.names) > 1:
+        time.sleep(QUIET)
+        for name in ("stray", "late"):
+            put("margin", name=name, most=margin_of(text, program, deep, name))
+
+
+def main(words: list[str]) -> int:
+    """Reads the text, and says what is shown of it."""
+    deep, path = int(words[0]), words[1] if len(words) > 1 else None
+    line, text = sys.stdin.buffer.readline(), sys.stdin.buffer.read()
+    if not line:
+        return 0  # the studio has ended
+    asked = json.loads(line)
+    program = asked["program"] if asked["program"] and not no_program(asked["program"]) else None
+    if asked["want"] == "places":
+        put("places", **places_at(text, asked["line"]))
+    else:
+        put_flight(text, deep, program, asked["answer"], path)
+    return 0

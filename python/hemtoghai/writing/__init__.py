@@ -1,0 +1,1 @@
+"""What helps somebody who writes a show."""

@@ -1,0 +1,110 @@
+"""What of an accepted show no drone flies: one line for ./show, with lines of the text. Accelerations and jumps are
+those of the program's `dynamics`, places those of the tools' own reader."""
+import re
+from math import hypot
+from typing import Dict, Optional, Sequence
+
+from hemtoghai import program as proved
+from hemtoghai.geometry.curves import powers
+from hemtoghai.language import choreo
+
+MOST = {"accel": 10000, "jump": 300}  # millimetres per second squared, and per second
+PLACES = 32  # of a cue, where heights are looked at
+SMALL = 40  # millimetres: a show that was written in millimetres lies within 33, which are 33 m then
+
+
+class NoAnswer(Exception):
+    """The program didn't say what a show wants of a drone."""
+
+
+def line_of_cue(flown, cue: int) -> int:
+    """The line of a cue, which counts from 1; the end of the show is that of the last one."""
+    return flown.cues[min(cue, len(flown.cues)) - 1].number
+
+
+def motion(program: str, flown, text: bytes, most: Optional[Dict[str, int]] = None) -> Optional[str]:
+    """What `dynamics` refuses with limits, those of MOST where none are given, or None; raises NoAnswer where it neither
+    accepts nor refuses the show."""
+    most = most or MOST
+    words = ["dynamics", "--accel", str(most["accel"]), "--jump", str(most["jump"])]
+    try:
+        status, output = proved.ask(words, text, program)
+    except proved.Unusable as why:
+        raise NoAnswer("`dynamics` can't be asked: %s" % why) from None
+    if status not in (0, 18):
+        raise NoAnswer("`dynamics` ended with %d" % status)
+    found = re.match(rb"error 18 drone (\S+) cue (\d+) (accel|jump) ([xyz]) (\d+)\n", output)
+    if not found:
+        return None
+    name, cue, what, axis, number = (word.decode() for word in found.groups())
+    said = "needs up to %.2f m/s^2 on %s, more than %g" if what == "accel" else "jumps by %.2f m/s on %s, more than %g"
+    when = "cue %s" % cue if int(cue) <= len(flown.cues) else "the end"
+    return "line %d, %s: %s %s" % (line_of_cue(flown, int(cue)), when, name,
+                                   said % (int(number) / 1e6, axis, most[what] / 1000))
+
+
+def lowest(row: Sequence[int]) -> float:
+    """The lowest of the places that are looked at."""
+    def height(u):
+        v = 0.0
+        for c in powers(row):
+            v = v * u + c
+        return v
+    return min(height(at / PLACES) for at in range(PLACES + 1))
+
+
+def below(flown) -> Optional[str]:
+    """The first drone, and its first cue, in which it goes below z 0, or None."""
+    for name, flight in zip(flown.names, flown.by_cue):
+        for cue, (_, elements) in enumerate(flight, 1):
+            if min(elements[2]) < 0 and lowest(elements[2]) < 0:
+                return "line %d, cue %d: %s goes below z 0" % (line_of_cue(flown, cue), cue, name)
+    return None
+
+
+def small(flown) -> Optional[str]:
+    """That all places are within some millimetres of the origin, where it is so, or None."""
+    rows = (row for flight in flown.by_cue for _, elements in flight for row in elements[:3])
+    if all(abs(v) <= SMALL for row in rows for v in row):
+        return "all places lie within %d mm of the origin: lengths are micrometres, so a metre is 1000000" % SMALL
+    return None
+
+
+def small_text(text: bytes) -> Optional[str]:
+    """The same of a show's text, which may be refused for nearness."""
+    try:
+        return small(choreo.flown_of(choreo.parts_of(text)[0]))
+    except choreo.Refused:
+        return None
+
+
+def stacked(flown) -> Optional[str]:
+    """The first two drones that begin so near to each other from above that they can't go up below their places, or
+    None; `./show legs` plans their ways, and judges them."""
+    (radius, _), (stray,) = flown.show.settings["ellipsoid"], flown.show.settings["stray"]
+    for k, (name, flight) in enumerate(zip(flown.names, flown.sent)):
+        for other, second in zip(flown.names[:k], flown.sent):
+            far = hypot(*(flight[0][1][axis][0] - second[0][1][axis][0] for axis in (0, 1)))
+            if far <= 2 * (radius + stray):
+                return "%s and %s begin %.0f mm apart from above: ./show legs SHOW PADS says from which pads they can " \
+                       "go up" % (other, name, far)
+    return None
+
+
+def motion_if_known(program: str, flown, text: bytes) -> Optional[str]:
+    """What `dynamics` refuses, or None, also where it doesn't answer."""
+    try:
+        return motion(program, flown, text)
+    except NoAnswer:
+        return None
+
+
+def warning(program: str, text: bytes) -> Optional[str]:
+    """The line on what no drone flies, or None where nothing of that is found."""
+    try:
+        flown = choreo.flown_of(text)
+    except choreo.Refused:
+        return None
+    found = [words for words in (motion_if_known(program, flown, text), below(flown), small(flown),
+                                 None if small(flown) else stacked(flown)) if words]
+    return "; ".join(found) or None

@@ -1,0 +1,44 @@
+"""What a show still bears: the greatest ellipsoid, stray or lateness with which it is accepted. For ./show summary and
+./show studio."""
+import re
+
+from hemtoghai.companion import ask_check
+from hemtoghai.geometry import separation
+from hemtoghai.language import choreo
+
+MOST = 1000  # millimetres of a stray, and milliseconds of lateness, in the language
+
+
+def with_setting(text: bytes, *words) -> bytes:
+    """The show's text with another setting: its word and its numbers."""
+    line = " ".join(map(str, words)).encode()
+    old = rb"(?m)^[ \t\r]*%s(?:[ \t\r]+\d+)+(?=[ \t\r]*(#|$))" % words[0].encode()
+    new, found = re.subn(old, line, text)
+    return new if found else text.rstrip(b"\n") + b"\n" + line + b"\n"
+
+
+def judged(text: bytes, deep: int) -> tuple:
+    """The status and line of `check`, or what the tools work out where the program isn't built."""
+    answer = ask_check(text, deep)
+    if answer:
+        return answer
+    try:
+        flown = choreo.flown_of(text)
+        choreo.judge_room(flown)
+        separation.judge_separation(flown, deep)
+    except choreo.Refused as refusal:
+        return refusal.status, str(refusal)
+    return 0, "ok"
+
+
+def greatest(deep: int, high: int, changed, judge=judged) -> tuple:
+    """The greatest number below `high` with which the show is accepted, by halving, and the refusal above it; None
+    where it isn't with the least, and what is said then."""
+    low, refusal = -1, ""
+    while high - low > 1:
+        k = (low + high) // 2
+        status, line = judge(changed(k), deep)
+        if status not in (0, 5):
+            return None, line
+        low, high, refusal = (k, high, refusal) if status == 0 else (low, k, line)
+    return (None if low < 0 else low), refusal

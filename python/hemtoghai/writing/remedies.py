@@ -1,0 +1,146 @@
+"""What could help a drone that is blocked in a cue: how it and the others then fly, and the show's text with it. For
+./show why."""
+from hemtoghai.language import choreo
+
+LOW = 300  # millimetres; nothing is advised that flies below
+# With a tenth more than the ellipsoids need a direction is found: docs/LANGUAGE.md, How much room is enough.
+ENOUGH = 1.1
+LEAST_LIFT, EASY_LIFT = 2000, 700  # milliseconds for a way up or down of so many millimetres: less than 1 m/s
+
+
+def first_of(elements: list) -> list:
+    """The elements of a drone that stays where a cue begins."""
+    return [row[:1] for row in elements]
+
+
+def last_of(elements: list) -> list:
+    """The elements of a drone that stays where a cue ends."""
+    return [row[-1:] for row in elements]
+
+
+def lifted(own: list, by: int) -> tuple:
+    """A drone's elements in three cues: it rises, flies its cue so much higher, and sinks again."""
+    x, y, z = own[:3]
+    return ([x[:1], y[:1], [z[0]] * 4 + [z[0] + by] * 4], [x, y, [v + by for v in z]],
+            [x[-1:], y[-1:], [z[-1] + by] * 4 + [z[-1]] * 4])
+
+
+class Remedy:
+    """What drones do else in a cue: words; in stages one drone's own elements and how the others' become; how it is
+    written, "wait", "first", or by drone how many millimetres it is lifted; and how many milliseconds it takes."""
+
+    def __init__(self, drone, how, words, stages, takes):
+        self.drone, self.how, self.words, self.stages, self.takes = drone, how, words, stages, takes
+
+
+def lift_time(by: int) -> int:
+    """The milliseconds of a way up or down by so many millimetres: as fast as the easy one, or slower."""
+    return max(LEAST_LIFT, -(-LEAST_LIFT * abs(by) // EASY_LIFT // 100) * 100)
+
+
+def lift_all(flown: choreo.Flown, lifts: dict) -> Remedy:
+    """The remedy by which several drones fly a cue higher."""
+    words = "fly it higher, with a cue before to get there and one after to come back: " + ", ".join(
+        "%s %d mm" % (flown.names[drone], by) for drone, by in sorted(lifts.items()))
+    return Remedy(None, lifts, words, (), 2 * lift_time(max(lifts.values())))
+
+
+def remedies(flown: choreo.Flown, drone: int, cue: int):
+    """What a drone could do else in a cue."""
+    (time, own), (_, h) = flown.by_cue[drone][cue], flown.show.settings["ellipsoid"]
+    name, high = flown.names[drone], -(-int(2 * h * ENOUGH) // 50) * 50
+    form = form_of(flown, name, cue)
+    out = "leave it out of this cue"
+    if form is not None:
+        out = "write the places of line %d as acts, and leave it out" % form.number
+    yield Remedy(drone, "wait", "let %s wait: %s, and let it fly alone in a cue after it" % (name, out),
+                 [(first_of(own), list), (own, last_of)], time)
+    yield Remedy(drone, "first", "let %s go first: %s here, and let it fly alone in a cue before this one" % (
+        name, out.replace(" of this cue", "")), [(own, first_of), (last_of(own), list)], time)
+    for by in (high, -high):
+        if min(own[2]) + by >= LOW:
+            words = "let %s fly this cue %d mm %s: a cue before it to get there, and one after it to come back" % (
+                name, abs(by), "higher" if by > 0 else "lower")
+            yield Remedy(drone, {drone: by}, words, list(zip(lifted(own, by), (first_of, list, last_of))),
+                         2 * lift_time(by))
+
+
+# ---- the text
+
+def cue_line(flown: choreo.Flown, cue: int) -> choreo.Line:
+    """The line of a cue, with the lines in it."""
+    number = flown.cues[cue].number
+    return next(line for line in choreo.inside(flown.show.top) if line.kind == "cue" and line.number == number)
+
+
+def form_of(flown: choreo.Flown, name: str, cue: int):
+    """The `form` line that gives a drone its act in a cue, or None."""
+    number = flown.cues[cue].acts.get(name, (0,))[0]
+    return next((line for line in cue_line(flown, cue).body if line.kind == "form" and line.number == number), None)
+
+
+def place_at(flown: choreo.Flown, drone: int, cue: int) -> list:
+    """Where a drone is when a cue begins, in micrometres, with its yaw."""
+    at = list(flown.starts[drone])
+    for earlier in flown.cues[:cue]:
+        _, act, to = earlier.acts.get(flown.names[drone], (0, "hold", None))
+        at = [row[-1] for row in choreo.controls(act, at, to)]
+    return at
+
+
+def higher(words: list, by: int) -> str:
+    """The words of an act, so many micrometres higher."""
+    numbers = {"line": [4], "move": [4], "curve": [4, 7, 10]}.get(words[1], [])
+    return " ".join(str(int(word) + by) if k in numbers else word for k, word in enumerate(words))
+
+
+def acts_of(flown: choreo.Flown, lines: list, cue: int, names: set) -> tuple:
+    """The lines of a cue without the acts of some drones, and by name the words of these acts; a `form` line becomes
+    acts, where it is for one of the drones."""
+    others, own = [], {}
+    numbers = {flown.cues[cue].acts[name][0]: name for name in names if name in flown.cues[cue].acts}
+    for line in cue_line(flown, cue).body:
+        if line.kind == "form" and line.number in numbers:
+            for place in flown.show.formations[line.values[0]].body:
+                words = [place.values[0], line.values[1], *map(str, place.values[1:])]
+                if place.values[0] in names:
+                    own[place.values[0]] = words
+                else:
+                    others.append(" ".join(words).encode())
+        elif line.number in numbers:
+            own[numbers[line.number]] = lines[line.number - 1].split(b"#")[0].decode().split()
+        else:
+            others.append(lines[line.number - 1].rstrip(b"\r"))
+    return others, own
+
+
+def ways_of_lift(flown: choreo.Flown, cue: int, lifts: dict, up: bool):
+    """The acts by which drones go to their heights where a cue begins, or come back where it ends."""
+    for drone, by in sorted(lifts.items()):
+        x, y, z, yaw = place_at(flown, drone, cue if up else cue + 1)
+        yield b"%s move %d %d %d %d" % (flown.names[drone].encode(), x, y, z + (1000 * by if up else 0), yaw)
+
+
+def written(text: bytes, flown: choreo.Flown, cue: int, remedy: Remedy):
+    """The show's text with a remedy, or None where it can't be written: a way up or down inside a repeat or a figure,
+    whose turns begin at different places, or an act that isn't there."""
+    lines, start = text.split(b"\n"), flown.cues[cue].number - 1
+    last = next(k for k in range(start, len(lines)) if lines[k].split(b"#")[0].split() == [b"end"])
+    if remedy.how in ("wait", "first"):
+        name = flown.names[remedy.drone]
+        others, own = acts_of(flown, lines, cue, {name})
+        if name not in own:
+            return None
+        rest = [lines[start], *others, b"end"]
+        alone = [b"cue %d" % flown.cues[cue].milliseconds, " ".join(own[name]).encode(), b"end"]
+        new = rest + alone if remedy.how == "wait" else alone + rest
+    else:
+        if flown.cues[cue].within:
+            return None
+        others, own = acts_of(flown, lines, cue, {flown.names[drone] for drone in remedy.how})
+        acts = [higher(own[flown.names[drone]], 1000 * by).encode() for drone, by in sorted(remedy.how.items())
+                if flown.names[drone] in own]
+        slow = b"cue %d" % max(map(lift_time, remedy.how.values()))
+        new = [slow, *ways_of_lift(flown, cue, remedy.how, True), b"end", lines[start], *others, *acts, b"end",
+               slow, *ways_of_lift(flown, cue, remedy.how, False), b"end"]
+    return b"\n".join([*lines[:start], *new, *lines[last + 1:]])
