@@ -171,6 +171,29 @@ class Both(unittest.TestCase):
         self.assertGreater(min(seen.values()), 3)
 
 
+class Lines(unittest.TestCase):
+    def test_words(self):
+        """The words of each line of every example, in both forms, are read as what they are."""
+        kinds = set()
+        for name, text in examples():
+            for form, whole in ((1, converting.converted(text, 1)), (2, converting.converted(text, 2))):
+                lines = whole.split(b"\n")
+                for line in choreo.inside(choreo.read(whole)):
+                    words = choreo.words_of(line, form)
+                    wanted = lines[line.number - 1].partition(b"#")[0].decode().split()
+                    if (choreo.form_of(text), form) != (2, 2):  # what is written by hand may have any unit
+                        self.assertEqual(words, wanted, name)
+                    kinds.add(line.kind if line.kind != "act" else words[1])
+        self.assertEqual(kinds, {*choreo.LINES, *choreo.ACTS} - {"end"})
+
+    def test_by_hand(self):
+        drone = choreo.Line(2, "drone", ["a", 0, -700000, 1500000, 905])
+        self.assertEqual(choreo.words_of(drone, 1), ["drone", "a", "0", "-700000", "1500000", "905"])
+        self.assertEqual(choreo.words_of(drone, 2), ["drone", "a", "0", "-0.7m", "1.5m", "90.5deg"])
+        perform = choreo.Line(9, "perform", ["f", "x", 3, 0, 10000, 0, "a", "b"])
+        self.assertEqual(choreo.words_of(perform, 2), ["perform", "f", "x", "3", "0", "0.01m", "0", "a", "b"])
+
+
 class Refused(unittest.TestCase):
     def test_faulty_texts(self):
         """With the reader's line; no text that the reader refuses is written."""

@@ -159,6 +159,22 @@ def line_of(number, words, blocks):
     return Line(number, kind, front + values)
 
 
+def word_of(slot, value, form: int) -> str:
+    """The word of a value in its slot, in a form of the language."""
+    if form == 2 and isinstance(slot, Number) and slot.counts:
+        return quantities.written(slot.counts, value)
+    return str(value)
+
+
+def words_of(line: Line, form: int) -> list[str]:
+    """The words of a line, as a text in a form of the language has them."""
+    first = line.values[:2] if line.kind == "act" else [line.kind]
+    values = line.values[2:] if line.kind == "act" else line.values
+    slots = ACTS[first[1]] if line.kind == "act" else LINES[line.kind]
+    slots = slots + ["name"] * (len(values) - len(slots))
+    return first + [word_of(slot, value, form) for slot, value in zip(slots, values)]
+
+
 def add_line(line, blocks):
     """Puts a line into the open blocks, or refuses it for what earlier lines leave open."""
     if line.kind in SETTINGS and any(other.kind == line.kind for other in blocks[0].body):

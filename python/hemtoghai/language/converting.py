@@ -9,15 +9,9 @@ from __future__ import annotations
 import re
 
 from hemtoghai.language import choreo
-from hemtoghai.language import quantities
 from hemtoghai.texts import TooLong
 
 WORD = re.compile(rb"[^ \t\r]+")
-
-
-def number_in(form: int, counts: quantities.Counts, value: int) -> bytes:
-    """The word of a number in a form."""
-    return (quantities.written(counts, value) if form == 2 else str(value)).encode()
 
 
 def with_words(line: bytes, found: list[re.Match[bytes]], new: dict[int, bytes]) -> bytes:
@@ -33,7 +27,7 @@ def new_words(number: int, words: list[str], blocks: list[choreo.Line], form: in
     line = choreo.line_of(number, words, blocks)
     choreo.add_line(line, blocks)
     first, values = len(words) - len(slots), line.values[len(front):]
-    return {first + k: number_in(form, slot.counts, values[k]) for k, slot in enumerate(slots)
+    return {first + k: choreo.word_of(slot, values[k], form).encode() for k, slot in enumerate(slots)
             if isinstance(slot, choreo.Number) and slot.counts}
 
 
