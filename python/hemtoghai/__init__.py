@@ -1,1 +1,35 @@
-"""Judges, compiles and explains shows of drones."""
+"""Judges, compiles and explains shows of drones.
+
+    import hemtoghai
+
+    verdict = hemtoghai.check(text)
+    if not verdict.ok:
+        for place in verdict.blocked:
+            print(place.first, place.second, place.begin_ms, place.end_ms, place.lines)
+    plan = hemtoghai.compile(text)
+
+The proved program is asked: `verdict.proved` says whether its record has a proof. docs/PYTHON.md has whole programs.
+"""
+from __future__ import annotations
+
+TYPE_CHECKING = False  # what is named below is imported where it is first asked for: ./show has to begin fast
+if TYPE_CHECKING:
+    from hemtoghai.judging import (Blocked, Caution, DronePlan, Plan, Refused, Verdict, boxes, certify, check, compile,
+                                   dynamics, play, report, speed, verify)
+
+__all__ = ["Blocked", "Caution", "DronePlan", "Plan", "Refused", "Verdict", "boxes", "certify", "check", "compile",
+           "dynamics", "play", "report", "speed", "verify"]
+
+
+def __getattr__(name: str) -> object:
+    """One of the names above."""
+    if name not in __all__:
+        raise AttributeError("module 'hemtoghai' has no attribute %r" % name)
+    from hemtoghai import judging
+    value = globals()[name] = getattr(judging, name)
+    return value
+
+
+def __dir__() -> list[str]:
+    """The names above."""
+    return __all__

@@ -28,7 +28,8 @@ class Unusable(Exception):
     """Why the program can't be run."""
 
 
-_copies: dict[str, tuple[tuple, str]] = {}  # by a program's path what its file looked like, and the file that runs
+# By a program's path what its file and its record looked like, the file that runs, and the last line of its proof.
+_copies: dict[str, tuple[tuple, str, str | None]] = {}
 
 
 def looks(path: str) -> tuple:
@@ -118,29 +119,40 @@ def runs(path: str | None = None) -> str:
         raise Unusable("the program isn't built; ./show check FILE builds it")
     if path != PROGRAM:
         return path
-    if fault_of_machine(path):
-        raise Unusable(fault_of_machine(path))
-    return copy_of(path)
+    fault = fault_of_machine(path)
+    if fault:
+        raise Unusable(fault)
+    return copy_of(path)[0]
 
 
-def copy_of(path: str) -> str:
-    """The file to run for a program that has a record, made where that or the program changed since the last time;
-    raises Unusable where it isn't the recorded one."""
-    seen, copy = _copies.get(path, ((), ""))
+def proof() -> str | None:
+    """The last line of the proof of the program that runs, by its record or manifest, or None where none is known;
+    raises Unusable where it can't be run."""
+    runs()
+    return _copies[PROGRAM][2] if PROGRAM in _copies else None
+
+
+def copy_of(path: str) -> tuple[str, str | None]:
+    """The file to run for a program that has a record, made where that or the program changed since the last time, and
+    the last line of its proof or None; raises Unusable where it isn't the recorded one."""
+    seen, copy, proved = _copies.get(path, ((), "", None))
     if copy and seen == (looks(path), looks(record_path(path))) and os.path.exists(copy):
-        return copy
+        return copy, proved
     noted = looks(record_path(path))
     try:
         data, seen = read_program(path)
     except OSError as error:
         raise Unusable("%s: %s" % (path, error.strerror)) from None
     record, digest = record_path(path), digest_of(data)
-    wanted = record_of(record).get("sha256")
+    known = record_of(record)
+    wanted = known.get("sha256")
     if wanted != digest and (wanted is not None or os.path.exists(record)):
         raise Unusable("the program isn't the one of %s: %s" % (os.path.basename(record), (
             "unpack the release anew" if record == MANIFEST else "./show check FILE builds it")))
-    _copies[path] = (seen, noted), in_memory(data) or path
-    return _copies[path][1]
+    line = known.get("rests_on")
+    proved = line if wanted and isinstance(line, str) and line.startswith("logic=proved ") else None
+    _copies[path] = (seen, noted), in_memory(data) or path, proved
+    return _copies[path][1:]
 
 
 def words_of(*words: str) -> list[str]:

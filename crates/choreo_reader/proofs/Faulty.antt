@@ -1,5 +1,5 @@
 -- The fault of a reading is the first fault of the text by the contexts of its lines.
-use Rattle.choreo_reader.proofs.Prelude.{common_steps, ◌≡◌, ℕ, Bool, true, false, List, [], ◌∷◌, ◌++◌, Option, Some, None, Result, Ok, Err, refl, sym, ap, subst, ◌∙◌, cond, arith, ◌&&◌, ◌||◌, is_some, Line, show_lines, Name, Body, PlainShow, has_block, ◌⨾◌, keyword_in, Says, may_say, Fault, fault_at, forbidden, Context, open_fault, line_fault, Opened, OpenFormation, OpenFigure, OpenRepeat, OpenCue, this_or, fault_from, fault_of_lines, end_fault, either_fault, fault, is_header, place_of, place_in, opened_by, is_end, is_top, fill, opens, blocks_after, sets_memory, sets_trajectory, sets_ellipsoid, sets_stray, sets_late, context_after, first_word, in_figure, word, as_read, Open, InFormation, InFigure, InRepeat, InCue, Built, nothing, context_of, openings_of, outer_openings, is_any, add_block, close_innermost, build, built_by, unless, lines_step, then_step, finish, finish_with, read_lines, reading, unless_forbidden, entry_fault, fault_with, entry_of, kind_of, or_else, says_of, says_read, LineKind, Entry, ActLine}
+use Rattle.choreo_reader.proofs.Prelude.{common_steps, ◌≡◌, ℕ, Bool, true, false, List, [], ◌∷◌, ◌++◌, Option, Some, None, Result, Ok, Err, refl, sym, ap, subst, ◌∙◌, cond, arith, ◌&&◌, ◌||◌, is_some, Line, show_lines, Name, Body, PlainShow, has_block, ◌⨾◌, keyword_in, Says, may_say, Fault, fault_at, forbidden, Context, open_fault, line_fault, Opened, OpenFormation, OpenFigure, OpenRepeat, OpenCue, this_or, fault_from, fault_of_lines, end_fault, either_fault, fault, place_of, place_in, opened_by, is_end, is_top, fill, opens, blocks_after, sets_memory, sets_trajectory, sets_ellipsoid, sets_stray, sets_late, context_after, first_word, in_figure, word, as_read, Open, InFormation, InFigure, InRepeat, InCue, Built, nothing, context_of, openings_of, outer_openings, is_any, add_block, close_innermost, build, built_by, unless, lines_step, then_step, finish, finish_with, read_lines, reading, unless_forbidden, entry_fault, fault_with, entry_of, kind_of, or_else, says_of, says_read, LineKind, Entry, ActLine, Form, form_of, read_after_header, fault_after_header}
 use Rattle.choreo_lines.specs.FirstWord.{keyword_of}
 use Rattle.choreo_show.specs.Plain as plain
 use Rattle.choreo_lines.specs.declared.line.Place.{Place}
@@ -19,13 +19,13 @@ first_said : (k : Keyword) (w : List ℕ) → IsFirst k w → (k ≡ first.Other
 first_said first.Other w f n = absurd (n refl)
 first_said k w f n = f
 
-word_said : (ws : List (List ℕ)) (e : Entry) → Says ws e → (keyword_in e ≡ first.Other → ⊥) → keyword_of (first_word ws) ≡ keyword_in e
-word_said ws e h n = first_said (keyword_in e) (word ws 0) (says_read ws e h).0 n
+word_said : (form : Form) (ws : List (List ℕ)) (e : Entry) → Says form ws e → (keyword_in e ≡ first.Other → ⊥) → keyword_of (first_word ws) ≡ keyword_in e
+word_said form ws e h n = first_said (keyword_in e) (word ws 0) (says_read form ws e h).0 n
 
 -- that of an act line is a name
-name_said : (ws : List (List ℕ)) (name : Name) (a : _) → Says ws (entry.One name a) → is_other (keyword_of (first_word ws)) ≡ true
-name_said [] name a h = absurd h
-name_said (w ∷ ws) name a h = name_keyword w h.0.0
+name_said : (form : Form) (ws : List (List ℕ)) (name : Name) (a : _) → Says form ws (entry.One name a) → is_other (keyword_of (first_word ws)) ≡ true
+name_said form [] name a h = absurd h
+name_said form (w ∷ ws) name a h = name_keyword w h.0.0
 
 -- The open blocks after a line.
 
@@ -148,10 +148,10 @@ turns (entry.Form name smooth) os s n k m o = form_turns os s n name smooth m
 turns (entry.One name a) os s n k m o = absurd (o refl)
 turns entry.End os s n k m o = end_turns os s n k m
 
-blocks_turn : (ws : List (List ℕ)) (e : Entry) (s : Built) (n : ℕ) → InOrder s.open_blocks → Says ws e → may_say (place_of (openings_of s.open_blocks)) e ≡ true → Follows s.open_blocks s n (keyword_of (first_word ws)) e
-blocks_turn ws (entry.One name a) s n k h m = one_turns s.open_blocks s n (keyword_of (first_word ws)) name a (name_said ws name a h) m
-blocks_turn ws e s n k h m =
-    ap (blocks_after n (openings_of s.open_blocks)) (word_said ws e h (λ o. cc)) ∙ turns e s.open_blocks s n k m (λ o. cc)
+blocks_turn : (form : Form) (ws : List (List ℕ)) (e : Entry) (s : Built) (n : ℕ) → InOrder s.open_blocks → Says form ws e → may_say (place_of (openings_of s.open_blocks)) e ≡ true → Follows s.open_blocks s n (keyword_of (first_word ws)) e
+blocks_turn form ws (entry.One name a) s n k h m = one_turns s.open_blocks s n (keyword_of (first_word ws)) name a (name_said form ws name a h) m
+blocks_turn form ws e s n k h m =
+    ap (blocks_after n (openings_of s.open_blocks)) (word_said form ws e h (λ o. cc)) ∙ turns e s.open_blocks s n k m (λ o. cc)
 
 -- The settings after a line.
 
@@ -251,17 +251,17 @@ one_settings (o ∷ os) s k name a m = record { memory = or_false (is_some s.mem
 settings_by : (s t : Built) (os : List Open) (k j : Keyword) → j ≡ k → SettingsTurn s t os k → SettingsTurn s t os j
 settings_by s t os k j e h = subst (λ i. SettingsTurn s t os i) (sym e) h
 
-line_settings : (ws : List (List ℕ)) (e : Entry) (s : Built) (n : ℕ) → Says ws e → may_say (place_of (openings_of s.open_blocks)) e ≡ true → SettingsTurn s (build s n e) s.open_blocks (keyword_of (first_word ws))
-line_settings ws (entry.One name a) s n h m =
+line_settings : (form : Form) (ws : List (List ℕ)) (e : Entry) (s : Built) (n : ℕ) → Says form ws e → may_say (place_of (openings_of s.open_blocks)) e ≡ true → SettingsTurn s (build s n e) s.open_blocks (keyword_of (first_word ws))
+line_settings form ws (entry.One name a) s n h m =
     let k = one_settings s.open_blocks s (keyword_of (first_word ws)) name a m in
     record { memory = k.memory; trajectory = k.trajectory; ellipsoid = k.ellipsoid; stray = k.stray; late = k.late }
-line_settings ws e s n h m = settings_by s (build s n e) s.open_blocks (keyword_in e) (keyword_of (first_word ws)) (word_said ws e h (λ o. cc)) (settings_turn e s n m)
+line_settings form ws e s n h m = settings_by s (build s n e) s.open_blocks (keyword_in e) (keyword_of (first_word ws)) (word_said form ws e h (λ o. cc)) (settings_turn e s n m)
 
 -- the context after a line is that of what is built after it
-context_turns : (l : Line) (e : Entry) (s : Built) → InOrder s.open_blocks → Says l.words e → may_say (place_of (openings_of s.open_blocks)) e ≡ true → context_after (context_of s) l ≡ context_of (build s l.number e)
-context_turns l e s k h m =
-    let blocks = blocks_turn l.words e s l.number k h m in
-    let t = line_settings l.words e s l.number h m in
+context_turns : (form : Form) (l : Line) (e : Entry) (s : Built) → InOrder s.open_blocks → Says form l.words e → may_say (place_of (openings_of s.open_blocks)) e ≡ true → context_after (context_of s) l ≡ context_of (build s l.number e)
+context_turns form l e s k h m =
+    let blocks = blocks_turn form l.words e s l.number k h m in
+    let t = line_settings form l.words e s l.number h m in
     let memory = t.memory in
     let trajectory = t.trajectory in
     let ellipsoid = t.ellipsoid in
@@ -279,17 +279,17 @@ finished_fault : (s : Built) (o : Option Fault) → o ≡ fault_in (finish_with 
 finished_fault s None = refl
 finished_fault s (Some f) = refl
 
-entry_step : (o : Option LineKind) (n : ℕ) (t : Built) (later : Option Fault) (ls : List Line) → (o ≡ None → later ≡ fault_in (finish (lines_step t ls))) → this_or n o later ≡ fault_in (finish (then_step (unless n o t) (λ u. lines_step u ls)))
-entry_step (Some k) n t later ls h = refl
-entry_step None n t later ls h = h refl
+entry_step : (form : Form) (o : Option LineKind) (n : ℕ) (t : Built) (later : Option Fault) (ls : List Line) → (o ≡ None → later ≡ fault_in (finish (lines_step form t ls))) → this_or n o later ≡ fault_in (finish (then_step (unless n o t) (λ u. lines_step form u ls)))
+entry_step form (Some k) n t later ls h = refl
+entry_step form None n t later ls h = h refl
 
-fault_step : (r : Result Entry LineKind) (s : Built) (l : Line) (ls done : List Line) → Holds s done → entry_of (place_of (openings_of s.open_blocks)) l.words ≡ r → ((t : Built) → Holds t (done ++ l ∷ []) → fault_from (context_of t) ls ≡ fault_in (finish (lines_step t ls))) → this_or l.number (fault_with (context_of s) r) (fault_from (context_after (context_of s) l) ls) ≡ fault_in (finish (then_step (built_by s l.number r) (λ t. lines_step t ls)))
-fault_step (Err k) s l ls done h e ih = refl
-fault_step (Ok x) s l ls done h e ih =
-    let b = says_of (place_of (openings_of s.open_blocks)) l.words x e in
-    entry_step (entry_fault (context_of s) x) l.number (build s l.number x) (fault_from (context_after (context_of s) l) ls) ls
-    (λ n. ap (λ c. fault_from c ls) (context_turns l x s h.order b.0 b.1)
-    ∙ ih (build s l.number x) (step_holds s (build s l.number x) l done h (ap (built_by s l.number) e ∙ ap (λ o. unless l.number o (build s l.number x)) n)))
+fault_step : (form : Form) (r : Result Entry LineKind) (s : Built) (l : Line) (ls done : List Line) → Holds form s done → entry_of form (place_of (openings_of s.open_blocks)) l.words ≡ r → ((t : Built) → Holds form t (done ++ l ∷ []) → fault_from form (context_of t) ls ≡ fault_in (finish (lines_step form t ls))) → this_or l.number (fault_with (context_of s) r) (fault_from form (context_after (context_of s) l) ls) ≡ fault_in (finish (then_step (built_by s l.number r) (λ t. lines_step form t ls)))
+fault_step form (Err k) s l ls done h e ih = refl
+fault_step form (Ok x) s l ls done h e ih =
+    let b = says_of form (place_of (openings_of s.open_blocks)) l.words x e in
+    entry_step form (entry_fault (context_of s) x) l.number (build s l.number x) (fault_from form (context_after (context_of s) l) ls) ls
+    (λ n. ap (λ c. fault_from form c ls) (context_turns form l x s h.order b.0 b.1)
+    ∙ ih (build s l.number x) (step_holds form s (build s l.number x) l done h (ap (built_by s l.number) e ∙ ap (λ o. unless l.number o (build s l.number x)) n)))
 
 open_word : (c : Context) (e : Entry) → open_fault c (keyword_in e) ≡ entry_fault c e
 open_word c (entry.Memory id offset) = refl
@@ -306,28 +306,31 @@ open_by place.InFigureCue c e m = cc
 open_by p c e m = open_word c e
 
 -- what earlier lines leave open is a matter of the first word
-open_is : (c : Context) (ws : List (List ℕ)) (e : Entry) → Says ws e → may_say (place_of c.open_blocks) e ≡ true → open_fault c (as_read (place_of c.open_blocks) (keyword_of (first_word ws))) ≡ entry_fault c e
-open_is c ws (entry.One name a) h m = ap (open_fault c) (read_as_name (place_of c.open_blocks) (keyword_of (word ws 0)) m (name_said ws name a h))
-open_is c ws e h m = ap (λ k. open_fault c (as_read (place_of c.open_blocks) k)) (word_said ws e h (λ o. cc)) ∙ open_by (place_of c.open_blocks) c e m
+open_is : (form : Form) (c : Context) (ws : List (List ℕ)) (e : Entry) → Says form ws e → may_say (place_of c.open_blocks) e ≡ true → open_fault c (as_read (place_of c.open_blocks) (keyword_of (first_word ws))) ≡ entry_fault c e
+open_is form c ws (entry.One name a) h m = ap (open_fault c) (read_as_name (place_of c.open_blocks) (keyword_of (word ws 0)) m (name_said form ws name a h))
+open_is form c ws e h m = ap (λ k. open_fault c (as_read (place_of c.open_blocks) k)) (word_said form ws e h (λ o. cc)) ∙ open_by (place_of c.open_blocks) c e m
 
 -- what is wrong with a line is what its reading finds, and then what is left open for what it says
-line_by : (c : Context) (l : Line) (r : Result Entry LineKind) → entry_of (place_of c.open_blocks) l.words ≡ r → line_fault c l ≡ fault_with c r
-line_by c l (Ok e) is = grind (arith, common_steps, says_of, open_is)
-line_by c l (Err k) is = ap (λ o. or_else o (open_fault c (as_read (place_of c.open_blocks) (keyword_of (first_word l.words))))) (ap kind_of is)
+line_by : (form : Form) (c : Context) (l : Line) (r : Result Entry LineKind) → entry_of form (place_of c.open_blocks) l.words ≡ r → line_fault form c l ≡ fault_with c r
+line_by form c l (Ok e) is =
+    let b = says_of form (place_of c.open_blocks) l.words e is in
+    ap (λ o. or_else o (open_fault c (as_read (place_of c.open_blocks) (keyword_of (first_word l.words))))) (ap kind_of is)
+    ∙ open_is form c l.words e b.0 b.1
+line_by form c l (Err k) is = ap (λ o. or_else o (open_fault c (as_read (place_of c.open_blocks) (keyword_of (first_word l.words))))) (ap kind_of is)
 
-fault_steps : (ls done : List Line) (s : Built) → Holds s done → fault_from (context_of s) ls ≡ fault_in (finish (lines_step s ls))
-fault_steps [] done s h = finished_fault s (end_fault (openings_of s.open_blocks))
-fault_steps (l ∷ ls) done s h =
-    ap (λ o. this_or l.number o (fault_from (context_after (context_of s) l) ls)) (line_by (context_of s) l (entry_of (place_of (openings_of s.open_blocks)) l.words) refl)
-    ∙ fault_step (entry_of (place_of (openings_of s.open_blocks)) l.words) s l ls done h refl (λ t k. fault_steps ls (done ++ l ∷ []) t k)
+fault_steps : (form : Form) (ls done : List Line) (s : Built) → Holds form s done → fault_from form (context_of s) ls ≡ fault_in (finish (lines_step form s ls))
+fault_steps form [] done s h = finished_fault s (end_fault (openings_of s.open_blocks))
+fault_steps form (l ∷ ls) done s h =
+    ap (λ o. this_or l.number o (fault_from form (context_after (context_of s) l) ls)) (line_by form (context_of s) l (entry_of form (place_of (openings_of s.open_blocks)) l.words) refl)
+    ∙ fault_step form (entry_of form (place_of (openings_of s.open_blocks)) l.words) s l ls done h refl (λ t k. fault_steps form ls (done ++ l ∷ []) t k)
 
-header_fault : (b : Bool) (l : Line) (ls : List Line) → cond b (fault_from (context_of nothing) ls) (Some (fault_at l.number kind.Header)) ≡ fault_in (cond b (finish (lines_step nothing ls)) (Err (fault_at l.number kind.Header)))
-header_fault true l ls = fault_steps ls [] nothing at_start
-header_fault false l ls = refl
+header_fault : (o : Option Form) (n : ℕ) (ls : List Line) → fault_after_header o n ls ≡ fault_in (read_after_header o n ls)
+header_fault (Some form) n ls = fault_steps form ls [] nothing (at_start form)
+header_fault None n ls = refl
 
 lines_fault : (ls : List Line) → fault_of_lines ls ≡ fault_in (read_lines ls)
 lines_fault [] = refl
-lines_fault (l ∷ ls) = header_fault (is_header l.words) l ls
+lines_fault (l ∷ ls) = header_fault (form_of l.words) l.number ls
 
 whole_fault : (o : Option Fault) (ls : List Line) → either_fault o (fault_of_lines ls) ≡ fault_in (unless_forbidden o (read_lines ls))
 whole_fault None ls = lines_fault ls

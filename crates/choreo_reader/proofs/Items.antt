@@ -1,5 +1,5 @@
 -- The items of a show, word by word for the proofs: the lines of all, and what is read of them.
-use Rattle.choreo_reader.proofs.Prelude.{common_steps, ◌≡◌, ◌≤◌, List, [], ◌∷◌, ◌++◌, length, Option, Some, None, refl, sym, ap, ◌∙◌, arith, option_to_list, unwrap_or, slice_index_or, AllByRecursion, AllZip, flat_map, Line, Body, PlainFigure, ◌⨾◌, DroneLine, Formation, body_assoc, body_done, SaidLine, IsSaid, at, anywhere, Item, Memory, Trajectory, Ellipsoid, Stray, Late, Drone, Formed, Figured, Blocks, item_said, Parts, parts_of, show_of, IsItem, HasSingleSettings, Built, add_block, built_show}
+use Rattle.choreo_reader.proofs.Prelude.{common_steps, ◌≡◌, ◌≤◌, List, [], ◌∷◌, ◌++◌, length, Option, Some, None, refl, sym, ap, ◌∙◌, arith, option_to_list, unwrap_or, slice_index_or, AllByRecursion, AllZip, flat_map, Line, Body, PlainFigure, ◌⨾◌, DroneLine, Formation, body_assoc, body_done, SaidLine, IsSaid, at, anywhere, Item, Memory, Trajectory, Ellipsoid, Stray, Late, Drone, Formed, Figured, Blocks, item_said, Parts, parts_of, show_of, IsItem, HasSingleSettings, Built, add_block, built_show, Form}
 use Rattle.choreo_lines.specs.declared.line.Entry.TheVariants as entry
 
 -- the line that closes a block
@@ -14,9 +14,9 @@ place_said d = at d.line (entry.At d.name d.at)
 abbrev pub items_said : List Item → List SaidLine
 items_said is = flat_map item_said is
 
--- these lines say this, one by one
-abbrev pub AreSaid : List Line → List SaidLine → Type 0
-AreSaid ls ss = AllZip IsSaid ls ss
+-- these lines of a text in this form say this, one by one
+abbrev pub AreSaid : Form → List Line → List SaidLine → Type 0
+AreSaid form ls ss = AllZip (IsSaid form) ls ss
 
 -- what each of these items keeps to
 abbrev pub AreItems : List Item → Type 0

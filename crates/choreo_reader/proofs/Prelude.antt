@@ -14,6 +14,7 @@ pub use Rattle.choreo_lines.specs.Says.{Says, SaysAct, may_say}
 pub use Rattle.choreo_lines.specs.Table.{Word, act_places, as_read, has_count, row_of, word}
 pub use Rattle.choreo_lines.specs.Values.{act_fields, fields_of, keyword_in}
 pub use Rattle.choreo_lines.specs.declared.line.Entry.{Entry}
+pub use Rattle.choreo_lines.specs.declared.table.Form.{Form}
 pub use Rattle.choreo_lines.specs.declared.line.LineKind.{LineKind}
 pub use Rattle.choreo_show.proofs.Blocks.{blocks_none, body_assoc, body_done}
 pub use Rattle.choreo_show.specs.Plain.{Body, PlainFigure, PlainShow, has_block, plain, ◌⨾◌}
@@ -25,9 +26,9 @@ pub use Rattle.choreo_show.specs.declared.show.Formation.{Formation}
 pub use Rattle.text_lines.specs.Lines.{between_feeds, is_line_feed, lines_of, without_empty_end}
 pub use Rattle.text_lines.specs.Words.{Line, line_with, numbered, visible, words_of}
 pub use Rattle.text_lines.specs.declared.token.Comments.TheVariants.{FromHash}
-pub use Rattle.choreo_reader.specs.Context.{Context, OpenCue, OpenFigure, OpenFormation, OpenRepeat, Opened, Opening, blocks_after, context_after, either_fault, end_fault, fault, fault_from, fault_if, fault_of_lines, fill, first_word, in_figure, is_empty_block, is_end, is_figure, is_header, is_repeat, is_top, line_fault, open_fault, opened_by, opens, place_in, place_of, repeats, sets_ellipsoid, sets_late, sets_memory, sets_stray, sets_trajectory, this_or}
-pub use Rattle.choreo_reader.specs.Grammar.{Blocks, Drone, Ellipsoid, Figured, Formed, HasSingleSettings, IsItem, IsSaid, Item, Late, Memory, Parts, SaidLine, StandsFor, Stray, Trajectory, act_said, anywhere, at, body_said, item_said, parts_of, show_of}
+pub use Rattle.choreo_reader.specs.Context.{Context, OpenCue, OpenFigure, OpenFormation, OpenRepeat, Opened, Opening, blocks_after, context_after, either_fault, end_fault, fault, fault_after_header, fault_from, fault_if, fault_of_lines, fill, first_word, form_named, form_of, in_figure, is_empty_block, is_end, is_figure, is_repeat, is_top, line_fault, open_fault, opened_by, opens, place_in, place_of, repeats, sets_ellipsoid, sets_late, sets_memory, sets_stray, sets_trajectory, this_or}
+pub use Rattle.choreo_reader.specs.Grammar.{Blocks, Drone, Ellipsoid, Figured, Formed, HasSingleSettings, IsItem, IsSaid, Item, Late, Memory, Parts, SaidLine, StandsFor, Stray, Trajectory, act_said, anywhere, at, body_said, header_of, item_said, parts_of, show_of}
 pub use Rattle.choreo_reader.specs.Reader.{FaultGives, ShowGives, built_of, open_of, opens_of}
-pub use Rattle.choreo_reader.specs.Reading.{Built, InCue, InFigure, InFormation, InRepeat, Open, Step, add_block, build, built_by, built_show, close, close_innermost, context_of, entry_fault, fault_with, finish, finish_with, is_any, line_step, lines_step, nothing, opening_of, openings_of, outer_openings, read_lines, reading, then_step, unless, unless_forbidden, with_block}
+pub use Rattle.choreo_reader.specs.Reading.{Built, InCue, InFigure, InFormation, InRepeat, Open, Step, add_block, build, built_by, built_show, close, close_innermost, context_of, entry_fault, fault_with, finish, finish_with, is_any, line_step, lines_step, nothing, opening_of, openings_of, outer_openings, read_after_header, read_lines, reading, then_step, unless, unless_forbidden, with_block}
 pub use Rattle.choreo_reader.specs.Steps.{stands_anywhere}
 pub use Rattle.choreo_reader.specs.Text.{Fault, are_allowed, fault_at, forbidden, forbidden_from, show_lines}

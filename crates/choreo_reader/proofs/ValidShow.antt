@@ -1,5 +1,5 @@
 -- A show that a text stands for is valid.
-use Rattle.choreo_reader.proofs.Prelude.{common_steps, ◌≡◌, ℕ, ◌+◌, ◌<◌, ◌≤◌, Bool, true, false, cond, eqb-true, ne_eqb, List, [], ◌∷◌, ◌++◌, map, Option, Some, None, refl, sym, ap, subst, ◌∙◌, arith, append_assoc, recursion_from_All, ◌==◌, slice_index_or, IfSome, IsTrue, append-nil, FromHash, visible, Line, line_with, numbered, words_of, lines_of, Body, PlainFigure, PlainShow, has_block, ◌⨾◌, Word, row_of, act_places, has_count, act_fields, keyword_in, fields_of, SaysAct, Says, held_fit, held_length, holds_fits, SaidLine, act_said, body_said, Item, Memory, Trajectory, Ellipsoid, Stray, Late, Drone, Formed, Figured, Blocks, item_said, show_of, IsItem, StandsFor, parts_of, is_filled, depth, IsName, FitsAct, FitsLine, FitActLines, FitsBody, FitDroneLines, FitFormations, FitFigures, FitsSettings, act_lines, body_lines, drone_lines, formation_lines, figure_lines, AllAbove, times, all_lines, IsValid, Entry, ActLine, DroneLine, Formation}
+use Rattle.choreo_reader.proofs.Prelude.{common_steps, ◌≡◌, ℕ, ◌+◌, ◌<◌, ◌≤◌, Bool, true, false, cond, eqb-true, ne_eqb, List, [], ◌∷◌, ◌++◌, map, Option, Some, None, refl, sym, ap, subst, ◌∙◌, arith, append_assoc, recursion_from_All, ◌==◌, slice_index_or, IfSome, IsTrue, append-nil, FromHash, visible, Line, line_with, numbered, words_of, lines_of, Body, PlainFigure, PlainShow, has_block, ◌⨾◌, Word, row_of, act_places, has_count, act_fields, keyword_in, fields_of, SaysAct, Says, held_fit, held_length, holds_fits, SaidLine, act_said, body_said, Item, Memory, Trajectory, Ellipsoid, Stray, Late, Drone, Formed, Figured, Blocks, item_said, show_of, IsItem, StandsFor, parts_of, is_filled, depth, IsName, FitsAct, FitsLine, FitActLines, FitsBody, FitDroneLines, FitFormations, FitFigures, FitsSettings, act_lines, body_lines, drone_lines, formation_lines, figure_lines, AllAbove, times, all_lines, IsValid, Entry, ActLine, DroneLine, Formation, Form}
 use Rattle.std.proofs.lemmas.Int.{ints}
 use Rattle.choreo_show.specs.Plain as plain
 use Rattle.choreo_lines.specs.declared.table.Want.TheVariants as want
@@ -16,16 +16,16 @@ abbrev FitsEntry : Entry → Type 0
 FitsEntry (entry.One name a) = IsName name × FitsAct a
 FitsEntry e = FitsLine e
 
-act_fits : (ws : List Word) (a : Act) → SaysAct ws a → FitsAct a
-act_fits [] a h = absurd h
-act_fits (w ∷ ws) a h = held_fit (act_places (act_fields a).0) ws (act_fields a).1 h.1
+act_fits : (form : Form) (ws : List Word) (a : Act) → SaysAct form ws a → FitsAct a
+act_fits form [] a h = absurd h
+act_fits form (w ∷ ws) a h = held_fit form (act_places (act_fields a).0) ws (act_fields a).1 h.1
 
-says_fits : (ws : List Word) (e : Entry) → Says ws e → FitsEntry e
-says_fits [] e h = absurd h
-says_fits (w ∷ ws) (entry.One name a) h = (holds_fits want.Name w (Named name) h.0, act_fits ws a h.1)
-says_fits (w ∷ ws) e h =
+says_fits : (form : Form) (ws : List Word) (e : Entry) → Says form ws e → FitsEntry e
+says_fits form [] e h = absurd h
+says_fits form (w ∷ ws) (entry.One name a) h = (holds_fits form want.Name w (Named name) h.0, act_fits form ws a h.1)
+says_fits form (w ∷ ws) e h =
     let row = row_of (keyword_in e) in
-    (subst (λ n. IsTrue (has_count row n)) (held_length row.places ws (fields_of e) h.2) h.1, held_fit row.places ws (fields_of e) h.2)
+    (subst (λ n. IsTrue (has_count row n)) (held_length form row.places ws (fields_of e) h.2) h.1, held_fit form row.places ws (fields_of e) h.2)
 
 -- The lines of a text, one by one.
 
@@ -33,11 +33,11 @@ abbrev LinesFit : List SaidLine → Type 0
 LinesFit [] = Unit {0}
 LinesFit (s ∷ ss) = FitsEntry s.entry × LinesFit ss
 
-said_fit : (ls : List Line) (xs : List SaidLine) → AreSaid ls xs → LinesFit xs
-said_fit [] [] h = tt
-said_fit [] (x ∷ xs) h = absurd h
-said_fit (l ∷ ls) [] h = absurd h
-said_fit (l ∷ ls) (x ∷ xs) h = (says_fits l.words x.entry h.0.says, said_fit ls xs h.1)
+said_fit : (form : Form) (ls : List Line) (xs : List SaidLine) → AreSaid form ls xs → LinesFit xs
+said_fit form [] [] h = tt
+said_fit form [] (x ∷ xs) h = absurd h
+said_fit form (l ∷ ls) [] h = absurd h
+said_fit form (l ∷ ls) (x ∷ xs) h = (says_fits form l.words x.entry h.0.says, said_fit form ls xs h.1)
 
 front_fits : (xs ys : List SaidLine) → LinesFit (xs ++ ys) → LinesFit xs
 front_fits [] ys h = tt
@@ -147,11 +147,11 @@ number_rise : (o : Option ℕ) (k n : ℕ) (ns : List ℕ) → IfSome o (λ m. m
 number_rise None k n ns h l a = lower n k ns (omega arith) a
 number_rise (Some m) k n ns h l a = (omega arith, subst (λ j. AllAbove j ns) (sym h) a)
 
-said_rise : (ls : List Line) (xs : List SaidLine) (n : ℕ) → AreSaid ls xs → AllAbove n (line_numbers ls) → AllAbove n (numbers xs)
-said_rise [] [] n h a = tt
-said_rise [] (x ∷ xs) n h a = absurd h
-said_rise (l ∷ ls) [] n h a = absurd h
-said_rise (l ∷ ls) (x ∷ xs) n h a = number_rise x.number l.number n (numbers xs) h.0.number a.0 (said_rise ls xs l.number h.1 a.1)
+said_rise : (form : Form) (ls : List Line) (xs : List SaidLine) (n : ℕ) → AreSaid form ls xs → AllAbove n (line_numbers ls) → AllAbove n (numbers xs)
+said_rise form [] [] n h a = tt
+said_rise form [] (x ∷ xs) n h a = absurd h
+said_rise form (l ∷ ls) [] n h a = absurd h
+said_rise form (l ∷ ls) (x ∷ xs) n h a = number_rise x.number l.number n (numbers xs) h.0.number a.0 (said_rise form ls xs l.number h.1 a.1)
 
 number_then-append : (o : Option ℕ) (xs ys : List ℕ) → number_then o (xs ++ ys) ≡ number_then o xs ++ ys
 number_then-append None xs ys = refl
@@ -312,5 +312,5 @@ show_valid is k h a =
 pub valid : (text : List ℕ) (show : PlainShow) → StandsFor text show → IsValid show
 valid text show t =
     let rises : AllAbove 0 (line_numbers (t.header ∷ t.lines)) = subst (λ ls. AllAbove 0 (line_numbers ls)) t.cut (numbered_rise (lines_of text) 1 0 (omega arith)) in
-    let later = said_rise t.lines (items_said t.items) 0 t.said (lower 0 t.header.number (line_numbers t.lines) (omega arith) rises.1) in
-    subst IsValid t.makes (show_valid t.items (recursion_from_All IsItem t.items t.each) (said_fit t.lines (items_said t.items) t.said) later)
+    let later = said_rise t.form t.lines (items_said t.items) 0 t.said (lower 0 t.header.number (line_numbers t.lines) (omega arith) rises.1) in
+    subst IsValid t.makes (show_valid t.items (recursion_from_All IsItem t.items t.each) (said_fit t.form t.lines (items_said t.items) t.said) later)

@@ -6,6 +6,8 @@ use Rattle.choreo_reader.specs.Text.{Fault, fault_at, show_lines, forbidden}
 use Rattle.choreo_lines.specs.FirstWord.{keyword_of}
 use Rattle.choreo_lines.specs.Table.{word, as_read}
 use Rattle.choreo_lines.specs.Fields.{kind_in, or_else}
+use Rattle.choreo_lines.specs.declared.table.Form.{Form}
+use Rattle.choreo_lines.specs.declared.table.Form.TheVariants.{Whole, Units}
 use Rattle.choreo_lines.specs.declared.line.LineKind.{LineKind}
 use Rattle.choreo_lines.specs.declared.line.LineKind.TheVariants as kind
 use Rattle.choreo_lines.specs.declared.line.Keyword.{Keyword}
@@ -178,10 +180,11 @@ open_fault c first.Repeat = fault_if (nat_le most_nested (repeats c.open_blocks)
 open_fault c first.End = fault_if (is_empty_block c.open_blocks) kind.EmptyBlock
 open_fault c keyword = None
 
--- what is wrong with a line in its context: with its words by the table of lines, else by what earlier lines leave open
-abbrev pub line_fault : Context → Line → Option LineKind
-line_fault c l =
-    or_else (kind_in (place_of c.open_blocks) l.words)
+-- what is wrong with a line of a text in this form, in its context: with its words by the table of lines, else by what
+-- earlier lines leave open
+abbrev pub line_fault : Form → Context → Line → Option LineKind
+line_fault form c l =
+    or_else (kind_in form (place_of c.open_blocks) l.words)
     (open_fault c (as_read (place_of c.open_blocks) (keyword_of (first_word l.words))))
 
 -- the text ends inside a block
@@ -195,18 +198,27 @@ this_or n (Some k) later = Some (fault_at n k)
 this_or n None later = later
 
 -- the first fault of the lines after the header
-abbrev pub fault_from : Context → List Line → Option Fault
-fault_from c [] = end_fault c.open_blocks
-fault_from c (l ∷ ls) = this_or l.number (line_fault c l) (fault_from (context_after c l) ls)
+abbrev pub fault_from : Form → Context → List Line → Option Fault
+fault_from form c [] = end_fault c.open_blocks
+fault_from form c (l ∷ ls) = this_or l.number (line_fault form c l) (fault_from form (context_after c l) ls)
 
--- the words are `choreo 1`
-abbrev pub is_header : List (List ℕ) → Bool
-is_header ws = length ws == 2 && bytes_eq (word ws 0) (codes "choreo") && bytes_eq (word ws 1) (codes "1")
+-- the form that its second word names
+abbrev pub form_named : List ℕ → Option Form
+form_named w = if bytes_eq w (codes "1") then Some Whole else if bytes_eq w (codes "2") then Some Units else None
+
+-- the form that the words of a header name: `choreo 1` or `choreo 2`
+abbrev pub form_of : List (List ℕ) → Option Form
+form_of ws = if length ws == 2 && bytes_eq (word ws 0) (codes "choreo") then form_named (word ws 1) else None
+
+-- the first fault of a text whose first line with words has this number and names this form, if it names one
+abbrev pub fault_after_header : Option Form → ℕ → List Line → Option Fault
+fault_after_header (Some form) n ls = fault_from form outermost ls
+fault_after_header None n ls = Some (fault_at n kind.Header)
 
 -- the first fault of the lines with words
 abbrev pub fault_of_lines : List Line → Option Fault
 fault_of_lines [] = Some (fault_at 1 kind.Header)
-fault_of_lines (l ∷ ls) = if is_header l.words then fault_from outermost ls else Some (fault_at l.number kind.Header)
+fault_of_lines (l ∷ ls) = fault_after_header (form_of l.words) l.number ls
 
 -- the first of two faults, where there is one
 abbrev pub either_fault : Option Fault → Option Fault → Option Fault

@@ -7,6 +7,8 @@ use Rattle.text_lines.specs.Words.{Line, visible, numbered}
 use Rattle.choreo_reader.specs.Text.{is_allowed}
 use Rattle.choreo_show.specs.Shape.{depth, is_filled, fits_figure}
 use Rattle.choreo_lines.specs.Says.{Says}
+use Rattle.choreo_lines.specs.declared.table.Form.{Form}
+use Rattle.choreo_lines.specs.declared.table.Form.TheVariants.{Whole, Units}
 use Rattle.choreo_show.specs.Plain as plain
 use Rattle.choreo_show.specs.Plain.{Body, PlainFigure, PlainShow, has_block, ◌⨾◌, most_nested}
 use Rattle.choreo_lines.specs.declared.line.Entry.{Entry}
@@ -29,10 +31,10 @@ at n e = record { number = Some n; entry = e }
 abbrev pub anywhere : Entry → SaidLine
 anywhere e = record { number = None; entry = e }
 
--- a line of the text says this line of the grammar, and has the number that the show keeps, if it keeps one
-pub record IsSaid (l : Line) (s : SaidLine) : Type 0 where
+-- a line of a text in this form says this line of the grammar, and has the number that the show keeps, if it keeps one
+pub record IsSaid (form : Form) (l : Line) (s : SaidLine) : Type 0 where
   pub number : IfSome s.number (λ n. n ≡ l.number)
-  pub says : Says l.words s.entry
+  pub says : Says form l.words s.entry
 
 -- The grammar: a block is its opening line, its contents, and `end`.
 
@@ -144,16 +146,22 @@ pub record HasSingleSettings (p : Parts) : Type 0 where
   pub stray : length p.strays ≤ 1
   pub late : length p.lates ≤ 1
 
--- The text stands for the show: there are items that make the show, and the text is a header, of the words `choreo 1`,
--- and their lines. Outside comments it has no byte that may not stand there.
+-- the words of the header of a text in this form
+abbrev pub header_of : Form → List (List ℕ)
+header_of Whole = codes "choreo" ∷ codes "1" ∷ []
+header_of Units = codes "choreo" ∷ codes "2" ∷ []
+
+-- The text stands for the show: there are items that make the show, and the text is a header, of the words `choreo 1` or
+-- `choreo 2`, and their lines in the form that it names. Outside comments it has no byte that may not stand there.
 pub record StandsFor (text : List ℕ) (show : PlainShow) : Type 0 where
+  pub form : Form
   pub items : List Item
   pub header : Line
   pub lines : List Line
   pub bytes : IsTrue (list_all (λ line. list_all is_allowed (visible FromHash line)) (lines_of text))
   pub cut : numbered FromHash 1 (lines_of text) ≡ header ∷ lines
-  pub first : header.words ≡ codes "choreo" ∷ codes "1" ∷ []
-  pub said : AllZip IsSaid lines (flat_map item_said items)
+  pub first : header.words ≡ header_of form
+  pub said : AllZip (IsSaid form) lines (flat_map item_said items)
   pub each : All IsItem items
   pub single : HasSingleSettings (parts_of items)
   pub makes : show_of (parts_of items) ≡ show

@@ -6,7 +6,8 @@ use Rattle.choreo_lines.specs.Fields.{entry_of}
 use Rattle.choreo_show.specs.Plain as plain
 use Rattle.choreo_lines.specs.Name.{Name}
 use Rattle.choreo_show.specs.Plain.{Body, PlainFigure, PlainShow, has_block, ◌⨾◌, most_nested}
-use Rattle.choreo_reader.specs.Context.{Context, Opening, OpenFormation, OpenFigure, OpenRepeat, OpenCue, fault_if, repeats, is_empty_block, place_of, is_header, end_fault}
+use Rattle.choreo_reader.specs.Context.{Context, Opening, OpenFormation, OpenFigure, OpenRepeat, OpenCue, fault_if, repeats, is_empty_block, place_of, form_of, end_fault}
+use Rattle.choreo_lines.specs.declared.table.Form.{Form}
 use Rattle.choreo_reader.specs.Text.{Fault, fault_at, forbidden}
 use Rattle.choreo_lines.specs.declared.line.LineKind.{LineKind}
 use Rattle.choreo_lines.specs.declared.line.LineKind.TheVariants as kind
@@ -191,9 +192,9 @@ abbrev pub built_by : Built → ℕ → Result Entry LineKind → Step
 built_by s n (Err k) = Err (fault_at n k)
 built_by s n (Ok e) = unless n (entry_fault (context_of s) e) (build s n e)
 
--- what is built after one more line, or the line's fault
-abbrev pub line_step : Built → Line → Step
-line_step s l = built_by s l.number (entry_of (place_of (context_of s).open_blocks) l.words)
+-- what is built after one more line of a text in this form, or the line's fault
+abbrev pub line_step : Form → Built → Line → Step
+line_step form s l = built_by s l.number (entry_of form (place_of (context_of s).open_blocks) l.words)
 
 -- a step, and then the next
 abbrev pub then_step : Step → (Built → Step) → Step
@@ -201,9 +202,9 @@ then_step (Ok s) go = go s
 then_step (Err f) go = Err f
 
 -- the lines, one by one
-abbrev pub lines_step : Built → List Line → Step
-lines_step s [] = Ok s
-lines_step s (l ∷ ls) = then_step (line_step s l) (λ t. lines_step t ls)
+abbrev pub lines_step : Form → Built → List Line → Step
+lines_step form s [] = Ok s
+lines_step form s (l ∷ ls) = then_step (line_step form s l) (λ t. lines_step form t ls)
 
 -- the show, unless there is a fault at the end
 abbrev pub finish_with : Built → Option Fault → Result PlainShow Fault
@@ -215,10 +216,15 @@ abbrev pub finish : Step → Result PlainShow Fault
 finish (Err f) = Err f
 finish (Ok s) = finish_with s (end_fault (context_of s).open_blocks)
 
+-- the show of a text whose first line with words has this number and names this form, if it names one
+abbrev pub read_after_header : Option Form → ℕ → List Line → Result PlainShow Fault
+read_after_header (Some form) n ls = finish (lines_step form nothing ls)
+read_after_header None n ls = Err (fault_at n kind.Header)
+
 -- the show of lines, the first of which is the header
 abbrev pub read_lines : List Line → Result PlainShow Fault
 read_lines [] = Err (fault_at 1 kind.Header)
-read_lines (l ∷ ls) = if is_header l.words then finish (lines_step nothing ls) else Err (fault_at l.number kind.Header)
+read_lines (l ∷ ls) = read_after_header (form_of l.words) l.number ls
 
 -- what was read, unless a byte is forbidden
 abbrev pub unless_forbidden : Option Fault → Result PlainShow Fault → Result PlainShow Fault

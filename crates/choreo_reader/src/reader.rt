@@ -8,7 +8,7 @@ ghost use Rattle.choreo_show.specs.Plain as plain;
 ghost use Rattle.choreo_show.specs.Valid.{IsValid};
 ghost use Rattle.choreo_reader.specs.Laws.{ShowLaw};
 ghost use Rattle.choreo_reader.specs.Reader.{open_of, opens_of, built_of, Steps, ShowGives, ReadingFails, FaultGives};
-ghost use Rattle.choreo_reader.specs.Context.{is_figure as is_figure_of, is_repeat as is_repeat_of, in_figure as in_figure_of, repeats as repeats_of, place_of, is_empty_block as is_empty_block_of, is_header as is_header_of, fault};
+ghost use Rattle.choreo_reader.specs.Context.{is_figure as is_figure_of, is_repeat as is_repeat_of, in_figure as in_figure_of, repeats as repeats_of, place_of, is_empty_block as is_empty_block_of, form_named as form_named_of, form_of as form_of_words, fault};
 ghost use Rattle.choreo_reader.specs.Text.{show_lines};
 ghost use Rattle.text_lines.specs.Lines.{lines_of, between_feeds};
 ghost use Rattle.text_lines.specs.Words.{visible, words_of, line_with, numbered};
@@ -18,7 +18,7 @@ ghost use Rattle.choreo_reader.specs.Reading.{InFormation, InFigure, InRepeat, I
 
 use crate::fault::ShowFault;
 use crate::token::{first_bad_line, line_words};
-use choreo_lines::{Entry, LineError, LineKind, Listed, Name, Place, entry_of};
+use choreo_lines::{Entry, Form, LineError, LineKind, Listed, Name, Place, entry_of};
 use choreo_show::{ActLine, Block, DroneLine, Figure, Formation, Settings, Show};
 use fleet_math::MOST_DRONES;
 use std::alloc::{AllocError, Global};
@@ -484,18 +484,19 @@ impl Reader {
         }
     }
 
-    // Reads one more line, which has words.
+    // Reads one more line, which has words, of a text in this form.
     fn line(
         &mut self,
         alloc: Global,
+        form: Form,
         text: &[u8],
         words: &[Token],
         number: u32,
     ) -> Result<(), ShowFault>
         requires { 0 < length words.now }
-        ensures { Steps result (built_of self.new) (line_step (built_of self.old) (record { number = number; words = words_in text.now words.now })) }
+        ensures { Steps result (built_of self.new) (line_step form (built_of self.old) (record { number = number; words = words_in text.now words.now })) }
     {
-        let entry = match entry_of(alloc, place(self.opened.as_slice()), text, words) {
+        let entry = match entry_of(alloc, form, place(self.opened.as_slice()), text, words) {
             Ok(entry) => entry,
             Err(LineError::Kind(kind)) => return Err(ShowFault::Line { line: number, kind }),
             Err(LineError::Memory) => return Err(ShowFault::Memory),
@@ -513,32 +514,33 @@ impl Reader {
     fn text_line(
         &mut self,
         alloc: Global,
+        form: Form,
         words: &mut Vec<Token>,
         line: &[u8],
         number: u32,
     ) -> Result<(), ShowFault>
         requires within { length line.now ≤ most_text }
         requires one { between_feeds line.now ≡ line.now ∷ [] }
-        ensures { Steps result (built_of self.new) (lines_step (built_of self.old) (line_with number (words_of (visible FromHash line.now)) [])) }
+        ensures { Steps result (built_of self.new) (lines_step form (built_of self.old) (line_with number (words_of (visible FromHash line.now)) [])) }
     {
         line_words(words, line)?;
         if words.is_empty() {
             return Ok(());
         }
-        self.line(alloc, line, words.as_slice(), number)
+        self.line(alloc, form, line, words.as_slice(), number)
     }
 
     // Reads the lines of a text, the first of which has this number.
-    fn lines(&mut self, alloc: Global, text: &[u8], first: u32) -> Result<(), ShowFault>
+    fn lines(&mut self, alloc: Global, form: Form, text: &[u8], first: u32) -> Result<(), ShowFault>
         requires within { length text.now ≤ most_text }
         requires few { first + length text.now ≤ most_text + 1 }
-        ensures { Steps result (built_of self.new) (lines_step (built_of self.old) (numbered FromHash first (lines_of text.now))) }
+        ensures { Steps result (built_of self.new) (lines_step form (built_of self.old) (numbered FromHash first (lines_of text.now))) }
     {
         let mut words = Vec::new(alloc);
         let mut number = first;
         let mut rest = text;
         'lines: while let Some((line, behind)) = split_line(rest) {
-            self.text_line(alloc, &mut words, line, number)?;
+            self.text_line(alloc, form, &mut words, line, number)?;
             number += 1;
             rest = behind;
         }
@@ -603,22 +605,38 @@ fn opening_line(block: &OpenBlock) -> u32
     }
 }
 
-// Whether a line is the header.
-fn is_header(text: &[u8], words: &[Token]) -> bool
-    ensures { result ≡ is_header_of (words_in text.now words.now) }
+// The form that the second word of a header names.
+fn form_named(word: &[u8]) -> Option<Form>
+    ensures { result ≡ form_named_of word.now }
 {
-    words.len() == 2
-        && word_at(text, &words[0]) == b"choreo".as_slice()
-        && word_at(text, &words[1]) == b"1".as_slice()
+    if word == b"1".as_slice() {
+        Some(Form::Whole)
+    } else if word == b"2".as_slice() {
+        Some(Form::Units)
+    } else {
+        None
+    }
 }
 
-// What stands after the header, which is the first line with words, and the number of the line there.
-fn behind_header(alloc: Global, text: &[u8]) -> Result<(&[u8], u32), ShowFault>
+// The form of a text with this header, if it is one.
+fn form_of(text: &[u8], words: &[Token]) -> Option<Form>
+    ensures { result ≡ form_of_words (words_in text.now words.now) }
+{
+    if words.len() == 2 && word_at(text, &words[0]) == b"choreo".as_slice() {
+        form_named(word_at(text, &words[1]))
+    } else {
+        None
+    }
+}
+
+// The form that the header names, which is the first line with words, what stands after it, and the number of the line
+// there.
+fn behind_header(alloc: Global, text: &[u8]) -> Result<(Form, &[u8], u32), ShowFault>
     requires { length text.now ≤ most_text }
     ensures { MatchResult result
-        (λ cut. (read_lines (show_lines text.now) ≡ finish_of (lines_step nothing (numbered FromHash cut.1 (lines_of cut.0.now))))
-        × (cut.1 + length cut.0.now ≤ length text.now + 1)
-        × (length cut.0.now ≤ length text.now))
+        (λ cut. (read_lines (show_lines text.now) ≡ finish_of (lines_step cut.0 nothing (numbered FromHash cut.2 (lines_of cut.1.now))))
+        × (cut.2 + length cut.1.now ≤ length text.now + 1)
+        × (length cut.1.now ≤ length text.now))
         (λ e. ReadingFails e (read_lines (show_lines text.now))) }
 {
     let mut words = Vec::new(alloc);
@@ -627,13 +645,13 @@ fn behind_header(alloc: Global, text: &[u8]) -> Result<(&[u8], u32), ShowFault>
     'lines: while let Some((line, behind)) = split_line(rest) {
         line_words(&mut words, line)?;
         if !words.is_empty() {
-            if is_header(line, words.as_slice()) {
-                return Ok((behind, number + 1));
-            }
-            return Err(ShowFault::Line {
-                line: number,
-                kind: LineKind::Header,
-            });
+            return match form_of(line, words.as_slice()) {
+                Some(form) => Ok((form, behind, number + 1)),
+                None => Err(ShowFault::Line {
+                    line: number,
+                    kind: LineKind::Header,
+                }),
+            };
         }
         number += 1;
         rest = behind;
@@ -649,9 +667,9 @@ fn read_allowed(alloc: Global, text: &[u8]) -> Result<Show, ShowFault>
     requires { length text.now ≤ most_text }
     ensures { ShowGives plain_show result (read_lines (show_lines text.now)) }
 {
-    let (rest, number) = behind_header(alloc, text)?;
+    let (form, rest, number) = behind_header(alloc, text)?;
     let mut reader = Reader::new(alloc);
-    reader.lines(alloc, rest, number)?;
+    reader.lines(alloc, form, rest, number)?;
     reader.finish()
 }
 

@@ -11,6 +11,7 @@ use Rattle.touch_witness.specs.declared.site.Closest.{Closest}
 use Rattle.touch_witness.specs.Sites.{IsClosest, NoTouch}
 use Rattle.choreo_show.specs.Plain.{PlainShow}
 use Rattle.choreo_show.specs.declared.show.DroneLine.{DroneLine}
+use Rattle.choreo_lines.specs.declared.table.Form.TheVariants.{Whole}
 use Rattle.choreo_reader.specs.Grammar.{IsItem, StandsFor}
 use Rattle.choreo_reader.specs.Grammar.Item.{Drone}
 use Rattle.choreo_reader.specs.Laws.{ShowLaw}
@@ -29,6 +30,7 @@ only = record { line = 2; name = record { items = codes "a" }; at = spot (pos 0)
 
 solo_stands : StandsFor solo_text solo
 solo_stands = record {
+  form = Whole;
   items = Drone only ∷ [];
   header = record { number = 1; words = codes "choreo" ∷ codes "1" ∷ [] };
   lines = record { number = 2; words = codes "drone" ∷ codes "a" ∷ codes "0" ∷ codes "0" ∷ codes "0" ∷ codes "0" ∷ [] } ∷ [];
@@ -43,6 +45,7 @@ solo_stands = record {
 
 nobody_stands : StandsFor (line_of (codes "choreo 1")) (nobody 0)
 nobody_stands = record {
+  form = Whole;
   items = [];
   header = record { number = 1; words = codes "choreo" ∷ codes "1" ∷ [] };
   lines = [];

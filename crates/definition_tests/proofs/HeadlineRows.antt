@@ -9,6 +9,7 @@ use Rattle.traj_codec.specs.Joined.{hold, joined_from}
 use Rattle.traj_codec.specs.Spelling.{HasDuration, IsTrajectory}
 use Rattle.choreo_show.specs.Valid.{FitsPoint}
 use Rattle.choreo_show.specs.declared.show.DroneLine.{DroneLine}
+use Rattle.choreo_lines.specs.declared.table.Form.TheVariants.{Whole}
 use Rattle.choreo_reader.specs.Grammar.{IsItem, StandsFor}
 use Rattle.choreo_reader.specs.Grammar.Item.{Blocks, Drone}
 use Rattle.cue_grid.specs.Cues.{grid_of}
@@ -32,6 +33,7 @@ only = record { line = 2; name = record { items = codes "a" }; at = spot (pos 0)
 
 stay_stands : StandsFor stay_text stay
 stay_stands = record {
+  form = Whole;
   items = Drone only ∷ Blocks stay.body ∷ [];
   header = record { number = 1; words = codes "choreo" ∷ codes "1" ∷ [] };
   lines = record { number = 2; words = codes "drone" ∷ codes "a" ∷ codes "0" ∷ codes "0" ∷ codes "0" ∷ codes "0" ∷ [] }

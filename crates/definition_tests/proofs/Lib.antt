@@ -10,6 +10,7 @@ pub mod LandedRows
 pub mod UploadRows
 pub mod JoinedRows
 pub mod StandsRows
+pub mod FormRows
 pub mod EndRows
 pub mod RegionRows
 pub mod ShowRows

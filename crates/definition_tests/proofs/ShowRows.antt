@@ -4,6 +4,7 @@ use Rattle.std.proofs.lemmas.List.Elements.{All-cons, All-nil}
 use Rattle.std.specs.Fmt.{digits}
 use Rattle.text_lines.specs.Words.{Line}
 use Rattle.choreo_show.specs.declared.show.DroneLine.{DroneLine}
+use Rattle.choreo_lines.specs.declared.table.Form.TheVariants.{Whole}
 use Rattle.choreo_reader.specs.Grammar.{IsItem, Item, StandsFor}
 use Rattle.choreo_reader.specs.Grammar.Item.{Memory, Trajectory, Ellipsoid, Stray, Late, Drone, Formed, Figured, Blocks}
 use Rattle.choreo_reader.specs.Laws.{ShowLaw}
@@ -63,6 +64,7 @@ all_items = Memory 3 16 ∷ Trajectory 4 ∷ Ellipsoid 100 200 ∷ Stray 5 ∷ L
 
 text_stands : StandsFor whole_text whole
 text_stands = record {
+  form = Whole;
   items = all_items;
   header = record { number = 1; words = codes "choreo" ∷ codes "1" ∷ [] };
   lines = lines;

@@ -1,15 +1,18 @@
 -- Short texts, read.
-use Rattle.std.proofs.Common.{◌≡◌, ℕ, false, true, List, [], ◌∷◌, ◌++◌, ap, codes, get_or, arith, refl, ◌∙◌}
+use Rattle.std.proofs.Common.{◌≡◌, ℕ, false, true, List, [], ◌∷◌, ◌++◌, ap, codes, get_or, ◌≤◌, arith, refl, ◌∙◌}
 use Rattle.std.proofs.lemmas.List.Elements.{All-cons, All-nil}
 use Rattle.text_lines.specs.Words.{Line}
 use Rattle.choreo_show.specs.Plain.{PlainShow}
-use Rattle.choreo_reader.specs.Grammar.{IsItem, StandsFor}
+use Rattle.choreo_lines.specs.declared.table.Form.{Form}
+use Rattle.choreo_lines.specs.declared.table.Form.TheVariants.{Whole, Units}
+use Rattle.choreo_reader.specs.Grammar.{IsItem, StandsFor, header_of}
 use Rattle.choreo_reader.specs.Grammar.Item.{Late}
 use Rattle.choreo_reader.specs.Laws.{ShowLaw}
 use Rattle.definition_tests.specs.Stands.{StandsRows, line_of, nobody}
 
 late : StandsFor (line_of (codes "choreo 1") ++ line_of (codes "late 3")) (nobody 3)
 late = record {
+  form = Whole;
   items = Late 3 ∷ [];
   header = record { number = 1; words = codes "choreo" ∷ codes "1" ∷ [] };
   lines = record { number = 2; words = codes "late" ∷ codes "3" ∷ [] } ∷ [];
@@ -27,6 +30,15 @@ abbrev first_words : List Line → List (List ℕ)
 first_words [] = []
 first_words (line ∷ lines) = line.words
 
+-- a header begins with a `c`, and its second word with a digit that is at most 2
+letter : (form : Form) → get_or (get_or (header_of form) 0 []) 0 0 ≡ 99
+letter Whole = refl
+letter Units = refl
+
+digit : (form : Form) → get_or (get_or (header_of form) 1 []) 0 0 ≤ 50
+digit Whole = omega arith
+digit Units = omega arith
+
 pub stands : ShowLaw → StandsRows
 stands law = record {
   late = late;
@@ -34,12 +46,13 @@ stands law = record {
       let same : nobody 3 ≡ nobody 4 = law.one (line_of (codes "choreo 1") ++ line_of (codes "late 3")) (nobody 3) (nobody 4) late also in
       let numbers : ◌≡◌ {A = ℕ} 3 4 = ap (λ (s : PlainShow). s.settings.late) same in omega (arith, numbers);
   no_header = λ s is.
-      let words : (codes "late" ∷ codes "3" ∷ []) ≡ codes "choreo" ∷ codes "1" ∷ [] = ap first_words is.cut ∙ is.first in
-      let letters : ◌≡◌ {A = ℕ} 108 99 = ap (λ (ws : List (List ℕ)). get_or (get_or ws 0 []) 0 0) words in omega (arith, letters);
+      let words : (codes "late" ∷ codes "3" ∷ []) ≡ header_of is.form = ap first_words is.cut ∙ is.first in
+      let letters : ◌≡◌ {A = ℕ} 108 99 = ap (λ (ws : List (List ℕ)). get_or (get_or ws 0 []) 0 0) words ∙ letter is.form in omega (arith, letters);
   other_header = λ s is.
-      let words : (codes "choreo" ∷ codes "3" ∷ []) ≡ codes "choreo" ∷ codes "1" ∷ [] = ap first_words is.cut ∙ is.first in
-      let digits : ◌≡◌ {A = ℕ} 51 49 = ap (λ (ws : List (List ℕ)). get_or (get_or ws 1 []) 0 0) words in omega (arith, digits);
-  no_line = λ s is. let words : [] ≡ codes "choreo" ∷ codes "1" ∷ [] = ap first_words is.cut ∙ is.first in
-      let letters : ◌≡◌ {A = ℕ} 0 99 = ap (λ (ws : List (List ℕ)). get_or (get_or ws 0 []) 0 0) words in omega (arith, letters);
+      let words : (codes "choreo" ∷ codes "3" ∷ []) ≡ header_of is.form = ap first_words is.cut ∙ is.first in
+      let digits : 51 ≡ get_or (get_or (header_of is.form) 1 []) 0 0 = ap (λ (ws : List (List ℕ)). get_or (get_or ws 1 []) 0 0) words in
+      omega (arith, digits, digit is.form);
+  no_line = λ s is. let words : [] ≡ header_of is.form = ap first_words is.cut ∙ is.first in
+      let letters : ◌≡◌ {A = ℕ} 0 99 = ap (λ (ws : List (List ℕ)). get_or (get_or ws 0 []) 0 0) words ∙ letter is.form in omega (arith, letters);
   forbidden_byte = λ s is. let allowed : false ≡ true = is.bytes in cc;
 }

@@ -10,6 +10,7 @@ pub mod Begins
 pub mod Rights
 pub mod Joined
 pub mod Stands
+pub mod Forms
 pub mod Certified
 pub mod Ends
 pub mod Regions

@@ -9,6 +9,7 @@ ghost use Rattle.definition_tests.specs.Begins.{BeginRows, OrderRows, ReadRows, 
 ghost use Rattle.definition_tests.specs.Carried.{CarriesRows};
 ghost use Rattle.definition_tests.specs.Certified.{ValidRows};
 ghost use Rattle.definition_tests.specs.Ends.{EndsLaw};
+ghost use Rattle.definition_tests.specs.Forms.{FormRows};
 ghost use Rattle.definition_tests.specs.Headlines.{HeadlineRows};
 ghost use Rattle.definition_tests.specs.Joined.{JoinedRows};
 ghost use Rattle.definition_tests.specs.Motion.{AccelerationRows, JumpRows, SpeedRows};
@@ -77,6 +78,14 @@ pub fn show_rows()
 /// not stand there, are that of none.
 pub fn stands_rows()
     ensures { StandsRows }
+{
+    show_law();
+}
+
+/// A law. A show of one drone has a text of each form; a bare length among units, a unit among whole numbers and a part of
+/// a micrometre are faults.
+pub fn form_rows()
+    ensures { FormRows }
 {
     show_law();
 }

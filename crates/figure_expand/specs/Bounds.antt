@@ -18,9 +18,10 @@ FitsYaw v = Fits yaw (Number v)
 abbrev pub FitsTriple : List ℤ → Type 0
 FitsTriple v = AllFit (coordinate ∷ coordinate ∷ coordinate ∷ []) (map Number v)
 
--- what a place wants, but for the range of a number, which is from -n to n
+-- what a place wants, but for the range of a number or a quantity, which is from -n to n
 abbrev pub up_to : ℕ → Want → Want
 up_to n (want.Number low high) = want.Number (neg_ℤ (pos n)) (pos n)
+up_to n (want.Quantity counts low high) = want.Quantity counts (neg_ℤ (pos n)) (pos n)
 up_to n wanted = wanted
 
 -- each number of an act in the show's frame is from -n to n

@@ -125,8 +125,8 @@ fn schedules(rt: HostRuntime) -> Result<(), Fail> {
 #[test]
 fn order_of_refusals(rt: HostRuntime) -> Result<(), Fail> {
     let rows: [(&[u8], u64, u8, &[u8]); 4] = [
-        (b"choreo 2\n", 2, 6, b"error 6 read\n"),
-        (b"choreo 2\n", 0, 3, b"error 3 line 1 header\n"),
+        (b"choreo 3\n", 2, 6, b"error 6 read\n"),
+        (b"choreo 3\n", 0, 3, b"error 3 line 1 header\n"),
         (WITHOUT_ROOM, 0, 4, b"error 4 drone solo bytes 28 room 27\n"),
         (CROSSING, 0, 5, b"error 5 pair a b cue 1 part 28 of 64\n"),
     ];

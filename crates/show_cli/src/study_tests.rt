@@ -198,7 +198,7 @@ touch pair a b cue 1 at 15 of 32\n",
 no-touch instants 33\n",
     ),
     (&["explain"], SHOW, 0, b"separated\n"),
-    (&["explain"], b"choreo 2\n", 3, b"error 3 line 1 header\n"),
+    (&["explain"], b"choreo 3\n", 3, b"error 3 line 1 header\n"),
     (&["explain", "--fine", "6"], SHOW, 2, b"error 2 usage\n"),
 ];
 

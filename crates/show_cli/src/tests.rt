@@ -374,7 +374,7 @@ const FAULTY_SHOWS: [(&[u8], &[u8], &[u8]); 15] = [
     (START, MARKER, b"error 3 line 1 no-cue\n"),
     (b"choreo 1\n", b"", b"error 3 line 1 no-drone\n"),
     (
-        b"choreo 2\ndrone solo 0 0 1000000 0\n",
+        b"choreo 3\ndrone solo 0 0 1000000 0\n",
         CUE,
         b"error 3 line 1 header\n",
     ),
@@ -414,7 +414,7 @@ const FAULTY_SHOWS: [(&[u8], &[u8], &[u8]); 15] = [
         b"error 3 line 3 double-setting\n",
     ),
     (
-        b"choreo 2\ndrone solo 0 0 1000000 0\n",
+        b"choreo 3\ndrone solo 0 0 1000000 0\n",
         b"cue 2000\nsolo move 1000000 0 1000000 0\nend\x01\n",
         b"error 3 line 5 bad-byte\n",
     ),

@@ -48,7 +48,7 @@ const ENDS: [Row; 11] = [
     ),
     // A second marker line is no frame.
     (&["upload"], SHOW, b"%%\n%%\n", 11, FIRST, b"\x45\x0B"),
-    (&["upload"], b"choreo 2\n", ANSWERS, 3, b"", b"\x45\x03"),
+    (&["upload"], b"choreo 3\n", ANSWERS, 3, b"", b"\x45\x03"),
     (&["upload"], WITHOUT_ROOM, ANSWERS, 4, b"", b"\x45\x04"),
     (
         &["upload", "--depth", "0"],

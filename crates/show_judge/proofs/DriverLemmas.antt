@@ -1,5 +1,5 @@
 -- A command that reads a show and writes one text of it.
-use Rattle.show_judge.proofs.Prelude.{common_steps, Option, ◌≡◌, ℕ, List, Result, Err, IfOk, refl, sym, ◌∙◌, ap, ◌<◌, IfSome, length, true, false, arith, ShowLaw, PlainShow, Rose, TakesFewAfter, TakesFront, ◌≤◌, Answer, Failure, Read, AnswersInput, Responds, IsReadBoth, TakesOneText, part_of, Ways, most_text, Behaves, IsAny, IsTwo, Outcome, Run, Verb, of_show, outcome, IsVerb}
+use Rattle.show_judge.proofs.Prelude.{Option, ◌≡◌, ◌⊎◌, inl, inr, ℕ, List, Result, Err, IfOk, refl, sym, ◌∙◌, ap, ◌<◌, IfSome, length, true, false, ShowLaw, PlainShow, Rose, TakesFewAfter, TakesFront, ◌≤◌, Answer, Failure, Read, AnswersInput, Responds, IsReadBoth, TakesOneText, part_of, Ways, most_text, Behaves, IsAny, IsTwo, Outcome, Run, Verb, of_show, outcome, IsVerb}
 use Rattle.show_judge.proofs.HeadlineLemmas.{headlines, says_of}
 use Rattle.show_judge.proofs.ReadLemmas.{judged_answer}
 use Rattle.show_judge.proofs.RunLemmas.{IsPlain, completes, runs_answer}
@@ -45,8 +45,16 @@ pub any_behaves : ShowLaw → (v : Verb) (r : Run) (result : Result Answer Failu
     TakesFront r.left r.left_after → r.reads_failed ≤ r.reads_failed_after → TakesOneText r.left r.left_after → IfOk result (λ _. TakesFewAfter r.left r.left_after) →
     Behaves v r status
 any_behaves law v r result status is any answers wrote failed taken later few after =
-    let runs = runs_answer v r result status (any_plain v any) (outcomes law v is) answers wrote failed taken later in
-    grind (arith, common_steps, completes, outcomes, judged_answer, headlines)
+    let outcome_law = outcomes law v is in
+    let runs = runs_answer v r result status (any_plain v any) outcome_law answers wrote failed taken later in
+    record {
+      runs = runs;
+      complete = completes v outcome_law r status runs;
+      few = λ wanted. few;
+      marker = λ alone reads judged. judged_answer result r.written r.written_after r.writes_failed r.writes_failed_after status _ wrote after judged;
+      reading = any.reading r status;
+      headline = headlines v is r status runs;
+    }
 
 -- ---- two texts
 
@@ -57,11 +65,24 @@ two_plain depth limit v is = record { reads = ap (λ (w : Ways). w.reads) is.way
 wants : (depth : Option ℕ) (limit : ℕ) (v : Verb) → IsTwo depth limit v → v.ways.has_second ≡ false → ⊥
 wants depth limit v is alone = let e : true ≡ false = sym (ap (λ (w : Ways). w.has_second) is.ways) ∙ alone in absurd (cc)
 
+-- what follows of a text that is too long
+few_of_two : {P Q : Type 0} → (depth : Option ℕ) (limit : ℕ) (v : Verb) → IsTwo depth limit v → (P → Q) → (v.ways.has_second ≡ false) ⊎ P → Q
+few_of_two depth limit v two few (inl alone) = absurd (wants depth limit v two alone)
+few_of_two depth limit v two few (inr long) = few long
+
 -- What was answered for the two texts of a source and written.
 pub two_behaves : ShowLaw → (depth : Option ℕ) (limit : ℕ) (v : Verb) (r : Run) (result : Result Answer Failure) (status : ℕ) → IsVerb v → IsTwo depth limit v → AnswersInput v r.left r.left_after result →
     Responds result r.written r.written_after r.writes_failed r.writes_failed_after status → (result ≡ Err Read → Rose r.reads_failed r.reads_failed_after) →
     TakesFront r.left r.left_after → r.reads_failed ≤ r.reads_failed_after →
     (IfSome r.left (λ all. most_text < length (part_of all)) → TakesOneText r.left r.left_after) → IfOk result (λ _. IsReadBoth limit r.left r.left_after) → Behaves v r status
 two_behaves law depth limit v r result status is two answers wrote failed taken later few both =
-    let runs = runs_answer v r result status (two_plain depth limit v two) (outcomes law v is) answers wrote failed taken later in
-    grind (arith, common_steps, completes, outcomes, wants, judged_answer, headlines)
+    let outcome_law = outcomes law v is in
+    let runs = runs_answer v r result status (two_plain depth limit v two) outcome_law answers wrote failed taken later in
+    record {
+      runs = runs;
+      complete = completes v outcome_law r status runs;
+      few = few_of_two depth limit v two few;
+      marker = λ alone reads judged. absurd (wants depth limit v two alone);
+      reading = two.reading r status (λ judged. judged_answer result r.written r.written_after r.writes_failed r.writes_failed_after status _ wrote both judged);
+      headline = headlines v is r status runs;
+    }

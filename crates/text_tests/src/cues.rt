@@ -37,7 +37,7 @@ const FAULTY_LINES: [(&[u8], Outcome); 8] = [
     (b"", Outcome::Line(1, LineKind::Header)),
     // another version
     (
-        b"choreo 2\ndrone solo 0 0 1000000 0\ncue 2000\nsolo move 1000000 0 1000000 0\nend\n",
+        b"choreo 3\ndrone solo 0 0 1000000 0\ncue 2000\nsolo move 1000000 0 1000000 0\nend\n",
         Outcome::Line(1, LineKind::Header),
     ),
     // an upper-case name

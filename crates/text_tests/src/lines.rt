@@ -1,6 +1,8 @@
 //! Lines by the tables of docs/LANGUAGE.md: what they say where they stand, or what is wrong with them.
 
-use choreo_lines::{Act, Ease, Entry, Frame, LineError, LineKind, Mirror, Place, Point, entry_of};
+use choreo_lines::{
+    Act, Ease, Entry, Form, Frame, LineError, LineKind, Mirror, Place, Point, entry_of,
+};
 use std::alloc::Global;
 use text_lines::{Comments, tokens};
 
@@ -26,7 +28,7 @@ enum Outcome {
     Other,
 }
 
-fn outcome_of(alloc: Global, place: Place, line: &[u8]) -> Outcome {
+fn outcome_of(alloc: Global, form: Form, place: Place, line: &[u8]) -> Outcome {
     if line.len() > 1000 {
         return Outcome::Other;
     }
@@ -36,7 +38,7 @@ fn outcome_of(alloc: Global, place: Place, line: &[u8]) -> Outcome {
     if words.is_empty() {
         return Outcome::Other;
     }
-    match entry_of(alloc, place, line, words.as_slice()) {
+    match entry_of(alloc, form, place, line, words.as_slice()) {
         Ok(entry) => said(&entry),
         Err(LineError::Kind(kind)) => Outcome::Fault(kind),
         Err(LineError::Memory) => Outcome::Other,
@@ -109,7 +111,7 @@ const BLOCK_LINES: [(Place, &[u8], Outcome); 17] = [
 #[test]
 fn lines_of_blocks_are_read(rt: HostRuntime) {
     for (place, line, wanted) in BLOCK_LINES {
-        assert!(rt; outcome_of(rt.alloc(), place, line) == wanted);
+        assert!(rt; outcome_of(rt.alloc(), Form::Whole, place, line) == wanted);
     }
 }
 
@@ -181,7 +183,7 @@ const ACT_LINES: [(&[u8], Outcome); 12] = [
 #[test]
 fn lines_of_a_cue_are_read(rt: HostRuntime) {
     for (line, wanted) in ACT_LINES {
-        assert!(rt; outcome_of(rt.alloc(), Place::InCue, line) == wanted);
+        assert!(rt; outcome_of(rt.alloc(), Form::Whole, Place::InCue, line) == wanted);
     }
 }
 
@@ -222,8 +224,91 @@ const REFUSALS: [(Place, &[u8], LineKind); 29] = [
 #[test]
 fn faulty_lines_are_refused(rt: HostRuntime) {
     for (place, line, kind) in REFUSALS {
-        assert!(rt; outcome_of(rt.alloc(), place, line) == Outcome::Fault(kind));
+        assert!(rt; outcome_of(rt.alloc(), Form::Whole, place, line) == Outcome::Fault(kind));
     }
+}
+
+// Lines in which lengths, times and angles have units.
+const UNIT_LINES: [(Place, &[u8], Outcome); 11] = [
+    (Place::Top, b"memory 255 4095", Outcome::Memory(255, 4095)),
+    (
+        Place::Top,
+        b"ellipsoid 0.1cm 2.000m",
+        Outcome::Ellipsoid(1, 2000),
+    ),
+    (Place::Top, b"stray 1000000um", Outcome::Stray(1000)),
+    (Place::Top, b"stray -0", Outcome::Stray(0)),
+    (Place::Top, b"late 0.020s", Outcome::Late(20)),
+    (
+        Place::Top,
+        b"drone cue 0.001mm -2um 0.0003cm -0.4deg",
+        Outcome::Drone(POINT),
+    ),
+    (Place::InFigure, b"cue 65.535s", Outcome::Cue(65_535)),
+    (
+        Place::InRepeat,
+        b"repeat 1000000000",
+        Outcome::Repeat(1_000_000_000),
+    ),
+    (
+        Place::InRepeat,
+        b"perform g y 3 1um -0.000002m 3.0um a b",
+        Outcome::Perform(FRAME, 2),
+    ),
+    (
+        Place::InCue,
+        b"a turn -3276.8deg",
+        Outcome::One(Act::Turn { yaw: -32_768 }),
+    ),
+    (Place::InCue, b"form f line", Outcome::Form(false)),
+];
+
+#[test]
+fn lines_with_units_are_read(rt: HostRuntime) {
+    for (place, line, wanted) in UNIT_LINES {
+        assert!(rt; outcome_of(rt.alloc(), Form::Units, place, line) == wanted);
+    }
+}
+
+const UNIT_REFUSALS: [(Place, &[u8], LineKind); 17] = [
+    // a unit is missing, or of another kind
+    (Place::Top, b"cue 1500", LineKind::BadNumber),
+    (Place::Top, b"late 1m", LineKind::BadNumber),
+    (Place::Top, b"stray 1ms", LineKind::BadNumber),
+    (Place::InCue, b"a turn 900", LineKind::BadNumber),
+    (Place::InCue, b"a turn 0m", LineKind::BadNumber),
+    (Place::Top, b"drone a 0.0 0 0 0", LineKind::BadNumber),
+    (Place::Top, b"drone a 1km 0 0 0", LineKind::BadNumber),
+    // one stands where a number is only counted
+    (Place::Top, b"memory 2 16ms", LineKind::BadNumber),
+    (Place::InRepeat, b"repeat 2s", LineKind::BadNumber),
+    (
+        Place::InRepeat,
+        b"perform g y 1deg 0 0 0 a",
+        LineKind::BadNumber,
+    ),
+    // no digit before the point or after it, and parts of what the place counts
+    (Place::Top, b"drone a .5m 0 0 0", LineKind::BadNumber),
+    (Place::Top, b"drone a 1.m 0 0 0", LineKind::BadNumber),
+    (Place::Top, b"stray 1.5mm", LineKind::BadNumber),
+    (Place::Top, b"cue 0.5ms", LineKind::BadNumber),
+    // ranges
+    (Place::Top, b"cue 65.536s", LineKind::Range),
+    (Place::Top, b"cue 0s", LineKind::Range),
+    (Place::Top, b"ellipsoid 1mm 2001mm", LineKind::Range),
+];
+
+#[test]
+fn faulty_lines_with_units_are_refused(rt: HostRuntime) {
+    for (place, line, kind) in UNIT_REFUSALS {
+        assert!(rt; outcome_of(rt.alloc(), Form::Units, place, line) == Outcome::Fault(kind));
+    }
+}
+
+#[test]
+fn a_unit_among_whole_numbers_is_refused(rt: HostRuntime) {
+    let found = outcome_of(rt.alloc(), Form::Whole, Place::Top, b"cue 2s");
+    assert!(rt; found == Outcome::Fault(LineKind::BadNumber));
 }
 
 // Whether a line opens the figure `g` with the roles `p` and `q_2`, in this order.
@@ -248,7 +333,7 @@ fn names_are_kept_in_order(rt: HostRuntime) {
         panic!(rt; "no words");
     };
     let kept = !words.is_empty()
-        && match entry_of(rt.alloc(), Place::Top, line, words.as_slice()) {
+        && match entry_of(rt.alloc(), Form::Whole, Place::Top, line, words.as_slice()) {
             Ok(entry) => is_figure(&entry),
             Err(_) => false,
         };

@@ -11,6 +11,9 @@ use std::test::Fail;
 const SMALLEST: &[u8] =
     b"choreo 1\ndrone solo 0 0 1000000 0\ncue 2000\nsolo move 1000000 0 1000000 0\nend\n";
 
+const SMALLEST_IN_UNITS: &[u8] =
+    b"choreo 2\ndrone solo 0 0 1m 0\ncue 2s\nsolo move 1m 0 100cm 0deg\nend\n";
+
 #[test]
 fn words_are_found(rt: HostRuntime) -> Result<(), Fail> {
     let alloc = rt.alloc();
@@ -59,6 +62,10 @@ fn is_one(it: &ActLine, at_line: u32, who: &[u8], does: Act) -> bool {
 
 const FULL: &[u8] =
     b"choreo 1\nmemory 3 4095\ntrajectory 9\nellipsoid 1 2000\ndrone a -100000000 100000000 0 -32768\ndrone cue 0 0 0 32767\nformation f\nat a 1 2 3 4\nend\nfigure g p\ncue 1\np hold\nend\nrepeat 1000000000\ncue 65535\np curve 1 2 3 4 5 6 7 8 9 10\nend\nend\nend\ncue 2\nform f line\na arc ccw 6 7 8\na turn 5\ncue line 1 2 3 4\nend\nrepeat 2\nperform g x 3 -1 -2 -3 a\nend\n";
+
+// The same show: its lengths, times and angles have units.
+const FULL_IN_UNITS: &[u8] =
+    b"choreo 2\nmemory 3 4095\ntrajectory 9\nellipsoid 1mm 2m\ndrone a -100m 100m 0 -3276.8deg\ndrone cue 0m 0um -0 3276.7deg\nformation f\nat a 1um 0.002mm 0.0003cm 0.4deg\nend\nfigure g p\ncue 1ms\np hold\nend\nrepeat 1000000000\ncue 65.535s\np curve 1um 2um 3um 0.000004m 0.0005cm 6um 7um 8um 9.0um 1deg\nend\nend\nend\ncue 0.002s\nform f line\na arc ccw 6um 0.007mm 0.8deg\na turn 0.50deg\ncue line 1um 2um 3um 00.4deg\nend\nrepeat 2\nperform g x 3 -1um -0.002mm -0.0003cm a\nend\n";
 
 // Whether the cue of the full show is its cue.
 fn is_full_cue(acts: &[ActLine]) -> bool {
@@ -222,11 +229,55 @@ fn is_full(show: &Show) -> bool {
 
 #[test]
 fn a_show_with_everything_is_read(rt: HostRuntime) {
-    let full = match read_show(rt.alloc(), FULL) {
-        Ok(show) => is_full(&show),
-        Err(_) => false,
+    for text in [FULL, FULL_IN_UNITS] {
+        let full = text.len() <= MOST_TEXT
+            && match read_show(rt.alloc(), text) {
+                Ok(show) => is_full(&show),
+                Err(_) => false,
+            };
+        assert!(rt; full);
+    }
+}
+
+// Whether a show is the smallest one.
+fn is_smallest(show: &Show) -> bool {
+    let to = Point {
+        x: 1_000_000,
+        y: 0,
+        z: 1_000_000,
+        yaw: 0,
     };
-    assert!(rt; full);
+    let alone = match show.drones.as_slice() {
+        [solo] => is_at(solo, 2, b"solo", [0, 0, 1_000_000, 0]),
+        _ => false,
+    };
+    let moves = match show.body.as_slice() {
+        [
+            Block::Cue {
+                line: 3,
+                ms: 2000,
+                acts,
+            },
+        ] => match acts.as_slice() {
+            [act] => is_one(act, 4, b"solo", Act::Move { to }),
+            _ => false,
+        },
+        _ => false,
+    };
+    let others = show.formations.as_slice().len() + show.figures.as_slice().len();
+    show.settings == DEFAULTS && alone && moves && others == 0
+}
+
+#[test]
+fn the_smallest_show_is_read_in_both_forms(rt: HostRuntime) {
+    for text in [SMALLEST, SMALLEST_IN_UNITS] {
+        let smallest = text.len() <= MOST_TEXT
+            && match read_show(rt.alloc(), text) {
+                Ok(show) => is_smallest(&show),
+                Err(_) => false,
+            };
+        assert!(rt; smallest);
+    }
 }
 
 const DEFAULTS: Settings = Settings {
@@ -240,12 +291,16 @@ const DEFAULTS: Settings = Settings {
 };
 
 // Texts, with how far their drones may stray, in millimetres, and how late they may be, in milliseconds.
-const STRAYS: [(&[u8], u16, u16); 5] = [
+const STRAYS: [(&[u8], u16, u16); 9] = [
     (SMALLEST, 0, 0),
     (b"choreo 1\nstray 0\nlate 0\n", 0, 0),
     (b"choreo 1\nlate 1000\nstray 0001000\n", 1000, 1000),
     (b"choreo 1\nstray 50\n", 50, 0),
     (b"choreo 1\ncue 1\nend\nlate 20\n", 0, 20),
+    (SMALLEST_IN_UNITS, 0, 0),
+    (b"choreo 2\n", 0, 0),
+    (b"choreo 2\nlate 1s\nstray 100.0cm\n", 1000, 1000),
+    (b"choreo 2\nstray 50000um\nlate 0.02s\n", 50, 20),
 ];
 
 #[test]
@@ -283,11 +338,14 @@ fn has_fault(alloc: Global, text: &[u8], line: u32, kind: LineKind) -> bool {
 }
 
 // Texts with the line that is faulty, and how.
-const AT_TOP: [(&[u8], u32, LineKind); 46] = [
+const AT_TOP: [(&[u8], u32, LineKind); 49] = [
     (b"", 1, LineKind::Header),
     (b"\n# choreo 1\n", 1, LineKind::Header),
-    (b"\nchoreo 2\n", 2, LineKind::Header),
+    (b"\nchoreo 3\n", 2, LineKind::Header),
     (b"choreo 01\n", 1, LineKind::Header),
+    (b"choreo 02\n", 1, LineKind::Header),
+    (b"choreo 2 2\n", 1, LineKind::Header),
+    (b"choreo 2m\n", 1, LineKind::Header),
     (b"choreo 1 1\n", 1, LineKind::Header),
     (b"choreo 2\nbad\n\x01\n", 3, LineKind::BadByte),
     (b"choreo 1\nend\n", 2, LineKind::BadWord),
@@ -458,6 +516,59 @@ const IN_BLOCKS: [(&[u8], u32, LineKind); 32] = [
 fn lines_in_blocks_are_judged(rt: HostRuntime) {
     let alloc = rt.alloc();
     for (text, line, kind) in IN_BLOCKS {
+        assert!(rt; has_fault(alloc, text, line, kind));
+    }
+}
+
+// Texts of the second form.
+const IN_UNITS: [(&[u8], u32, LineKind); 20] = [
+    (
+        b"choreo 2\ndrone solo 0 0 1.0000001m 0\ncue 2s\nsolo move 1m 0 100cm 0deg\nend\n",
+        2,
+        LineKind::BadNumber,
+    ),
+    (
+        b"choreo 2\ndrone solo 0 0 1m 0\ncue 2s\nsolo move 101m 0 100cm 0deg\nend\n",
+        4,
+        LineKind::Range,
+    ),
+    (
+        b"choreo 2\ndrone solo 0 0 1000000 0\ncue 2s\nend\n",
+        2,
+        LineKind::BadNumber,
+    ),
+    (
+        b"choreo 1\ndrone solo 0 0 1m 0\ncue 2000\nend\n",
+        2,
+        LineKind::BadNumber,
+    ),
+    (b"choreo 1\ncue 2s\nend\n", 2, LineKind::BadNumber),
+    (b"choreo 2\ncue 2000\nend\n", 2, LineKind::BadNumber),
+    (b"choreo 2\ndrone a 0 0 0 0.05deg\n", 2, LineKind::BadNumber),
+    (b"choreo 2\ndrone a 0.5um 0 0 0\n", 2, LineKind::BadNumber),
+    (b"choreo 2\ndrone a .5m 0 0 0\n", 2, LineKind::BadNumber),
+    (b"choreo 2\ndrone a 1.m 0 0 0\n", 2, LineKind::BadNumber),
+    (b"choreo 2\ndrone a 0.0 0 0 0\n", 2, LineKind::BadNumber),
+    (b"choreo 2\ndrone a 0deg 0 0 0\n", 2, LineKind::BadNumber),
+    (b"choreo 2\ndrone a 0 0 0m\n", 2, LineKind::BadCount),
+    (b"choreo 2\nmemory 2 16um\n", 2, LineKind::BadNumber),
+    (b"choreo 2\nstray 1.5mm\n", 2, LineKind::BadNumber),
+    (b"choreo 2\nlate 1.001s\n", 2, LineKind::Range),
+    (b"choreo 2\nstray 1mm\nstray 1\n", 3, LineKind::BadNumber),
+    (
+        b"choreo 2\nstray 1mm\nstray 1mm\n",
+        3,
+        LineKind::DoubleSetting,
+    ),
+    (b"choreo 2\nrepeat 2s\n", 2, LineKind::BadNumber),
+    // a header stands once
+    (b"choreo 1\nchoreo 2\n", 2, LineKind::BadWord),
+];
+
+#[test]
+fn texts_with_units_are_judged(rt: HostRuntime) {
+    let alloc = rt.alloc();
+    for (text, line, kind) in IN_UNITS {
         assert!(rt; has_fault(alloc, text, line, kind));
     }
 }

@@ -1,0 +1,321 @@
+"""What the proved program says of a show's text, as values: for `import hemtoghai`.
+
+The verdict is the program's. What helps beside it, the places in which drones are blocked and what no drone flies, is
+worked out by the companions and proves nothing; those agree with the program on whether anything is blocked.
+"""
+from __future__ import annotations
+
+import json
+import re
+from collections.abc import Iterator, Mapping
+from dataclasses import dataclass, field
+from functools import cached_property
+from typing import Any, Optional, Union
+
+from hemtoghai import companion, program
+from hemtoghai.geometry import separation
+from hemtoghai.geometry.causes import cause_of
+from hemtoghai.language import choreo, cures
+from hemtoghai.writing import flyable
+
+Text = Union[str, bytes]
+Place = tuple[int, int, int]
+DEPTH = 6
+
+
+# ---- values
+
+@dataclass(frozen=True)
+class Blocked:
+    """Two drones in a cue that are too near, or of which nothing shows that they are apart. Instants are milliseconds
+    from the begin of the show, places micrometres, cues count from 1 with repeats and figures written out, lines are
+    those of the text."""
+    first: str
+    second: str
+    cue: int
+    begin_ms: float  # of the first of the cue's parts that is blocked
+    end_ms: float  # of that part
+    nearest_ms: float  # where the two come nearest in the cue
+    places: tuple[Place, Place]  # of both, there
+    share: float  # how far apart they are there, as a share of the distance at which their ellipsoids touch
+    touch: bool  # whether the ellipsoids touch there: then no greater depth helps
+    cause: Optional[str]  # in words, where they fly apart and the show's `stray` or `late` is the cause
+    lines: tuple[int, ...]  # of the cue and of what the two fly in it
+    named: bool  # whether it is the one that the program names
+
+
+@dataclass(frozen=True)
+class Caution:
+    """Something that no drone flies, or that is seldom meant, in a show that is accepted. Cues count from 1, and the one
+    after the last is the end."""
+    kind: str  # "motion", "low", "small" or "stacked"
+    words: str
+    drone: Optional[str] = None
+    cue: Optional[int] = None
+    line: Optional[int] = None
+
+
+@dataclass(frozen=True)
+class Verdict:
+    """What the program answers to a show."""
+    status: int  # docs/COMMANDS.md, Statuses and fault lines
+    output: bytes = field(repr=False)
+    proof: Optional[str] = field(repr=False)  # the last line of the program's proof
+    text: bytes = field(repr=False)
+    depth: int = DEPTH
+
+    @property
+    def ok(self) -> bool:
+        """Whether the show is accepted."""
+        return self.status == 0
+
+    @property
+    def proved(self) -> bool:
+        """Whether the program is the one of a record or manifest that has its proof."""
+        return self.proof is not None
+
+    @property
+    def line(self) -> str:
+        """The first line of the answer: of a refusal, what is wrong and where."""
+        return self.output.split(b"\n", 1)[0].decode(errors="replace")
+
+    @property
+    def fault(self) -> Optional[int]:
+        """The line of the text that is faulty, or None."""
+        found = re.match(r"error 3 line (\d+) ", self.line)
+        return int(found[1]) if found else None
+
+    @cached_property
+    def cure(self) -> Optional[str]:
+        """In words, what a faulty line needs, or None."""
+        found = re.match(r"error 3 line (\d+) ([a-z-]+)", self.line)
+        if not found:
+            return None
+        lines = self.text.split(b"\n")
+        row = cures.cure_of(found[2], lines[int(found[1]) - 1] if int(found[1]) <= len(lines) else b"")
+        return str(row[-1]) if row else None
+
+    @cached_property
+    def blocked(self) -> tuple[Blocked, ...]:
+        """Each pair and cue that is blocked, that first which comes nearest: of a show that is refused with status 5."""
+        return blocked_of(self.text, self.depth, self.line) if self.status == 5 else ()
+
+    @cached_property
+    def cautions(self) -> tuple[Caution, ...]:
+        """What of an accepted show no drone flies: the first of each kind."""
+        return cautions_of(self.text) if self.ok else ()
+
+    def as_data(self) -> dict[str, Any]:
+        """All of it as values of JSON."""
+        return {"status": self.status, "ok": self.ok, "line": self.line, "proved": self.proved, "depth": self.depth,
+                "fault": self.fault, "cure": self.cure, "blocked": [dict(vars(place)) for place in self.blocked],
+                "cautions": [dict(vars(caution)) for caution in self.cautions]}
+
+
+class Refused(Exception):
+    """A show that a command refuses; `verdict` says why."""
+
+    def __init__(self, verdict: Verdict) -> None:
+        super().__init__(verdict.line or "status %d" % verdict.status)
+        self.verdict = verdict
+
+
+@dataclass(frozen=True)
+class DronePlan:
+    """What one drone is sent."""
+    name: str
+    data: bytes = field(repr=False)  # its trajectory, with the three zero bytes at its end
+    pieces: int
+    packets: tuple[tuple[str, bytes], ...] = field(repr=False)  # `write`, `define` or `start`, and the packet's bytes
+
+    def pack(self) -> bytes:
+        """The trajectory's bytes, as Bitcraze's library asks an element of a trajectory for them."""
+        return self.data
+
+
+@dataclass(frozen=True)
+class Plan(Mapping[str, DronePlan]):
+    """A show's plan: each drone's part by its name, in the order of the show."""
+    text: bytes = field(repr=False)  # as `compile` writes it
+    drones: tuple[DronePlan, ...]
+    verdict: Verdict = field(repr=False)
+
+    def __getitem__(self, name: str) -> DronePlan:
+        for drone in self.drones:
+            if drone.name == name:
+                return drone
+        raise KeyError(name)
+
+    def __iter__(self) -> Iterator[str]:
+        return (drone.name for drone in self.drones)
+
+    def __len__(self) -> int:
+        return len(self.drones)
+
+
+# ---- what helps
+
+def place_of(flown: Any, drone: int, cue: int, u: float) -> Place:
+    """Where a drone is at a fraction of a cue, in micrometres."""
+    x, y, z = (round(1000 * v) for v in companion.place(flown, drone, cue, u))
+    return x, y, z
+
+
+def blocked_in(flown: Any, deep: int, found: tuple[int, int, int, int], named: bool) -> Blocked:
+    """What is known of two drones in a cue whose part of this number is blocked."""
+    i, j, cue, index = found
+    begin, lasts, parts = companion.begins(flown)[cue], flown.cues[cue].milliseconds, 2 ** deep
+    part = separation.difference(flown.by_cue[i][cue][1], flown.by_cue[j][cue][1])
+    near = separation.Nearest(part, *flown.show.settings["ellipsoid"])
+    acts, names = flown.cues[cue].acts, (flown.names[i], flown.names[j])
+    lines = {flown.cues[cue].number, *(acts[name][0] for name in names if name in acts)}
+    return Blocked(*names, cue + 1, begin + lasts * index / parts, begin + lasts * (index + 1) / parts,
+                   begin + lasts * near.at, (place_of(flown, i, cue, near.at), place_of(flown, j, cue, near.at)),
+                   near.share, near.touch, None if near.touch else cause_of(flown, i, j, cue, deep),
+                   tuple(sorted(lines)), named)
+
+
+def blocked_of(text: bytes, deep: int, line: str) -> tuple[Blocked, ...]:
+    """The places in which drones of a show are blocked, that first in which they come nearest."""
+    flown = choreo.flown_of(text)
+    places = [blocked_in(flown, deep, found, not number)
+              for number, found in enumerate(separation.blocked_places(flown, deep))]
+    return tuple(sorted(places, key=lambda place: place.share))
+
+
+CAUTION = re.compile(r"line (\d+), (?:cue (\d+)|the end): (\S+) ")
+
+
+def cautions_of(text: bytes) -> tuple[Caution, ...]:
+    """What no drone flies of an accepted show."""
+    flown, out = choreo.flown_of(text), []
+    for kind, words in (("motion", flyable.motion_if_known(program.PROGRAM, flown, text)), ("low", flyable.below(flown)),
+                        ("small", flyable.small(flown)), ("stacked", flyable.stacked(flown))):
+        found = CAUTION.match(words or "")
+        if found:
+            line, cue, drone = found.groups()
+            out.append(Caution(kind, words, drone, int(cue or len(flown.cues) + 1), int(line)))
+        elif words:
+            out.append(Caution(kind, words))
+    return tuple(out)
+
+
+# ---- asking
+
+def bytes_of(text: Text) -> bytes:
+    """The bytes of a text."""
+    return text.encode("utf-8", "surrogateescape") if isinstance(text, str) else bytes(text)
+
+
+def joined(first: Text, second: Text) -> bytes:
+    """Two texts with a marker line between them."""
+    front = bytes_of(first)
+    return front + (b"" if front.endswith(b"\n") else b"\n") + b"%%\n" + bytes_of(second)
+
+
+def asked(words: list[str], text: Text, whole: Optional[bytes] = None, depth: int = DEPTH) -> Verdict:
+    """What the program answers to a text, or to a whole input of which it is the show; raises program.Unusable where it
+    can't be run, and MemoryError where it is out of memory."""
+    show = bytes_of(text)
+    status, output = program.ask(words, show if whole is None else whole)
+    if status == 1:
+        raise MemoryError
+    return Verdict(status, output, program.proof(), show, depth)
+
+
+def accepted(verdict: Verdict) -> Verdict:
+    """The verdict, where the show is accepted; raises Refused."""
+    if not verdict.ok:
+        raise Refused(verdict)
+    return verdict
+
+
+def depth_words(depth: int) -> list[str]:
+    """The words of a depth."""
+    if not 0 <= depth <= 8:
+        raise ValueError("the depth is 0 to 8, not %r" % depth)
+    return ["--depth", "%d" % depth]
+
+
+def option(word: str, number: Optional[int]) -> list[str]:
+    """The words of an option, or none where it isn't given."""
+    return [] if number is None else [word, "%d" % number]
+
+
+# ---- the calls
+
+def check(text: Text, depth: int = DEPTH) -> Verdict:
+    """Whether a show is well-formed, fits into its drones' memories, and no two drones ever come too near."""
+    return asked(["check", *depth_words(depth)], text, depth=depth)
+
+
+def compile(text: Text, depth: int = DEPTH) -> Plan:
+    """The plan of a show: what each drone is sent. Raises Refused where there is none."""
+    verdict = accepted(asked(["compile", *depth_words(depth)], text, depth=depth))
+    drones: list[DronePlan] = []
+    for line in verdict.output.decode().split("\n"):
+        kind, _, rest = line.partition(" ")
+        if kind == "drone":
+            name, _, _, _, pieces = rest.split(" ")
+            drones.append(DronePlan(name, b"", int(pieces), ()))
+        elif kind == "data":
+            drones[-1] = DronePlan(drones[-1].name, bytes.fromhex(rest), drones[-1].pieces, ())
+        elif kind in ("write", "define", "start"):
+            last = drones[-1]
+            drones[-1] = DronePlan(last.name, last.data, last.pieces, (*last.packets, (kind, bytes.fromhex(rest))))
+    return Plan(verdict.output, tuple(drones), verdict)
+
+
+def certify(text: Text, depth: int = DEPTH) -> bytes:
+    """A certificate that no two drones ever come too near, which `verify` and others judge. Raises Refused."""
+    return accepted(asked(["certify", *depth_words(depth)], text, depth=depth)).output
+
+
+def verify(text: Text, certificate: Text) -> Verdict:
+    """Whether a certificate is one of this show, whoever made it."""
+    return asked(["verify"], text, joined(text, certificate))
+
+
+def play(text: Text, step_ms: int = 100, depth: int = DEPTH) -> list[tuple[int, str, int, int, int, int]]:
+    """Where each drone is at each step and in the end: the instant in milliseconds, the drone's name, x, y and z in
+    micrometres, and yaw in hundredths of a degree. Raises Refused."""
+    verdict = accepted(asked(["play", *depth_words(depth), "--step", "%d" % step_ms], text, depth=depth))
+    rows = (line.split(" ") for line in verdict.output.decode().splitlines())
+    return [(int(at), name, int(x), int(y), int(z), int(yaw)) for at, name, x, y, z, yaw in rows]
+
+
+def report(text: Text, depth: int = DEPTH) -> dict[str, Any]:
+    """A show's numbers: bytes, cues, drones, duration_ms, nodes and packets. Raises Refused."""
+    found: dict[str, Any] = json.loads(accepted(asked(["report", *depth_words(depth)], text, depth=depth)).output)
+    return found
+
+
+MOTION = re.compile(r"dynamics (\S+) acceleration (\d+) (\d+) (\d+) jump (\d+) cue (\d+) (\d+) cue (\d+) (\d+) cue (\d+) "
+                    r"begins (\w+) ends (\w+)$", re.M)
+
+
+def dynamics(text: Text, accel: Optional[int] = None, jump: Optional[int] = None,
+             depth: int = DEPTH) -> dict[str, dict[str, Any]]:
+    """By drone bounds on its acceleration (micrometres per second squared on x, y and z), its greatest jumps of speed
+    (micrometres per second) with the cues that begin with them, and whether it begins and ends at rest. Raises Refused,
+    also where a limit in millimetres is passed."""
+    words = ["dynamics", *depth_words(depth), *option("--accel", accel), *option("--jump", jump)]
+    out = {}
+    for name, *numbers, begins, ends in MOTION.findall(accepted(asked(words, text, depth=depth)).output.decode()):
+        row = [int(number) for number in numbers]
+        out[name] = {"acceleration": tuple(row[:3]), "jump": tuple(row[3::2]), "jump_cues": tuple(row[4::2]),
+                     "begins_at_rest": begins == "rest", "ends_at_rest": ends == "rest"}
+    return out
+
+
+def speed(text: Text, limit: Optional[int] = None, depth: int = DEPTH) -> dict[str, tuple[int, int, int]]:
+    """By drone a bound on its speed on x, y and z, in micrometres per second. Raises Refused, also where a limit is
+    passed."""
+    words = ["speed", *depth_words(depth), *option("--limit", limit)]
+    rows = (line.split(" ") for line in accepted(asked(words, text, depth=depth)).output.decode().splitlines())
+    return {name: (int(x), int(y), int(z)) for _, name, x, y, z in rows}
+
+
+def boxes(text: Text, regions: Text, depth: int = DEPTH) -> Verdict:
+    """Whether all drones keep to regions, as docs/COMMANDS.md has their text."""
+    return asked(["boxes", *depth_words(depth)], text, joined(text, regions), depth)

@@ -1,0 +1,220 @@
+"""`import hemtoghai`: verdicts, plans and numbers as values, worked by hand. Where the program isn't built .ci/stand_in
+answers in its place, as far as it knows the words."""
+import dataclasses
+import hashlib
+import json
+import os
+import subprocess
+import sys
+import tempfile
+import unittest
+from unittest import mock
+
+import common
+import hemtoghai
+from hemtoghai import judging, program
+
+IS_BUILT = os.access(program.PROGRAM, os.X_OK)
+PROVED = "logic=proved functions=3 axioms=1"
+CROSSING, CURED = (common.example(name)[0].decode() for name in ("crossing", "crossing_cured"))
+HALL, SHELF = "volume -1000 -1000 300 2500 2500 2500\n", "keepout 800 600 0 1200 1400 1500\n"
+
+
+class Case(unittest.TestCase):
+    def setUp(self):
+        folder = tempfile.TemporaryDirectory()
+        self.addCleanup(folder.cleanup)
+        self.path = os.path.join(folder.name, "program")
+        if not IS_BUILT:
+            self.write("#!/bin/sh\nexec %s \"$@\"\n" % os.path.join(common.TOP, ".ci", "stand_in"))
+            self.take(self.path)
+
+    def write(self, text):
+        """Writes a program."""
+        with open(self.path, "w") as file:
+            file.write(text)
+        os.chmod(self.path, 0o755)
+
+    def take(self, path):
+        """Has another program be asked until the test ends."""
+        patch = mock.patch.object(program, "PROGRAM", path)
+        patch.start()
+        self.addCleanup(patch.stop)
+
+
+class Verdicts(Case):
+    def test_accepted(self):
+        verdict = hemtoghai.check(CURED)
+        self.assertEqual((verdict.ok, verdict.status, verdict.line, verdict.blocked, verdict.cautions, verdict.fault),
+                         (True, 0, "ok drones 2 cues 3 duration_ms 7000", (), (), None))
+        self.assertEqual(hemtoghai.check(CURED.encode()), verdict)
+
+    def test_blocked(self):
+        # They change places within three seconds: in the middle both are where the other one is.
+        place, = hemtoghai.check(CROSSING).blocked
+        middle = 500000, 0, 1000000
+        self.assertEqual(place, hemtoghai.Blocked("a", "b", 1, 3000 * 28 / 64, 3000 * 29 / 64, 1500.0, (middle, middle), 0.0,
+                                                  True, None, (10, 11, 12), True))
+
+    def test_worst_first(self):
+        # Of three in a row that all stand, 100 and 200 mm from one another, of 240 that they need.
+        text = "choreo 1\ndrone a 0 0 1000000 0\ndrone b 200000 0 1000000 0\ndrone c 300000 0 1000000 0\ncue 1000\nend\n"
+        verdict = hemtoghai.check(text)
+        self.assertEqual([(place.first, place.second, round(place.share, 4), place.named) for place in verdict.blocked],
+                         [("b", "c", round(100 / 240, 4), False), ("a", "b", round(200 / 240, 4), True)])
+        self.assertEqual((verdict.status, verdict.line), (5, "error 5 pair a b cue 1 part 0 of 64"))
+
+    def test_apart_but_for_the_stray(self):
+        # 300 mm to the side, of 240 that they need and 2 * 40 more: they touch nowhere.
+        text = "choreo 1\nstray 40\ndrone a 0 0 1000000 0\ndrone b 300000 0 1000000 0\ncue 1000\nend\n"
+        place, = hemtoghai.check(text).blocked
+        self.assertEqual((place.touch, place.share), (False, 1.25))
+        self.assertIn("`stray 40`", place.cause)
+
+    def test_faulty(self):
+        verdict = hemtoghai.check("choreo 1\ncue 1.5\n")
+        self.assertEqual((verdict.ok, verdict.line, verdict.fault, verdict.blocked), (False, "error 3 line 2 bad-number", 2, ()))
+        self.assertIn("write whole numbers", verdict.cure)
+
+    def test_cautions(self):
+        text = "choreo 1\ndrone a 0 0 100000 0\ncue 1000\na line 1000000 0 -100000 0\nend\n"
+        cautions = hemtoghai.check(text).cautions
+        self.assertEqual([(it.kind, it.drone, it.cue, it.line) for it in cautions], [("motion", "a", 1, 3), ("low", "a", 1, 3)])
+        self.assertTrue(all(it.words.startswith("line 3, cue 1: a ") for it in cautions))
+
+    def test_values_stay(self):
+        verdict = hemtoghai.check(CROSSING)
+        for value, name in ((verdict, "status"), (verdict.blocked[0], "first")):
+            with self.assertRaises(dataclasses.FrozenInstanceError):
+                setattr(value, name, "another")
+        self.assertNotIn("choreo", repr(verdict))
+        found = json.loads(json.dumps(verdict.as_data()))
+        self.assertEqual((found["status"], found["blocked"][0]["lines"]), (5, [10, 11, 12]))
+
+    def test_wrong_calls(self):
+        for depth in (-1, 9):
+            with self.assertRaises(ValueError):
+                hemtoghai.check(CURED, depth)
+
+
+class Plans(Case):
+    def test_plan(self):
+        plan, flown = hemtoghai.compile(CURED), common.example("crossing_cured")[1]
+        self.assertEqual((list(plan), len(plan), "a" in plan, "c" in plan), (["a", "b"], 2, True, False))
+        self.assertEqual([drone.data for drone in plan.values()], flown.data())
+        self.assertEqual(plan["b"].pack(), plan["b"].data)
+        self.assertEqual([drone.pieces for drone in plan.values()], [len(segments) for segments in flown.sent])
+        self.assertEqual(plan.text.decode(), flown.plan())
+        # 34 bytes go in two writes.
+        self.assertEqual([kind for kind, _ in plan["a"].packets], ["write", "write", "define", "start"])
+        with self.assertRaises(KeyError):
+            plan["c"]
+
+    def test_refused(self):
+        for call in (hemtoghai.compile, hemtoghai.play):
+            with self.assertRaises(hemtoghai.Refused) as refused:
+                call(CROSSING)
+            self.assertEqual(str(refused.exception), "error 5 pair a b cue 1 part 28 of 64")
+            self.assertEqual(refused.exception.verdict.blocked[0].nearest_ms, 1500.0)
+
+
+class Numbers(Case):
+    def test_play(self):
+        self.assertEqual(hemtoghai.play(CURED, 3500)[2:4], [(3500, "a", 500000, 0, 1000000, 0), (3500, "b", 500000, 0, 1800000, 0)])
+
+    def test_dynamics(self):
+        text = "choreo 1\ndrone a 0 0 1000000 0\ncue 2000\na line 1000000 0 1000000 0\nend\n"
+        self.assertEqual(hemtoghai.dynamics(text), {"a": {
+            "acceleration": (0, 0, 0), "jump": (500000, 0, 0), "jump_cues": (1, 1, 1), "begins_at_rest": False,
+            "ends_at_rest": False}})
+        with self.assertRaises(hemtoghai.Refused) as refused:
+            hemtoghai.dynamics(text, jump=300)
+        self.assertEqual(refused.exception.verdict.status, 18)
+
+    @common.wants_program
+    def test_others(self):
+        text = common.example("too_fast")[0]
+        self.assertEqual(hemtoghai.speed(text), {"solo": (4375000, 0, 0)})
+        with self.assertRaises(hemtoghai.Refused):
+            hemtoghai.speed(text, limit=2500000)
+        self.assertEqual(hemtoghai.report(CURED), {"bytes": [34, 62], "cues": 3, "drones": ["a", "b"], "duration_ms": 7000,
+                                                   "nodes": 3, "packets": [3, 4]})
+        self.assertEqual([hemtoghai.boxes(common.example(name)[0], HALL + SHELF).status
+                          for name in ("shelf", "shelf_straight")], [0, 15])
+
+    @common.wants_program
+    def test_certificates(self):
+        certificate = hemtoghai.certify(CURED)
+        self.assertEqual(certificate, b"version 2\ncertificate 6\n58\n47\n00\n")
+        self.assertEqual(hemtoghai.verify(CURED.rstrip("\n"), certificate).line, "valid depth 6 trees 3")
+        self.assertEqual(hemtoghai.verify(CROSSING, certificate).status, 12)
+        with self.assertRaises(hemtoghai.Refused):
+            hemtoghai.certify(CROSSING)
+
+
+class Proof(Case):
+    ANSWERS = "#!/bin/sh\necho ok drones 1 cues 1 duration_ms 1\n"
+
+    def record(self, **more):
+        """Writes the record of the program."""
+        with open(self.path, "rb") as file, open(self.path + ".built", "w") as record:
+            json.dump({"sha256": hashlib.sha256(file.read()).hexdigest(), **more}, record)
+
+    def test_proved(self):
+        self.write(self.ANSWERS)
+        self.take(self.path)
+        self.assertEqual((hemtoghai.check("").ok, hemtoghai.check("").proved), (True, False))
+        for rests_on, wanted in ((PROVED, True), ("", False), ("logic=open", False), (7, False), (PROVED, True)):
+            self.record(rests_on=rests_on)
+            verdict = hemtoghai.check("")
+            self.assertEqual((verdict.ok, verdict.proved), (True, wanted))
+        self.assertEqual(verdict.proof, PROVED)
+
+    def test_another_program(self):
+        self.write(self.ANSWERS)
+        self.take(self.path)
+        self.record(rests_on=PROVED)
+        self.write(self.ANSWERS + "# another\n")
+        with self.assertRaises(program.Unusable):
+            hemtoghai.check("")
+        os.remove(self.path)
+        with self.assertRaises(program.Unusable):
+            hemtoghai.check("")
+
+    def test_out_of_memory(self):
+        self.write("#!/bin/sh\nexit 1\n")
+        self.take(self.path)
+        with self.assertRaises(MemoryError):
+            hemtoghai.check("")
+
+
+class Package(unittest.TestCase):
+    def said(self, *words):
+        """What Python says where the package is on its path."""
+        done = subprocess.run([sys.executable, *words], cwd=common.TOP, env={**os.environ, "PYTHONPATH": "python"},
+                              stdout=subprocess.PIPE, stderr=subprocess.PIPE, universal_newlines=True, timeout=60)
+        self.assertEqual(done.stderr, "")
+        return done.returncode, done.stdout
+
+    def test_nothing_is_imported_before_it_is_asked_for(self):
+        code = "import sys, hemtoghai; print(sorted(name for name in sys.modules if name.startswith('hemtoghai')))"
+        self.assertEqual(self.said("-c", code), (0, "['hemtoghai']\n"))
+
+    def test_names(self):
+        self.assertEqual(sorted(hemtoghai.__all__), dir(hemtoghai))
+        for name in hemtoghai.__all__:
+            self.assertIs(getattr(hemtoghai, name), getattr(judging, name))
+            self.assertTrue(getattr(hemtoghai, name).__doc__)
+        with self.assertRaises(AttributeError):
+            getattr(hemtoghai, "nothing")
+
+    def test_by_its_name(self):
+        # Both ways to a command say the same.
+        words = "why", "examples/crossing.choreo"
+        status, out, _ = common.run(*words)
+        self.assertEqual(self.said("-m", "hemtoghai", *words), (status, out))
+        self.assertEqual(status, 5)
+
+
+if __name__ == "__main__":
+    unittest.main()
