@@ -152,7 +152,7 @@ class Studio:
             lines = text.split(b"\n")
             line = lines[number - 1] if number <= len(lines) else b""
             found["fault"] = {"line": number, "word": word or "marker", "text": shown(line)[0],
-                              "row": cure_of(word, line) if word else MARKER}
+                              "row": cure_of(word, line, choreo.form_of(text)) if word else MARKER}
         return found
 
 

@@ -22,7 +22,7 @@ IDLE = "nobody"  # the role of a figure in which nobody acts
 
 def ends_of(text):
     """The numbers of the `end` lines of a good show, by those of the lines that open their blocks."""
-    blocks, ends, begun = [choreo.Line(0, "top", [])], {}, False
+    blocks, ends, begun = [choreo.Line(0, "top", [choreo.form_of(text)])], {}, False
     for number, line in enumerate(text.split(b"\n"), 1):
         words = line.partition(b"#")[0].decode().split()
         if words and begun:
