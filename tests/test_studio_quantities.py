@@ -1,5 +1,5 @@
-"""python/hemtoghai/seeing/studio_quantities.js and language/quantities.py have the same rule: over a table of words and of
-numbers both read and write the same. The page's file is run by Node, and in tests/test_studio_page.py by Chromium;
+"""python/hemtoghai/seeing/studio_quantities.js and language/quantities.py have the same rule: over a table of words and
+of numbers both read and write the same. The page's file is run by Node, and in tests/test_studio_page.py by Chromium;
 without Node the tests are skipped."""
 from __future__ import annotations
 
@@ -22,8 +22,8 @@ UNIT_OF = {counts.name: unit for unit, counts in COUNTS.items()}
 
 
 def table() -> tuple[list[tuple[str, str]], list[tuple[str, int]]]:
-    """Words to be read and numbers to be written, each with the unit of its place: those of tests/test_quantities.py, the
-    ends of all ranges, and some at random."""
+    """Words to be read and numbers to be written, each with the unit of its place: those of tests/test_quantities.py,
+    the ends of all ranges, and some at random."""
     chance = random.Random(7)
     words = [(UNIT_OF[counts.name], word) for counts, good, _, bad in ROWS for word in (good, bad)]
     numbers = [(UNIT_OF[counts.name], value) for counts, value, _ in WRITTEN]

@@ -1,5 +1,5 @@
-// Quantities in ./show studio: the numbers of a text in `choreo 2`, exact, by the rules of docs/LANGUAGE.md, Quantities. The
-// same as language/quantities.py; tests/test_studio_quantities.py compares both.
+// Quantities in ./show studio: the numbers of a text in `choreo 2`, exact, by the rules of docs/LANGUAGE.md, Quantities.
+// The same as language/quantities.py; tests/test_studio_quantities.py compares both.
 
 // By the unit of whole numbers what a place counts: the kind, the unit in which it is written, and the powers of ten.
 const COUNTS = given.language.counts;
