@@ -8,7 +8,7 @@ use Rattle.std.specs.Option.{option_or}
 use Rattle.fleet_math.specs.Bernstein.{at}
 use Rattle.traj_codec.specs.Positions.{element_on}
 use Rattle.traj_codec.specs.declared.traj.Element.{Element}
-use Rattle.traj_codec.specs.declared.traj.Element.TheVariants.{Constant, Linear, Cubic, Seven}
+use Rattle.traj_codec.specs.Spelling.{stored}
 use Rattle.traj_codec.specs.declared.traj.Segment.{Segment}
 use Rattle.traj_codec.specs.declared.traj.Traj.{Traj}
 use Rattle.arrayvec.specs.ArrayVec.{ArrayVec}
@@ -63,13 +63,15 @@ seams_fault d (u ∷ us) (s ∷ ss) (n ∷ ns) = option_or (seam_fault d u s n) 
 
 -- ---- rest
 
--- From here on the element stays, or goes from rest to rest: its control points are four times the value here, of which
--- the first isn't stored, and four times another.
+-- From a value on, these control points stay, since there are none, or go from rest to rest: with the value itself, which
+-- isn't stored, they are four times the value, and four times another.
+abbrev pub rests_on : ℤ → List ℤ → Bool
+rests_on u [] = true
+rests_on u (v ∷ vs) =
+    same_place (v ∷ vs) (u ∷ u ∷ u ∷ at (v ∷ vs) 3 ∷ at (v ∷ vs) 3 ∷ at (v ∷ vs) 3 ∷ at (v ∷ vs) 3 ∷ [])
+
 abbrev pub rests_by : ℤ → Element → Bool
-rests_by u Constant = true
-rests_by u (Linear v) = false
-rests_by u (Cubic v) = false
-rests_by u (Seven v) = same_place v (u ∷ u ∷ u ∷ at v 3 ∷ at v 3 ∷ at v 3 ∷ at v 3 ∷ [])
+rests_by u e = rests_on u (stored e)
 
 -- whether the drone rests on each axis
 abbrev pub rests_in : List ℤ → Segment → Bool

@@ -5,7 +5,7 @@ ghost use Rattle.flight_model.specs.Legs.{position_of as word_position, up_bound
 ghost use Rattle.flight_steps.specs.Ways.{routes};
 
 use crate::legs::way_ends;
-use crate::moves::{has_moved, leg, will_move};
+use crate::moves::{has_moved, has_moved_in, leg, will_move};
 use crate::ways::Ways;
 use flight_model::{Condition, Leg, Position};
 use traj_codec::Traj;
@@ -63,7 +63,7 @@ pub fn up_condition(w: &Ways, k: usize, legs: &[Leg]) -> Condition
         position: position_of(&leg(legs, k).from),
         bound: up_bound(w, legs, k),
         ready: false,
-        armed: has_moved(legs, k.saturating_add(1)),
+        armed: has_moved_in(legs, k),
     }
 }
 

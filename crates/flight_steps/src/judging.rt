@@ -6,7 +6,7 @@ ghost use Rattle.std.specs.Option.{option_or};
 ghost use Rattle.traj_codec.specs.declared.traj.Traj.{Traj as TrajWord};
 ghost use Rattle.flight_model.specs.Legs.{after_segment, way_begins, way_ends as word_ends, first_move as word_first, last_move as word_last, legs_of};
 ghost use Rattle.flight_steps.specs.declared.faults.Way.TheVariants as way_word;
-ghost use Rattle.flight_steps.specs.Faults.{first_other as word_other, other_drone as word_drone, crew_fault as word_crew, gap as word_gap, same_place, seam_fault as word_seam, seams_fault as word_seams, rests_by as word_rests_by, rests_in as word_rests_in, restless as word_restless, way_fault as word_way, ups_fault as word_ups, downs_fault as word_downs, narrow as word_narrow};
+ghost use Rattle.flight_steps.specs.Faults.{first_other as word_other, other_drone as word_drone, crew_fault as word_crew, gap as word_gap, same_place, seam_fault as word_seam, seams_fault as word_seams, rests_on as word_rests_on, rests_by as word_rests_by, rests_in as word_rests_in, restless as word_restless, way_fault as word_way, ups_fault as word_ups, downs_fault as word_downs, narrow as word_narrow};
 ghost use Rattle.flight_steps.specs.Ways.{routes};
 
 use crate::faults::{FlightFault, Seam, Way};
@@ -108,24 +108,30 @@ pub fn seams_fault(ups: &[Traj], shows: &[Traj], downs: &[Traj]) -> Option<Fligh
     None
 }
 
-// Whether an element stays, or goes from rest to rest.
+// Whether these control points stay, or go from rest to rest.
+fn rests_on(here: i16, v: &[i16]) -> bool
+    ensures { result ≡ word_rests_on here v.now }
+{
+    if v.is_empty() {
+        return true;
+    }
+    if v.len() != 7 {
+        return false;
+    }
+    let rest = [here, here, here, v[3], v[3], v[3], v[3]];
+    v == rest.as_slice()
+}
+
+// Whether an element does.
 fn rests_by(here: i16, e: &Element) -> bool
     ensures { result ≡ word_rests_by here e.now }
 {
     match e {
         Element::Constant => true,
-        Element::Linear { .. } => false,
-        Element::Cubic { .. } => false,
-        Element::Seven { v } => is_rest(here, v),
+        Element::Linear { v } => rests_on(here, &[*v]),
+        Element::Cubic { v } => rests_on(here, v),
+        Element::Seven { v } => rests_on(here, v),
     }
-}
-
-// Whether these control points, after the first one, go from rest to rest.
-fn is_rest(here: i16, v: &[i16; 7]) -> bool
-    ensures { result ≡ same_place v.now (here ∷ here ∷ here ∷ at v.now 3 ∷ at v.now 3 ∷ at v.now 3 ∷ at v.now 3 ∷ []) }
-{
-    let rest = [here, here, here, v[3], v[3], v[3], v[3]];
-    v.as_slice() == rest.as_slice()
 }
 
 // Whether a drone rests on each axis in a segment.

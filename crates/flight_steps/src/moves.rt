@@ -1,6 +1,6 @@
 //! What a drone does in a leg.
 
-ghost use Rattle.std.specs.Prelude.{◌≡◌, ◌<◌, ℕ, length};
+ghost use Rattle.std.specs.Prelude.{◌≡◌, ◌<◌, ℕ, suc, length};
 ghost use Rattle.std.specs.List.{list_any};
 ghost use Rattle.flight_model.specs.Legs.{same_on as word_same, moves as word_moves, is_vertical as word_vertical, has_moved as word_has, will_move as word_will, first_move as word_first, last_move as word_last, leg as word_leg};
 ghost use Rattle.flight_steps.specs.Steps.{IsLike};
@@ -48,6 +48,28 @@ pub fn will_move(legs: &[Leg], k: usize) -> bool
     ensures { result ≡ word_will legs.now k }
 {
     any_moves(&legs[k.min(legs.len())..])
+}
+
+/// Whether it has moved before leg k is over.
+pub fn has_moved_in(legs: &[Leg], k: usize) -> bool
+    ensures { result ≡ word_has legs.now (suc k) }
+{
+    if k < legs.len() {
+        any_moves(&legs[..k + 1])
+    } else {
+        any_moves(legs)
+    }
+}
+
+/// Whether it still moves after leg k.
+pub fn will_move_after(legs: &[Leg], k: usize) -> bool
+    ensures { result ≡ word_will legs.now (suc k) }
+{
+    if k < legs.len() {
+        any_moves(&legs[k + 1..])
+    } else {
+        false
+    }
 }
 
 /// The first leg in which it moves.

@@ -3,7 +3,7 @@
 ghost use Rattle.std.specs.Prelude.{◌≡◌};
 ghost use Rattle.flight_model.specs.Legs.{arm_order as word_arm, up_order as word_up, down_order as word_down, go_to as word_go, leg as word_leg};
 
-use crate::moves::{has_moved, is_move, leg, will_move};
+use crate::moves::{has_moved, is_move, leg, will_move_after};
 use flight_model::{Leg, Order};
 
 // To the end of leg k.
@@ -53,7 +53,7 @@ pub fn up_order(legs: &[Leg], k: usize) -> Option<Order>
 pub fn down_order(legs: &[Leg], k: usize) -> Option<Order>
     ensures { result ≡ word_down legs.now k }
 {
-    if will_move(legs, k.saturating_add(1)) {
+    if will_move_after(legs, k) {
         return Some(go_to(legs, k));
     }
     let l = leg(legs, k);
