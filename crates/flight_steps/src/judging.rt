@@ -6,7 +6,7 @@ ghost use Rattle.std.specs.Option.{option_or};
 ghost use Rattle.traj_codec.specs.declared.traj.Traj.{Traj as TrajWord};
 ghost use Rattle.flight_model.specs.Legs.{after_segment, way_begins, way_ends as word_ends, first_move as word_first, last_move as word_last, legs_of};
 ghost use Rattle.flight_steps.specs.declared.faults.Way.TheVariants as way_word;
-ghost use Rattle.flight_steps.specs.Faults.{first_other as word_other, other_drone as word_drone, crew_fault as word_crew, gap as word_gap, same_place, seam_fault as word_seam, seams_fault as word_seams, rests_on as word_rests_on, rests_by as word_rests_by, rests_in as word_rests_in, restless as word_restless, way_fault as word_way, ups_fault as word_ups, downs_fault as word_downs, narrow as word_narrow};
+ghost use Rattle.flight_steps.specs.Faults.{first_other as word_other, other_drone as word_drone, crew_fault as word_crew, gap as word_gap, same_place, seam_fault as word_seam, seams_fault as word_seams, rests_on as word_rests_on, rests_by as word_rests_by, rests_in as word_rests_in, restless as word_restless, way_fault as word_way, ups_fault as word_ups, downs_fault as word_downs, narrow as word_narrow, route_fault as word_route, flight_fault as word_flight};
 ghost use Rattle.flight_steps.specs.Ways.{routes};
 
 use crate::faults::{FlightFault, Seam, Way};
@@ -52,8 +52,8 @@ fn other_drone(way: Way, place: Option<usize>) -> Option<FlightFault>
     }
 }
 
-/// What is wrong with the names.
-pub fn crew_fault(c: &Crews) -> Option<FlightFault>
+// What is wrong with the names.
+fn crew_fault(c: &Crews) -> Option<FlightFault>
     ensures { result ≡ word_crew c.now }
 {
     let up = other_drone(Way::Up, first_other(c.up, c.show));
@@ -89,8 +89,8 @@ fn seam_fault(drone: usize, up: &Traj, show: &Traj, down: &Traj) -> Option<Fligh
     gap(Seam::DownToUp, drone, &way_ends(down), &up.start)
 }
 
-/// What is wrong where drones end and begin, as far as there are three ways.
-pub fn seams_fault(ups: &[Traj], shows: &[Traj], downs: &[Traj]) -> Option<FlightFault>
+// What is wrong where drones end and begin, as far as there are three ways.
+fn seams_fault(ups: &[Traj], shows: &[Traj], downs: &[Traj]) -> Option<FlightFault>
     ensures { result ≡ word_seams 0 ups.now shows.now downs.now }
 {
     for d in 0..ups.len() {
@@ -222,12 +222,16 @@ fn narrow(w: &Ways) -> Option<FlightFault>
     }
 }
 
-/// What is wrong with the ways up and down, and then with how far drones may stand from their pads.
-pub fn ways_fault(w: &Ways, ups: &[Listed<Leg>], downs: &[Listed<Leg>]) -> Option<FlightFault>
+// What is wrong with the ways.
+fn route_fault(w: &Ways, ups: &[Listed<Leg>], downs: &[Listed<Leg>]) -> Option<FlightFault>
     requires ups { ups.now ≡ map legs_of w.now.up.now }
     requires downs { downs.now ≡ map legs_of w.now.down.now }
-    ensures { result ≡ option_or (word_ups 0 w.now.up.now) (option_or (word_downs 0 w.now.down.now) (word_narrow (routes w.now))) }
+    ensures { result ≡ word_route (routes w.now) }
 {
+    let seam = seams_fault(w.up, w.show, w.down);
+    if seam.is_some() {
+        return seam;
+    }
     let up = ups_fault(w.up, ups);
     if up.is_some() {
         return up;
@@ -237,4 +241,22 @@ pub fn ways_fault(w: &Ways, ups: &[Listed<Leg>], downs: &[Listed<Leg>]) -> Optio
         return down;
     }
     narrow(w)
+}
+
+/// The first cause why three shows are no flight.
+pub fn flight_fault(
+    crews: &Crews,
+    w: &Ways,
+    ups: &[Listed<Leg>],
+    downs: &[Listed<Leg>],
+) -> Option<FlightFault>
+    requires ups { ups.now ≡ map legs_of w.now.up.now }
+    requires downs { downs.now ≡ map legs_of w.now.down.now }
+    ensures { result ≡ word_flight crews.now (routes w.now) }
+{
+    let crew = crew_fault(crews);
+    if crew.is_some() {
+        return crew;
+    }
+    route_fault(w, ups, downs)
 }

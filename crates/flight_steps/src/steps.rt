@@ -8,7 +8,7 @@ ghost use Rattle.flight_steps.specs.Faults.{StepsGive};
 ghost use Rattle.flight_steps.specs.Ways.{routes, AreFitted};
 
 use crate::faults::StepsError;
-use crate::judging::{crew_fault, seams_fault, ways_fault};
+use crate::judging::flight_fault;
 use crate::legs::all_legs;
 use crate::lists::{
     arm_conditions, arm_orders, down_conditions, down_orders, last_conditions, start_conditions,
@@ -188,17 +188,13 @@ pub fn steps_of(alloc: Global, crews: &Crews, w: &Ways) -> Result<Listed<Step>, 
     requires { AreFitted crews.now w.now }
     ensures { StepsGive crews.now (routes w.now) result }
 {
-    if let Some(fault) = crew_fault(crews) {
-        return Err(StepsError::Fault { fault });
-    }
-    if let Some(fault) = seams_fault(w.up, w.show, w.down) {
-        return Err(StepsError::Fault { fault });
-    }
     let ups = all_legs(alloc, w.up)?;
     let downs = all_legs(alloc, w.down)?;
-    if let Some(fault) = ways_fault(w, ups.as_slice(), downs.as_slice()) {
-        return Err(StepsError::Fault { fault });
+    match flight_fault(crews, w, ups.as_slice(), downs.as_slice()) {
+        Some(fault) => Err(StepsError::Fault { fault }),
+        None => {
+            let steps = all_steps(alloc, w, ups.as_slice(), downs.as_slice())?;
+            Ok(steps)
+        }
     }
-    let steps = all_steps(alloc, w, ups.as_slice(), downs.as_slice())?;
-    Ok(steps)
 }
