@@ -213,10 +213,11 @@ seam-of d u s n e =
     let b = gap seam.ShowToDown d (way_ends s) (way_begins n) in
     let c = gap seam.DownToUp d (way_ends n) (way_begins u) in
     let f = or-of a (option_or b c) e in
-    let g = or-of b c f.1 in
-    (gap-of seam.UpToShow d (way_ends u) (way_begins s) f.0,
-    gap-of seam.ShowToDown d (way_ends s) (way_begins n) g.0,
-    gap-of seam.DownToUp d (way_ends n) (way_begins u) g.1)
+    let g = or-of b c f.1 in (
+      gap-of seam.UpToShow d (way_ends u) (way_begins s) f.0,
+      gap-of seam.ShowToDown d (way_ends s) (way_begins n) g.0,
+      gap-of seam.DownToUp d (way_ends n) (way_begins u) g.1,
+    )
 
 seam-to : (d : ℕ) (u s n : Traj) → Meet u s n → seam_fault d u s n ≡ None
 seam-to d u s n m =
@@ -225,10 +226,11 @@ seam-to d u s n m =
     (gap-to seam.DownToUp d (way_ends n) (way_begins u) m.2))
 
 meet-same : (u v s r n m : Traj) → u ≡ v → s ≡ r → n ≡ m → Meet u s n → Meet v r m
-meet-same u v s r n m p q o meet =
-    (sym (ap (λ (t : Traj). way_ends t) p) ∙ (meet.0 ∙ ap (λ (t : Traj). way_begins t) q),
-    sym (ap (λ (t : Traj). way_ends t) q) ∙ (meet.1 ∙ ap (λ (t : Traj). way_begins t) o),
-    sym (ap (λ (t : Traj). way_ends t) o) ∙ (meet.2 ∙ ap (λ (t : Traj). way_begins t) p))
+meet-same u v s r n m p q o meet = (
+  sym (ap (λ (t : Traj). way_ends t) p) ∙ (meet.0 ∙ ap (λ (t : Traj). way_begins t) q),
+  sym (ap (λ (t : Traj). way_ends t) q) ∙ (meet.1 ∙ ap (λ (t : Traj). way_begins t) o),
+  sym (ap (λ (t : Traj). way_ends t) o) ∙ (meet.2 ∙ ap (λ (t : Traj). way_begins t) p),
+)
 
 of-some : (u v : Traj) → Some u ≡ Some v → u ≡ v
 of-some u v e = cc

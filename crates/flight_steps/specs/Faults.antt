@@ -1,7 +1,7 @@
 -- Why three shows are no flight: the first cause, in this order. Names on the way up, then on the way down; drone by
 -- drone, whether each of the three begins where the one before ended; drone by drone, the way up; then the way down;
 -- then how far drones may stand from their pads.
-use Rattle.std.specs.Prelude.{◌≡◌, ℕ, zero, suc, Bool, true, false, ◌&&◌, nat_le, if◌then◌else◌, List, [], ◌∷◌, length, map, Option, Some, None, ℤ, bytes_eq, Result, Ok, Err}
+use Rattle.std.specs.Prelude.{◌≡◌, ℕ, zero, suc, Bool, true, false, ◌&&◌, nat_le, if◌then◌else◌, List, [], ◌∷◌, length, map, Option, Some, None, ℤ, bytes_eq, Result, Ok, Err, All}
 use Rattle.std.specs.Ordering.{int_eq}
 use Rattle.std.specs.Cmp.Lexicographic.{pointwise}
 use Rattle.std.specs.Option.{option_or}
@@ -26,6 +26,7 @@ use Rattle.flight_steps.specs.declared.faults.StepsError.TheVariants as error
 use Rattle.flight_steps.specs.declared.ways.Crews.{Crews}
 use Rattle.flight_steps.specs.declared.ways.Ways.{Ways}
 use Rattle.flight_steps.specs.Ways.{routes}
+use Rattle.flight_steps.specs.Sizes.{IsStepOf}
 
 -- ---- names
 
@@ -145,10 +146,11 @@ pub record GivesFault (c : Crews) (w : Routes) (f : FlightFault) : Type 0 where
   pub first : flight_fault c w ≡ Some f
   pub none : AreFlight c w → ⊥
 
--- There is a flight, and these are its steps.
+-- There is a flight, and these are its steps, each for as many drones as the show has.
 pub record GivesSteps (c : Crews) (w : Routes) (flown : List Step) : Type 0 where
   pub flight : AreFlight c w
   pub steps : flown ≡ steps_of w
+  pub sizes : All (IsStepOf (length w.show)) flown
 
 -- The steps of a flight, or the first cause. Out of memory says nothing.
 abbrev pub StepsGive : Crews → Routes → Result (List Step) StepsError → Type 0
