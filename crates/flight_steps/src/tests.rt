@@ -1,7 +1,6 @@
 //! Three shows that are a flight, beside those that aren't. All values were computed by hand.
 
-ghost use Rattle.std.specs.Prelude.{◌≡◌, ◌∷◌, [], length, IfOk};
-ghost use Rattle.traj_codec.specs.Positions.{durations};
+ghost use Rattle.std.specs.Prelude.{◌≡◌, length, IfOk};
 ghost use Rattle.flight_model.specs.Legs.{lasts};
 
 use crate::{Crews, FlightFault, Name, Seam, StepsError, Way, Ways, steps_of};
@@ -21,32 +20,54 @@ fn rest(a: i16, b: i16) -> Element {
     }
 }
 
-// On x and z.
-fn leg(ms: u16, x: Element, z: Element) -> Segment
-    ensures { result.ms ≡ ms }
-{
+// Two seconds and a half, on x and z.
+fn leg(x: Element, z: Element) -> Segment {
     Segment {
-        ms,
+        ms: 2500,
         elements: [x, HOLDS, z, HOLDS],
     }
 }
 
-// From x and z on, by one leg.
-fn way(alloc: Global, x: i16, z: i16, s: Segment) -> Result<Traj, AllocError>
-    ensures { IfOk result (λ t. durations t.segments ≡ s.ms ∷ []) }
-{
+// Up by a metre, and down again.
+fn ascent() -> Segment {
+    leg(HOLDS, rest(0, 1000))
+}
+
+fn descent() -> Segment {
+    leg(HOLDS, rest(1000, 0))
+}
+
+// From x and z on, by these legs.
+fn way(alloc: Global, x: i16, z: i16, legs: &[Segment]) -> Result<Traj, AllocError> {
     Ok(Traj {
         start: [x, 0, z, 0],
-        segments: Listed::from_vec(Vec::from_array(alloc, [s])?),
+        segments: Listed::from_vec(Vec::from_slice(alloc, legs)?),
     })
 }
 
-// By two legs.
-fn way_by_two(alloc: Global, x: i16, z: i16, legs: [Segment; 2]) -> Result<Traj, AllocError> {
-    Ok(Traj {
+// The way of one drone.
+fn alone(alloc: Global, x: i16, z: i16, legs: &[Segment]) -> Result<Vec<Traj>, AllocError>
+    ensures { IfOk result (λ ts. length ts.items ≡ 1) }
+{
+    let mut ways = Vec::new(alloc);
+    let first = way(alloc, x, z, legs)?;
+    ways.push(first)?;
+    Ok(ways)
+}
+
+// A show of two seconds and a half, at one place.
+fn hover(alloc: Global, x: i16, z: i16) -> Result<Vec<Traj>, AllocError>
+    ensures one { IfOk result (λ ts. length ts.items ≡ 1) }
+    ensures lasting { IfOk result (λ ts. lasts ts.items ≡ 2500) }
+{
+    let mut segments = Vec::new(alloc);
+    segments.push(leg(HOLDS, HOLDS))?;
+    let mut shows = Vec::new(alloc);
+    shows.push(Traj {
         start: [x, 0, z, 0],
-        segments: Listed::from_vec(Vec::from_array(alloc, legs)?),
-    })
+        segments: Listed::from_vec(segments),
+    })?;
+    Ok(shows)
 }
 
 fn name(letter: u8) -> Name {
@@ -55,19 +76,19 @@ fn name(letter: u8) -> Name {
     name
 }
 
-// What is wrong with three ways of one drone, whose show lasts a second. It may be 100 mm from its way up.
-fn fault_near(
+// What is said of the ways of one drone: drones may stray by 100 mm from their way up.
+fn said(
     alloc: Global,
     near: u16,
-    up: Traj,
-    show: Traj,
-    down: Traj,
-) -> Result<Option<FlightFault>, AllocError>
-    requires { durations show.segments ≡ 1000 ∷ [] }
+    ups: &[Traj],
+    shows: &[Traj],
+    downs: &[Traj],
+) -> Option<StepsError>
+    requires ups { length ups.now ≡ 1 }
+    requires shows { length shows.now ≡ 1 }
+    requires downs { length downs.now ≡ 1 }
+    requires lasting { lasts shows.now ≡ 2500 }
 {
-    let ups = Vec::from_array(alloc, [up])?;
-    let shows = Vec::from_array(alloc, [show])?;
-    let downs = Vec::from_array(alloc, [down])?;
     let names = [name(97)];
     let crews = Crews {
         up: &names,
@@ -75,107 +96,104 @@ fn fault_near(
         down: &names,
     };
     let ways = Ways {
-        up: ups.as_slice(),
-        show: shows.as_slice(),
-        down: downs.as_slice(),
-        show_ms: 1000,
+        up: ups,
+        show: shows,
+        down: downs,
+        show_ms: 2500,
         stray: 100,
         near,
         at_place: 50,
     };
-    match steps_of(alloc, &crews, &ways) {
-        Ok(_) => Ok(None),
-        Err(StepsError::Fault { fault }) => Ok(Some(fault)),
-        Err(StepsError::Memory) => Err(AllocError),
-    }
+    steps_of(alloc, &crews, &ways).err()
 }
 
-// Up by a metre.
-fn ascent() -> Segment {
-    leg(2000, HOLDS, rest(0, 1000))
+// From x and z up by these legs, a show at x and z, and from there down by these legs.
+fn judged(
+    alloc: Global,
+    near: u16,
+    up: (i16, i16, &[Segment]),
+    show: (i16, i16),
+    down: (i16, i16, &[Segment]),
+) -> Option<StepsError> {
+    let Ok(ups) = alone(alloc, up.0, up.1, up.2) else {
+        return Some(StepsError::Memory);
+    };
+    let Ok(shows) = hover(alloc, show.0, show.1) else {
+        return Some(StepsError::Memory);
+    };
+    let Ok(downs) = alone(alloc, down.0, down.1, down.2) else {
+        return Some(StepsError::Memory);
+    };
+    said(
+        alloc,
+        near,
+        ups.as_slice(),
+        shows.as_slice(),
+        downs.as_slice(),
+    )
 }
 
-fn descent() -> Segment {
-    leg(2500, HOLDS, rest(1000, 0))
-}
-
-// A show of a second at this place.
-fn hover(alloc: Global, x: i16, z: i16) -> Result<Traj, AllocError>
-    ensures { IfOk result (λ t. durations t.segments ≡ 1000 ∷ []) }
-{
-    way(alloc, x, z, leg(1000, HOLDS, HOLDS))
-}
-
-// What is wrong with a way down, after a straight way up and a show.
-fn fault_down(alloc: Global, down: Traj) -> Result<Option<FlightFault>, AllocError> {
-    let up = way(alloc, 0, 0, ascent())?;
-    let show = hover(alloc, 0, 1000)?;
-    fault_near(alloc, 100, up, show, down)
-}
-
-// What is wrong with a way up, before a show and a straight way down.
-fn fault_up(alloc: Global, up: Traj) -> Result<Option<FlightFault>, AllocError> {
-    let show = hover(alloc, 0, 1000)?;
-    let down = way(alloc, 0, 1000, descent())?;
-    fault_near(alloc, 100, up, show, down)
+fn is_gap(said: Option<StepsError>, seam: Seam) -> bool {
+    said == Some(StepsError::Fault {
+        fault: FlightFault::Gap { seam, drone: 0 },
+    })
 }
 
 #[test]
 fn three_shows_meet(rt: HostRuntime) -> Result<(), Fail> {
     let alloc = rt.alloc();
-    let up = way(alloc, 0, 0, ascent())?;
-    assert_eq!(rt; fault_up(alloc, up)?, None);
-    let high = hover(alloc, 0, 1001)?;
-    let up = way(alloc, 0, 0, ascent())?;
-    let down = way(alloc, 0, 1001, leg(2500, HOLDS, rest(1001, 0)))?;
-    assert_eq!(rt;
-        fault_near(alloc, 100, up, high, down)?,
-        Some(FlightFault::Gap {
-            seam: Seam::UpToShow,
-            drone: 0,
-        })
-    );
-    let low = way(alloc, 0, 999, leg(2500, HOLDS, rest(999, 0)))?;
-    assert_eq!(rt;
-        fault_down(alloc, low)?,
-        Some(FlightFault::Gap {
-            seam: Seam::ShowToDown,
-            drone: 0,
-        })
-    );
-    let short = way(alloc, 0, 1000, leg(2500, HOLDS, rest(1000, 1)))?;
-    assert_eq!(rt;
-        fault_down(alloc, short)?,
-        Some(FlightFault::Gap {
-            seam: Seam::DownToUp,
-            drone: 0,
-        })
-    );
+    let (up, down) = ([ascent()], [descent()]);
+    let high = [leg(HOLDS, rest(1001, 0))];
+    let low = [leg(HOLDS, rest(999, 0))];
+    let short = [leg(HOLDS, rest(1000, 1))];
+    let fits = judged(alloc, 100, (0, 0, &up), (0, 1000), (0, 1000, &down));
+    assert_eq!(rt; fits, None);
+    let said = judged(alloc, 100, (0, 0, &up), (0, 1001), (0, 1001, &high));
+    assert!(rt; is_gap(said, Seam::UpToShow));
+    let said = judged(alloc, 100, (0, 0, &up), (0, 1000), (0, 999, &low));
+    assert!(rt; is_gap(said, Seam::ShowToDown));
+    let said = judged(alloc, 100, (0, 0, &up), (0, 1000), (0, 1000, &short));
+    assert!(rt; is_gap(said, Seam::DownToUp));
     Ok(())
 }
 
 #[test]
 fn each_cue_rests(rt: HostRuntime) -> Result<(), Fail> {
     let alloc = rt.alloc();
-    let eased = Element::Cubic { v: [0, 1000, 1000] };
-    let up = way(alloc, 0, 0, leg(2000, HOLDS, eased))?;
+    let eased = [leg(HOLDS, Element::Cubic { v: [0, 1000, 1000] })];
+    let straight = [leg(HOLDS, HOLDS), leg(HOLDS, Element::Linear { v: 0 })];
+    let said = judged(
+        alloc,
+        100,
+        (0, 0, &eased),
+        (0, 1000),
+        (0, 1000, &[descent()]),
+    );
     assert_eq!(rt;
-        fault_up(alloc, up)?,
-        Some(FlightFault::Restless {
-            way: Way::Up,
-            drone: 0,
-            cue: 0,
+        said,
+        Some(StepsError::Fault {
+            fault: FlightFault::Restless {
+                way: Way::Up,
+                drone: 0,
+                cue: 0,
+            },
         })
     );
-    let straight = Element::Linear { v: 0 };
-    let aside = leg(1000, HOLDS, HOLDS);
-    let down = way_by_two(alloc, 0, 1000, [aside, leg(2500, HOLDS, straight)])?;
+    let said = judged(
+        alloc,
+        100,
+        (0, 0, &[ascent()]),
+        (0, 1000),
+        (0, 1000, &straight),
+    );
     assert_eq!(rt;
-        fault_down(alloc, down)?,
-        Some(FlightFault::Restless {
-            way: Way::Down,
-            drone: 0,
-            cue: 1,
+        said,
+        Some(StepsError::Fault {
+            fault: FlightFault::Restless {
+                way: Way::Down,
+                drone: 0,
+                cue: 1,
+            },
         })
     );
     Ok(())
@@ -184,24 +202,25 @@ fn each_cue_rests(rt: HostRuntime) -> Result<(), Fail> {
 #[test]
 fn each_drone_moves(rt: HostRuntime) -> Result<(), Fail> {
     let alloc = rt.alloc();
-    let up = hover(alloc, 0, 1000)?;
-    let show = hover(alloc, 0, 1000)?;
-    let down = way_by_two(alloc, 0, 1000, [descent(), ascent()])?;
+    let (holds, turns) = ([leg(HOLDS, HOLDS)], [descent(), ascent()]);
+    let said = judged(alloc, 100, (0, 1000, &holds), (0, 1000), (0, 1000, &turns));
     assert_eq!(rt;
-        fault_near(alloc, 100, up, show, down)?,
-        Some(FlightFault::Still {
-            way: Way::Up,
-            drone: 0,
+        said,
+        Some(StepsError::Fault {
+            fault: FlightFault::Still {
+                way: Way::Up,
+                drone: 0,
+            },
         })
     );
-    let up = way_by_two(alloc, 0, 1000, [descent(), ascent()])?;
-    let show = hover(alloc, 0, 1000)?;
-    let down = hover(alloc, 0, 1000)?;
+    let said = judged(alloc, 100, (0, 1000, &turns), (0, 1000), (0, 1000, &holds));
     assert_eq!(rt;
-        fault_near(alloc, 100, up, show, down)?,
-        Some(FlightFault::Still {
-            way: Way::Down,
-            drone: 0,
+        said,
+        Some(StepsError::Fault {
+            fault: FlightFault::Still {
+                way: Way::Down,
+                drone: 0,
+            },
         })
     );
     Ok(())
@@ -210,26 +229,28 @@ fn each_drone_moves(rt: HostRuntime) -> Result<(), Fail> {
 #[test]
 fn drones_rise_and_land_upright(rt: HostRuntime) -> Result<(), Fail> {
     let alloc = rt.alloc();
-    let back = leg(1000, rest(1, 0), HOLDS);
-    let up = way(alloc, 0, 0, leg(2000, rest(0, 1), rest(0, 1000)))?;
-    let show = hover(alloc, 1, 1000)?;
-    let down = way_by_two(alloc, 1, 1000, [back, descent()])?;
+    let slanted = [leg(rest(0, 1), rest(0, 1000))];
+    let back = [leg(rest(1, 0), HOLDS), descent()];
+    let said = judged(alloc, 100, (0, 0, &slanted), (1, 1000), (1, 1000, &back));
     assert_eq!(rt;
-        fault_near(alloc, 100, up, show, down)?,
-        Some(FlightFault::Slanted {
-            way: Way::Up,
-            drone: 0,
+        said,
+        Some(StepsError::Fault {
+            fault: FlightFault::Slanted {
+                way: Way::Up,
+                drone: 0,
+            },
         })
     );
-    let aside = leg(1000, rest(0, 1), HOLDS);
-    let up = way_by_two(alloc, 0, 0, [ascent(), aside])?;
-    let show = hover(alloc, 1, 1000)?;
-    let down = way(alloc, 1, 1000, leg(2500, rest(1, 0), rest(1000, 0)))?;
+    let aside = [ascent(), leg(rest(0, 1), HOLDS)];
+    let slanted = [leg(rest(1, 0), rest(1000, 0))];
+    let said = judged(alloc, 100, (0, 0, &aside), (1, 1000), (1, 1000, &slanted));
     assert_eq!(rt;
-        fault_near(alloc, 100, up, show, down)?,
-        Some(FlightFault::Slanted {
-            way: Way::Down,
-            drone: 0,
+        said,
+        Some(StepsError::Fault {
+            fault: FlightFault::Slanted {
+                way: Way::Down,
+                drone: 0,
+            },
         })
     );
     Ok(())
@@ -237,36 +258,31 @@ fn drones_rise_and_land_upright(rt: HostRuntime) -> Result<(), Fail> {
 
 #[test]
 fn drones_stand_within_their_stray(rt: HostRuntime) -> Result<(), Fail> {
-    let alloc = rt.alloc();
-    let up = way(alloc, 0, 0, ascent())?;
-    let show = hover(alloc, 0, 1000)?;
-    let down = way(alloc, 0, 1000, descent())?;
+    let said = judged(
+        rt.alloc(),
+        101,
+        (0, 0, &[ascent()]),
+        (0, 1000),
+        (0, 1000, &[descent()]),
+    );
     assert_eq!(rt;
-        fault_near(alloc, 101, up, show, down)?,
-        Some(FlightFault::Narrow {
-            near: 101,
-            stray: 100,
+        said,
+        Some(StepsError::Fault {
+            fault: FlightFault::Narrow {
+                near: 101,
+                stray: 100,
+            },
         })
     );
     Ok(())
 }
 
-// The ways of two drones, the second two metres aside, by this leg.
-fn two(alloc: Global, z: i16, s: Segment) -> Result<Vec<Traj>, AllocError>
-    ensures two { IfOk result (λ ts. length ts.items ≡ 2) }
-    ensures lasting { IfOk result (λ ts. lasts ts.items ≡ s.ms) }
-{
-    let first = way(alloc, 0, z, s)?;
-    let second = way(alloc, 2000, z, s)?;
-    Ok(Vec::from_array(alloc, [first, second])?)
-}
-
-// The steps of two drones with these names on the way up; those in the show and on the way down are a and b.
-fn steps_of_two(alloc: Global, names: [Name; 2]) -> Result<Listed<Step>, StepsError> {
-    let shown = [name(97), name(98)];
-    let ups = two(alloc, 0, ascent())?;
-    let shows = two(alloc, 1000, leg(1000, HOLDS, HOLDS))?;
-    let downs = two(alloc, 1000, descent())?;
+// The steps of one drone, which has this name on its way up and is a in the show.
+fn steps_of_one(alloc: Global, letter: u8) -> Result<Listed<Step>, StepsError> {
+    let (names, shown) = ([name(letter)], [name(97)]);
+    let ups = alone(alloc, 0, 0, &[ascent()])?;
+    let shows = hover(alloc, 0, 1000)?;
+    let downs = alone(alloc, 0, 1000, &[descent()])?;
     let crews = Crews {
         up: &names,
         show: &shown,
@@ -276,7 +292,7 @@ fn steps_of_two(alloc: Global, names: [Name; 2]) -> Result<Listed<Step>, StepsEr
         up: ups.as_slice(),
         show: shows.as_slice(),
         down: downs.as_slice(),
-        show_ms: 1000,
+        show_ms: 2500,
         stray: 100,
         near: 100,
         at_place: 50,
@@ -286,65 +302,67 @@ fn steps_of_two(alloc: Global, names: [Name; 2]) -> Result<Listed<Step>, StepsEr
 
 #[test]
 fn drones_have_the_same_names(rt: HostRuntime) -> Result<(), Fail> {
-    let alloc = rt.alloc();
-    let fault = match steps_of_two(alloc, [name(97), name(99)]) {
-        Ok(_) => None,
-        Err(fault) => Some(fault),
-    };
     assert_eq!(rt;
-        fault,
+        steps_of_one(rt.alloc(), 98).err(),
         Some(StepsError::Fault {
             fault: FlightFault::OtherDrone {
                 way: Way::Up,
-                drone: 1,
+                drone: 0,
             },
         })
     );
     Ok(())
 }
 
-// The conditions of the two drones.
-fn both(z: i16, bound: u16, ready: bool, armed: bool) -> [Condition; 2] {
-    let at = |x| Condition {
-        position: Position { x, y: 0, z },
+// A condition of the drone.
+fn condition(z: i16, bound: u16, ready: bool, armed: bool) -> Condition {
+    Condition {
+        position: Position { x: 0, y: 0, z },
         bound,
         ready,
         armed,
-    };
-    [at(0), at(2000)]
+    }
 }
 
-// When a step begins, its conditions, and its order to each drone or to all.
-fn is_step(s: &Step, times: (bool, u32, u32), conditions: &[Condition], order: Order) -> bool {
+// When a step begins, the drone's condition, and the order to it or to all.
+fn is_step(s: &Step, times: (bool, u32, u32), wanted: Condition, order: Order) -> bool {
     let ordered = match &s.orders {
         Orders::All { order: one } => *one == order,
-        Orders::Each { orders } => orders.as_slice() == [Some(order), Some(order)].as_slice(),
+        Orders::Each { orders } => orders.as_slice() == [Some(order)].as_slice(),
     };
-    (s.asked, s.after, s.settle) == times && s.conditions.as_slice() == conditions && ordered
+    (s.asked, s.after, s.settle) == times
+        && s.conditions.as_slice() == [wanted].as_slice()
+        && ordered
+}
+
+// Whether these are the steps of the drone.
+fn are_steps(all: &[Step]) -> bool {
+    if all.len() != 5 {
+        return false;
+    }
+    let rise = Order::Rise { z: 1000, ms: 2500 };
+    let land = Order::Land { z: 0, ms: 2500 };
+    let (pad, armed) = (
+        condition(0, 100, true, false),
+        condition(0, 100, false, true),
+    );
+    let (top, back) = (
+        condition(1000, 50, false, true),
+        condition(0, 100, false, false),
+    );
+    is_step(&all[0], (true, 0, 0), pad, Order::Arm)
+        && is_step(&all[1], (false, 0, 0), armed, rise)
+        && is_step(&all[2], (true, 2500, 1000), top, Order::Start)
+        && is_step(&all[3], (false, 2500, 1000), top, land)
+        && is_step(&all[4], (false, 2500, 1000), back, Order::Disarm)
 }
 
 #[test]
 fn a_flight_has_its_steps(rt: HostRuntime) -> Result<(), Fail> {
-    let alloc = rt.alloc();
-    let steps = match steps_of_two(alloc, [name(97), name(98)]) {
-        Ok(steps) => steps,
-        Err(_) => return Err(Fail::from(AllocError)),
+    let is_flight = match steps_of_one(rt.alloc(), 97) {
+        Ok(steps) => are_steps(steps.as_slice()),
+        Err(_) => false,
     };
-    let all = steps.as_slice();
-    assert_eq!(rt; all.len(), 5);
-    if all.len() != 5 {
-        return Ok(());
-    }
-    let rise = Order::Rise { z: 1000, ms: 2000 };
-    let land = Order::Land { z: 0, ms: 2500 };
-    let pads = both(0, 100, true, false);
-    let armed = both(0, 100, false, true);
-    let top = both(1000, 50, false, true);
-    let back = both(0, 100, false, false);
-    assert!(rt; is_step(&all[0], (true, 0, 0), &pads, Order::Arm));
-    assert!(rt; is_step(&all[1], (false, 0, 0), &armed, rise));
-    assert!(rt; is_step(&all[2], (true, 2000, 1000), &top, Order::Start));
-    assert!(rt; is_step(&all[3], (false, 1000, 1000), &top, land));
-    assert!(rt; is_step(&all[4], (false, 2500, 1000), &back, Order::Disarm));
+    assert!(rt; is_flight);
     Ok(())
 }
