@@ -67,7 +67,7 @@ class Warnings(unittest.TestCase):
             self.assertIsNone(flyable.motion_if_known(program, flown, b""))
 
     def test_what_is_refused(self):
-        self.assertIsNone(flyable.warning(STAND_IN, b"choreo 2\n"))
+        self.assertIsNone(flyable.warning(STAND_IN, b"choreo 3\n"))
 
 
 if __name__ == "__main__":

@@ -103,7 +103,7 @@ class Drawing(unittest.TestCase):
             self.assertEqual(said, file.read())
 
     def test_faulty(self):
-        status, said, told = picture("--svg", "-", text="choreo 2\n")
+        status, said, told = picture("--svg", "-", text="choreo 3\n")
         self.assertEqual((status, said, "header" in told), (3, "", True))
 
 

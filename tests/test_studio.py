@@ -298,7 +298,7 @@ class Newer(unittest.TestCase):
         with open(self.begun) as file:
             processes = file.read().split()
         self.assertTrue(all(runs(number) for number in processes), processes)
-        self.studio.stages("choreo 2", "q", 2)
+        self.studio.stages("choreo 3", "q", 2)
         self.thread.join(WAIT)
         self.assertTrue(soon(lambda: not any(runs(number) for number in processes)), processes)
         # The worker that is kept ready may stay.

@@ -69,7 +69,7 @@ class Many(unittest.TestCase):
         self.assertEqual(len(answers), 400)
         self.assertLessEqual(set(answers), {b"200", b"409"})  # 409: a newer text of the same page was there before
         self.assertLessEqual(most, 12)  # eight at a time, the worker that is kept ready, and those that begin and end
-        self.assertEqual(studio.stages("choreo 2\n", "q", 1)["verdict"]["line"], "error 3 line 1 header")
+        self.assertEqual(studio.stages("choreo 3\n", "q", 1)["verdict"]["line"], "error 3 line 1 header")
         self.assertTrue(soon(lambda: len(children(studio.process.pid)) <= 1), "processes are left")
 
     def test_listeners(self):

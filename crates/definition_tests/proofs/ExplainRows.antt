@@ -15,7 +15,6 @@ use Rattle.choreo_lines.specs.declared.table.Form.TheVariants.{Whole}
 use Rattle.choreo_reader.specs.Grammar.{IsItem, StandsFor}
 use Rattle.choreo_reader.specs.Grammar.Item.{Drone}
 use Rattle.choreo_reader.specs.Laws.{ShowLaw}
-use Rattle.text_lines.specs.Words.{Line}
 use Rattle.show_judge.specs.Shows.{trajectories_of}
 use Rattle.show_plan.specs.Separation.{FlyApart}
 use Rattle.show_judge.specs.Shows.{sent_of}
@@ -23,6 +22,7 @@ use Rattle.show_studies.specs.Explained.{Explains, TellsTouches, blocked_of}
 use Rattle.definition_tests.specs.Meetings.{ExplainRows, solo, solo_text}
 use Rattle.definition_tests.specs.Near.{spot}
 use Rattle.definition_tests.specs.Stands.{line_of, nobody}
+use Rattle.definition_tests.proofs.StandsRows.{begins_so}
 
 -- the only drone
 abbrev only : DroneLine
@@ -105,19 +105,13 @@ none_of_nobody text explains = by explains.closest explains.is_closest where
   by None is = let same : ◌≡◌ {A = ℕ} 0 1 = is in omega (arith, same)
   by (Some c) is = let low = is.among.pair in let high = is.among.drone in absurd (omega (arith, low, high))
 
--- the words of the first of these lines
-abbrev first_words : List Line → List (List ℕ)
-first_words [] = []
-first_words (line ∷ lines) = line.words
-
 pub explains : ShowLaw → ExplainRows
 explains law = record {
   alone = alone;
   unwritten = λ tells. let same = ap (λ (bytes : List ℕ). length bytes) (text_is law [] tells) in absurd (omega (arith, same));
   touching = λ tells. let same = ap (λ (bytes : List ℕ). length bytes) (text_is law _ tells) in absurd (omega (arith, same));
   no_show = λ old new tells.
-      let words : [] ≡ codes "choreo" ∷ codes "1" ∷ [] = ap first_words tells.stands.cut ∙ tells.stands.first in
-      let letters : ◌≡◌ {A = ℕ} 0 99 = ap (λ (ws : List (List ℕ)). get_or (get_or ws 0 []) 0 0) words in absurd (omega (arith, letters));
+      let letters : ◌≡◌ {A = ℕ} 0 99 = begins_so [] tells.s tells.stands in absurd (omega (arith, letters));
   no_drone = λ old new tells.
       let same : tells.s ≡ nobody 0 = law.one (line_of (codes "choreo 1")) tells.s (nobody 0) tells.stands nobody_stands in
       none_of_nobody tells.text (subst (λ (s : PlainShow). Explains 6 5 s tells.text) same tells.explains);

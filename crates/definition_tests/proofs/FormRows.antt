@@ -1,7 +1,6 @@
 -- Texts of both forms, read.
-use Rattle.std.proofs.Common.{◌≡◌, ◌↔◌, inl, inr, ℕ, ℤ, ◌≤ℤ◌, neg_ℤ, false, pos, List, [], ◌∷◌, None, Some, codes, arith, refl}
+use Rattle.std.proofs.Common.{◌≡◌, inl, inr, ℕ, ℤ, ◌≤ℤ◌, neg_ℤ, false, pos, List, [], ◌∷◌, None, Some, codes, arith, refl}
 use Rattle.std.proofs.lemmas.List.Elements.{All-cons, All-nil}
-use Rattle.text_lines.specs.Words.{Line}
 use Rattle.quantities.specs.Quantities.{IsQuantityIn}
 use Rattle.quantities.specs.declared.unit.Counts.{Counts}
 use Rattle.quantities.specs.declared.unit.Counts.TheVariants.{Micrometres, Milliseconds, TenthsOfADegree}

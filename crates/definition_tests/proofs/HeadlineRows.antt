@@ -3,7 +3,6 @@ use Rattle.std.proofs.lemmas.Grind.{common_steps}
 use Rattle.std.proofs.Common.{◌≡◌, ℕ, zero, suc, ◌-◌, ◌≤◌, length, pos, List, [], ◌∷◌, All, None, Some, codes, ap, get_or, arith, refl, ◌∙◌, slice_get}
 use Rattle.std.proofs.lemmas.List.Elements.{All-cons, All-nil}
 use Rattle.std.specs.Fmt.{digits}
-use Rattle.text_lines.specs.Words.{Line}
 use Rattle.traj_codec.specs.declared.traj.Traj.{Traj}
 use Rattle.traj_codec.specs.Joined.{hold, joined_from}
 use Rattle.traj_codec.specs.Spelling.{HasDuration, IsTrajectory}
@@ -26,6 +25,8 @@ use Rattle.show_plan.proofs.Flight.{keeps_near_show}
 use Rattle.show_looks.specs.Compile.{Headline}
 use Rattle.definition_tests.specs.Headlines.{HeadlineRows, stay, stay_plan, stay_text}
 use Rattle.definition_tests.specs.Near.{spot}
+use Rattle.definition_tests.specs.Stands.{line_of}
+use Rattle.definition_tests.proofs.StandsRows.{begins_so}
 
 -- the only drone
 abbrev only : DroneLine
@@ -131,11 +132,6 @@ after_others : UploadsLaw → Headline stay_text (Some (1 ∷ 2 ∷ [])) (Some (
 unfolding digits plan_text packet_at packet_count part_count read_count write_count
 after_others law = record { s = stay; sent = flown ∷ []; stands = stay_stands; planned = refl; uploads = uploads law }
 
--- the words of the first of these lines
-abbrev first_words : List Line → List (List ℕ)
-first_words [] = []
-first_words (line ∷ lines) = line.words
-
 pub headlines : UploadsLaw → HeadlineRows
 unfolding plan_text
 headlines law = record {
@@ -144,6 +140,5 @@ headlines law = record {
   unwritten = λ is. let same : ◌≡◌ {A = ℕ} 0 112 = ap (λ (bytes : List ℕ). get_or bytes 0 0) is.planned in absurd (omega (arith, same));
   cut = λ is. let same : ◌≡◌ {A = ℕ} 108 112 = ap (λ (bytes : List ℕ). get_or bytes 0 0) is.planned in absurd (omega (arith, same));
   no_show = λ old new is.
-      let words : (codes "late" ∷ codes "3" ∷ []) ≡ codes "choreo" ∷ codes "1" ∷ [] = ap first_words is.stands.cut ∙ is.stands.first in
-      let letters : ◌≡◌ {A = ℕ} 108 99 = ap (λ (ws : List (List ℕ)). get_or (get_or ws 0 []) 0 0) words in absurd (omega (arith, letters));
+      let letters : ◌≡◌ {A = ℕ} 108 99 = begins_so (line_of (codes "late 3")) is.s is.stands in absurd (omega (arith, letters));
 }

@@ -8,6 +8,7 @@ use Rattle.choreo_lines.specs.declared.table.Form.TheVariants.{Whole, Units}
 use Rattle.choreo_reader.specs.Grammar.{IsItem, StandsFor, header_of}
 use Rattle.choreo_reader.specs.Grammar.Item.{Late}
 use Rattle.choreo_reader.specs.Laws.{ShowLaw}
+use Rattle.choreo_reader.specs.Text.{show_lines}
 use Rattle.definition_tests.specs.Stands.{StandsRows, line_of, nobody}
 
 late : StandsFor (line_of (codes "choreo 1") ++ line_of (codes "late 3")) (nobody 3)
@@ -35,6 +36,10 @@ letter : (form : Form) → get_or (get_or (header_of form) 0 []) 0 0 ≡ 99
 letter Whole = refl
 letter Units = refl
 
+-- so does a text that stands for a show, with its first line that has words
+pub begins_so : (text : List ℕ) (s : PlainShow) → StandsFor text s → get_or (get_or (first_words (show_lines text)) 0 []) 0 0 ≡ 99
+begins_so text s is = ap (λ (ws : List (List ℕ)). get_or (get_or ws 0 []) 0 0) (ap first_words is.cut ∙ is.first) ∙ letter is.form
+
 digit : (form : Form) → get_or (get_or (header_of form) 1 []) 0 0 ≤ 50
 digit Whole = omega arith
 digit Units = omega arith
@@ -46,13 +51,11 @@ stands law = record {
       let same : nobody 3 ≡ nobody 4 = law.one (line_of (codes "choreo 1") ++ line_of (codes "late 3")) (nobody 3) (nobody 4) late also in
       let numbers : ◌≡◌ {A = ℕ} 3 4 = ap (λ (s : PlainShow). s.settings.late) same in omega (arith, numbers);
   no_header = λ s is.
-      let words : (codes "late" ∷ codes "3" ∷ []) ≡ header_of is.form = ap first_words is.cut ∙ is.first in
-      let letters : ◌≡◌ {A = ℕ} 108 99 = ap (λ (ws : List (List ℕ)). get_or (get_or ws 0 []) 0 0) words ∙ letter is.form in omega (arith, letters);
+      let letters : ◌≡◌ {A = ℕ} 108 99 = begins_so (line_of (codes "late 3")) s is in omega (arith, letters);
   other_header = λ s is.
       let words : (codes "choreo" ∷ codes "3" ∷ []) ≡ header_of is.form = ap first_words is.cut ∙ is.first in
       let digits : 51 ≡ get_or (get_or (header_of is.form) 1 []) 0 0 = ap (λ (ws : List (List ℕ)). get_or (get_or ws 1 []) 0 0) words in
       omega (arith, digits, digit is.form);
-  no_line = λ s is. let words : [] ≡ header_of is.form = ap first_words is.cut ∙ is.first in
-      let letters : ◌≡◌ {A = ℕ} 0 99 = ap (λ (ws : List (List ℕ)). get_or (get_or ws 0 []) 0 0) words ∙ letter is.form in omega (arith, letters);
+  no_line = λ s is. let letters : ◌≡◌ {A = ℕ} 0 99 = begins_so [] s is in omega (arith, letters);
   forbidden_byte = λ s is. let allowed : false ≡ true = is.bytes in cc;
 }

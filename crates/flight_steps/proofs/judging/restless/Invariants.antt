@@ -1,0 +1,6 @@
+use Rattle.std.proofs.Common.{◌≡◌, ◌++◌, ◌+◌, ◌≤◌, ◌∷◌, [], drop, take, map, length, ℕ, Option, None}
+use Rattle.flight_steps.specs.Faults.{restless_from}
+use Rattle.flight_steps.proofs.judging.restless.Given as goal
+
+abbrev pub invariant-loop-cue : goal.invariant-loop-cue
+invariant-loop-cue l = restless_from 0 l.t.start l.t.segments ≡ restless_from l.cue l.here (drop l.cue l.t.segments)

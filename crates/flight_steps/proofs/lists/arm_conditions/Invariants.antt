@@ -1,0 +1,7 @@
+use Rattle.std.proofs.Common.{◌≡◌, ◌++◌, ◌+◌, ◌≤◌, ◌∷◌, [], drop, take, map, length, ℕ, Option, None}
+use Rattle.flight_model.specs.Legs.{arm_condition}
+use Rattle.flight_steps.specs.Ways.{routes}
+use Rattle.flight_steps.proofs.lists.arm_conditions.Given as goal
+
+abbrev pub invariant-loop-legs : goal.invariant-loop-legs
+invariant-loop-legs l = l.out.items ≡ map (arm_condition (routes l.w) l.k) (take l.legs-index l.all)

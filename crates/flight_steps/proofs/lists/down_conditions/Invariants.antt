@@ -1,0 +1,7 @@
+use Rattle.std.proofs.Common.{◌≡◌, ◌++◌, ◌+◌, ◌≤◌, ◌∷◌, [], drop, take, map, length, ℕ, Option, None}
+use Rattle.flight_model.specs.Legs.{down_condition}
+use Rattle.flight_steps.specs.Ways.{routes}
+use Rattle.flight_steps.proofs.lists.down_conditions.Given as goal
+
+abbrev pub invariant-loop-legs : goal.invariant-loop-legs
+invariant-loop-legs l = l.out.items ≡ map (down_condition (routes l.w) l.k) (take l.legs-index l.all)

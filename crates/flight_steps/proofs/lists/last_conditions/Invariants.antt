@@ -1,0 +1,7 @@
+use Rattle.std.proofs.Common.{◌≡◌, ◌++◌, ◌+◌, ◌≤◌, ◌∷◌, [], drop, take, map, length, ℕ, Option, None}
+use Rattle.flight_model.specs.Legs.{last_condition}
+use Rattle.flight_steps.specs.Ways.{routes}
+use Rattle.flight_steps.proofs.lists.last_conditions.Given as goal
+
+abbrev pub invariant-loop-t : goal.invariant-loop-t
+invariant-loop-t l = l.out.items ≡ map (last_condition (routes l.w)) (take l.t-index l.w.down.now)

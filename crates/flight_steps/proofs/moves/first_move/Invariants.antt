@@ -1,0 +1,6 @@
+use Rattle.std.proofs.Common.{◌≡◌, ◌++◌, ◌+◌, ◌≤◌, ◌∷◌, [], drop, take, map, length, ℕ, Option, None}
+use Rattle.flight_model.specs.Legs.{first_move}
+use Rattle.flight_steps.proofs.moves.first_move.Given as goal
+
+abbrev pub invariant-loop-l : goal.invariant-loop-l
+invariant-loop-l l = first_move (drop l.l-index l.legs) ≡ first_move l.fn.legs

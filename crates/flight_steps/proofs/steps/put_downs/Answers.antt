@@ -1,0 +1,9 @@
+use Rattle.flight_steps.proofs.Walks.{put_step}
+use Rattle.flight_model.specs.Legs.{down_step}
+use Rattle.flight_steps.specs.Ways.{routes}
+use Rattle.flight_steps.proofs.steps.put_downs.Goals as goal
+
+pub loop-k-preserved : goal.loop-k-preserved
+loop-k-preserved c =
+    put_step (down_step (routes c.args.w.now) c.args.w.now.show_ms c.args.all.now) _ _ _ c.loop-k.k c.in_ok-down.down
+    c.loop-k.invariant c.in_ok-down.ensures c.in_ok-push.ensures.items

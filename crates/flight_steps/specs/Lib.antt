@@ -1,0 +1,4 @@
+pub mod Ways
+pub mod Sizes
+pub mod Faults
+pub mod Steps

@@ -1,0 +1,87 @@
+//! The legs of a way.
+
+ghost use Rattle.std.specs.Prelude.{◌≡◌, map, IfOk};
+ghost use Rattle.fleet_math.specs.Decoded.{last_value};
+ghost use Rattle.traj_codec.specs.Positions.{value_after as word_value};
+ghost use Rattle.flight_model.specs.Legs.{after_segment, legs_of as word_legs, way_ends as word_ends};
+
+use flight_model::Leg;
+use listed::Listed;
+use std::alloc::{AllocError, Global};
+use traj_codec::{Element, Segment, Traj};
+
+// The last of these values, or the first one where there is none.
+fn last_of(first: i16, values: &[i16]) -> i16
+    ensures { result ≡ last_value first values.now }
+{
+    let mut last = first;
+    for v in values {
+        last = *v;
+    }
+    last
+}
+
+// The value with which an element ends that begins with this one.
+fn value_after(here: i16, e: &Element) -> i16
+    ensures { result ≡ word_value here e.now }
+{
+    match e {
+        Element::Constant => here,
+        Element::Linear { v } => *v,
+        Element::Cubic { v } => last_of(here, v),
+        Element::Seven { v } => last_of(here, v),
+    }
+}
+
+/// Where a segment ends that begins here.
+pub fn after(here: &[i16; 4], s: &Segment) -> [i16; 4]
+    ensures { result ≡ after_segment here.now s.now }
+{
+    [
+        value_after(here[0], &s.elements[0]),
+        value_after(here[1], &s.elements[1]),
+        value_after(here[2], &s.elements[2]),
+        value_after(here[3], &s.elements[3]),
+    ]
+}
+
+/// Where a way ends.
+pub fn way_ends(t: &Traj) -> [i16; 4]
+    ensures { result ≡ word_ends t.now }
+{
+    let mut here = t.start;
+    for s in t.segments.as_slice() {
+        here = after(&here, s);
+    }
+    here
+}
+
+// The legs of a way.
+fn legs_of(alloc: Global, t: &Traj) -> Result<Listed<Leg>, AllocError>
+    ensures { IfOk result (λ legs. legs ≡ word_legs t.now) }
+{
+    let mut legs = Vec::new(alloc);
+    let mut here = t.start;
+    for s in t.segments.as_slice() {
+        let there = after(&here, s);
+        legs.push(Leg {
+            from: here,
+            to: there,
+            ms: s.ms as u32,
+        })?;
+        here = there;
+    }
+    Ok(Listed::from_vec(legs))
+}
+
+/// The legs of each drone.
+pub fn all_legs(alloc: Global, ways: &[Traj]) -> Result<Vec<Listed<Leg>>, AllocError>
+    ensures { IfOk result (λ all. all.items ≡ map word_legs ways.now) }
+{
+    let mut all = Vec::new(alloc);
+    for t in ways {
+        let legs = legs_of(alloc, t)?;
+        all.push(legs)?;
+    }
+    Ok(all)
+}

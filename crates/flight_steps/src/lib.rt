@@ -1,0 +1,20 @@
+//! The steps of a flight, from three fitted shows: the way up, the show and the way down.
+//!
+//! [`steps_of`] gives the steps that the flight director flies, or the first reason why the three are no flight, in the
+//! order of `flight_fault` (specs/Faults.antt). What a flight is and what its steps are is defined by `flight_model`
+//! (`IsFlight`, `steps_of`). It stands on `flight_model`, and on `traj_codec` for trajectories.
+#![tactic(auto)]
+
+mod conditions;
+mod faults;
+mod judging;
+mod legs;
+mod lists;
+mod moves;
+mod orders;
+mod steps;
+mod ways;
+
+pub use faults::{FlightFault, Seam, StepsError, Way};
+pub use steps::steps_of;
+pub use ways::{Crews, Name, Ways};

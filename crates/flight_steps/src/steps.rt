@@ -1,0 +1,200 @@
+//! The steps of a flight.
+
+ghost use Rattle.std.specs.Prelude.{◌≡◌, ◌++◌, ◌<◌, ◌∷◌, [], List, map, OnOk, IfOk};
+ghost use Rattle.std.specs.List.{flat_map, range_with_len};
+ghost use Rattle.flight_model.specs.declared.flights.Step.{Step as StepWord};
+ghost use Rattle.flight_model.specs.Legs.{arm_step as word_arm, up_step as word_up, start_step as word_start, down_step as word_down, last_step as word_last, leg_count as word_count, leg_ms as word_ms, ms_before as word_before, lasts, legs_of as word_legs, steps_between, steps_of as word_steps};
+ghost use Rattle.flight_steps.specs.Faults.{StepsGive};
+ghost use Rattle.flight_steps.specs.Ways.{routes, AreFitted};
+
+use crate::faults::StepsError;
+use crate::judging::flight_fault;
+use crate::legs::all_legs;
+use crate::lists::{
+    arm_conditions, arm_orders, down_conditions, down_orders, last_conditions, start_conditions,
+    up_conditions, up_orders,
+};
+use crate::moves::leg;
+use crate::ways::{Crews, Ways};
+use flight_model::{Leg, Order, Orders, Step};
+use listed::Listed;
+use std::alloc::{AllocError, Global};
+
+// How long drones have to be at their places before a step that isn't the first.
+const SETTLE_MS: u32 = 1000;
+
+// How many legs a way has.
+fn leg_count(all: &[Listed<Leg>]) -> usize
+    ensures { result ≡ word_count all.now }
+{
+    match all.first() {
+        None => 0,
+        Some(legs) => legs.as_slice().len(),
+    }
+}
+
+// How long leg k lasts.
+fn leg_ms(all: &[Listed<Leg>], k: usize) -> u32
+    ensures { result ≡ word_ms all.now k }
+{
+    match all.first() {
+        None => 0,
+        Some(legs) => leg(legs.as_slice(), k).ms,
+    }
+}
+
+// How long what comes before leg k lasts.
+fn ms_before(first: u32, all: &[Listed<Leg>], k: usize) -> u32
+    ensures { result ≡ word_before first all.now k }
+{
+    if k == 0 { first } else { leg_ms(all, k - 1) }
+}
+
+// The step that arms those that rise in leg k.
+fn arm_step(alloc: Global, w: &Ways, all: &[Listed<Leg>], k: usize) -> Result<Step, AllocError>
+    ensures { IfOk result (λ step. step ≡ word_arm (routes w.now) all.now k) }
+{
+    let conditions = arm_conditions(alloc, w, k, all)?;
+    let orders = arm_orders(alloc, k, all)?;
+    Ok(Step {
+        asked: k == 0,
+        after: ms_before(0, all, k),
+        settle: if k == 0 { 0 } else { SETTLE_MS },
+        conditions,
+        orders: Orders::Each { orders },
+    })
+}
+
+// Leg k of the way up.
+fn up_step(alloc: Global, w: &Ways, all: &[Listed<Leg>], k: usize) -> Result<Step, AllocError>
+    ensures { IfOk result (λ step. step ≡ word_up (routes w.now) all.now k) }
+{
+    let conditions = up_conditions(alloc, w, k, all)?;
+    let orders = up_orders(alloc, k, all)?;
+    Ok(Step {
+        asked: false,
+        after: 0,
+        settle: 0,
+        conditions,
+        orders: Orders::Each { orders },
+    })
+}
+
+// The show.
+fn start_step(alloc: Global, w: &Ways, ups: &[Listed<Leg>]) -> Result<Step, AllocError>
+    ensures { IfOk result (λ step. step ≡ word_start (routes w.now) ups.now) }
+{
+    let conditions = start_conditions(alloc, w)?;
+    Ok(Step {
+        asked: true,
+        after: ms_before(0, ups, leg_count(ups)),
+        settle: SETTLE_MS,
+        conditions,
+        orders: Orders::All {
+            order: Order::Start,
+        },
+    })
+}
+
+// Leg k of the way down.
+fn down_step(alloc: Global, w: &Ways, all: &[Listed<Leg>], k: usize) -> Result<Step, AllocError>
+    ensures { IfOk result (λ step. step ≡ word_down (routes w.now) w.now.show_ms all.now k) }
+{
+    let conditions = down_conditions(alloc, w, k, all)?;
+    let orders = down_orders(alloc, k, all)?;
+    Ok(Step {
+        asked: false,
+        after: ms_before(w.show_ms, all, k),
+        settle: SETTLE_MS,
+        conditions,
+        orders: Orders::Each { orders },
+    })
+}
+
+// The end.
+fn last_step(alloc: Global, w: &Ways, downs: &[Listed<Leg>]) -> Result<Step, AllocError>
+    ensures { IfOk result (λ step. step ≡ word_last (routes w.now) downs.now) }
+{
+    let conditions = last_conditions(alloc, w)?;
+    Ok(Step {
+        asked: false,
+        after: ms_before(0, downs, leg_count(downs)),
+        settle: SETTLE_MS,
+        conditions,
+        orders: Orders::All {
+            order: Order::Disarm,
+        },
+    })
+}
+
+// Puts the steps of the way up after the others.
+fn put_ups(
+    alloc: Global,
+    w: &Ways,
+    all: &[Listed<Leg>],
+    steps: &mut Vec<Step>,
+) -> Result<(), AllocError>
+    ensures { OnOk result (steps.new.items ≡ steps.old.items
+        ++ flat_map (λ k. word_arm (routes w.now) all.now k ∷ word_up (routes w.now) all.now k ∷ []) (range_with_len 0 (word_count all.now))) }
+{
+    for k in 0..leg_count(all) {
+        let arm = arm_step(alloc, w, all, k)?;
+        steps.push(arm)?;
+        let up = up_step(alloc, w, all, k)?;
+        steps.push(up)?;
+    }
+    Ok(())
+}
+
+// Puts the steps of the way down after the others.
+fn put_downs(
+    alloc: Global,
+    w: &Ways,
+    all: &[Listed<Leg>],
+    steps: &mut Vec<Step>,
+) -> Result<(), AllocError>
+    ensures { OnOk result (steps.new.items ≡ steps.old.items
+        ++ map (word_down (routes w.now) w.now.show_ms all.now) (range_with_len 0 (word_count all.now))) }
+{
+    for k in 0..leg_count(all) {
+        let down = down_step(alloc, w, all, k)?;
+        steps.push(down)?;
+    }
+    Ok(())
+}
+
+// All steps, from the legs.
+fn all_steps(
+    alloc: Global,
+    w: &Ways,
+    ups: &[Listed<Leg>],
+    downs: &[Listed<Leg>],
+) -> Result<Listed<Step>, AllocError>
+    requires { lasts w.now.show.now ≡ w.now.show_ms }
+    ensures { IfOk result (λ steps. steps ≡ steps_between (routes w.now) ups.now downs.now) }
+{
+    let mut steps = Vec::new(alloc);
+    put_ups(alloc, w, ups, &mut steps)?;
+    let start = start_step(alloc, w, ups)?;
+    steps.push(start)?;
+    put_downs(alloc, w, downs, &mut steps)?;
+    let last = last_step(alloc, w, downs)?;
+    steps.push(last)?;
+    Ok(Listed::from_vec(steps))
+}
+
+/// The steps of a flight; or why the three shows are no flight, the first cause in the order of `flight_fault`.
+pub fn steps_of(alloc: Global, crews: &Crews, w: &Ways) -> Result<Listed<Step>, StepsError>
+    requires { AreFitted crews.now w.now }
+    ensures { StepsGive crews.now (routes w.now) result }
+{
+    let ups = all_legs(alloc, w.up)?;
+    let downs = all_legs(alloc, w.down)?;
+    match flight_fault(crews, w, ups.as_slice(), downs.as_slice()) {
+        Some(fault) => Err(StepsError::Fault { fault }),
+        None => {
+            let steps = all_steps(alloc, w, ups.as_slice(), downs.as_slice())?;
+            Ok(steps)
+        }
+    }
+}
