@@ -34,7 +34,7 @@ class Judge(unittest.TestCase):
         return status, said + told
 
     def test_good(self):
-        self.assertEqual(self.judged(), (0, "judge_certificate: valid depth 6 trees 3\n"))
+        self.assertEqual(self.judged(), (0, "judge: valid depth 6 trees 3\n"))
         self.assertEqual(self.judged(show=self.show.replace("\n", "\r\n"))[0], 0)
 
     def test_half_a_plan(self):

@@ -4,6 +4,7 @@ import dataclasses
 import hashlib
 import json
 import os
+import re
 import subprocess
 import sys
 import tempfile
@@ -186,6 +187,21 @@ class Proof(Case):
         self.take(self.path)
         with self.assertRaises(MemoryError):
             hemtoghai.check("")
+
+
+class Page(unittest.TestCase):
+    """docs/PYTHON.md: each program, and what stands after it."""
+
+    @common.wants_program
+    def test_programs(self):
+        with open(os.path.join(common.TOP, "docs", "PYTHON.md"), encoding="utf-8") as file:
+            programs = re.findall(r"^```python\n(.*?)^```\n\n```text\n(.*?)^```", file.read(), re.M | re.S)
+        self.assertEqual(len(programs), 4)
+        for code, wanted in programs:
+            done = subprocess.run([sys.executable, "-B", "-c", code], cwd=common.TOP, stdout=subprocess.PIPE,
+                                  stderr=subprocess.PIPE, universal_newlines=True, timeout=120,
+                                  env={**os.environ, "PYTHONPATH": common.PYTHON})
+            self.assertEqual((done.returncode, done.stdout, done.stderr), (0, wanted, ""), code)
 
 
 class Package(unittest.TestCase):

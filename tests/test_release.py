@@ -16,12 +16,13 @@ import sys
 import tarfile
 import tempfile
 import unittest
+import zipfile
 from unittest import mock
 
 from common import PROGRAM, TOP
 from hemtoghai import machine
 from hemtoghai.language import choreo
-from hemtoghai.launching import manual, words as commands
+from hemtoghai.launching import manual, wheels, words as commands
 
 PROVED = "logic=proved functions=3 axioms=1"
 STAND_IN = """#!/bin/sh
@@ -57,7 +58,8 @@ class Repository:
         for name in ("docs", "examples", "python", "tools", "library"):
             shutil.copytree(os.path.join(TOP, name), self.path(name),
                             ignore=shutil.ignore_patterns("__pycache__", "out", "target"))
-        shutil.copy(os.path.join(TOP, "show"), self.place)
+        for name in ("show", "pyproject.toml"):
+            shutil.copy(os.path.join(TOP, name), self.place)
         self.file("README.md", "of the repository\n")
         self.file("VERSION", "7.8.9\n")
         self.file("crates.txt", "show_cli:\nhemtoghai staticlib:\n")
@@ -65,6 +67,7 @@ class Repository:
         self.file("crates/show_cli/src/lib.rt", "fn f() {}\n")
         self.file("crates/hemtoghai/src/lib.rt", "fn h() {}\n")
         self.file("bin/rt", "#!/bin/sh\n[ \"$1\" = version ] && echo a toolchain\n", 0o755)
+        os.symlink(sys.executable, self.path("bin/python3"))
         self.program = self.path("crates/show_cli/out/show_cli")
         self.file(self.program, STAND_IN, 0o755)
         if IS_BUILT:
@@ -133,6 +136,10 @@ class Repository:
     def release(self, *words):
         """The status, standard output and standard error of ./show release."""
         return done(["./show", "release", "--out", os.path.dirname(self.place), *words], self.place, env=self.settings())
+
+    def wheel(self, changed=""):
+        """The path of the wheel."""
+        return os.path.join(os.path.dirname(self.place), "hemtoghai-7.8.9%s-py3-none-manylinux_2_34_x86_64.whl" % changed)
 
     def packed(self, changed=""):
         """The path of the archive."""
@@ -498,6 +505,99 @@ class Release(unittest.TestCase):
         finally:
             with open(program, "wb") as file:
                 file.write(whole)
+
+
+@unittest.skipIf(wheels.lacking(), "this Python has no setuptools, or no wheel")
+class Wheel(unittest.TestCase):
+    """The wheel, unpacked as pip unpacks it, and installed by pip where that is there."""
+
+    @classmethod
+    def setUpClass(cls):
+        room = tempfile.TemporaryDirectory()
+        cls.addClassCleanup(room.cleanup)
+        cls.repository = Repository(room.name)
+        status, cls.said, error = cls.repository.release()
+        if status:
+            raise AssertionError(error)
+        cls.top, cls.room = os.path.join(room.name, "installed"), room.name
+        with zipfile.ZipFile(cls.repository.wheel()) as packed:
+            packed.extractall(cls.top)
+            for entry in packed.infolist():
+                os.chmod(os.path.join(cls.top, entry.filename), entry.external_attr >> 16)
+
+    def python(self, *words):
+        """What Python says where the package is on its path."""
+        return done([sys.executable, *words], self.room,
+                    env={"PATH": "/usr/bin:/bin", "LANG": "C", "PYTHONPATH": self.top})
+
+    def test_its_files(self):
+        with open(os.path.join(self.top, "hemtoghai", "MANIFEST.json")) as file:
+            manifest = json.load(file)
+        found = {os.path.relpath(os.path.join(folder, name), os.path.join(self.top, "hemtoghai"))
+                 for folder, _, names in os.walk(os.path.join(self.top, "hemtoghai")) for name in names
+                 if "__pycache__" not in folder}
+        self.assertEqual(found, {*manifest["files"], "MANIFEST.json"})
+        for path in ("seeing/studio.html", "seeing/view.js", "flying/simulated/cflib/air.py", "docs/COMMANDS.md", "VERSION"):
+            self.assertIn(path, found)
+        with zipfile.ZipFile(self.repository.wheel()) as packed:
+            self.assertEqual(len({entry.date_time for entry in packed.infolist()}), 1)
+
+    def test_same_bytes(self):
+        with tempfile.TemporaryDirectory() as again:
+            status, _, told = done(["./show", "release", "--out", again], self.repository.place, env=self.repository.settings())
+            self.assertEqual(status, 0, told)
+            self.assertEqual(digest(os.path.join(again, os.path.basename(self.repository.wheel()))),
+                             digest(self.repository.wheel()))
+
+    def test_command(self):
+        show = os.path.join(TOP, "examples", "crossing.choreo")
+        status, out, error = self.python("-m", "hemtoghai", "check", show)
+        self.assertEqual((status, out), (5, "error 5 pair a b cue 1 part 28 of 64\n"))
+        self.assertEqual(error, "hemtoghai: hemtoghai why %s says more, and what to change\n" % show)
+        status, out, _ = self.python("-m", "hemtoghai", "--version")
+        self.assertEqual((status, out.split("\n")[0], "proof: " + PROVED in out, "not as released" in out),
+                         (0, "hemtoghai 7.8.9", True, False), out)
+        self.assertIn("usage: hemtoghai COMMAND", self.python("-m", "hemtoghai", "--help")[1])
+        self.assertIn("usage: hemtoghai why", self.python("-m", "hemtoghai", "why", "--help")[1])
+        with open(os.path.join(self.room, "faulty"), "w") as file:
+            file.write("choreo 1\ncue 1.5\n")
+        status, out, error = self.python("-m", "hemtoghai", "check", "faulty")
+        self.assertEqual((status, out, "hemtoghai: cure: " in error), (3, "error 3 line 2 bad-number\n", True), error)
+
+    def test_companions(self):
+        show = os.path.join(TOP, "examples", "crossing_cured.choreo")
+        for words, wanted in ((["why", show], 0), (["summary", show], 0), (["picture", show], 0), (["without", show, "a"], 0),
+                              (["bridge", show], 0), (["judge", "a", "b", "c"], 70), (["library"], 70), (["release"], 70)):
+            status, out, error = self.python("-m", "hemtoghai", *words)
+            self.assertEqual((status, "Traceback" in error), (wanted, False), (words, out, error))
+
+    def test_module(self):
+        code = ("import hemtoghai\nverdict = hemtoghai.check(open(%r).read())\n"
+                "print(verdict.ok, verdict.proved, hemtoghai.__file__)" % os.path.join(TOP, "examples", "solo.choreo"))
+        self.assertEqual(self.python("-c", code), (0, "True True %s\n" % os.path.join(self.top, "hemtoghai", "__init__.py"), ""))
+
+    def test_another_program(self):
+        path = os.path.join(self.top, "hemtoghai", "crates", "show_cli", "out", "show_cli")
+        self.addCleanup(shutil.copy, self.repository.program, path)
+        with open(path, "ab") as file:
+            file.write(b"\n")
+        status, out, error = self.python("-m", "hemtoghai", "check", os.path.join(TOP, "examples", "solo.choreo"))
+        self.assertEqual((status, out, "isn't the one of MANIFEST" in error), (70, "", True))
+
+    def test_pip(self):
+        if subprocess.run([sys.executable, "-m", "venv", "--help"], stdout=subprocess.DEVNULL).returncode:
+            self.skipTest("this Python makes no environments")
+        place = os.path.join(self.room, "environment")
+        made = done([sys.executable, "-m", "venv", place], self.room)
+        if made[0]:
+            self.skipTest("this Python makes no environments: " + made[2][-200:])
+        status, out, error = done([os.path.join(place, "bin", "pip"), "install", "--no-index", self.repository.wheel()], self.room)
+        self.assertEqual(status, 0, out + error)
+        show = os.path.join(TOP, "examples", "solo.choreo")
+        self.assertEqual(done([os.path.join(place, "bin", "hemtoghai"), "check", show], self.room),
+                         (0, "ok drones 1 cues 1 duration_ms 2000\n", ""))
+        status, out, error = done([os.path.join(place, "bin", "hemtoghai"), "why", show], self.room)
+        self.assertEqual((status, "check: ok drones 1" in out), (0, True), error)
 
 
 class Machine(unittest.TestCase):

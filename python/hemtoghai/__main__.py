@@ -17,11 +17,12 @@ from hemtoghai import program, streams
 
 COMMANDS = {
     **{word: "hemtoghai.commands." + word for word in (
-        "bridge", "convert", "deal", "export", "flown", "fly", "judge", "legs", "library", "manual", "picture", "release", "studio",
-        "summary", "why", "without")},
+        "bridge", "convert", "deal", "export", "flown", "fly", "judge", "legs", "library", "manual", "picture",
+        "release", "studio", "summary", "why", "without")},
     "import": "hemtoghai.commands.importing",
     "studio_work": "hemtoghai.seeing.studio_work",  # a process of the studio
 }
+WITH_JSON = "check", "dynamics", "speed", "boxes", "why", "summary"  # as values, in place of lines
 WITH_INSTALLED = "bridge", "fly"  # they may need the radio's library, which was installed
 
 
@@ -39,6 +40,11 @@ def add_installed() -> None:
 
 def main(words: list[str]) -> int:
     """The status of a command, by its word and those after it."""
+    if words[:1] and words[0] in WITH_JSON and "--json" in words:
+        from hemtoghai import companion
+        from hemtoghai.commands import as_json
+        companion.set_tool(words[0])
+        return as_json.main(words)
     if words[:1] and words[0] in COMMANDS:
         if words[0] in WITH_INSTALLED:
             add_installed()

@@ -9,6 +9,11 @@ from __future__ import annotations
 
 import os
 import sys
+
+TYPE_CHECKING = False
+if TYPE_CHECKING:
+    from types import CodeType
+
 from importlib.machinery import ModuleSpec, SourceFileLoader
 
 PACKAGE = "hemtoghai"
@@ -17,7 +22,7 @@ PACKAGE = "hemtoghai"
 class Plain(SourceFileLoader):
     """Takes a module from its source, and never from kept bytecode."""
 
-    def get_code(self, fullname):  # type: ignore[no-untyped-def]
+    def get_code(self, fullname: str) -> CodeType | None:
         return self.source_to_code(self.get_data(self.path), self.path)
 
 
@@ -74,10 +79,10 @@ def guard(folder: str) -> None:
     """Has all further imports go by this rule."""
     if not sys.flags.isolated:
         own = [os.path.join(folder, PACKAGE), folder, os.path.dirname(folder)]
-        own += ["", *map(os.path.realpath, own)]
+        own += ["", *[os.path.realpath(place) for place in own]]
         sys.path[:] = [place for place in sys.path if place not in own]
     sys.dont_write_bytecode = True  # so that importing leaves no file beside the modules
-    sys.meta_path.insert(0, Beside(folder, released_in(folder)))  # type: ignore[arg-type]
+    sys.meta_path.insert(0, Beside(folder, released_in(folder)))
 
 
 if "FOLDER" in globals():

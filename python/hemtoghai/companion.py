@@ -1,54 +1,60 @@
 """What the tools have in common: reading files, asking `check`, places and times as people read them."""
+from __future__ import annotations
+
 import argparse
 import re
 import sys
+from collections.abc import Sequence
+from typing import List, NoReturn, Tuple
 
 from hemtoghai import program as proved, texts
 from hemtoghai.language import choreo
-from hemtoghai.language.choreo import Refused
+from hemtoghai.language.choreo import Flown, Refused
 from hemtoghai.language.cures import print_cure
 from hemtoghai.program import COMMAND
 from hemtoghai.streams import tell
 
+Motion = Tuple[List[float], List[float], List[int]]  # accelerations, jumps of speed, and the cues of these
 NO_ANSWER = 70
 _running = ["hemtoghai"]  # the command, as its messages begin
 
 
-def set_tool(name):
+def set_tool(name: str) -> None:
     """Notes which command runs."""
     _running[0] = name
 
 
-def tool_name():
+def tool_name() -> str:
     """The command that runs."""
     return _running[0]
 
 
-def stop(text, status=NO_ANSWER):
+def stop(text: str, status: int = NO_ANSWER) -> NoReturn:
     """Ends the tool with a line on standard error."""
     tell(tool_name(), text)
     sys.exit(status)
 
 
-def parser(text):
+def parser(text: str | None) -> argparse.ArgumentParser:
     """A parser of a tool's words."""
-    return argparse.ArgumentParser(prog="%s %s" % (COMMAND, tool_name()), description=text.replace("./show", COMMAND),
+    return argparse.ArgumentParser(prog="%s %s" % (COMMAND, tool_name()),
+                                   description=(text or "").replace("./show", COMMAND),
                                    formatter_class=argparse.RawDescriptionHelpFormatter)
 
 
-def add_depth(words, text="as for check: 0 to 8, without it 6"):
+def add_depth(words: argparse.ArgumentParser, text: str = "as for check: 0 to 8, without it 6") -> None:
     """Adds the option --depth."""
     words.add_argument("--depth", type=depth, default=choreo.DEPTH, metavar="D", help=text)
 
 
-def depth(word):
+def depth(word: str) -> int:
     """A depth from 0 to 8."""
     if not word.isdigit() or len(word) > 9 or int(word) > 8:
         raise argparse.ArgumentTypeError("the depth is 0 to 8, not %s" % word)
     return int(word)
 
 
-def read_file(path, most=texts.LOG):
+def read_file(path: str, most: int = texts.LOG) -> bytes:
     """The bytes of a file that has at most so many; `-` is standard input."""
     try:
         return texts.whole_of(path, most)
@@ -58,7 +64,7 @@ def read_file(path, most=texts.LOG):
         return stop("%s: %s" % (path, getattr(error, "strerror", None) or error))
 
 
-def read_show(path):
+def read_show(path: str) -> bytes:
     """The bytes of a show's text, to one more than it may have."""
     try:
         return texts.front_of(path, choreo.LONGEST_TEXT + 1)
@@ -66,7 +72,7 @@ def read_show(path):
         return stop("%s: %s" % (path, getattr(error, "strerror", None) or error))
 
 
-def flown_of(path):
+def flown_of(path: str) -> tuple[bytes, Flown]:
     """What the drones of a show's file fly; a faulty show ends the tool with the program's status and line."""
     text = read_show(path)
     try:
@@ -79,13 +85,13 @@ def flown_of(path):
         return stop("%s: %s" % (path, refusal), refusal.status)
 
 
-def no_program(program=None):
+def no_program(program: str | None = None) -> str | None:
     """Why the program can't be run, or None: it isn't built, it isn't the one of its record, or this machine isn't one
     for the release's."""
     return proved.fault(program)
 
 
-def ask_check(text, deep=choreo.DEPTH):
+def ask_check(text: bytes, deep: int = choreo.DEPTH) -> tuple[int, str] | None:
     """The status and the line of the proved program's `check` on a show, or None where it can't be run."""
     try:
         status, output = proved.ask(["check", "--depth", str(deep)], text)
@@ -98,7 +104,7 @@ MOTION = re.compile(r"^dynamics (\S+) acceleration (\d+) (\d+) (\d+) "
                     r"jump (\d+) cue (\d+) (\d+) cue (\d+) (\d+) cue (\d+) ", re.M)
 
 
-def ask_dynamics(text, program=None):
+def ask_dynamics(text: bytes, program: str | None = None) -> dict[str, Motion] | None:
     """What the proved program's `dynamics` says of a show's drones, by name: bounds on acceleration in m/s^2, jumps of
     speed in m/s and their cues, each on x, y and z; or None where the program can't be run or refuses the show."""
     try:
@@ -114,24 +120,24 @@ def ask_dynamics(text, program=None):
     return found
 
 
-def missing(program=None):
+def missing(program: str | None = None) -> str:
     """What to do where the program can't be run."""
     return "`check` was not asked: %s" % (no_program(program) or "it gave no answer")
 
 
-def value(row, u):
+def value(row: Sequence[float], u: float) -> float:
     """The place on an axis at a fraction of a cue, by its control values."""
     while len(row) > 1:
         row = [a + (b - a) * u for a, b in zip(row, row[1:])]
     return row[0]
 
 
-def place(flown, drone, cue, u):
+def place(flown: Flown, drone: int, cue: int, u: float) -> list[float]:
     """Where a drone is at a fraction of a cue, in millimetres."""
     return [value(row, u) for row in flown.by_cue[drone][cue][1][:3]]
 
 
-def begins(flown):
+def begins(flown: Flown) -> list[int]:
     """The milliseconds at which each cue begins, and the end of the show."""
     out = [0]
     for cue in flown.cues:
@@ -139,12 +145,12 @@ def begins(flown):
     return out
 
 
-def seconds(milliseconds):
+def seconds(milliseconds: float) -> str:
     """A time as it is printed."""
     return "%.3f s" % (milliseconds / 1000)
 
 
-def cue_words(cue):
+def cue_words(cue: choreo.Cue) -> str:
     """Where a cue stands in the text: its line, and the repeats and performs that it is played in."""
     out = "line %d" % cue.number
     for kind, line, *rest in reversed(cue.within):
@@ -155,17 +161,17 @@ def cue_words(cue):
     return out
 
 
-def many(number, word):
+def many(number: int, word: str) -> str:
     """A number and its word, with an s where it isn't one."""
     return "%d %s%s" % (number, word, "" if number == 1 else "s")
 
 
-def plan_of(path):
+def plan_of(path: str) -> list[tuple[str, bytes, int]]:
     """The drones of a plan's file: name, bytes and number of pieces each; anything else ends the tool."""
     return plan_in(read_file(path, texts.PLAN), path)
 
 
-def plan_in(text, path):
+def plan_in(text: bytes, path: str) -> list[tuple[str, bytes, int]]:
     """The same of a plan's text, which comes from this file."""
     lines = text.decode(errors="replace").split("\n")
     drones, name = [], None
@@ -193,10 +199,10 @@ def plan_in(text, path):
     return stop("%s: the plan has no last line `end`" % path)
 
 
-def decoded(data, pieces):
+def decoded(data: bytes, pieces: int) -> tuple[list[int], list[choreo.Segment]] | None:
     """A trajectory's start and its segments as (milliseconds, elements), from its bytes; or None where they aren't one
     of this many segments and the three zero bytes."""
-    def number(at, signed=True):
+    def number(at: int, signed: bool = True) -> int:
         return int.from_bytes(data[at:at + 2], "little", signed=signed)
     last, at, segments = [number(k) for k in (0, 2, 4, 6)], 8, []
     start = list(last)

@@ -46,8 +46,8 @@ class Blocked:
 
 @dataclass(frozen=True)
 class Caution:
-    """Something that no drone flies, or that is seldom meant, in a show that is accepted. Cues count from 1, and the one
-    after the last is the end."""
+    """Something that no drone flies, or that is seldom meant, in a show that is accepted. Cues count from 1, and the
+    one after the last is the end."""
     kind: str  # "motion", "low", "small" or "stacked"
     words: str
     drone: Optional[str] = None
@@ -97,7 +97,7 @@ class Verdict:
 
     @cached_property
     def blocked(self) -> tuple[Blocked, ...]:
-        """Each pair and cue that is blocked, that first which comes nearest: of a show that is refused with status 5."""
+        """Each pair and cue that is blocked, the nearest first: of a show that is refused with status 5."""
         return blocked_of(self.text, self.depth, self.line) if self.status == 5 else ()
 
     @cached_property
@@ -106,10 +106,9 @@ class Verdict:
         return cautions_of(self.text) if self.ok else ()
 
     def as_data(self) -> dict[str, Any]:
-        """All of it as values of JSON."""
+        """What is wrong, as values of JSON."""
         return {"status": self.status, "ok": self.ok, "line": self.line, "proved": self.proved, "depth": self.depth,
-                "fault": self.fault, "cure": self.cure, "blocked": [dict(vars(place)) for place in self.blocked],
-                "cautions": [dict(vars(caution)) for caution in self.cautions]}
+                "fault": self.fault, "cure": self.cure, "blocked": [dict(vars(place)) for place in self.blocked]}
 
 
 class Refused(Exception):
@@ -189,10 +188,11 @@ CAUTION = re.compile(r"line (\d+), (?:cue (\d+)|the end): (\S+) ")
 def cautions_of(text: bytes) -> tuple[Caution, ...]:
     """What no drone flies of an accepted show."""
     flown, out = choreo.flown_of(text), []
-    for kind, words in (("motion", flyable.motion_if_known(program.PROGRAM, flown, text)), ("low", flyable.below(flown)),
-                        ("small", flyable.small(flown)), ("stacked", flyable.stacked(flown))):
-        found = CAUTION.match(words or "")
-        if found:
+    motion = flyable.motion_if_known(program.PROGRAM, flown, text)
+    for kind, words in (("motion", motion), ("low", flyable.below(flown)), ("small", flyable.small(flown)),
+                        ("stacked", flyable.stacked(flown))):
+        found = CAUTION.match(words) if words else None
+        if words and found:
             line, cue, drone = found.groups()
             out.append(Caution(kind, words, drone, int(cue or len(flown.cues) + 1), int(line)))
         elif words:
@@ -240,6 +240,34 @@ def depth_words(depth: int) -> list[str]:
 def option(word: str, number: Optional[int]) -> list[str]:
     """The words of an option, or none where it isn't given."""
     return [] if number is None else [word, "%d" % number]
+
+
+# ---- what the program writes
+
+MOTION = re.compile(r"dynamics (\S+) acceleration (\d+) (\d+) (\d+) jump (\d+) cue (\d+) (\d+) cue (\d+) (\d+) "
+                    r"cue (\d+) begins (\w+) ends (\w+)$", re.M)
+
+
+def counts_in(line: str) -> dict[str, int]:
+    """The numbers of the line of an accepted show: drones, cues and duration_ms."""
+    words = line.split(" ")[1:]
+    return {word: int(number) for word, number in zip(words[::2], words[1::2])}
+
+
+def motions_in(output: str) -> dict[str, dict[str, Any]]:
+    """By drone what `dynamics` writes."""
+    out = {}
+    for name, *numbers, begins, ends in MOTION.findall(output):
+        row = [int(number) for number in numbers]
+        out[name] = {"acceleration": tuple(row[:3]), "jump": tuple(row[3::2]), "jump_cues": tuple(row[4::2]),
+                     "begins_at_rest": begins == "rest", "ends_at_rest": ends == "rest"}
+    return out
+
+
+def speeds_in(output: str) -> dict[str, tuple[int, int, int]]:
+    """By drone what `speed` writes."""
+    rows = (line.split(" ") for line in output.splitlines())
+    return {name: (int(x), int(y), int(z)) for _, name, x, y, z in rows}
 
 
 # ---- the calls
@@ -290,30 +318,20 @@ def report(text: Text, depth: int = DEPTH) -> dict[str, Any]:
     return found
 
 
-MOTION = re.compile(r"dynamics (\S+) acceleration (\d+) (\d+) (\d+) jump (\d+) cue (\d+) (\d+) cue (\d+) (\d+) cue (\d+) "
-                    r"begins (\w+) ends (\w+)$", re.M)
-
-
 def dynamics(text: Text, accel: Optional[int] = None, jump: Optional[int] = None,
              depth: int = DEPTH) -> dict[str, dict[str, Any]]:
     """By drone bounds on its acceleration (micrometres per second squared on x, y and z), its greatest jumps of speed
     (micrometres per second) with the cues that begin with them, and whether it begins and ends at rest. Raises Refused,
     also where a limit in millimetres is passed."""
     words = ["dynamics", *depth_words(depth), *option("--accel", accel), *option("--jump", jump)]
-    out = {}
-    for name, *numbers, begins, ends in MOTION.findall(accepted(asked(words, text, depth=depth)).output.decode()):
-        row = [int(number) for number in numbers]
-        out[name] = {"acceleration": tuple(row[:3]), "jump": tuple(row[3::2]), "jump_cues": tuple(row[4::2]),
-                     "begins_at_rest": begins == "rest", "ends_at_rest": ends == "rest"}
-    return out
+    return motions_in(accepted(asked(words, text, depth=depth)).output.decode())
 
 
 def speed(text: Text, limit: Optional[int] = None, depth: int = DEPTH) -> dict[str, tuple[int, int, int]]:
     """By drone a bound on its speed on x, y and z, in micrometres per second. Raises Refused, also where a limit is
     passed."""
     words = ["speed", *depth_words(depth), *option("--limit", limit)]
-    rows = (line.split(" ") for line in accepted(asked(words, text, depth=depth)).output.decode().splitlines())
-    return {name: (int(x), int(y), int(z)) for _, name, x, y, z in rows}
+    return speeds_in(accepted(asked(words, text, depth=depth)).output.decode())
 
 
 def boxes(text: Text, regions: Text, depth: int = DEPTH) -> Verdict:

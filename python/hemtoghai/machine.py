@@ -1,4 +1,4 @@
-"""What the program of a release needs of a machine, for ./show and the tools. A program that was built here runs here."""
+"""What the program of a release needs of a machine, for ./show. A program that was built here runs here."""
 from __future__ import annotations
 
 import os

@@ -10,6 +10,10 @@ from __future__ import annotations
 import os
 import sys
 
+TYPE_CHECKING = False  # of a reader of types, for which `typing` needn't be imported
+if TYPE_CHECKING:
+    from typing import Any
+
 PACKAGE = os.path.dirname(os.path.abspath(__file__))
 # What lies beside the package in a checkout and in a release lies in it where it is installed.
 IS_INSTALLED = os.path.exists(os.path.join(PACKAGE, "MANIFEST.json"))
@@ -29,10 +33,10 @@ class Unusable(Exception):
 
 
 # By a program's path what its file and its record looked like, the file that runs, and the last line of its proof.
-_copies: dict[str, tuple[tuple, str, str | None]] = {}
+_copies: dict[str, tuple[tuple[tuple[int, ...], ...], str, str | None]] = {}
 
 
-def looks(path: str) -> tuple:
+def looks(path: str) -> tuple[int, ...]:
     """What changes where a file is exchanged or written, without reading it; nothing where it isn't there."""
     try:
         return looks_of(os.stat(path))
@@ -40,12 +44,12 @@ def looks(path: str) -> tuple:
         return ()
 
 
-def looks_of(found: os.stat_result) -> tuple:
+def looks_of(found: os.stat_result) -> tuple[int, ...]:
     """The same of a file that was looked at."""
     return found.st_dev, found.st_ino, found.st_size, found.st_mtime_ns, found.st_ctime_ns, found.st_mode
 
 
-def record_of(path: str) -> dict:
+def record_of(path: str) -> dict[str, Any]:
     """What is noted of a program's build, or a release's manifest; nothing where there is none, or a damaged one."""
     import json
     try:
@@ -67,7 +71,7 @@ def record_path(path: str = PROGRAM) -> str:
     return MANIFEST if path == PROGRAM and os.path.exists(MANIFEST) else path + RECORD
 
 
-def read_program(path: str) -> tuple[bytes, tuple]:
+def read_program(path: str) -> tuple[bytes, tuple[int, ...]]:
     """A program's bytes and what its file looked like, before they were read and after."""
     with open(path, "rb") as file:
         before = looks_of(os.fstat(file.fileno()))
@@ -140,7 +144,7 @@ def copy_of(path: str) -> tuple[str, str | None]:
         return copy, proved
     noted = looks(record_path(path))
     try:
-        data, seen = read_program(path)
+        data, read = read_program(path)
     except OSError as error:
         raise Unusable("%s: %s" % (path, error.strerror)) from None
     record, digest = record_path(path), digest_of(data)
@@ -151,8 +155,8 @@ def copy_of(path: str) -> tuple[str, str | None]:
             "unpack the release anew" if record == MANIFEST else "./show check FILE builds it")))
     line = known.get("rests_on")
     proved = line if wanted and isinstance(line, str) and line.startswith("logic=proved ") else None
-    _copies[path] = (seen, noted), in_memory(data) or path, proved
-    return _copies[path][1:]
+    _copies[path] = (read, noted), in_memory(data) or path, proved
+    return _copies[path][1], proved
 
 
 def words_of(*words: str) -> list[str]:

@@ -7,6 +7,10 @@ from __future__ import annotations
 import os
 import sys
 
+TYPE_CHECKING = False  # of a reader of types, for which `typing` needn't be imported
+if TYPE_CHECKING:
+    from collections.abc import Callable
+
 NO_ANSWER = 70
 INTERRUPTED, NOBODY_READS = 128 + 2, 128 + 13  # as after SIGINT and SIGPIPE
 OPEN_AS = {0: os.O_WRONLY, 1: os.O_RDONLY, 2: os.O_WRONLY}  # a stream that was closed can neither be read nor written
@@ -62,7 +66,7 @@ def drop_output() -> None:
         pass
 
 
-def status_of(main, who: str) -> int:
+def status_of(main: Callable[[], int | None], who: str) -> int:
     """The status of a tool, once all that it wrote has gone out."""
     try:
         try:
@@ -87,7 +91,7 @@ def status_of(main, who: str) -> int:
         return NO_ANSWER
 
 
-def run(main, who: str | None = None) -> None:
+def run(main: Callable[[], int | None], who: str | None = None) -> None:
     """Runs a tool, a call that returns its status, and ends the process with that."""
     import _signal
     fill()

@@ -5,6 +5,10 @@ import os
 import stat
 import sys
 
+TYPE_CHECKING = False  # of a reader of types, for which `typing` needn't be imported
+if TYPE_CHECKING:
+    from typing import IO
+
 CHUNK = 1 << 16
 SHOW = 1048576  # bytes of a show, of a schedule and of regions: docs/COMMANDS.md
 CERTIFICATE = 400000000
@@ -17,7 +21,7 @@ class TooLong(Exception):
     """A text that has more bytes than it may."""
 
 
-def from_stream(stream, most: int) -> bytes:
+def from_stream(stream: IO[bytes], most: int) -> bytes:
     """At most so many bytes of a stream: no more are taken from it than that, and what the stream keeps ahead."""
     parts, left = [], most
     while left > 0:

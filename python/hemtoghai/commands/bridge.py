@@ -128,7 +128,7 @@ def options_of(words: list[str]):
     reader.add_argument("--radio", metavar="DRONES", help="a text with a line `NAME URI` for each drone: real drones")
     reader.add_argument("--repeat-starts", action="store_true",
                        help="with --radio: send starts again until they are answered; a drone begins anew at each")
-    reader.add_argument("--program", default=program.PROGRAM, metavar="FILE", help="without it the one that ./show built")
+    reader.add_argument("--program", default=program.PROGRAM, metavar="FILE", help="without it that of ./show")
     reader.add_argument("show", metavar="SHOW", help="a file with a show, or - for standard input")
     options = reader.parse_args(words)
     if options.again == 100:

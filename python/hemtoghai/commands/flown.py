@@ -5,7 +5,7 @@
 NEVER TRIED with a log of real drones, only with those of `./show fly --simulate`. Each row of the log has
 `time,drone,x,y,z`: seconds since the start, the drone's name, metres; a first row with these names may bring them in
 another order, among others. A column `stamp`, the drone's own milliseconds, is used for the time where it is there, as
-./show fly writes it, since packets are late by chance and a drone's clock isn't. Rows before the start and after the end
+`fly` writes it, since packets are late by chance and a drone's clock isn't. Rows before the start and after the end
 are left out.
 
 R and L are the show's `stray` and `late` lines, unless they are given. The question: at each sample, was the drone
@@ -18,7 +18,7 @@ drones estimate of themselves, and the time is that of the log.
 
 `KEPT` is said of a log that covers the show: each drone has at least 5 samples, and none is more than G ms, 1000
 without the option, after the one before, the begin of the show and its end counted as samples. Of any other log it is
-`NOT KEPT` or `NOT KNOWN`. A number that isn't finite makes a log none. Status 0: kept. 1: not kept, or not known. 70: no
+`NOT KEPT` or `NOT KNOWN`. A number that isn't finite makes a log none. Status 0: kept. 1: not kept or not known. 70: no
 answer.
 """
 import argparse

@@ -37,7 +37,7 @@ def stop(text, status=70):
     try:
         if stream is None:
             raise OSError
-        print("judge_certificate: " + text, file=stream, flush=True)
+        print("judge: " + text, file=stream, flush=True)
     except (OSError, ValueError):
         os._exit(70)  # so that no status speaks of a line that nobody got
     sys.exit(status)

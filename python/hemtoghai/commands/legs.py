@@ -7,7 +7,7 @@ PADS is a text with a line `NAME X Y Z` for each drone, in micrometres: where it
 straight below its first place, at height 0. Each leg is written as a show, up.choreo and down.choreo: of commands that
 the firmware flies from rest to rest, as the act `move` has it. `check` judges them, with the show's ellipsoid, with
 30 mm more of `stray` and a `late` of at least 300 ms: commands go out drone by drone. What `check` refuses as a whole
-is judged stage by stage: then each stage begins when the one before has ended, and so does ./show fly. Two that both stand
+is judged stage by stage: then each stage begins when the one before has ended, and so does `fly`. Two that both stand
 on their pads aren't judged with each other there: their pads have to be 150 mm apart.
 
 The last lines say at which instants of the show all may land straight down, by `check` as well: where a drone that

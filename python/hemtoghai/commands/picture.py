@@ -98,7 +98,7 @@ def main(words: list[str]) -> int:
                        help="milliseconds from one sample to the next, 1 to 60000; without it what suits the show")
     reader.add_argument("--regions", metavar="FILE", help="boxes and volumes to draw: the regions of `boxes`")
     reader.add_argument("--svg", action="store_true", help="one drawing in place of a page")
-    reader.add_argument("--program", default=program.PROGRAM, metavar="FILE", help="without it the one that ./show built")
+    reader.add_argument("--program", default=program.PROGRAM, metavar="FILE", help="without it that of ./show")
     reader.add_argument("show", metavar="SHOW", help="a file with a show, or - for standard input")
     options = reader.parse_args(words)
     text, flown = flown_of(options.show)

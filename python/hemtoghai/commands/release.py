@@ -1,4 +1,5 @@
-"""Makes a release: one archive with the proved program and library, ./show, the tools, documents and examples.
+"""Makes a release: an archive with the proved program and library, ./show, its companions, documents and examples, and
+a wheel with the program and the companions.
 
     ./show release [--out FOLDER] [--changed]
 
@@ -7,11 +8,16 @@ or later. VERSION is what the file VERSION says. The library is in library/out, 
 manifest. MANIFEST.json says which build it is: version, commit, toolchain, the SHA-256 of each file, and the last line
 of the build, which names what the proof rests on. ./show of a release runs no other program than the one of the
 manifest, and ./show --version prints the manifest, each file that differs from it, and each that was added. README.md
-is the one of a release, launching/release.md. The same commit, program and library make the same bytes. There are no crates in it: whoever wants to read what is proved takes the commit.
+is the one of a release, launching/release.md. There are no crates in it: whoever wants to read what is proved takes the
+commit.
+
+hemtoghai-VERSION-py3-none-manylinux_2_34_x86_64.whl is what pip installs: `import hemtoghai` and the command hemtoghai,
+with a manifest of its own. It is made by setuptools, without a network; where setuptools or wheel isn't installed it
+isn't made, and a line says so. The same commit, program and library make the same bytes of both.
 
 Refused where the program or the library isn't the one of these sources, by the stamps that ./show and ./show library
 wrote when they proved them, whatever the times of files; where the last line of a build is missing; and, without
---changed, where files differ from the commit. Status 0: the archive is written. 70: it isn't.
+--changed, where files differ from the commit. Status 0: the files are written. 70: they aren't.
 """
 import gzip
 import hashlib
@@ -19,11 +25,12 @@ import io
 import json
 import os
 import re
+import sys
 import tarfile
 
 from hemtoghai import program
 from hemtoghai.companion import parser, stop
-from hemtoghai.launching import manual
+from hemtoghai.launching import manual, wheels
 from hemtoghai.launching.built import git, launcher
 
 TOP = program.TOP
@@ -125,6 +132,27 @@ def archive(name, contents, links, when):
     return gzip.compress(whole.getvalue(), mtime=0)
 
 
+def print_made(path, count, data):
+    """Says what a file is that was made."""
+    print("%s: %d files, %d bytes, sha256 %s" % (path, count, len(data), hashlib.sha256(data).hexdigest()))
+
+
+def make_wheel(show, record, contents, changed, out):
+    """Makes the wheel, or says what is missing for it."""
+    lacking = wheels.lacking()
+    if lacking:
+        return print("no wheel was made: %s has no %s (python3-setuptools and python3-wheel of Debian)" % (
+            sys.executable, " and no ".join(lacking)))
+    own = wheels.contents_of(contents, PROGRAM)
+    own.append(("MANIFEST.json", manifest_of(show, record, own, [], changed).encode(), 0o644))
+    with open(os.path.join(TOP, "pyproject.toml"), "rb") as file:
+        project = file.read()
+    path = wheels.make(out, show.version() + ("+changed" if changed else ""), own, project,
+                       int(git("log", "-1", "--format=%ct")))
+    with open(path, "rb") as file:
+        return print_made(path, len(own), file.read())
+
+
 def main(words: list[str]) -> int:
     reader = parser(__doc__)
     reader.add_argument("--out", default=".", metavar="FOLDER", help="where the archive goes; without it here")
@@ -145,7 +173,7 @@ def main(words: list[str]) -> int:
             file.write(data)
     except OSError as error:
         stop("%s: %s" % (path, error.strerror))
-    digest = hashlib.sha256(data).hexdigest()
-    print("%s: %d files, %d bytes, sha256 %s" % (path, len(contents) + len(links), len(data), digest))
+    print_made(path, len(contents) + len(links), data)
+    make_wheel(show, record, contents, changed, options.out)
     print("program sha256 %s\ntoolchain %s\nproof: %s" % (record["sha256"], record["toolchain"], record["rests_on"]))
     return 0

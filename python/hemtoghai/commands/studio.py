@@ -134,7 +134,8 @@ class Studio:
         for mark, name in PARTS.items():
             page = page.replace(mark, read_file(os.path.join(FOLDER, name)).decode())
         words = json.dumps(given).replace("<", "\\u003C")  # in a script `<` could begin an end tag
-        return page.replace("./show ", program.COMMAND + " ").replace("/*GIVEN*/", words).replace("NONCE", nonce).encode()
+        page = page.replace("./show ", program.COMMAND + " ")
+        return page.replace("/*GIVEN*/", words).replace("NONCE", nonce).encode()
 
     def text(self) -> dict:
         """The file as the page begins with it; OSError where it can't be read."""
@@ -205,7 +206,7 @@ def read_words(words: list[str]):
     reader.add_argument("--port", type=port, metavar="N", help="without it the one that this file has each time")
     reader.add_argument("--no-open", action="store_true", help="open no browser")
     reader.add_argument("--regions", metavar="FILE", help="a room and what stands in it: the regions of `boxes`")
-    reader.add_argument("--program", default=program.PROGRAM, metavar="FILE", help="without it the one that ./show built")
+    reader.add_argument("--program", default=program.PROGRAM, metavar="FILE", help="without it that of ./show")
     reader.add_argument("show", metavar="SHOW", help="a file with a show, or the name of a new one")
     options = reader.parse_args(words)
     look_at(options.show)

@@ -511,13 +511,14 @@ class Flight(Descent):
         why = self.refusal_soon()
         if why is None:
             return None
-        if self.zero is not None and self.leg is self.ways.up:
+        gone_back = self.zero is not None and self.leg is self.ways.up
+        if gone_back:
             self.break_off(front, why)
         elif self.stage_ends > clock.now():
             say("%s; a landing of all now isn't shown apart (%s): the stage that is flown goes to its end first" % (
                 front, landings.short(why)))
         self.pause(self.stage_ends)
-        why = self.refusal_ready()
+        why = NO_ANSWER if gone_back else self.refusal_ready()
         if why == NO_ANSWER:  # else what was judged beforehand is as good where all are at rest, and `check` may be slow
             why = self.meanwhile(self.refusal_here)
         if why is None:

@@ -1,4 +1,4 @@
-"""The look at all drones before a flight: firmware, memory, battery, estimator, supervisor and place. For ./show fly."""
+"""The look at all drones before a flight: firmware, memory, battery, estimator, supervisor and place. For `fly`."""
 import math
 from typing import List, Sequence
 

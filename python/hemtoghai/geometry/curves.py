@@ -3,16 +3,23 @@
 Millimetres and milliseconds. The control values are those of the bytes that are sent. A place is off by less than a
 micrometre, which is what doubles cost.
 """
+from __future__ import annotations
+
 import bisect
+from collections.abc import Sequence
 from math import comb, dist
+
+from hemtoghai.language.choreo import Flown, Segment
 
 
 class Curve:
     """A drone's curve. Before its begin and after its end it is where it begins and ends."""
     STEP = 10
 
-    def __init__(self, segments):
-        self.begins, self.pieces, t = [], [], 0
+    def __init__(self, segments: Sequence[Segment]) -> None:
+        self.begins: list[int] = []
+        self.pieces: list[tuple[int, int, list[list[float]]]] = []
+        t = 0
         for milliseconds, elements in segments:
             self.begins.append(t)
             self.pieces.append((t, milliseconds, [powers(row) for row in elements[:3]]))
@@ -20,7 +27,7 @@ class Curve:
         self.end = t
         self.table = [self.at(k * self.STEP) for k in range(t // self.STEP + 2)]
 
-    def at(self, t):
+    def at(self, t: float) -> list[float]:
         """The place at a time."""
         t = min(max(t, 0), self.end)
         begin, length, rows = self.pieces[max(0, bisect.bisect_right(self.begins, t) - 1)]
@@ -32,7 +39,7 @@ class Curve:
             out.append(v)
         return out
 
-    def nearest(self, place, low, high, enough=0.0):
+    def nearest(self, place: Sequence[float], low: float, high: float, enough: float = 0.0) -> tuple[float, float]:
         """The distance of a place from the curve between two times, as far as it is looked for, and its time; no finer
         than the table where that is near enough."""
         low, high = min(max(low, 0), self.end), min(max(high, 0), self.end)
@@ -50,7 +57,7 @@ class Curve:
         return best
 
 
-def greatest_jump(segments):
+def greatest_jump(segments: Sequence[Segment]) -> tuple[float, float]:
     """A drone's greatest jump of speed in metres a second, and when it is in seconds; before and after it rests."""
     last, t, best = [0.0] * 3, 0, (0.0, 0.0)
     for milliseconds, elements in segments:
@@ -60,13 +67,13 @@ def greatest_jump(segments):
     return max(best, (dist(last, [0.0] * 3), t / 1000))
 
 
-def powers(row):
+def powers(row: Sequence[float]) -> list[float]:
     """The coefficients of a curve by its control values, the highest power first."""
     n = len(row) - 1
     return [float(comb(n, k) * sum((-1) ** (k - j) * comb(k, j) * row[j] for j in range(k + 1)))
             for k in range(n, -1, -1)]
 
 
-def curves_of(flown):
+def curves_of(flown: Flown) -> dict[str, Curve]:
     """The curves of a show's drones by their names."""
     return {name: Curve(segments) for name, segments in zip(flown.names, flown.sent)}

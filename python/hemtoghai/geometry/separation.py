@@ -4,14 +4,22 @@ drones come.
 It is written from docs/SEPARATION.md alone, in exact whole numbers, and shares nothing with the program. `choreo` has
 the reader of the language; flights come from there, as control values in millimetres. It proves nothing.
 """
+from __future__ import annotations
+
 import heapq
+from collections.abc import Iterator
 from itertools import combinations
 from math import comb, gcd, isqrt, lcm
+from typing import List, Optional, Tuple
 
-from hemtoghai.language.choreo import LONGEST_CERTIFICATE, Refused
+from hemtoghai.language.choreo import Flown, LONGEST_CERTIFICATE, Refused, Row
+
+Direction = Tuple[int, int, int]
+Part = List[Row]  # on x, y and z eight control values
+Nodes = List[Optional[int]]  # of a tree in preorder: None for a split, else the number of a direction
 
 
-def directions(most):
+def directions(most: int) -> list[Direction]:
     """The vectors with entries from -most to most whose greatest common divisor is 1, in lexicographic order."""
     entries = range(-most, most + 1)
     return [(x, y, z) for x in entries for y in entries for z in entries if gcd(x, y, z) == 1]
@@ -20,28 +28,30 @@ def directions(most):
 TABLES = {1: directions(1), 2: directions(2)}  # by the version of a certificate: 26 and 98
 
 
-def word_of(version, number):
+def word_of(version: int, number: int) -> str:
     """The word of a direction: a letter in version 1, two digits in version 2."""
     return chr(ord("a") + number) if version == 1 else "%02d" % number
 
 
 # ---- parts of a cue
 
-def raised(b):
+def raised(b: Row) -> Row:
     """The eight control values of degree seven of 5,040 times a curve."""
     n = len(b) - 1
     return [sum(5040 // comb(7, k) * comb(n, j) * comb(7 - n, k - j) * b[j]
                 for j in range(n + 1) if 0 <= k - j <= 7 - n) for k in range(8)]
 
 
-def difference(first, second):
+def difference(first: list[Row], second: list[Row]) -> Part:
     """Where the second drone is from the first in a cue: on x, y and z eight control values, times 5,040."""
     return [[v - u for u, v in zip(raised(a), raised(b))] for a, b in zip(first[:3], second[:3])]
 
 
-def halves(b):
+def halves(b: Row) -> tuple[Row, Row]:
     """Both halves of a curve with eight control values, each times 2^7."""
-    row, left, right = list(b), [], []
+    row = list(b)
+    left: Row = []
+    right: Row = []
     for k in range(8):
         left.append(row[0] << (7 - k))
         right.append(row[-1] << (7 - k))
@@ -49,7 +59,7 @@ def halves(b):
     return left, right[::-1]
 
 
-def cut(part):
+def cut(part: Part) -> tuple[Part, Part]:
     """Both halves of a part of a cue."""
     pairs = [halves(b) for b in part]
     return [left for left, _ in pairs], [right for _, right in pairs]
@@ -61,31 +71,32 @@ FARTHEST = 65536  # no two positions are farther apart on an axis, in millimetre
 REACH_DEPTH = 6   # by parts of this depth speeds are bounded
 
 
-def speed(milliseconds, b):
+def speed(milliseconds: int, b: Row) -> int:
     """How fast a segment is at most on an axis, in micrometres per second, by its parts."""
     parts = [raised(b)]
     for _ in range(REACH_DEPTH):
         parts = [half for part in parts for half in halves(part)]
     step = max(abs(v - u) for part in parts for u, v in zip(part, part[1:]))
-    return -(-7000000 * 2 ** REACH_DEPTH * step // (5040 * 2 ** (7 * REACH_DEPTH) * milliseconds))
+    return -(-7000000 * (step << REACH_DEPTH) // (5040 * milliseconds << 7 * REACH_DEPTH))
 
 
-def reach_of(flown):
+def reach_of(flown: Flown) -> Direction:
     """How many millimetres any drone moves on x, y and z at most in the time by which one may be late."""
     (late,) = flown.show.settings["late"]
     if not late:
         return 0, 0, 0
     fastest = [max(speed(ms, elements[axis]) for flight in flown.by_cue for ms, elements in flight) for axis in range(3)]
-    return tuple(min(FARTHEST, -(-late * v // 1000000)) for v in fastest)
+    x, y, z = (min(FARTHEST, -(-late * v // 1000000)) for v in fastest)
+    return x, y, z
 
 
 class Ruler:
     """The directions of a version with their weights and thresholds, for half axes r and h, a stray and a reach."""
 
-    def __init__(self, r, h, version=2, stray=0, reach=(0, 0, 0)):
+    def __init__(self, r: int, h: int, version: int = 2, stray: int = 0, reach: Direction = (0, 0, 0)) -> None:
         self.r, self.h, self.version = r, h, version
         self.weights = [(x * h, y * h, z * r) for x, y, z in TABLES[version]]
-        self.thresholds = []
+        self.thresholds: list[int] = []
         for n, w in zip(TABLES[version], self.weights):
             strays = 4 * stray * stray * sum(v * v for v in w)
             self.thresholds.append(5040 * (
@@ -94,7 +105,7 @@ class Ruler:
         axes = [TABLES[version].index(n) for n in ((1, 0, 0), (0, 1, 0), (0, 0, 1))]
         self.axes = [(max(self.weights[k]), self.thresholds[k] // 5040) for k in axes]
 
-    def low_control(self, part, depth, number):
+    def low_control(self, part: Part, depth: int, number: int) -> int | None:
         """The first of the eight control values that is below the threshold of a direction, or None."""
         x, y, z = self.weights[number]
         least = self.thresholds[number] << (7 * depth)
@@ -103,19 +114,19 @@ class Ruler:
                 return k
         return None
 
-    def separates(self, part, depth, number):
+    def separates(self, part: Part, depth: int, number: int) -> bool:
         """Whether a direction separates a part; both ends are looked at first."""
         x, y, z = self.weights[number]
         least = self.thresholds[number] << (7 * depth)
         a, b, c = part
         return all(x * a[k] + y * b[k] + z * c[k] >= least for k in (0, 7, 1, 2, 3, 4, 5, 6))
 
-    def first(self, part, depth):
+    def first(self, part: Part, depth: int) -> int | None:
         """The number of the first direction that separates a part, or None."""
         return next((n for n in range(len(self.weights)) if self.separates(part, depth, n)), None)
 
 
-def tree(part, ruler, most, depth=0):
+def tree(part: Part, ruler: Ruler, most: int, depth: int = 0) -> str | None:
     """The tree with the largest leaves, in each the first direction, as a line; or None where a part of depth `most`
     has none."""
     number = ruler.first(part, depth)
@@ -123,11 +134,11 @@ def tree(part, ruler, most, depth=0):
         return word_of(ruler.version, number)
     if depth == most:
         return None
-    trees = [tree(half, ruler, most, depth + 1) for half in cut(part)]
-    return None if None in trees else "." + trees[0] + trees[1]
+    left, right = (tree(half, ruler, most, depth + 1) for half in cut(part))
+    return None if left is None or right is None else "." + left + right
 
 
-def blocked(part, ruler, most, depth=0, index=0, hint=0):
+def blocked(part: Part, ruler: Ruler, most: int, depth: int = 0, index: int = 0, hint: int = 0) -> int | None:
     """The index of the first part of depth `most` along which no direction separates the two, or None."""
     numbers = [hint, *range(len(ruler.weights))]
     number = next((n for n in numbers if ruler.separates(part, depth, n)), None)
@@ -140,13 +151,14 @@ def blocked(part, ruler, most, depth=0, index=0, hint=0):
     return blocked(right, ruler, most, depth + 1, 2 * index + 1, hint) if found is None else found
 
 
-def ruler_of(flown, version=2):
+def ruler_of(flown: Flown, version: int = 2) -> Ruler:
     """The ruler of a show."""
     (stray,) = flown.show.settings["stray"]
-    return Ruler(*flown.show.settings["ellipsoid"], version, stray, reach_of(flown))
+    r, h = flown.show.settings["ellipsoid"]
+    return Ruler(r, h, version, stray, reach_of(flown))
 
 
-def are_far(first, second, ruler):
+def are_far(first: list[Row], second: list[Row], ruler: Ruler) -> bool:
     """Whether the boxes around two curves are so far apart along one axis that this axis' direction separates the whole
     cue."""
     for a, b, (weight, least) in zip(first, second, ruler.axes):
@@ -155,14 +167,14 @@ def are_far(first, second, ruler):
     return False
 
 
-def slots(flown):
+def slots(flown: Flown) -> Iterator[tuple[int, int, int]]:
     """Each pair of drones and each cue, in the order of certificates: two drones and a cue, numbered from 0."""
     for i, j in combinations(range(len(flown.names)), 2):
         for cue in range(len(flown.cues)):
             yield i, j, cue
 
 
-def blocked_places(flown, depth, version=2):
+def blocked_places(flown: Flown, depth: int, version: int = 2) -> Iterator[tuple[int, int, int, int]]:
     """Each pair and cue that has a part without a direction, as (first, second, cue, first such part), all from 0."""
     ruler = ruler_of(flown, version)
     for i, j, cue in slots(flown):
@@ -173,7 +185,7 @@ def blocked_places(flown, depth, version=2):
                 yield i, j, cue, index
 
 
-def judge_separation(flown, depth, version=2):
+def judge_separation(flown: Flown, depth: int, version: int = 2) -> None:
     """Refuses a show with a part in which no direction separates two drones."""
     for i, j, cue, index in blocked_places(flown, depth, version):
         names = flown.names[i], flown.names[j]
@@ -182,22 +194,23 @@ def judge_separation(flown, depth, version=2):
 
 # ---- certificates
 
-def head(version, depth):
+def head(version: int, depth: int) -> str:
     """The first lines of a certificate."""
     return ("version 2\n" if version == 2 else "") + "certificate %d\n" % depth
 
 
-def certificate(flown, depth, version=2):
+def certificate(flown: Flown, depth: int, version: int = 2) -> str:
     """The text of the certificate with the largest leaves of a show that isn't refused at this depth."""
     ruler = ruler_of(flown, version)
     lines = [tree(difference(flown.by_cue[i][c][1], flown.by_cue[j][c][1]), ruler, depth) for i, j, c in slots(flown)]
-    return head(version, depth) + "".join(line + "\n" for line in lines)
+    return head(version, depth) + "".join("%s\n" % line for line in lines)
 
 
-def nodes_of(line, version):
+def nodes_of(line: bytes, version: int) -> Nodes | None:
     """The nodes of a tree in preorder, None for a split and else the number of a direction; or None where it isn't one
     tree."""
-    nodes, owed, at, width = [], 1, 0, version
+    nodes: Nodes = []
+    owed, at, width = 1, 0, version
     while at < len(line):
         if owed == 0:
             return None
@@ -214,7 +227,7 @@ def nodes_of(line, version):
     return nodes if owed == 0 else None
 
 
-def read_certificate(text):
+def read_certificate(text: bytes) -> tuple[int, int, list[Nodes]]:
     """The version, the depth and the trees of a certificate's text, or a refusal 11."""
     if len(text) > LONGEST_CERTIFICATE:
         raise Refused(11, "too-large", "certificate too large")
@@ -228,13 +241,14 @@ def read_certificate(text):
         raise Refused(11, "line %d" % number, "faulty certificate", number)
     depth, trees = lines[number - 1][-1] - 48, []
     for number, line in enumerate(lines[number:], number + 1):
-        trees.append(nodes_of(line, version))
-        if trees[-1] is None:
+        nodes = nodes_of(line, version)
+        if nodes is None:
             raise Refused(11, "line %d" % number, "faulty certificate", number)
+        trees.append(nodes)
     return version, depth, trees
 
 
-def tree_fault(part, nodes, ruler, most):
+def tree_fault(part: Part, nodes: Nodes, ruler: Ruler, most: int) -> tuple[str, str] | None:
     """What is wrong with a tree of a cue, or None: `too-deep`, or a leaf that fails, its place and control value."""
     stack = [(part, 0, 0)]
     for node in nodes:
@@ -252,7 +266,7 @@ def tree_fault(part, nodes, ruler, most):
     return None
 
 
-def judge_certificate(flown, text):
+def judge_certificate(flown: Flown, text: bytes) -> str:
     """The line of `verify` on a certificate's text, or a refusal 11 or 12."""
     version, depth, trees = read_certificate(text)
     ruler, places = ruler_of(flown, version), list(slots(flown))
@@ -275,7 +289,7 @@ def judge_certificate(flown, text):
 SCALE = lcm(*(comb(14, k) for k in range(15)))
 
 
-def square(b):
+def square(b: Row) -> Row:
     """The fifteen control values, times SCALE, of the square of a curve with eight control values."""
     weighted = [comb(7, k) * v for k, v in enumerate(b)]
     return [SCALE // comb(14, k) * sum(weighted[i] * weighted[k - i] for i in range(max(0, k - 7), min(7, k) + 1))
@@ -287,12 +301,12 @@ class Nearest:
     `squared` and `needed` are the squares of their distance and of the one at which the ellipsoids touch, in one
     scale of whole numbers. At no other instant of the cue is the square of the distance less by a 4,096th or more."""
 
-    def __init__(self, part, r, h):
+    def __init__(self, part: Part, r: int, h: int) -> None:
         rows = [square(b) for b in part]
         curve = [h * h * (x + y) + r * r * z for x, y, z in zip(*rows)]
         needed = 4 * r * r * h * h * 5040 * 5040 * SCALE
         self.index, self.depth, self.squared = 0, 0, curve[0]
-        heap = [(min(curve), 0, 0, curve)]
+        heap: list[tuple[float, int, int, Row]] = [(min(curve), 0, 0, curve)]
         while heap:
             _, depth, index, curve = heapq.heappop(heap)
             for at, value in ((index, curve[0]), (index + 1, curve[-1])):
@@ -301,7 +315,9 @@ class Nearest:
             # What is least in this part is at least its least control value, and this part has the least of all.
             if depth == 24 or min(curve) * 4097 << (14 * self.depth) >= self.squared * 4096 << (14 * depth):
                 break
-            row, left, right = curve, [], []
+            row = curve
+            left: Row = []
+            right: Row = []
             for k in range(15):
                 left.append(row[0] << (14 - k))
                 right.append(row[-1] << (14 - k))
@@ -310,5 +326,5 @@ class Nearest:
                 heapq.heappush(heap, (min(half) / 2 ** (14 * (depth + 1)), depth + 1, at, half))
         self.needed = needed << (14 * self.depth)
         self.at = self.index / 2 ** self.depth
-        self.share = (self.squared / self.needed) ** 0.5
+        self.share: float = (self.squared / self.needed) ** 0.5
         self.touch = self.squared <= self.needed

@@ -8,12 +8,15 @@ proves nothing; where it and the program differ, one of them is wrong.
 from __future__ import annotations
 
 import re
+from collections.abc import Iterator, Sequence
 from math import comb, isqrt
-from typing import NamedTuple
+from typing import Any, Dict, List, NamedTuple, Tuple
 
 from hemtoghai.language import quantities
 from hemtoghai.language.quantities import MICROMETRES, MILLIMETRES, MILLISECONDS, TENTHS
 
+Row = List[int]  # the control values of a curve on an axis
+Segment = Tuple[int, List[Row]]  # milliseconds, and the rows of x, y, z and yaw
 LONGEST_TEXT = 1048576
 LONGEST_CERTIFICATE = 400000000
 MEMORY = 4096
@@ -23,7 +26,8 @@ MOST_SEGMENTS = 255
 LONGEST_SEGMENT = 65535
 DEPTH = 6
 ALLOWED = bytes([9, 13, *range(32, 127)])
-FORMS = {("choreo", "1"): 1, ("choreo", "2"): 2}  # the form of the language by the words of a text's first line
+# The form of the language by the words of a text's first line.
+FORMS: Dict[Tuple[str, ...], int] = {("choreo", "1"): 1, ("choreo", "2"): 2}
 
 
 class Number(NamedTuple):
@@ -41,7 +45,7 @@ POINT = [COORDINATE] * 3
 AXES = ["x", "y", "z", "yaw"]
 ARCS = ["arc", "swing", "arc_in", "arc_out"]
 # The slots of a line after its first word: a name, one or more names, a number, or a set of fixed words.
-LINES = {
+LINES: Dict[str, List[Any]] = {
     "memory": [Number(0, 255), Number(0, 4095)], "trajectory": [Number(0, 9)], "ellipsoid": [HALF_AXIS, HALF_AXIS],
     "stray": [Number(0, 1000, MILLIMETRES)], "late": [Number(0, 1000, MILLISECONDS)],
     "drone": ["name", *POINT, YAW], "formation": ["name"], "at": ["name", *POINT, YAW], "figure": ["name", "names"],
@@ -49,7 +53,7 @@ LINES = {
     "perform": ["name", {"none", "x", "y"}, Number(0, 3), *POINT, "names"],
     "form": ["name", {"line", "move"}], "end": [],
 }
-ACTS = {"hold": [], "line": [*POINT, YAW], "move": [*POINT, YAW], "turn": [YAW],
+ACTS: Dict[str, List[Any]] = {"hold": [], "line": [*POINT, YAW], "move": [*POINT, YAW], "turn": [YAW],
         "curve": [*POINT * 3, YAW], **{act: [{"ccw", "cw"}, COORDINATE, COORDINATE, YAW] for act in ARCS}}
 SETTINGS = ["memory", "trajectory", "ellipsoid", "stray", "late"]
 PLAYED = ["cue", "repeat", "perform"]
@@ -71,12 +75,12 @@ class Refused(Exception):
     """A refusal: its status, the words of its fault line, the outcome that it counts as, and its line number if it has
     one."""
 
-    def __init__(self, status, words, outcome, number=None):
+    def __init__(self, status: int, words: str, outcome: str, number: int | None = None) -> None:
         super().__init__("error %d %s" % (status, words))
         self.status, self.outcome, self.number, self.output = status, outcome, number, "error %d %s\n" % (status, words)
 
 
-def fault(number, word, outcome=None):
+def fault(number: int, word: str, outcome: str | None = None) -> Refused:
     """The refusal of a line of a show."""
     return Refused(3, "line %d %s" % (number, word), outcome or word, number)
 
@@ -85,11 +89,12 @@ class Line:
     """A line: its number, its kind, the values of its words, and the lines of the block that it opens. The root of a
     text, of the kind `top`, has the form of the language as its value."""
 
-    def __init__(self, number, kind, values):
-        self.number, self.kind, self.values, self.body = number, kind, values, []
+    def __init__(self, number: int, kind: str, values: list[Any]) -> None:
+        self.number, self.kind, self.values = number, kind, values
+        self.body: list[Line] = []
 
 
-def is_name(word):
+def is_name(word: str) -> bool:
     """Whether a word is a name."""
     return re.fullmatch("[a-z][a-z0-9_]{0,15}", word) is not None and word not in ("form", "end")
 
@@ -112,7 +117,7 @@ def number_of(slot: Number, word: str, form: int) -> int | None:
     return quantities.number_of(word.lstrip("-")) * (-1 if word[0] == "-" else 1)
 
 
-def value_of(number, slot, word, form=1):
+def value_of(number: int, slot: Any, word: str, form: int = 1) -> Any:
     """The value of a word in its slot."""
     if slot in ("name", "names"):
         if not is_name(word):
@@ -130,7 +135,7 @@ def value_of(number, slot, word, form=1):
     return value
 
 
-def slots_of(number, words, blocks):
+def slots_of(number: int, words: list[str], blocks: list[Line]) -> tuple[str, list[str], list[Any]]:
     """What a line is, where these blocks are open: its kind, the first words that say so, and the slots of those after
     them, one for each."""
     place, in_figure = blocks[-1].kind, any(block.kind == "figure" for block in blocks)
@@ -151,7 +156,7 @@ def slots_of(number, words, blocks):
     return kind, front, slots + ["name"] * (len(rest) - len(slots))
 
 
-def line_of(number, words, blocks):
+def line_of(number: int, words: list[str], blocks: list[Line]) -> Line:
     """A line as its words say it, where these blocks are open, in the form of the outermost."""
     kind, front, slots = slots_of(number, words, blocks)
     form = (blocks[0].values or [1])[0]
@@ -159,7 +164,7 @@ def line_of(number, words, blocks):
     return Line(number, kind, front + values)
 
 
-def word_of(slot, value, form: int) -> str:
+def word_of(slot: Any, value: Any, form: int) -> str:
     """The word of a value in its slot, in a form of the language."""
     if form == 2 and isinstance(slot, Number) and slot.counts:
         return quantities.written(slot.counts, value)
@@ -175,7 +180,7 @@ def words_of(line: Line, form: int) -> list[str]:
     return first + [word_of(slot, value, form) for slot, value in zip(slots, values)]
 
 
-def add_line(line, blocks):
+def add_line(line: Line, blocks: list[Line]) -> None:
     """Puts a line into the open blocks, or refuses it for what earlier lines leave open."""
     if line.kind in SETTINGS and any(other.kind == line.kind for other in blocks[0].body):
         raise fault(line.number, "double-setting")
@@ -191,7 +196,7 @@ def add_line(line, blocks):
         blocks.append(line)
 
 
-def read(text):
+def read(text: bytes) -> Line:
     """A show's lines as a tree, whose root is `top`."""
     lines = [line.partition(b"#")[0] for line in text.split(b"\n")]
     for number, line in enumerate(lines, 1):
@@ -218,26 +223,27 @@ def read(text):
 class Show:
     """A show whose lines are all right: its lines by kind, and what the names of formations and figures mean."""
 
-    def __init__(self, top):
-        def firsts(kind):
+    def __init__(self, top: Line) -> None:
+        def firsts(kind: str) -> dict[str, Line]:
             return {line.values[0]: line for line in reversed(top.body) if line.kind == kind}
         self.top, self.form = top, top.values[0]
         self.drones = [line for line in top.body if line.kind == "drone"]
         self.names = [line.values[0] for line in self.drones]
         self.body = [line for line in top.body if line.kind in PLAYED]
         self.formations, self.figures = firsts("formation"), firsts("figure")
-        self.settings = {"memory": [2, 0], "trajectory": [0], "ellipsoid": [120, 300], "stray": [0], "late": [0]}
+        self.settings: dict[str, list[int]] = {
+            "memory": [2, 0], "trajectory": [0], "ellipsoid": [120, 300], "stray": [0], "late": [0]}
         self.settings.update((line.kind, line.values) for line in top.body if line.kind in SETTINGS)
 
 
-def inside(line):
+def inside(line: Line) -> Iterator[Line]:
     """All lines inside a line's block, also in blocks within it."""
     for inner in line.body:
         yield inner
         yield from inside(inner)
 
 
-def faults_of_declarations(show, drones):
+def faults_of_declarations(show: Show, drones: set[str]) -> Iterator[tuple[int, str]]:
     """The faults of names of drones, formations, figures and places, as (line, word and row)."""
     for kind, row in (("drone", "drone"), ("formation", "formation, figure"), ("figure", "formation, figure")):
         lines = [line for line in show.top.body if line.kind == kind]
@@ -253,9 +259,10 @@ def faults_of_declarations(show, drones):
                     yield place.number, "double-act at"
 
 
-def faults_of_cue(show, cue, known, in_figure):
+def faults_of_cue(show: Show, cue: Line, known: set[str], in_figure: bool) -> Iterator[tuple[int, str]]:
     """The faults of names in a cue."""
-    acted, formed = set(), set()
+    acted: set[str] = set()
+    formed: set[str] = set()
     for line in cue.body:
         name = line.values[0]
         if line.kind == "act":
@@ -273,7 +280,7 @@ def faults_of_cue(show, cue, known, in_figure):
             formed |= places
 
 
-def faults_of_perform(show, line, drones):
+def faults_of_perform(show: Show, line: Line, drones: set[str]) -> Iterator[tuple[int, str]]:
     """The faults of names of a perform."""
     figure, players = show.figures.get(line.values[0]), line.values[6:]
     if figure is None:
@@ -286,7 +293,7 @@ def faults_of_perform(show, line, drones):
         yield line.number, "double-act perform"
 
 
-def faults_of_names(show):
+def faults_of_names(show: Show) -> Iterator[tuple[int, str]]:
     """All faults of names of a show, in any order."""
     drones = set(show.names)
     yield from faults_of_declarations(show, drones)
@@ -299,7 +306,7 @@ def faults_of_names(show):
                 yield from faults_of_perform(show, line, drones)
 
 
-def count(show, lines):
+def count(show: Show, lines: list[Line]) -> int:
     """How many cues some lines stand for."""
     total = 0
     for line in lines:
@@ -312,7 +319,7 @@ def count(show, lines):
     return total
 
 
-def judge_names(show):
+def judge_names(show: Show) -> None:
     """Refuses a show for its names or its number of drones or cues."""
     if not show.drones:
         raise fault(1, "no-drone")
@@ -333,7 +340,7 @@ def judge_names(show):
 
 # ---- cues written out
 
-def put(frame, x, y, z, yaw):
+def put(frame: Sequence[Any], x: int, y: int, z: int, yaw: int) -> Row:
     """A point and a yaw put through a frame: its mirror, its quarter turns, its shift."""
     mirror, turns, dx, dy, dz = frame
     if mirror == "x":
@@ -345,7 +352,7 @@ def put(frame, x, y, z, yaw):
     return [x + dx, y + dy, z + dz, yaw]
 
 
-def goal(frame, act, numbers):
+def goal(frame: Sequence[Any], act: str, numbers: Sequence[Any]) -> Any:
     """The numbers of an act in the show's frame, grouped as `controls` takes them."""
     if act == "hold":
         return None
@@ -356,7 +363,7 @@ def goal(frame, act, numbers):
         other = {"cw": "ccw", "ccw": "cw"}
         return numbers[0] if frame[0] == "none" else other[numbers[0]], x, y, yaw
     if act == "curve":
-        points = [put(frame, *numbers[k:k + 3], numbers[9]) for k in (0, 3, 6)]
+        points = [put(frame, numbers[k], numbers[k + 1], numbers[k + 2], numbers[9]) for k in (0, 3, 6)]
         return [point[:3] for point in points] + [points[2][3]]
     return put(frame, *numbers)
 
@@ -365,11 +372,13 @@ class Cue:
     """A cue written out: milliseconds, by drone the line, the act and its goal, its line, and what it stands in, from
     outside in: ("repeat", line, turn, of) and ("perform", line, figure)."""
 
-    def __init__(self, milliseconds, acts, number, within):
+    def __init__(self, milliseconds: int, acts: dict[str, tuple[int, str, Any]], number: int, within: tuple[Any,
+                  ...]) -> None:
         self.milliseconds, self.acts, self.number, self.within = milliseconds, acts, number, within
 
 
-def written_out(show, lines, frame=("none", 0, 0, 0, 0), players=None, within=()):
+def written_out(show: Show, lines: list[Line], frame: Sequence[Any] = ("none", 0, 0, 0, 0), players: dict[str,
+                  str] | None = None, within: tuple[Any, ...] = ()) -> Iterator[Cue]:
     """The cues that some lines stand for."""
     for line in lines:
         if line.kind == "repeat":
@@ -398,7 +407,7 @@ def written_out(show, lines, frame=("none", 0, 0, 0, 0), players=None, within=()
 KINDS = {1: 0, 2: 1, 4: 2, 8: 3}
 
 
-def rounded(micrometres):
+def rounded(micrometres: int) -> int:
     """The nearest millimetre, and of two that are equally near the upper one."""
     return (micrometres + 500) // 1000
 
@@ -412,18 +421,18 @@ TO_END = {"swing": [0, 0, 0, 696647, 1063179, 1000000, 1000000, 1000000],
           "arc_out": [0, 473387, 785073, 974935, 993507, 1000144, 1000000, 1000000]}
 
 
-def millionths(share, s):
+def millionths(share: int, s: int) -> int:
     """Millionths of a number, rounded."""
     return (share * s + 500000) // 1000000
 
 
-def ways(at, to):
+def ways(at: Row, to: Any) -> tuple[tuple[int, int], tuple[int, int]]:
     """The ways from the centre of a quarter circle to its start and to its end, on x and y."""
     vx, vy = at[0] - to[1], at[1] - to[2]
     return (vx, vy), (-vy, vx) if to[0] == "ccw" else (vy, -vx)
 
 
-def yaws(act, begin, end):
+def yaws(act: str, begin: int, end: int) -> Row:
     """The yaw's control values of an eased quarter circle."""
     turn = end - begin
     if act == "arc_in":
@@ -433,7 +442,7 @@ def yaws(act, begin, end):
     return [begin] * 4 + [end] * 4
 
 
-def round_controls(act, at, to):
+def round_controls(act: str, at: Row, to: Any) -> list[Row]:
     """The control values of a quarter circle."""
     start, end = ways(at, to)
     if act == "arc":
@@ -445,7 +454,7 @@ def round_controls(act, at, to):
     return [*rows, [at[2]], yaws(act, at[3], to[3])]
 
 
-def controls(act, at, to):
+def controls(act: str, at: Row, to: Any) -> list[Row]:
     """The control values of an act on x, y, z and yaw, from where the drone is."""
     if act == "hold":
         return [[v] for v in at]
@@ -461,13 +470,13 @@ def controls(act, at, to):
     return [[at[k], first[k], second[k], third[k]] for k in range(3)] + [[at[3], yaw]]
 
 
-def element(values, axis):
+def element(values: Row, axis: int) -> Row:
     """The rounded control values on an axis; one where all are equal."""
     whole = [rounded(v) if axis < 3 else v for v in values]
     return whole[:1] if len(set(whole)) == 1 else whole
 
 
-def fit(number, values):
+def fit(number: int, values: list[Row]) -> None:
     """Refuses control values that two bytes cannot hold."""
     for axis, row in enumerate(values):
         for value in row:
@@ -475,9 +484,10 @@ def fit(number, values):
                 raise fault(number, "out-of-range %s %d" % (AXES[axis], value), "out-of-range " + AXES[axis])
 
 
-def joined(flight):
+def joined(flight: list[Segment]) -> list[Segment]:
     """A flight's segments with whole holds joined from the left, as long as they last at most 65,535 ms together."""
-    out, held = [], False
+    out: list[Segment] = []
+    held = False
     for milliseconds, elements in flight:
         holds = all(len(e) == 1 for e in elements)
         if holds and held and out[-1][0] + milliseconds <= LONGEST_SEGMENT:
@@ -488,19 +498,19 @@ def joined(flight):
     return out
 
 
-def two_bytes(v):
+def two_bytes(v: int) -> bytes:
     """A signed number, its lower byte first."""
     return v.to_bytes(2, "little", signed=True)
 
 
-def segment_bytes(milliseconds, elements):
+def segment_bytes(milliseconds: int, elements: list[Row]) -> bytes:
     """The bytes of a segment."""
     header = sum(KINDS[len(e)] << (2 * k) for k, e in enumerate(elements))
     numbers = b"".join(two_bytes(v) for e in elements for v in e[1:])
     return bytes([header]) + milliseconds.to_bytes(2, "little") + numbers
 
 
-def bytes_of(start, segments):
+def bytes_of(start: Row, segments: list[Segment]) -> bytes:
     """A trajectory's bytes: its start in micrometres, its segments as (milliseconds, elements), and the ending."""
     out = b"".join(two_bytes(rounded(v) if k < 3 else v) for k, v in enumerate(start))
     return out + b"".join(segment_bytes(*segment) for segment in segments) + bytes(3)
@@ -509,14 +519,17 @@ def bytes_of(start, segments):
 class Flown:
     """What a show's drones fly: its cues, and for each drone its start in micrometres and tenths of a degree, one
     segment a cue as (milliseconds, elements) in `by_cue`, and what it is sent, holds joined, in `sent`."""
+    fastest: list[int]  # worked out where it is asked for, as is the ruler
+    ruler: Any
 
-    def __init__(self, show):
+    def __init__(self, show: Show) -> None:
         self.show, self.names = show, show.names
-        self.starts = [line.values[1:] for line in show.drones]
+        self.starts: list[Row] = [line.values[1:] for line in show.drones]
         for line in show.drones:
             fit(line.number, [[value] for value in line.values[1:]])
         self.cues = list(written_out(show, show.body))
-        at, self.by_cue = list(self.starts), [[] for _ in self.starts]
+        at = list(self.starts)
+        self.by_cue: list[list[Segment]] = [[] for _ in self.starts]
         for cue in self.cues:
             for k, name in enumerate(self.names):
                 number, act, to = cue.acts.get(name, (0, "hold", None))
@@ -527,15 +540,15 @@ class Flown:
         self.sent = [joined(flight) for flight in self.by_cue]
         self.milliseconds = sum(cue.milliseconds for cue in self.cues)
 
-    def data(self):
+    def data(self) -> list[bytes]:
         """Each drone's bytes."""
         return [bytes_of(start, segments) for start, segments in zip(self.starts, self.sent)]
 
-    def room(self):
+    def room(self) -> int:
         """How many bytes of a drone's memory the show may take."""
         return MEMORY - self.show.settings["memory"][1]
 
-    def plan(self):
+    def plan(self) -> str:
         """The text of the plan."""
         memory, offset = self.show.settings["memory"]
         (trajectory,) = self.show.settings["trajectory"]
@@ -547,12 +560,12 @@ class Flown:
         return out + "end\n"
 
 
-def digits(data):
+def digits(data: bytes) -> str:
     """Bytes in two hexadecimal digits each."""
     return " ".join("%02X" % b for b in data)
 
 
-def packets(memory, offset, trajectory, data, pieces):
+def packets(memory: int, offset: int, trajectory: int, data: bytes, pieces: int) -> Iterator[tuple[str, bytes]]:
     """The packets that write a trajectory's bytes, define it and start it (docs/RADIO.md), each with its word."""
     for begin in range(0, len(data), 24):
         address = (offset + begin).to_bytes(4, "little")
@@ -561,7 +574,7 @@ def packets(memory, offset, trajectory, data, pieces):
     yield "start", bytes([0x8C, 5, 0, 0, 0, trajectory, 0, 0, 0x80, 0x3F])
 
 
-def parts_of(whole):
+def parts_of(whole: bytes) -> tuple[bytes, bytes | None, list[int]]:
     """The show's text, the second text or None where there is no marker line, and the lines of the first two marker
     lines."""
     lines, markers = whole.split(b"\n"), []
@@ -578,7 +591,7 @@ def parts_of(whole):
     return text, second, markers[:2]
 
 
-def flown_of(text):
+def flown_of(text: bytes) -> Flown:
     """What the drones of a show's text fly, or a refusal 3."""
     if len(text) > LONGEST_TEXT:
         raise Refused(3, "too-large", "too-large")
@@ -587,7 +600,7 @@ def flown_of(text):
     return Flown(show)
 
 
-def judge_room(flown):
+def judge_room(flown: Flown) -> None:
     """Refuses a show with a trajectory that has too many segments or too many bytes."""
     room = flown.room()
     for name, data, segments in zip(flown.names, flown.data(), flown.sent):

@@ -12,6 +12,8 @@ import subprocess
 import sys
 import tempfile
 import time
+from collections.abc import Callable, Iterable
+from typing import Any, Dict, IO, List, NoReturn
 
 from hemtoghai.launching.records import (CRATES, crates_below, is_current, LAST, sha256, sources, stamp, UNPROVED,
                                          write_record)
@@ -23,6 +25,8 @@ from hemtoghai.texts import CERTIFICATE, SHOW
 LIBRARY = os.path.join("out", "rlib")  # what rt makes of a proved crate
 SPOOLED = SHOW + CERTIFICATE + (1 << 20)  # bytes of two texts, more than any command reads
 USAGE = ["no", "such", "command"], b"error 2 usage\n"  # words that every build of the program refuses, and its answer
+
+Crates = Dict[str, List[str]]  # each with the ones right below it
 
 
 def say(text: str) -> None:
@@ -37,7 +41,7 @@ def complain(text: str) -> None:
         sys.stderr.flush()
 
 
-def stop(text: str) -> None:
+def stop(text: str) -> NoReturn:
     """Ends the launcher without an answer of the program."""
     say(text)
     sys.exit(NO_ANSWER)
@@ -45,12 +49,12 @@ def stop(text: str) -> None:
 
 # ---- other programs
 
-def start(words, crate, **more):
+def start(words: list[str], crate: str, **more: Any) -> subprocess.Popen[bytes]:
     """Starts a command in a crate's folder, in a group of its own with all that it starts."""
     return subprocess.Popen(words, cwd=crate, start_new_session=True, **more)
 
 
-def end(process):
+def end(process: subprocess.Popen[bytes]) -> None:
     """Ends a command and its group, and returns once it has ended."""
     for number, seconds in ((signal.SIGTERM, 20), (signal.SIGKILL, None)):
         with contextlib.suppress(ProcessLookupError):
@@ -59,7 +63,8 @@ def end(process):
             process.wait(seconds)
 
 
-def finished(process, meanwhile=lambda: None):
+def finished(process: subprocess.Popen[bytes], meanwhile: Callable[[], None] = lambda: None) -> tuple[int, bytes,
+               str]:
     """A command's status and output, once it has ended by itself; it is ended where a signal comes."""
     try:
         while True:
@@ -74,7 +79,7 @@ def finished(process, meanwhile=lambda: None):
 
 # ---- building
 
-def side_by_side():
+def side_by_side() -> int:
     """How many crates may be proved at a time: one a processor, and 2 GB of memory for each."""
     processors = len(os.sched_getaffinity(0))
     try:
@@ -85,22 +90,23 @@ def side_by_side():
     return max(1, min(processors, free // (2 << 20)))
 
 
-def in_order(below):
+def in_order(below: Crates) -> list[str]:
     """The crates, those first that have the most work above them, by the size of their sources."""
     size = {crate: sum(map(os.path.getsize, sources(crate))) for crate in below}
     above = {crate: [it for it in below if crate in below[it]] for crate in below}
-    ahead = {}
+    ahead: dict[str, int] = {}
 
-    def work(crate):
+    def work(crate: str) -> int:
         if crate not in ahead:
             ahead[crate] = size[crate] + max(map(work, above[crate]), default=0)
         return ahead[crate]
     return sorted(below, key=work, reverse=True)
 
 
-def with_all_below(crate, below):
+def with_all_below(crate: str, below: Crates) -> set[str]:
     """The crate and all that it stands on."""
-    found, wanted = set(), [crate]
+    found: set[str] = set()
+    wanted = [crate]
     while wanted:
         it = wanted.pop()
         if it not in found:
@@ -109,7 +115,7 @@ def with_all_below(crate, below):
     return found
 
 
-def link(source, target):
+def link(source: str, target: str) -> None:
     """A second name of a file, or a copy of it where it can have none."""
     try:
         os.link(source, target)
@@ -117,14 +123,14 @@ def link(source, target):
         shutil.copy2(source, target)
 
 
-def move(source, target):
+def move(source: str, target: str) -> None:
     """Moves a folder, where it is there, to where none is afterwards but it."""
     if os.path.isdir(source):
         shutil.rmtree(target, ignore_errors=True)
         shutil.move(source, target)
 
 
-def begin_in(room, crate, below, jobs):
+def begin_in(room: str, crate: str, below: Crates, jobs: int) -> subprocess.Popen[bytes]:
     """Begins to prove a crate in a folder of its own: a copy of all sources, with the libraries below the crate and
     what was kept of the crate itself."""
     shutil.copy(os.path.join(TOP, "crates.txt"), room)
@@ -140,16 +146,17 @@ def begin_in(room, crate, below, jobs):
         return start(["rt", "lib", "--jobs", str(jobs)], folder, stdin=subprocess.DEVNULL, stdout=log, stderr=log)
 
 
-def prove(below, most):
+def prove(below: Crates, most: int) -> None:
     """Proves all crates but the last, lower ones first, side by side, with a line for each that begins. While `rt`
     works on a crate it keeps others out of its folder and of all below it, so each is proved in a folder of its own."""
-    waiting, running, done = [crate for crate in in_order(below) if crate != LAST], {}, set()
+    waiting, done = [crate for crate in in_order(below) if crate != LAST], set[str]()
+    running: dict[str, subprocess.Popen[bytes]] = {}
     number, total = 0, len(below)
     with tempfile.TemporaryDirectory(prefix=".proving-", dir=TOP) as rooms:
-        def room_of(crate):
+        def room_of(crate: str) -> str:
             return os.path.join(rooms, crate)
 
-        def take_back(crate):
+        def take_back(crate: str) -> None:
             move(os.path.join(room_of(crate), "crates", crate, "out"), os.path.join(CRATES, crate, "out"))
         try:
             while waiting or running:
@@ -179,7 +186,7 @@ def prove(below, most):
                 take_back(crate)
 
 
-def build():
+def build() -> None:
     """Proves and builds the program, where it isn't there as these sources make it."""
     below = crates_below(LAST)
     if is_current(below):
@@ -197,7 +204,7 @@ def build():
     os.close(crates)
 
 
-def build_all(below):
+def build_all(below: Crates) -> None:
     """Proves and builds the program."""
     most, before = side_by_side(), stamp(below)
     say("proving and building the program; the first time takes many minutes, %d crates at a time" % most)
@@ -218,7 +225,7 @@ def build_all(below):
     write_record(said, before)
 
 
-def need_rt():
+def need_rt() -> None:
     """Ends the launcher where there is no `rt`."""
     if not any(os.access(os.path.join(folder, "rt"), os.X_OK) for folder in os.get_exec_path()):
         stop("no rt on the PATH: the Rattle toolchain is needed to build the program")
@@ -226,7 +233,7 @@ def need_rt():
 
 # ---- without a proof
 
-def spooled(files):
+def spooled(files: list[str]) -> IO[bytes]:
     """Two files with a marker line between them, as an open file."""
     whole = tempfile.TemporaryFile()
     for piece in joined(files):
@@ -237,7 +244,7 @@ def spooled(files):
     return whole
 
 
-def try_sources(words, number, files):
+def try_sources(words: list[str], number: int | None, files: list[str]) -> int:
     """The status of the sources on an open file, or on two files, without a proof."""
     need_rt()
     if number is not None:
@@ -246,10 +253,10 @@ def try_sources(words, number, files):
         return try_on(words, source, crates_below(LAST))
 
 
-def try_on(words, source, below):
+def try_on(words: list[str], source: int | IO[bytes], below: Crates) -> int:
     """The status of the sources on an input, without a proof. The program that rt builds for it in its own temporary
     folder is kept, where it is found there; where it isn't, the next call does the same again."""
-    before, seen = stamp(below), {}
+    before, seen = stamp(below), dict[int, str]()
     with Noted(), tempfile.TemporaryDirectory(prefix=".proving-", dir=TOP) as room:
         made = os.path.join(room, "made")
         os.mkdir(made)
@@ -265,7 +272,7 @@ def try_on(words, source, below):
     return status
 
 
-def link_programs(folder, room, seen):
+def link_programs(folder: str, room: str, seen: dict[int, str]) -> None:
     """Gives each program in a folder a second name in `room`, noted by its inode, so that it stays when the folder
     goes."""
     for inside, _, names in os.walk(folder):
@@ -278,7 +285,7 @@ def link_programs(folder, room, seen):
                     seen[found.st_ino] = name
 
 
-def keep_unproved(programs, stamped, below):
+def keep_unproved(programs: Iterable[str], stamped: str, below: Crates) -> None:
     """Keeps the one of these programs that answers as the program does, if there is one."""
     for program in programs:
         with contextlib.suppress(OSError, subprocess.TimeoutExpired):

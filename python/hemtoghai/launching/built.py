@@ -1,5 +1,8 @@
 """What was built of which sources, for the tools that ship it: the records of ./show, and git."""
+from __future__ import annotations
+
 import subprocess
+from types import ModuleType
 
 from hemtoghai import program
 from hemtoghai.companion import stop
@@ -8,7 +11,7 @@ from hemtoghai.launching import records
 TOP = program.TOP
 
 
-def launcher():
+def launcher() -> ModuleType:
     """What ./show knows of builds, as a module."""
     return records
 

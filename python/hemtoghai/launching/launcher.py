@@ -8,6 +8,10 @@ from __future__ import annotations
 import os
 import sys
 
+TYPE_CHECKING = False  # of a reader of types, for which `typing` needn't be imported
+if TYPE_CHECKING:
+    from typing import NoReturn
+
 from hemtoghai import program, streams, texts
 from hemtoghai.launching import running, seen, words as commands
 
@@ -20,7 +24,7 @@ def say(text: str) -> None:
     streams.tell(program.NAME, text)
 
 
-def stop(text: str) -> None:
+def stop(text: str) -> NoReturn:
     """Ends the launcher without an answer of the program."""
     say(text)
     sys.exit(streams.NO_ANSWER)
@@ -43,8 +47,9 @@ def file_of_release() -> str:
     if not os.access(program.PROGRAM, os.X_OK) or (
             program.digest_of(data) != program.record_of(program.MANIFEST).get("sha256")):
         stop("the program isn't the one of MANIFEST.json: unpack the release anew")
-    if machine.fault():
-        stop(machine.fault())
+    fault = machine.fault()
+    if fault:
+        stop(fault)
     return program.in_memory(data) or program.PROGRAM
 
 
@@ -58,7 +63,7 @@ def file_if_current(path: str) -> str | None:
         record = path + program.RECORD
         if seen.is_same(path, looks) or program.digest_of(data) == program.record_of(record).get("sha256"):
             return program.in_memory(data) or path
-    return stop("the program is exchanged while it is started: run it again")
+    stop("the program is exchanged while it is started: run it again")
 
 
 def file_for(unproved: bool) -> str | None:

@@ -29,7 +29,7 @@ complete -o filenames -F _show show ./show
 """
 
 
-def completion():
+def completion() -> str:
     """The text of the completion: commands, then each one's options, numbers where few are possible, and files."""
     options, numbers = [], {}
     for command in commands.FORMS:
@@ -46,14 +46,14 @@ def completion():
     return COMPLETION % (" ".join(commands.FORMS), "\n".join(options), "\n".join(few))
 
 
-def roff(text):
+def roff(text: str) -> str:
     """A cell of a table, or a line, as troff has it."""
     text = re.sub(r"\[([^]]*)\]\([^)]*\)", r"\1", text).replace("\\", "\\e").replace("-", "\\-")
     text = re.sub(r"`([^`]*)`", r"\\fB\1\\fR", text).replace("**", "")
     return re.sub(r"^([.'])", r"\\&\1", text)
 
 
-def page(version):
+def page(version: str) -> str:
     """The text of the manual page."""
     out = ['.TH SHOW 1 "" "hemtoghai %s" "Hemtoghai"' % version, ".SH NAME",
            "show \\- compiles and judges shows of drones", ".SH SYNOPSIS"]

@@ -11,6 +11,7 @@ import sys
 TYPE_CHECKING = False  # of a reader of types, for which `typing` needn't be imported
 if TYPE_CHECKING:
     from collections.abc import Iterator
+    from typing import Any
 
 from hemtoghai import program
 from hemtoghai.program import MANIFEST, PROGRAM, RECORD, TOP
@@ -41,7 +42,7 @@ def crates_below(name: str) -> dict[str, list[str]]:
     return found
 
 
-def walk(crate: str) -> Iterator[tuple]:
+def walk(crate: str) -> Iterator[tuple[str, list[str]]]:
     """The folders of a crate with their files, folders that are links among them, each once."""
     waiting, been = [os.path.join(CRATES, crate)], set()
     while waiting:
@@ -72,7 +73,7 @@ def sha256(path: str) -> str:
     return whole.hexdigest()
 
 
-def stamp(below: dict) -> str:
+def stamp(below: dict[str, list[str]]) -> str:
     """What the sources are: a SHA-256 over the names and the contents of all files that the program is made from."""
     files = ["crates.txt", *(os.path.relpath(file, TOP) for crate in below for file in sources(crate))]
     lines = ["%s  %s\n" % (sha256(os.path.join(TOP, file)), file) for file in sorted(files)]
@@ -81,12 +82,12 @@ def stamp(below: dict) -> str:
 
 # ---- which build it is
 
-def read_record(path: str) -> dict:
+def read_record(path: str) -> dict[str, Any]:
     """What was noted of a build; nothing where there is no note."""
     return program.record_of(path)
 
 
-def is_current(below: dict, path: str = PROGRAM) -> bool:
+def is_current(below: dict[str, list[str]], path: str = PROGRAM) -> bool:
     """Whether a program is there that was built from the sources as they are now, whatever the times of files."""
     record = read_record(path + RECORD)
     if not os.access(path, os.X_OK) or record.get("sha256") != sha256(path):
@@ -136,7 +137,7 @@ def differing(wanted: dict[str, str]) -> Iterator[str]:
             yield "not as released: %s: %s" % (path, error.strerror)
     known = {*wanted, "MANIFEST.json"}
     for path in sorted(all_files(TOP)):
-        if path not in known:
+        if path not in known and not (program.IS_INSTALLED and "__pycache__" in path.split(os.sep)):
             yield "not in the release: " + printable(path)
 
 

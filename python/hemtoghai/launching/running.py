@@ -21,7 +21,7 @@ noting: list[bool] = []
 
 # ---- signals
 
-def on_signal(number: int, _) -> None:
+def on_signal(number: int, _: object) -> None:
     """Ends the launcher; where signals are only noted, what is going on looks for them."""
     came.append(number)
     if not noting:
@@ -42,7 +42,7 @@ class Noted:
     def __enter__(self) -> None:
         noting.append(True)
 
-    def __exit__(self, kind, *_) -> None:
+    def __exit__(self, kind: object, *_: object) -> None:
         noting.pop()
         if kind is None:
             end_if_told()

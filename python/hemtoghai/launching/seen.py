@@ -32,7 +32,7 @@ def is_as_seen(path: str) -> bool:
     return paths[0] == path and marks_of(paths) == marks
 
 
-def is_same(path: str, looks: tuple) -> bool:
+def is_same(path: str, looks: tuple[int, ...]) -> bool:
     """Whether a program that was read looked as it did when it was found to be that of its sources."""
     try:
         with open(path + SEEN, encoding="utf-8", errors="surrogateescape") as file:
@@ -41,9 +41,10 @@ def is_same(path: str, looks: tuple) -> bool:
         return False
 
 
-def places_of(below: dict, path: str) -> list[str]:
+def places_of(below: dict[str, list[str]], path: str) -> list[str]:
     """All that a program is made from, itself first, and its record."""
-    from hemtoghai.launching.records import RECORD, TOP, walk
+    from hemtoghai.launching.records import walk
+    from hemtoghai.program import RECORD, TOP
     places = [path, path + RECORD, os.path.join(TOP, "crates.txt")]
     for crate in below:
         for folder, files in walk(crate):
@@ -62,8 +63,8 @@ def is_known_current(path: str) -> bool:
     """Whether the program is that of the sources: by what was noted, or by reading them all, which is noted then."""
     if is_as_seen(path):
         return True
-    from hemtoghai.program import looks
-    from hemtoghai.launching.records import LAST, RECORD, crates_below, is_current
+    from hemtoghai.launching.records import LAST, crates_below, is_current
+    from hemtoghai.program import RECORD, looks
     below = crates_below(LAST)
     if not os.path.exists(path) or not os.path.exists(path + RECORD):
         return False

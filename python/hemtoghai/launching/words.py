@@ -5,7 +5,12 @@ from __future__ import annotations
 
 import os
 
-from hemtoghai.program import TOP
+from hemtoghai.program import COMMAND, TOP
+
+TYPE_CHECKING = False  # of a reader of types, for which `typing` needn't be imported
+if TYPE_CHECKING:
+    from collections.abc import Iterable
+    from typing import Any
 
 PAGE = os.path.join(TOP, "docs", "COMMANDS.md")
 READ = ("page", "ROWS", "OPTIONS", "COMMANDS", "FORMS", "PURPOSES", "SECOND", "NO_INPUT", "NUMBERS")
@@ -51,7 +56,7 @@ def limits_of(words: str) -> tuple[int, int] | None:
     return None
 
 
-def read() -> dict:
+def read() -> dict[str, Any]:
     """What the tables say, by the names in READ."""
     with open(PAGE, encoding="utf-8") as file:
         document = file.read()
@@ -71,7 +76,7 @@ def read() -> dict:
             "NO_INPUT": [form.split()[0] for form, given, _ in rows if given == "nothing"]}
 
 
-def __getattr__(name: str):
+def __getattr__(name: str) -> Any:
     """What the tables say, read once where it is first asked for."""
     if name not in READ:
         raise AttributeError(name)
@@ -79,12 +84,12 @@ def __getattr__(name: str):
     return globals()[name]
 
 
-def known(name: str):
+def known(name: str) -> Any:
     """The same for this module itself."""
     return globals()[name] if name in globals() else __getattr__(name)
 
 
-def options_of(command: str) -> dict:
+def options_of(command: str) -> dict[str, str | None]:
     """A command's options, each with the name of its number, or None where it has none."""
     words = [part.partition("]")[0].split() for part in known("FORMS")[command].split("[")[1:]]
     return {word[0]: word[1] if len(word) > 1 else None for word in words if word[0].startswith("--")}
@@ -96,14 +101,14 @@ def number_of(command: str) -> str | None:
     return words[1] if len(words) > 1 and words[1].isupper() else None
 
 
-def meant(word: str, choices) -> str:
+def meant(word: str, choices: Iterable[str]) -> str:
     """A question after a word that isn't known, where one that is known is near to it."""
     import difflib
     near = difflib.get_close_matches(word[:200], list(choices), 1, 0.7)
     return "; did you mean %s?" % near[0] if near else ""
 
 
-def fault_of_number(name: str, word) -> str | None:
+def fault_of_number(name: str, word: str | None) -> str | None:
     """What is wrong with a number, or None."""
     low, high = known("NUMBERS")[name]
     if word is not None and word.isascii() and word.isdigit() and len(word) < 10 and low <= int(word) <= high:
@@ -111,22 +116,27 @@ def fault_of_number(name: str, word) -> str | None:
     return "%s is %d to %d%s" % (name, low, high, "" if word is None else ", not %s" % word)
 
 
-def split(words: list) -> tuple:
+def split(words: list[str]) -> tuple[list[str], list[str], str | None]:
     """The program's words, the files, and what is wrong with the words or None. Options may stand anywhere, and as
     --depth=6; after -- all words are files."""
-    command, left, files = words[0], list(words[1:]), []
+    command, left = words[0], list(words[1:])
     if command not in known("FORMS"):
-        better = meant(command, known("FORMS")) or "; ./show --help lists them"
+        from hemtoghai.__main__ import COMMANDS
+        better = meant(command, [*known("FORMS"), *COMMANDS]) or "; %s --help lists them" % COMMAND
         return words, [], "there is no command %s%s" % (command, better)
-    front, its, seen = [command], options_of(command), set()
-    if number_of(command):
+    front, its = [command], options_of(command)
+    files: list[str] = []
+    seen: set[str] = set()
+    name = number_of(command)
+    if name:
         number = left.pop(0) if left else None
-        if fault_of_number(number_of(command), number):
-            return words, [], "%s N: %s" % (command, fault_of_number("N", number))
+        fault = fault_of_number(name, number)
+        if fault or number is None:
+            return words, [], "%s N: %s" % (command, fault)
         front.append(number)
     while left:
         word = left.pop(0)
-        option, equals, number = word.partition("=")
+        option, equals, given = word.partition("=")
         if word == "--":
             files += left
             break
@@ -139,9 +149,11 @@ def split(words: list) -> tuple:
             return words, [], "%s stands twice" % option
         seen.add(option)
         front.append(option)
-        if its[option]:
-            number = number if equals else left.pop(0) if left else None
-            if fault_of_number(its[option], number):
-                return words, [], "%s %s: %s" % (option, its[option], fault_of_number(its[option], number))
+        name = its[option]
+        if name:
+            number = given if equals else left.pop(0) if left else None
+            fault = fault_of_number(name, number)
+            if fault or number is None:
+                return words, [], "%s %s: %s" % (option, name, fault)
             front.append(number)
     return front, files, None

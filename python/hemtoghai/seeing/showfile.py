@@ -1,4 +1,4 @@
-"""The one file that ./show studio reads and writes: as a whole, with a backup, and only over what was read; its bytes as
+"""The one file that the studio reads and writes: as a whole, with a backup, and only over what was read; its bytes as
 the text of a page; and how two texts differ."""
 import contextlib
 import difflib

@@ -1,0 +1,177 @@
+"""The answers of six commands as one line of JSON, for programs.
+
+    ./show check --json [--depth D] SHOW
+    ./show dynamics --json [--depth D] [--accel A] [--jump J] SHOW
+    ./show speed --json [--depth D] [--limit V] SHOW
+    ./show boxes --json [--depth D] SHOW REGIONS
+    ./show why --json [--depth D] [--most N] SHOW
+    ./show summary --json [--depth D] SHOW
+
+Instants are milliseconds from the begin of the show, places micrometres, speeds and accelerations micrometres per
+second and per second squared. The status is that of the command; what is wrong with words and files is said as without
+--json.
+"""
+from __future__ import annotations
+
+import json
+import sys
+from itertools import combinations
+from math import hypot
+from typing import Any
+
+from hemtoghai import companion, judging, texts
+from hemtoghai.commands import summary, why
+from hemtoghai.geometry import separation
+from hemtoghai.language import choreo
+from hemtoghai.launching import launcher, words as commands
+from hemtoghai.program import Unusable
+from hemtoghai.writing import margins
+
+
+def put(command: str, verdict: judging.Verdict, **more: Any) -> int:
+    """Writes an answer; its status."""
+    sys.stdout.write(json.dumps({"command": command, **verdict.as_data(), **more}) + "\n")
+    return verdict.status
+
+
+# ---- commands of the program
+
+def depth_of(front: list[str]) -> int:
+    """The depth among the program's words, or the usual one."""
+    return int(front[front.index("--depth") + 1]) if "--depth" in front else judging.DEPTH
+
+
+def input_of(files: list[str]) -> bytes:
+    """The program's input."""
+    if len(files) == 2:
+        return judging.joined(*(texts.front_of(file, texts.SHOW + 1) for file in files))
+    return texts.front_of(files[0] if files else "-", 2 * texts.SHOW)
+
+
+def numbers_of(command: str, verdict: judging.Verdict) -> dict[str, Any]:
+    """The numbers of an answer."""
+    if command == "check":
+        return {**(judging.counts_in(verdict.line) if verdict.ok else {}),
+                "cautions": [dict(vars(caution)) for caution in verdict.cautions]}
+    found = {"dynamics": judging.motions_in, "speed": judging.speeds_in}.get(command)
+    return {"drones": found(verdict.output.decode())} if found and verdict.ok else {}
+
+
+def by_program(words: list[str]) -> int:
+    """Asks the program, which is proved and built first where it isn't the one of these sources."""
+    front, files, fault = commands.split(words)
+    fault = fault or launcher.fault_of_files(front, files)
+    if fault:
+        return launcher.refuse(front, fault)
+    launcher.file_for(False)
+    whole = input_of(files)
+    verdict = judging.asked(front, choreo.parts_of(whole)[0], whole, depth_of(front))
+    return put(front[0], verdict, **numbers_of(front[0], verdict))
+
+
+# ---- why
+
+def verdict_of(text: bytes, depth: int) -> judging.Verdict:
+    """The verdict on a show, by the companions where the program can't be run: then nothing is proved."""
+    try:
+        return judging.check(text, depth)
+    except Unusable:
+        status, line = margins.judged(text, depth)
+        return judging.Verdict(status, line.encode() + b"\n", None, text, depth)
+
+
+def helped(flown: choreo.Flown, place: judging.Blocked, depth: int) -> dict[str, Any]:
+    """What helps two drones in a cue: each remedy with the names of those that are still blocked then."""
+    i, j = flown.names.index(place.first), flown.names.index(place.second)
+    ends = why.standing(flown, i, j, place.cue - 1, depth)
+    rows = [] if ends else [row for row in why.helps(flown, (i, j), place.cue - 1, depth)
+                            if not {place.first, place.second} & set(row[2])]
+    return {"blocked_where_the_cue": ends, "helps": [
+        {"words": remedy.words, "takes_ms": remedy.takes, "still_blocked": left} for _, remedy, left in rows[:3]]}
+
+
+def by_why(words: list[str]) -> int:
+    """Says of a refused show who is blocked, where, when, and what helps."""
+    reader = companion.parser(__doc__)
+    companion.add_depth(reader)
+    reader.add_argument("--most", type=int, default=20, metavar="N", help="what helps in N places, without it 20")
+    reader.add_argument("show", metavar="SHOW", help="a file with a show, or - for standard input")
+    options = reader.parse_args(words)
+    text, flown = companion.flown_of(options.show)
+    verdict = verdict_of(text, options.depth)
+    places = [{**vars(place), **(helped(flown, place, options.depth) if number < options.most else {})}
+              for number, place in enumerate(verdict.blocked)]
+    room = [{"drone": name, "bytes": len(data), "room": flown.room(), "pieces": len(segments)}
+            for name, data, segments in zip(flown.names, flown.data(), flown.sent)]
+    return put("why", verdict, **{"blocked": places, **({"room": room} if verdict.status == 4 else {})})
+
+
+# ---- summary
+
+def drone_data(flown: choreo.Flown, drone: int, motions: dict[str, dict[str, Any]]) -> dict[str, Any]:
+    """The numbers of a drone."""
+    fastest, box = summary.look(flown, drone)
+    return {"name": flown.names[drone], "bytes": len(flown.data()[drone]), "room": flown.room(),
+            "pieces": len(flown.sent[drone]), "top_speed": round(1e6 * fastest),
+            "box": [[round(1000 * low), round(1000 * high)] for low, high in box],
+            **motions.get(flown.names[drone], {})}
+
+
+def pair_data(flown: choreo.Flown, i: int, j: int) -> dict[str, Any]:
+    """Where two drones come nearest."""
+    axes = flown.show.settings["ellipsoid"]
+    share, cue, u = min((near.share, cue, near.at) for cue, near in (
+        (cue, separation.Nearest(separation.difference(flown.by_cue[i][cue][1], flown.by_cue[j][cue][1]), *axes))
+        for cue in range(len(flown.cues))))
+    first, second = (companion.place(flown, k, cue, u) for k in (i, j))
+    return {"first": flown.names[i], "second": flown.names[j], "share": share, "cue": cue + 1,
+            "at_ms": companion.begins(flown)[cue] + flown.cues[cue].milliseconds * u,
+            "to_the_side": round(1000 * hypot(first[0] - second[0], first[1] - second[1])),
+            "up": round(1000 * abs(first[2] - second[2]))}
+
+
+def margin_data(flown: choreo.Flown, text: bytes, depth: int) -> dict[str, Any]:
+    """How far the ellipsoid, in percent, the stray and the lateness can grow, or None where the show is refused."""
+    r, h = flown.show.settings["ellipsoid"]
+    share, _ = margins.greatest(depth, 100 * 2000 // max(r, h) + 1, lambda k: margins.with_setting(
+        text, "ellipsoid", max(1, r * k // 100), max(1, h * k // 100)))
+    return {"ellipsoid_percent": share, **{word: margins.greatest(
+        depth, margins.MOST + 1, lambda k, word=word: margins.with_setting(text, word, k))[0]
+        for word in ("stray", "late")}}
+
+
+def by_summary(words: list[str]) -> int:
+    """Sums a show up."""
+    reader = companion.parser(__doc__)
+    companion.add_depth(reader)
+    reader.add_argument("--margin", action="store_true", help="how far ellipsoid, stray and lateness can grow")
+    reader.add_argument("show", metavar="SHOW", help="a file with a show, or - for standard input")
+    options = reader.parse_args(words)
+    text, flown = companion.flown_of(options.show)
+    verdict, times = verdict_of(text, options.depth), companion.begins(flown)
+    try:
+        motions = judging.dynamics(text)
+    except (Unusable, judging.Refused):
+        motions = {}
+    cues = [{"from_ms": begin, "to_ms": end, "line": cue.number,
+             "acts": {name: act for name, (_, act, _) in cue.acts.items()}}
+            for cue, begin, end in zip(flown.cues, times, times[1:])]
+    settings = {word: list(row) for word, row in flown.show.settings.items()}
+    more = {"duration_ms": flown.milliseconds, "settings": settings,
+            "drones": [drone_data(flown, k, motions) for k in range(len(flown.names))], "cues": cues,
+            "pairs": sorted((pair_data(flown, i, j) for i, j in combinations(range(len(flown.names)), 2)),
+                            key=lambda row: float(row["share"]))}
+    if options.margin:
+        more["margin"] = margin_data(flown, text, options.depth)
+    return put("summary", verdict, **more)
+
+
+WORDS = {"check": by_program, "dynamics": by_program, "speed": by_program, "boxes": by_program, "why": by_why,
+         "summary": by_summary}
+
+
+def main(words: list[str]) -> int:
+    """Hands the words on without --json."""
+    left = [word for word in words if word != "--json"]
+    call = WORDS[left[0]]
+    return call(left if call is by_program else left[1:])
