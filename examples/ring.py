@@ -13,7 +13,7 @@ from hemtoghai.writing.figures import Show, grid, ring, straight, turn
 COMMENT = """Eight drones in two rows gather on a ring, the ring turns by 100 degrees, and they come back.
 Shows a turn by any angle, eased at both ends: each cue has a `curve` a drone, and what is cut is cut for all at once.
 Written by examples/ring.py, which uses python/hemtoghai/writing/figures.py. Run: ./show check examples/ring.choreo"""
-show = Show(COMMENT, ellipsoid=(120, 300))
+show = Show(COMMENT, ellipsoid=(120, 300), form=1)
 rows, places = grid(4, 2, 0.8), ring(8, 1.2, first=22.5)
 # Drone k of the rows gets the place of the ring that lies in its direction, so that ways don't cross.
 order = [4, 5, 6, 7, 3, 2, 1, 0]

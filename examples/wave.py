@@ -15,7 +15,7 @@ COMMENT = """A row of eight drones in two groups. A wave runs outward through bo
 after another, and then both groups swing around their inner end, one mirrored to the other.
 Shows a sine wave, a cascade and mirrored groups that fly at the same time.
 Written by examples/wave.py, which uses python/hemtoghai/writing/figures.py. Run: ./show check examples/wave.choreo"""
-show = Show(COMMENT, ellipsoid=(120, 300))
+show = Show(COMMENT, ellipsoid=(120, 300), form=1)
 right = {"r%d" % (k + 1): (0.5 + 0.5 * k, 0, 1) for k in range(4)}
 left = {name.replace("r", "l"): (-x, y, z) for name, (x, y, z) in right.items()}
 for name, place in {**right, **left}.items():

@@ -99,8 +99,7 @@ class Session(Page):
         time.sleep(0.3)
         self.fill(5)
         for name in SQUARE:
-            x, y = ["%d" % (1000000 * v) for v in SQUARE[name]]
-            self.put_cursor("%s move %s %s " % (name, x, y))
+            self.put_cursor("%s move %gm %gm " % (name, *SQUARE[name]))
             time.sleep(0.2)
             self.fill(1.5)
         self.accepted()
@@ -112,7 +111,7 @@ class Session(Page):
         self.insert("cue of 3 s with")
         self.fill(10)
         cue = self.text().rindex("cue")
-        places = {name: "%s move %d %d 1500000 0" % (name, *(1000000 * v for v in SQUARE[name])) for name in SQUARE}
+        places = {name: "%s move %gm %gm 1.5m 0" % (name, *SQUARE[name]) for name in SQUARE}
         self.rename(cue, {"a": "c", "c": "a"}, places)
         self.wait(lambda: "TOO NEAR" in self.verdict() and self.browser.run("return Boolean(found.marks)"), "not refused")
         self.browser.click("#verdict")
@@ -157,7 +156,7 @@ class Session(Page):
 def show_of_document():
     """The show that docs/STUDIO.md has at its end."""
     with open(os.path.join(TOP, "docs", "STUDIO.md")) as file:
-        return re.search("^```\n(choreo 1\n.*?)^```", file.read(), re.M | re.S)[1]
+        return re.search("^```\n(choreo 2\n.*?)^```", file.read(), re.M | re.S)[1]
 
 
 def main():

@@ -4,6 +4,7 @@ import os
 import random
 import re
 import sys
+import tempfile
 import unittest
 
 from common import TOP, run
@@ -224,6 +225,42 @@ class Refused(unittest.TestCase):
         self.assertEqual(converting.converted(text + b"#" * more, 1), text + b"#" * more)
         with self.assertRaises(choreo.Refused):
             converting.converted(text + b"#" * more + b"#", 1)
+
+
+class Tools(unittest.TestCase):
+    """What tools make of a show in `choreo 2` is what they make of it in `choreo 1`, converted."""
+
+    def made(self, text, *words):
+        """The text that a tool writes of a text."""
+        with tempfile.TemporaryDirectory() as folder:
+            show, out = os.path.join(folder, "show"), os.path.join(folder, "out")
+            with open(show, "wb") as file:
+                file.write(text)
+            _, said, told = run(*(word.format(show=show, out=out) for word in words))
+            if os.path.exists(out):
+                with open(out) as file:
+                    said = file.read()
+        self.assertIn("choreo", said, told)
+        return said.encode()
+
+    def both(self, text, *words):
+        """Lets a tool make something of a text in both forms."""
+        first = self.made(text, *words)
+        self.assertEqual(self.made(converting.converted(text, 2), *words), converting.converted(first, 2))
+
+    def test_deal(self):
+        self.both(dict(examples())["grid_to_ring.choreo"], "deal", "{show}")
+
+    def test_without(self):
+        self.both(dict(examples())["formation_change.choreo"], "without", "{show}", "b")
+
+    def test_cured(self):
+        crossing = dict(examples())["crossing.choreo"]
+        formed = crossing.replace(b"a move 1000000 0 1000000 0\nb move       0 0 1000000 0\n", b"form other move\n") + (
+            b"formation other\nat a 1000000 0 1000000 0\nat b 0 0 1000000 0\nend\n")
+        self.assertIn(b"form other", formed)
+        for text in (crossing, formed):
+            self.both(text, "why", "--cured", "{out}", "{show}")
 
 
 class Command(unittest.TestCase):

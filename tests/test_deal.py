@@ -6,6 +6,7 @@ import unittest
 
 from common import SHOW, TOP
 from hemtoghai.language import choreo
+from hemtoghai.language.converting import converted
 from hemtoghai.geometry import separation
 
 # Two drones form a row across, change sides, and form it again.
@@ -220,6 +221,24 @@ class Deal(unittest.TestCase):
         wanted = near.replace("at a 1000000 500000 1000000 9", "at a 0 500000 1000000 0")
         wanted = wanted.replace("at b 0 500000 1000000 0", "at b 1000000 500000 1000000 9")
         self.assertEqual(run("deal", text=near)[1], wanted)
+
+
+class Forms(unittest.TestCase):
+    """What is written of a text in `choreo 2` is in `choreo 2`, and the same show as of the text in `choreo 1`."""
+
+    def test_deal(self):
+        for text in (TWICE, ALONG, SOME, LAYERS):
+            first, second = (run("deal", text=converted(text.encode(), form).decode()) for form in (1, 2))
+            self.assertEqual((second[0], second[2]), (first[0], first[2]))
+            self.assertEqual(converted(second[1].encode(), 1).decode(), first[1])
+            self.assertTrue(second[1].startswith("choreo 2\n"), second[1])
+
+    def test_other_numbers_stay(self):
+        """A place that is dealt anew is written in metres; all else stays as somebody wrote it."""
+        text = converted(TWICE.encode(), 2).decode().replace("at b 0 0.5m", "at b 0 50cm").replace("cue 3s", "cue 3000ms")
+        said = run("deal", text=text)[1]
+        self.assertIn("\n  at a 0 0.5m 1m 0 # right\nat b 1m 0.5m 1m 0.9deg\nend\n", said)
+        self.assertEqual((said.count("cue 3000ms"), said.count("cue 3s")), (3, 0))
 
 
 class Cured(unittest.TestCase):

@@ -8,6 +8,7 @@ import unittest
 sys.dont_write_bytecode = True
 sys.path.insert(0, os.path.dirname(os.path.abspath(__file__)))
 from test_deal import run
+from hemtoghai.language.converting import converted
 
 BESIDE = """choreo 1
 %s
@@ -125,6 +126,22 @@ class Cures(unittest.TestCase):
         said, new = self.cured(PAIRS)
         self.assertIn("the show lasts 24.000 s, before 20.000 s\n", said)
         self.assertEqual(new.count("cue "), 3)
+
+    def test_forms(self):
+        """The cure of a text in `choreo 2` is in `choreo 2`, and the same show as that of the text in `choreo 1`."""
+        formed = CROSS.replace("a move 1000000 0 1000000 0\nb move 0 0 1000000 0\n", "form f move\n") + (
+            "formation f\nat a 1000000 0 1000000 1\nat b 0 0 1000000 -1\nend\n")
+        for text in (CROSS, CROSS.replace("20000", "1001"), PAIRS, formed, formed.replace("20000", "900"), ABOVE):
+            said, new = self.cured(text)
+            said_2, new_2 = self.cured(converted(text.encode(), 2).decode())
+            self.assertEqual(converted(new_2.encode(), 1).decode(), new)
+            self.assertEqual((said_2.count("cured in"), new_2[:9]), (said.count("cured in"), "choreo 2\n"))
+
+    def test_words_of_the_second_form(self):
+        """What is written anew is in metres and seconds; what is only put elsewhere stays as somebody wrote it."""
+        new = self.cured(converted(CROSS.encode(), 2).decode().replace("b move 0 0 1m", "b move 0 0 100cm"))[1]
+        self.assertIn("cue 2s\na move 0 0 1.7m 0\nend\ncue 20s\nb move 0 0 100cm 0\na move 1m 0 1.7m 0\nend\ncue 2s\n"
+                      "a move 1m 0 1m 0\nend\n", new)
 
     def test_slow_for_a_long_way(self):
         """Twice as far up takes twice as long."""

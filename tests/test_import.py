@@ -10,6 +10,8 @@ from fractions import Fraction
 import foreign_files as files
 from hemtoghai.commands import importing
 from hemtoghai.geometry import paths
+from hemtoghai.language import choreo
+from hemtoghai.language.converting import converted
 from foreign_files import Case, squared
 
 ROOT = Fraction(1733, 1000)  # above the root of three
@@ -30,7 +32,7 @@ class Forms(Case):
     def test_separators(self):
         plain = "".join(row.replace(",", ".").replace(";", ",") + "\n" for row in ROWS)
         wanted, _ = self.body("--waypoints", self.file("a.csv", plain))
-        self.assertIn("\na line 1500000 250000 1000000 0\n", wanted)
+        self.assertIn("\na line 1.5m 0.25m 1m 0\n", wanted)
         for text in ("".join(row + "\r\n" for row in ROWS), "t;x;y;z\n" + "\n".join(ROWS),
                      "\ufefft;x;y;z\n" + "\n".join(ROWS),
                      "# a; comment, first\n" + plain, "\n".join(row.replace(";", "\t") for row in ROWS),
@@ -39,11 +41,22 @@ class Forms(Case):
         # A head that names t, x, y and z is that of waypoints.
         self.assertEqual(self.body(self.file("a.csv", "t,x,y,z\n" + plain))[0], wanted)
 
+    def test_form_of_the_language(self):
+        """The same show in both forms, with the same comments; in `choreo 2` where no form is named."""
+        rows = "0,0,0,0\n0.25,0.0004,-0.001,1\n2.001,0.1234,0,1\n4,1,0,1\n"
+        beside = "".join("%d,%g,3,1\n" % (2 * k, 0.5 * k * k) for k in range(4))
+        words = "--smooth", "--tolerance", "30", self.file("a.csv", rows), self.file("b.csv", beside)
+        second, first = self.body(*words)[0].encode(), self.body("--form", "1", *words)[0].encode()
+        self.assertEqual((choreo.form_of(first), choreo.form_of(second)), (1, 2))
+        self.assertEqual((converted(first, 2), converted(second, 1)), (second, first))
+        self.assertEqual(self.body("--form", "2", *words)[0].encode(), second)
+        self.assertEqual(self.run_tool("import", "--form", "3", *words)[:2], (2, ""))
+
     def test_zip_of_csv(self):
         one, two = "t,x,y,z\n0,0,0,1\n2,1,0,1\n", "Time [msec];x [m];y [m];z [m];Red\n0;0;2,5;1;255\n2000;1;2,5;1;255\n"
         names = [self.file("one.csv", one), self.file("two.csv", two)]
         wanted, _ = self.body(*names)
-        self.assertIn("\ndrone two 0 2500000 1000000 0\n", wanted)
+        self.assertIn("\ndrone two 0 2.5m 1m 0\n", wanted)
         data = io.BytesIO()
         with zipfile.ZipFile(data, "w", zipfile.ZIP_DEFLATED) as archive:
             archive.writestr("show/", "")
@@ -166,10 +179,10 @@ class Kept(Case):
         points = [[0, [0, 0, 1], []], [2, [0, 0, 1], []], [4, [1, 0, 1], []], [7, [1, 0, 1], []]]
         text = self.show_of("--tolerance", 1, "--ellipsoid", "100 200", self.file("a.skyc", files.skyc([points])))[1]
         self.assertEqual(text.split("\n")[3:], [
-            "choreo 1", "ellipsoid 100 200", "memory 2 0", "drone drone_1 0 0 1000000 0",
-            "cue 2000   # from 0.000 s", "end",
-            "cue 2000   # from 2.000 s", "drone_1 line 1000000 0 1000000 0", "end",
-            "cue 3000   # from 4.000 s", "end", ""])
+            "choreo 2", "ellipsoid 100mm 200mm", "memory 2 0", "drone drone_1 0 0 1m 0",
+            "cue 2s   # from 0.000 s", "end",
+            "cue 2s   # from 2.000 s", "drone_1 line 1m 0 1m 0", "end",
+            "cue 3s   # from 4.000 s", "end", ""])
 
     def test_rest_is_pinned(self):
         points = [[0, [0, 0, 0], []], [2, [0, 0, 0], []], [4, [0, 0, 1], []], [6, [0, 0, 1], []], [8, [0, 0, 0], []],
@@ -204,16 +217,15 @@ class Kept(Case):
                             self.file("b.csv", "0,5,0,1\n3,5,0,1\n5,5,0,2\n8,5,3,2\n"))[1]
         lines = text.split("\n")[8:]
         lengths = [line.split()[1] for line in lines if line.startswith("cue ")]
-        self.assertEqual(lengths, ["2000", "1000", "1000", "1000", "1000", "2000"])
+        self.assertEqual(lengths, ["2s", "1s", "1s", "1s", "1s", "2s"])
         self.assertEqual([line for line in lines if line.startswith("b")], [
-            "b line 5000000 0 1500000 0", "b line 5000000 0 2000000 0", "b line 5000000 1000000 2000000 0",
-            "b line 5000000 3000000 2000000 0"])
+            "b line 5m 0 1.5m 0", "b line 5m 0 2m 0", "b line 5m 1m 2m 0", "b line 5m 3m 2m 0"])
         self.assertIn("at most 0.00 mm", text)
 
     def test_corners_between_milliseconds(self):
         # The cue ends at the nearest whole millisecond: half a metre a second for a third of a millisecond is 0.17 mm.
         _, text, bound, said = self.show_of("--waypoints", self.file("a.csv", "0,0,0,1\n2.000333,1,0,1\n4,0,0,1\n"))
-        self.assertEqual([line[:8] for line in text.split("\n") if line.startswith("cue ")], ["cue 2000"] * 2)
+        self.assertEqual([line[:7] for line in text.split("\n") if line.startswith("cue ")], ["cue 2s "] * 2)
         self.assertTrue(Fraction(1, 10000) < bound <= Fraction(2, 1000), bound)
         self.assertIn("a jumps by 1.00 m/s at 2.000 s", said)
 
@@ -226,7 +238,7 @@ class Kept(Case):
 
     def test_long_rest(self):
         text = self.show_of("--waypoints", self.file("a.csv", "0,0,0,1\n70,0,0,1\n"))[1]
-        self.assertEqual([line.split()[1] for line in text.split("\n") if line.startswith("cue ")], ["65535", "4465"])
+        self.assertEqual([line.split()[1] for line in text.split("\n") if line.startswith("cue ")], ["65.535s", "4.465s"])
 
     def test_no_sliver(self):
         # Drones that rest at the end. Cut greedily, the last cues before that would last 25 and 15 ms.
@@ -244,7 +256,7 @@ class Kept(Case):
             "# Source: caf??choreo 1.csv, by ./show import.",
             "# Bound: at any instant what is sent is at most 0.70 mm (yaw 0.00 degrees) from the source.",
             "# Factor: 100 250 is wanted around the source's curves, and 1.0070 times that is kept clear.",
-            "choreo 1", "ellipsoid 101 252", "memory 3 64"])
+            "choreo 2", "ellipsoid 101mm 252mm", "memory 3 64"])
 
     def test_factor(self):
         grown = importing.grown

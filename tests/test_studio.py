@@ -16,6 +16,8 @@ import unittest
 sys.dont_write_bytecode = True
 sys.path.insert(0, os.path.dirname(os.path.abspath(__file__)))
 from common import PROGRAM, SHOW, TOP, wants_program
+from hemtoghai.language import choreo
+from hemtoghai.language.converting import converted
 
 STAND_IN = os.path.join(TOP, ".ci", "stand_in")
 GOOD = "choreo 1\ndrone a 0 0 1000000 0\ndrone b 1000000 0 1000000 0\ncue 2000\na move 0 1000000 1000000 0\nend\n"
@@ -24,6 +26,16 @@ NEAR = "choreo 1\ndrone a 0 0 1000000 0\ndrone b 1000000 0 1000000 0\ncue 3000\n
 
 
 WAIT = 120  # seconds, on a machine that has much else to do
+
+
+def in_units(text: str) -> str:
+    """A text in `choreo 2`."""
+    return converted(text.encode(), 2).decode()
+
+
+def in_whole_numbers(text: str) -> str:
+    """A text in `choreo 1`."""
+    return converted(text.encode(), 1).decode()
 
 
 def soon(found, seconds=WAIT):
@@ -347,6 +359,32 @@ class Beside(Case):
             self.assertEqual(self.studio.ask("POST", "places", {"text": GOOD, "line": line})[0], 400, line)
 
 
+    def test_places_in_units(self):
+        """Where drones are is the same in both forms, also before a line that is half written, and in a figure."""
+        text = GOOD + "figure f r\ncue 900\nr move 0 0 1500000 -905\nend\n"
+        for first, line in ((GOOD, 7), (text + "end\n", 11), (text + "end\n", 8)):
+            for more in ("", "x y z\n"):
+                said = [self.studio.ask("POST", "places", {"text": it + more, "line": line})[2]
+                        for it in (first, in_units(first))]
+                self.assertEqual(said[0], said[1])
+        half = in_units(GOOD).replace("a move", "a mvoe")
+        found = json.loads(self.studio.ask("POST", "places", {"text": half, "line": 7})[2])
+        self.assertEqual((found["exact"], found["drones"]), (
+            False, [["a", 0, 0, 1000000, 0], ["b", 1000000, 0, 1000000, 0]]))
+
+    def test_second_form(self):
+        """A text in `choreo 2` is judged as the same text in `choreo 1`, and its faults are of that form."""
+        first, second = (self.studio.stages(it) for it in (NEAR, in_units(NEAR)))
+        self.assertEqual(second["verdict"]["line"], first["verdict"]["line"])
+        for stage in ("flight", "lines", "notes", "marks"):
+            self.assertEqual(second[stage], first[stage])
+        first, second = (self.studio.stages(it) for it in (GOOD, in_units(GOOD) + "stray 0 # none\n"))
+        self.assertEqual((second["verdict"]["line"], second["margins"]), (first["verdict"]["line"], first["margins"]))
+        fault = self.studio.stages(in_units(GOOD).replace("2s", "2000"))["verdict"]["fault"]
+        self.assertEqual((fault["line"], fault["word"]), (4, "bad-number"))
+        self.assertIn("write 2s or 2000ms", fault["row"][2])
+
+
 class Saving(Case):
     def test_save(self):
         os.chmod(self.studio.path, 0o640)
@@ -422,6 +460,7 @@ class New(unittest.TestCase):
         text = json.loads(studio.ask("GET", "text")[2])
         self.assertEqual((text["new"], text["stamp"], os.listdir(studio.folder.name)), (True, "", []))
         self.assertEqual(studio.stages(text["text"])["verdict"]["status"], 0)
+        self.assertEqual(choreo.form_of(text["text"].encode()), 2)
         self.assertEqual(studio.post("save", text=text["text"], stamp="")[0], 200)
         self.assertEqual(os.listdir(studio.folder.name), ["show.choreo"])
         self.assertIn("there is no file", studio.end()[2])
@@ -464,11 +503,15 @@ class Buttons(Case):
         self.assertEqual(self.studio.stages(made["text"])["verdict"]["status"], 0)
         self.assertTrue(any(kind == "+" and "move" in words for kind, words in made["diff"]))
         self.assertFalse(self.studio.post("cure", text=GOOD)[1]["changed"])
+        second = self.studio.post("cure", text=in_units(NEAR))[1]["text"]
+        self.assertEqual((choreo.form_of(second.encode()), in_whole_numbers(second)), (2, made["text"]))
 
     def test_deal(self):
         status, made = self.studio.post("deal", text=example("grid_to_ring"))
         self.assertEqual((status, made["status"], made["changed"]), (200, 0, True))
         self.assertIn("dealt anew", made["said"])
+        second = self.studio.post("deal", text=in_units(example("grid_to_ring")))[1]["text"]
+        self.assertEqual((choreo.form_of(second.encode()), in_whole_numbers(second)), (2, made["text"]))
         status, made = self.studio.post("deal", text=GOOD)
         self.assertEqual((made["changed"], "no formation" in made["said"]), (False, True))
         self.assertEqual(self.studio.read(), GOOD.encode())

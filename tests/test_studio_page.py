@@ -17,7 +17,8 @@ import unittest
 
 sys.dont_write_bytecode = True
 sys.path.insert(0, os.path.dirname(os.path.abspath(__file__)))
-from test_studio import GOOD, NEAR, STAND_IN, WAIT, PROGRAM, Running, example
+import test_studio_quantities as same_rule
+from test_studio import GOOD, in_units, NEAR, STAND_IN, WAIT, PROGRAM, Running, example
 
 CHROMIUM = shutil.which("chromium") or shutil.which("chromium-browser") or shutil.which("google-chrome")
 DRIVER = shutil.which("chromedriver")
@@ -523,6 +524,81 @@ class Page(unittest.TestCase):
         self.wait(lambda: self.number() is None, "a number")
         self.says("accepted")
         self.assertEqual(self.browser.faults(), [])
+
+    def test_number_in_units(self):
+        """The number under the cursor of a text in `choreo 2`, whatever its unit is there; it is written back in metres,
+        in seconds or in milliseconds below one, and in degrees. The field takes a unit, too."""
+        text = in_units(GOOD)
+        self.open(text.replace("drone b 1m", "drone b 100cm"))
+        self.says("accepted")
+        self.put_cursor("drone b 100c")
+        self.wait(lambda: self.number() == ["x of b", "1", "m"], "no number")
+        self.browser.click("#number-value")
+        self.browser.type("\uE007", "#number-value")  # Enter: nothing was changed, and the next number
+        self.wait(lambda: self.number() == ["y of b", "0", "m"], "not the next one")
+        self.assertIn("drone b 100cm 0 1m 0\n", self.text())
+        self.browser.type("\uE013\uE013\uE015", "#number-value")  # up, up, down
+        self.assertIn("drone b 100cm 0.1m 1m 0\n", self.text())
+        for typed, wanted in (("1.25", "1.25m"), ("-30cm", "-0.3m"), ("x", "-0.3m"), ("2s", "2m"), ("0", "0")):
+            self.browser.type(CONTROL + "a" + "\uE000" + typed, "#number-value")
+            self.assertIn("drone b 100cm %s 1m 0\n" % wanted, self.text())
+        self.put_cursor("drone b 100cm 0 1m 0")
+        self.wait(lambda: self.number() == ["yaw of b", "0", "°"], "no yaw")
+        self.browser.type(CONTROL + "a" + "\uE000" + "90.5", "#number-value")
+        self.assertIn("drone b 100cm 0 1m 90.5deg\n", self.text())
+        self.put_cursor("cue 2")
+        self.wait(lambda: self.number() == ["length of cue", "2", "s"], "no number")
+        self.browser.type(CONTROL + "a" + "\uE000" + "0.25", "#number-value")
+        self.assertIn("\ncue 250ms\n", self.text())
+        self.says("accepted")
+        self.assertEqual(self.browser.faults(), [])
+
+    def test_menu_in_units(self):
+        """What the menu writes into a text in `choreo 2` has units."""
+        text = in_units(GOOD)
+        self.open(text)
+        self.says("accepted")
+        self.put_cursor(text)
+        self.browser.click("#insert")
+        self.press("cue of 3 s with")
+        cue = "\ncue 3s\na move 0 1m 1m 0\nb move 1m 0 1m 0\nend\n"
+        self.wait(lambda: self.text() == text + cue, "nothing was written")
+        self.assertEqual(self.number(), ["length of cue", "3", "s"])
+        self.put_cursor("drone b 1m 0 1m 0\n")
+        self.browser.type(CONTROL + " ")
+        self.press("drone")
+        self.wait(lambda: "drone b 1m 0 1m 0\ndrone c 1.5m 0 1m 0\n" in self.text(), "no drone")
+        self.put_cursor("b move 1m 0 1m 0")
+        self.browser.click("#insert")
+        self.press("c")
+        self.wait(lambda: "b move 1m 0 1m 0\nc move 1.5m 0 1m 0\nend" in self.text(), "no act")
+        self.put_cursor("drone c 1.5m 0 1m 0\n")
+        self.browser.click("#insert")
+        self.press("formation with")
+        formation = "\nformation place1\nat a 0 0 1m 0\nat b 1m 0 1m 0\nat c 1.5m 0 1m 0\nend\n"
+        self.wait(lambda: formation in self.text(), "no formation")
+        self.assertEqual(self.number(), ["x of a", "0", "m"])
+        self.says("3 drones, 2 cues")
+        self.assertEqual(self.browser.faults(), [])
+
+    def test_stretch_in_units(self):
+        """The end of a cue is dragged in a text in `choreo 2`."""
+        text = in_units(GOOD)
+        self.open(text)
+        self.says("accepted")
+        self.wait(lambda: self.browser.run("return Boolean(found.notes)"), "no notes")
+        for milliseconds, word in ((1500, "1.5s"), (990, "990ms"), (70000, "65.535s")):
+            self.browser.run("stretchCue(0, arguments[0])", milliseconds)
+            self.assertEqual(self.text(), text.replace("2s", word))
+            self.says("1 cue, %.1f" % (min(65535, milliseconds) / 1000))
+        self.assertEqual(self.browser.faults(), [])
+
+    def test_same_rule(self):
+        """The page reads and writes quantities as quantities.py does."""
+        self.open(in_units(GOOD))
+        words, numbers = same_rule.table()
+        came = self.browser.run("const [words, numbers] = arguments; return %s" % same_rule.BOTH, words, numbers)
+        self.assertEqual(came, [same_rule.read(words), same_rule.written(numbers)])
 
     def test_stretch(self):
         """The end of a cue is dragged: its number stands in the text, and one undo takes it back."""

@@ -6,6 +6,7 @@ import unittest
 
 import common
 from hemtoghai.language import choreo
+from hemtoghai.language.converting import converted
 
 # Two formations, one of which b has alone; a figure that is performed three times, once by b and c, in a repeat, and
 # once
@@ -138,6 +139,17 @@ class Without(unittest.TestCase):
         out = common.run("without", "-", "b", text=long)[1]
         self.assertIn("figure a_name_of_16_l_2 q", out.replace("a_name_of_16_l_2", "a_name_of_16_l_2"))
         self.assertEqual(flights(out), {name: row for name, row in flights(long).items() if name != "b"})
+
+    def test_forms(self):
+        """What is written of a text in `choreo 2` is in `choreo 2`, and the same show as of the text in `choreo 1`."""
+        shifted = SHOW.replace("pair none 0 0 0 0 b c", "pair x 1 100000 -50 2000000 b c")
+        mirrored, flown = common.example("mirrored_figure")
+        for text, gone in ((SHOW, "b"), (shifted, "b"), (mirrored.decode(), flown.names[1])):
+            second = common.run("without", "-", gone, text=converted(text.encode(), 2).decode())[1]
+            self.assertEqual(converted(second.encode(), 1).decode(), common.run("without", "-", gone, text=text)[1])
+            self.assertEqual(choreo.form_of(second.encode()), 2)
+        self.assertIn("\nperform pair_2 x 1 0.1m -0.00005m 2m c   # twice\n", common.run(
+            "without", "-", "b", text=converted(shifted.encode(), 2).decode())[1])
 
     def test_refused(self):
         for words, text, status, line in (

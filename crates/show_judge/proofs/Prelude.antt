@@ -37,6 +37,7 @@ pub use Rattle.show_judge.specs.Outcome.{IsComplete, IsOutcome, IsOutcomeBy, IsO
 pub use Rattle.show_judge.specs.Refused.{IsOfInput, blocked_by, faulty, marker_refusal, no_plan, show_refusal, text_refusal}
 pub use Rattle.show_judge.specs.Runs.{Behaves, Completes, Does, IsOutput, IsStopped, Runs, StopsAtMarker, TakesLittle, reads, told}
 pub use Rattle.show_judge.specs.Shows.{Cut, cut_of, feeds, marker_number, name_at, names_of, nodes_of, sent_of}
+pub use Rattle.show_judge.specs.TextsRead.{IsPastTwo, OneTextRead, TwoTextsRead}
 pub use Rattle.show_judge.specs.Verb.{FliesApart, IsAny, IsJudged, IsTwo, Judges, Outcome, Run, Span, Verb, run_on, nothing, of_nothing, of_own, of_show, outcome, own_text, run_of, the_input, two_ways}
 pub use Rattle.show_judge.specs.declared.ends.Answer.{Answer}
 pub use Rattle.show_judge.specs.declared.ends.Answer.TheVariants.{Done, Refused}

@@ -1,7 +1,7 @@
 -- How much a run reads.
 use Rattle.std.specs.Prelude.{IsTrue}
 use Rattle.show_judge.proofs.FewLemmas.{at_new}
-use Rattle.show_judge.proofs.Prelude.{common_steps, ◌≡◌, ◌∙◌, ◌++◌, ap, Bool, [], Held, stream, IsReadWhole, IsUnmarked, IsWithin, ReadsShow, ℕ, ◌<◌, List, Option, Some, None, Result, Ok, Err, IfOk, IfSome, length, sym, subst, arith, TakesFewAfter, TakesAtMost, Answer, Failure, Read, Memory, Responds, part_of, rest_of, Text, TooLarge, Whole, Input, GoesOn, IsNextText, IsReadBoth, IsWholeText, ReadsTwo, TakesOneText, most_text, IsJudged}
+use Rattle.show_judge.proofs.Prelude.{common_steps, ◌≡◌, ◌∙◌, ◌++◌, ap, Bool, [], Held, stream, IsReadWhole, IsUnmarked, IsWithin, ReadsShow, ℕ, ◌<◌, List, Option, Some, None, Result, Ok, Err, IfOk, IfSome, length, sym, subst, arith, TakesFewAfter, TakesAtMost, Answer, Failure, Read, Memory, Responds, part_of, rest_of, Text, TooLarge, Whole, Input, GoesOn, IsNextText, IsReadBoth, IsWholeText, ReadsTwo, TakesOneText, most_text, IsJudged, refl, ◌≤◌, Rose, IsInput, Told, to_come, IsPastTwo, OneTextRead, TwoTextsRead}
 
 -- where an answer was judged, it is there
 pub judged_answer : (answer : Result Answer Failure) (old new : Option (List ℕ)) (before after status : ℕ) (P : Type 0) → Responds answer old new before after status →
@@ -59,4 +59,65 @@ texts_read limit held after old mid new show second none first goes text short l
   short = short;
   second = long;
   whole = λ whole unmarked. ap Some (end whole unmarked);
+}
+
+-- ---- what a call says of the texts that it read
+
+-- what holds anyway holds where a result is there
+at_ok : {T : Type 0} (result : Result T Failure) (P : Type 0) → P → IfOk result (λ _. P)
+at_ok (Ok value) P holds = holds
+at_ok (Err why) P holds = tt
+
+-- a count that rose later rose from before that too
+pub rose_later : (a b c : ℕ) → a ≤ b → Rose b c → Rose a c
+rose_later a b c later rose = grind (arith, common_steps)
+
+-- where two calls fail for one reason, what `Read` says of the one it says of the other
+pub failed_as : {T U : Type 0} (before : Result T Failure) (after : Result U Failure) (why : Failure) (P : Type 0) → before ≡ Err why → after ≡ Err why → (before ≡ Err Read → P) → after ≡ Err Read → P
+failed_as before after Read P was is by read = by was
+failed_as before after Memory P was is by read = absurd (let e : after ≡ Err Read = read in cc)
+
+-- A text was read, and its call went on to this result without reading.
+pub one_made : {T U : Type 0} (Fact Made : Option (List ℕ) → Option (List ℕ) → Type 0) (old new : Told) (text : T) (made : Result U Failure) → OneTextRead Fact old new (Ok text) →
+    (made ≡ Err Read → ⊥) → ((all : List ℕ) → IsInput new all → Made (to_come all old) (to_come all new)) → OneTextRead Made old new made
+one_made Fact Made old new text made reads sure gives = record {
+  fact = gives;
+  failed = λ is. absurd (sure is);
+  few = reads.few;
+  after = λ all is. at_ok made _ (reads.after all is);
+  gives = reads.gives;
+}
+
+-- No text was read, and its call gave the same reason.
+pub one_failed : {T U : Type 0} (Fact Made : Option (List ℕ) → Option (List ℕ) → Type 0) (old new : Told) (why : Failure) → OneTextRead {T = T} Fact old new (Err why) →
+    ((all : List ℕ) → IsInput new all → Made (to_come all old) (to_come all new)) → OneTextRead {T = U} Made old new (Err why)
+one_failed Fact Made old new why reads gives = record {
+  fact = gives;
+  failed = failed_as (Err why) (Err why) why _ refl refl reads.failed;
+  few = reads.few;
+  after = λ all is. tt;
+  gives = reads.gives;
+}
+
+-- Two texts were read, and their call went on to this result without reading.
+pub two_made : {U : Type 0} (limit : ℕ) (Made : Option (List ℕ) → Option (List ℕ) → Type 0) (old new : Told) (input : Input) (made : Result U Failure) →
+    TwoTextsRead (λ left left_after. ReadsTwo limit left left_after input) IsPastTwo old new (Ok input) →
+    (made ≡ Err Read → ⊥) → ((all : List ℕ) → IsInput new all → Made (to_come all old) (to_come all new)) → TwoTextsRead Made (λ _ left left_after. IsReadBoth limit left left_after) old new made
+two_made limit Made old new input made reads sure gives = record {
+  fact = gives;
+  past = λ all is. at_ok made _ (two_read limit _ _ input (reads.fact all is) (reads.past all is));
+  failed = λ is. absurd (sure is);
+  few = reads.few;
+  gives = reads.gives;
+}
+
+-- The texts weren't read, and their call gave the same reason.
+pub two_failed : {T U : Type 0} (Fact Made : Option (List ℕ) → Option (List ℕ) → Type 0) (Past : T → Option (List ℕ) → Option (List ℕ) → Type 0) (After : U → Option (List ℕ) → Option (List ℕ) → Type 0)
+    (old new : Told) (why : Failure) → TwoTextsRead Fact Past old new (Err why) → ((all : List ℕ) → IsInput new all → Made (to_come all old) (to_come all new)) → TwoTextsRead Made After old new (Err why)
+two_failed Fact Made Past After old new why reads gives = record {
+  fact = gives;
+  past = λ all is. tt;
+  failed = failed_as (Err why) (Err why) why _ refl refl reads.failed;
+  few = reads.few;
+  gives = reads.gives;
 }

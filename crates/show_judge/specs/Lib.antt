@@ -1,6 +1,7 @@
 pub mod Shows
 pub mod Refused
 pub mod Input
+pub mod TextsRead
 pub mod Steps
 pub mod Headline
 pub mod Verb

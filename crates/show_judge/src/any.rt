@@ -1,21 +1,19 @@
 //! A command that reads a show's text and answers for what fits.
-ghost use Rattle.std.specs.Prelude.{List, ℕ, ◌≡◌, ◌≤◌, Err, IfOk};
+ghost use Rattle.std.specs.Prelude.{◌≡◌, IfOk};
 ghost use Rattle.choreo_show.specs.Plain.{PlainShow};
 ghost use Rattle.cue_grid.specs.Cues.{grid_of};
-ghost use Rattle.fleet_io.specs.Causes.{Rose};
-ghost use Rattle.fleet_io.specs.Parts.{TakesFewAfter};
-ghost use Rattle.fleet_io.specs.Told.{Gives, IsInput, to_come};
 ghost use Rattle.show_plan.specs.Fitting.{IsFitted, IsValidFitted};
 ghost use Rattle.show_plan.specs.Separation.{FlyApart};
 ghost use Rattle.show_plan.specs.Uploading.{Uploads};
 ghost use Rattle.show_judge.specs.Answers.{AnswersInput, AnswersText, IsSaid, outcome_of};
-ghost use Rattle.show_judge.specs.Input.{IsWithin, TakesOneText};
+ghost use Rattle.show_judge.specs.Input.{IsWithin};
 ghost use Rattle.show_judge.specs.Outcome.{IsVerb, ShowGives};
 ghost use Rattle.show_judge.specs.Refused.{blocked_by};
 ghost use Rattle.show_judge.specs.Runs.{Does};
 ghost use Rattle.fleet_math.specs.Limits.{most_text};
 ghost use Rattle.show_judge.specs.Shows.{Cut, sent_of};
 ghost use Rattle.show_judge.specs.Verb.{IsAny, Verb, during};
+ghost use Rattle.show_judge.specs.TextsRead.{OneTextRead};
 
 use crate::ends::{Answer, Failure, respond};
 use crate::input::{Text, read_show_text};
@@ -65,12 +63,8 @@ fn answer_input<V: AnyText, S: Source>(
     source: &mut S,
 ) -> Result<Answer, Failure>
     requires any { IsAny (V.verb verb.now) }
-    ensures answers { (all : List ℕ) → IsInput (S.told source.new) all → AnswersInput (V.verb verb.now) (to_come all (S.told source.old)) (to_come all (S.told source.new)) result }
+    ensures reads { OneTextRead (λ left left_after. AnswersInput (V.verb verb.now) left left_after result) (S.told source.old) (S.told source.new) result }
     ensures said { IfOk result IsSaid }
-    ensures failed { result ≡ Err Failure.Read → Rose (S.told source.old).faults (S.told source.new).faults }
-    ensures few { (all : List ℕ) → IsInput (S.told source.new) all → TakesOneText (to_come all (S.told source.old)) (to_come all (S.told source.new)) }
-    ensures after { (all : List ℕ) → IsInput (S.told source.new) all → IfOk result (λ _. TakesFewAfter (to_come all (S.told source.old)) (to_come all (S.told source.new))) }
-    ensures gives { Gives (S.told source.old) (S.told source.new) }
 {
     let text = read_show_text(alloc, source)?;
     Ok(answer_text(alloc, verb, &text)?)

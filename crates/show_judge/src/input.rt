@@ -1,12 +1,12 @@
 //! What the program reads before it judges: a show's text, and for some commands a second text after it.
-ghost use Rattle.std.specs.Prelude.{◌≡◌, ℕ, List, ◌+◌, ◌<◌, ◌≤◌, [], length, IsTrue, IfOk, IfSome, Some};
+ghost use Rattle.std.specs.Prelude.{◌≡◌, ℕ, List, ◌+◌, ◌<◌, ◌≤◌, [], length, IsTrue, IfOk};
 ghost use Rattle.fleet_io.specs.Held.{buffer_bytes, stream, text_limit};
 ghost use Rattle.fleet_io.specs.Causes.{Rose};
 ghost use Rattle.fleet_io.specs.Parts.{TakesFewAfter};
-ghost use Rattle.fleet_io.specs.Told.{Gives, IsInput, MayGive, Went, to_come};
-ghost use Rattle.text_lines.specs.Marker.{part_of, rest_of};
+ghost use Rattle.fleet_io.specs.Told.{MayGive, Went, to_come};
 ghost use Rattle.fleet_math.specs.Limits.{most_text};
-ghost use Rattle.show_judge.specs.Input.{GoesOn, IsNextText, IsUnmarked, IsWholeText, IsWithin, ReadsShow, ReadsTwo, TakesOneText};
+ghost use Rattle.show_judge.specs.Input.{GoesOn, IsNextText, IsUnmarked, IsWholeText, IsWithin, ReadsShow, ReadsTwo};
+ghost use Rattle.show_judge.specs.TextsRead.{IsPastTwo, OneTextRead, TwoTextsRead};
 
 use crate::ends::Failure;
 use fleet_io::{IoFault, Part, Parts, Source};
@@ -103,12 +103,8 @@ fn read_second<S: Source>(
 
 /// Reads the show's text. A text that is too large ends the reading. `Read` where a read failed.
 pub fn read_show_text<S: Source>(alloc: Global, source: &mut S) -> Result<Text, Failure>
-    ensures show { (all : List ℕ) → IsInput (S.told source.new) all → IfOk result (λ text. ReadsShow (to_come all (S.told source.old)) (to_come all (S.told source.new)) text) }
+    ensures reads { OneTextRead (λ left left_after. IfOk result (λ text. ReadsShow left left_after text)) (S.told source.old) (S.told source.new) result }
     ensures within { IfOk result (λ text. IsWithin most_text text) }
-    ensures few { (all : List ℕ) → IsInput (S.told source.new) all → TakesOneText (to_come all (S.told source.old)) (to_come all (S.told source.new)) }
-    ensures after { (all : List ℕ) → IsInput (S.told source.new) all → IfOk result (λ _. TakesFewAfter (to_come all (S.told source.old)) (to_come all (S.told source.new))) }
-    ensures failed { result ≡ Err Failure.Read → Rose (S.told source.old).faults (S.told source.new).faults }
-    ensures gives { Gives (S.told source.old) (S.told source.new) }
 {
     let mut parts = Parts::make();
     next_text(alloc, &mut parts, source, MOST_TEXT)
@@ -118,13 +114,9 @@ pub fn read_show_text<S: Source>(alloc: Global, source: &mut S) -> Result<Text, 
 /// ends the reading. `Read` where a read failed.
 pub fn read_two<S: Source>(alloc: Global, source: &mut S, limit: usize) -> Result<Input, Failure>
     requires { limit ≤ text_limit }
-    ensures texts { (all : List ℕ) → IsInput (S.told source.new) all → IfOk result (λ input. ReadsTwo limit (to_come all (S.told source.old)) (to_come all (S.told source.new)) input) }
+    ensures reads { TwoTextsRead (λ left left_after. IfOk result (λ input. ReadsTwo limit left left_after input)) IsPastTwo (S.told source.old) (S.told source.new) result }
     ensures show { IfOk result (λ input. IsWithin most_text input.show) }
     ensures second { IfOk result (λ input. IsWithin limit input.second) }
-    ensures few { (all : List ℕ) → IsInput (S.told source.new) all → IfSome (to_come all (S.told source.old)) (λ comes. most_text < length (part_of comes)) → TakesOneText (to_come all (S.told source.old)) (to_come all (S.told source.new)) }
-    ensures past { (all : List ℕ) → IsInput (S.told source.new) all → IfOk result (λ input. IsWholeText input.show → IsWholeText input.second → IfSome (to_come all (S.told source.old)) (λ comes. TakesFewAfter (Some (rest_of comes)) (to_come all (S.told source.new)))) }
-    ensures failed { result ≡ Err Failure.Read → Rose (S.told source.old).faults (S.told source.new).faults }
-    ensures gives { Gives (S.told source.old) (S.told source.new) }
 {
     let mut parts = Parts::make();
     let show = next_text(alloc, &mut parts, source, MOST_TEXT)?;

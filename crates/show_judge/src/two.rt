@@ -1,20 +1,18 @@
 //! A command that reads a show's text and a second one, and answers.
-ghost use Rattle.std.specs.Prelude.{List, ◌≡◌, ◌≤◌, ℕ, Err, IfOk, IfSome, length, ◌<◌, false, true, Some};
+ghost use Rattle.std.specs.Prelude.{◌≡◌, ◌≤◌, ℕ, IfOk, ◌<◌, false, true, Some};
 ghost use Rattle.choreo_show.specs.Plain.{PlainShow};
-ghost use Rattle.fleet_io.specs.Causes.{Rose};
 ghost use Rattle.fleet_io.specs.Held.{text_limit};
-ghost use Rattle.fleet_io.specs.Told.{Gives, IsInput, to_come};
-ghost use Rattle.text_lines.specs.Marker.{part_of};
 ghost use Rattle.cue_grid.specs.declared.grid.Grid.{Grid};
 ghost use Rattle.show_plan.specs.Fitting.{IsFitted, IsValidFitted};
 ghost use Rattle.show_plan.specs.Landing.{Lands};
 ghost use Rattle.show_judge.specs.Answers.{AnswersInput, AnswersTwo, IsSaid, outcome_of};
-ghost use Rattle.show_judge.specs.Input.{IsReadBoth, IsText, IsUnmarked, IsWithin, TakesOneText};
+ghost use Rattle.show_judge.specs.Input.{IsReadBoth, IsText, IsUnmarked, IsWithin};
 ghost use Rattle.show_judge.specs.Runs.{Does};
 ghost use Rattle.fleet_math.specs.Limits.{most_text};
 ghost use Rattle.show_judge.specs.Shows.{Cut};
 ghost use Rattle.show_judge.specs.Verb.{IsTwo, Verb, during};
 ghost use Rattle.show_judge.specs.Outcome.{IsVerb};
+ghost use Rattle.show_judge.specs.TextsRead.{TwoTextsRead};
 
 use crate::ends::{Answer, Failure, respond};
 use crate::input::{Input, Text, read_two};
@@ -87,12 +85,8 @@ fn answer_input<V: TwoTexts, S: Source>(
 ) -> Result<Answer, Failure>
     requires verb { IsVerb (V.verb verb.now) }
     requires two { IsTwo (Some (V.searched verb.now)) (V.most verb.now) (V.verb verb.now) }
-    ensures answers { (all : List ℕ) → IsInput (S.told source.new) all → AnswersInput (V.verb verb.now) (to_come all (S.told source.old)) (to_come all (S.told source.new)) result }
-    ensures both { (all : List ℕ) → IsInput (S.told source.new) all → IfOk result (λ _. IsReadBoth (V.most verb.now) (to_come all (S.told source.old)) (to_come all (S.told source.new))) }
+    ensures reads { TwoTextsRead (λ left left_after. AnswersInput (V.verb verb.now) left left_after result) (λ _ left left_after. IsReadBoth (V.most verb.now) left left_after) (S.told source.old) (S.told source.new) result }
     ensures said { IfOk result IsSaid }
-    ensures failed { result ≡ Err Failure.Read → Rose (S.told source.old).faults (S.told source.new).faults }
-    ensures few { (all : List ℕ) → IsInput (S.told source.new) all → IfSome (to_come all (S.told source.old)) (λ comes. most_text < length (part_of comes)) → TakesOneText (to_come all (S.told source.old)) (to_come all (S.told source.new)) }
-    ensures gives { Gives (S.told source.old) (S.told source.new) }
 {
     let limit = verb.limit();
     let input = read_two(alloc, source, limit)?;

@@ -1,16 +1,14 @@
 //! `play`: the positions of a show in whole numbers.
-ghost use Rattle.std.specs.Prelude.{◌≡◌, ◌≤◌, ℕ, List, map, IfOk};
+ghost use Rattle.std.specs.Prelude.{◌≤◌, ℕ, List, map, IfOk};
 ghost use Rattle.choreo_lines.specs.Name.{Name};
-ghost use Rattle.fleet_io.specs.Causes.{Rose};
-ghost use Rattle.fleet_io.specs.Parts.{TakesFewAfter};
-ghost use Rattle.fleet_io.specs.Told.{Gives, IsInput, to_come};
+ghost use Rattle.fleet_io.specs.Told.{Gives, IsInput};
 ghost use Rattle.integer_player.specs.Played.{play_text};
 ghost use Rattle.show_plan.specs.Fitting.{IsValidFitted};
 ghost use Rattle.show_judge.specs.Answers.{IsSoundJudged, JudgesInput, Wrote};
-ghost use Rattle.show_judge.specs.Input.{TakesOneText};
 ghost use Rattle.show_judge.specs.Runs.{Does, Runs, StopsAtMarker, TakesLittle};
 ghost use Rattle.show_judge.specs.Verb.{during, run_on, show_ways};
 ghost use Rattle.show_looks.specs.Play.{play_verb};
+ghost use Rattle.show_judge.specs.TextsRead.{OneTextRead};
 
 use choreo_reader::show_law;
 use fleet_io::status::{DONE, WRITE_FAILED};
@@ -23,12 +21,8 @@ use traj_codec::join_law;
 
 // What `play` judges of what its source gives.
 fn judge_input<S: Source>(alloc: Global, depth: Depth, source: &mut S) -> Result<Judged, Failure>
-    ensures judges { (all : List ℕ) → IsInput (S.told source.new) all → JudgesInput (show_ways depth) depth (to_come all (S.told source.old)) (to_come all (S.told source.new)) result }
+    ensures reads { OneTextRead (λ left left_after. JudgesInput (show_ways depth) depth left left_after result) (S.told source.old) (S.told source.new) result }
     ensures sound { IfOk result IsSoundJudged }
-    ensures failed { result ≡ Err Failure.Read → Rose (S.told source.old).faults (S.told source.new).faults }
-    ensures few { (all : List ℕ) → IsInput (S.told source.new) all → TakesOneText (to_come all (S.told source.old)) (to_come all (S.told source.new)) }
-    ensures after { (all : List ℕ) → IsInput (S.told source.new) all → IfOk result (λ _. TakesFewAfter (to_come all (S.told source.old)) (to_come all (S.told source.new))) }
-    ensures gives { Gives (S.told source.old) (S.told source.new) }
 {
     let text = read_show_text(alloc, source)?;
     let ways = Ways {

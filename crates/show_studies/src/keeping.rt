@@ -1,21 +1,19 @@
 //! `boxes`: whether the drones of a show keep out of boxes and in volumes.
-ghost use Rattle.std.specs.Prelude.{List, ℕ, ◌≡◌, ◌<◌, ◌≤◌, length, All, IfOk, IfSome};
+ghost use Rattle.std.specs.Prelude.{◌≡◌, ◌<◌, ◌≤◌, length, All, IfOk};
 ghost use Rattle.choreo_show.specs.Plain.{PlainShow};
 ghost use Rattle.fleet_math.specs.Limits.{most_text};
 ghost use Rattle.show_judge.specs.Shows.{Cut};
-ghost use Rattle.fleet_io.specs.Causes.{Rose};
-ghost use Rattle.fleet_io.specs.Told.{Gives, IsInput, to_come};
 ghost use Rattle.keepout_boxes.specs.Kept.{IsNear, KeepClear, most_regions};
 ghost use Rattle.keepout_boxes.specs.Regions.{regions_of};
 ghost use Rattle.show_plan.specs.Fitting.{IsFitted, IsValidFitted};
 ghost use Rattle.show_judge.specs.Answers.{AnswersInput, AnswersTwo, IsSaid, outcome_of};
-ghost use Rattle.show_judge.specs.Input.{IsReadBoth, IsText, IsUnmarked, IsWithin, TakesOneText};
-ghost use Rattle.show_studies.specs.Boxes.{BoxesGive, BoxesLaw, KeepsRegions, RegionsGive, aside_of, boxes_verb, faulty_region, upwards_of};
+ghost use Rattle.show_judge.specs.Input.{IsReadBoth, IsText, IsUnmarked, IsWithin};
+ghost use Rattle.show_studies.specs.Boxes.{BoxesLaw, KeepsRegions, RegionsGive, aside_of, boxes_verb, faulty_region, upwards_of};
 ghost use Rattle.show_judge.specs.Refused.{second_refusal};
 ghost use Rattle.show_judge.specs.Runs.{Does};
 ghost use Rattle.show_judge.specs.Verb.{during};
 ghost use Rattle.show_studies.specs.Steps.{EndsRegions};
-ghost use Rattle.text_lines.specs.Marker.{part_of};
+ghost use Rattle.show_judge.specs.TextsRead.{TwoTextsRead};
 
 use choreo_reader::show_law;
 use fleet_curves::Curves;
@@ -156,12 +154,8 @@ fn answer_two(alloc: Global, depth: Depth, input: &Input) -> Result<Answer, Allo
 
 // What `boxes` ends with for what its source gives.
 fn answer_input<S: Source>(alloc: Global, depth: Depth, source: &mut S) -> Result<Answer, Failure>
-    ensures answers { (all : List ℕ) → IsInput (S.told source.new) all → AnswersInput (boxes_verb depth) (to_come all (S.told source.old)) (to_come all (S.told source.new)) result }
-    ensures both { (all : List ℕ) → IsInput (S.told source.new) all → IfOk result (λ _. IsReadBoth most_text (to_come all (S.told source.old)) (to_come all (S.told source.new))) }
+    ensures reads { TwoTextsRead (λ left left_after. AnswersInput (boxes_verb depth) left left_after result) (λ _ left left_after. IsReadBoth most_text left left_after) (S.told source.old) (S.told source.new) result }
     ensures said { IfOk result IsSaid }
-    ensures failed { result ≡ Err Failure.Read → Rose (S.told source.old).faults (S.told source.new).faults }
-    ensures few { (all : List ℕ) → IsInput (S.told source.new) all → IfSome (to_come all (S.told source.old)) (λ comes. most_text < length (part_of comes)) → TakesOneText (to_come all (S.told source.old)) (to_come all (S.told source.new)) }
-    ensures gives { Gives (S.told source.old) (S.told source.new) }
 {
     let input = read_two(alloc, source, MOST_TEXT)?;
     Ok(answer_two(alloc, depth, &input)?)

@@ -3,22 +3,21 @@ ghost use Rattle.std.specs.Prelude.{OnErr, List, ℕ, ◌≡◌, ◌+◌, ◌^�
 ghost use Rattle.std.specs.Io.KnownBytes.{IsAtEnd};
 ghost use Rattle.fleet_io.specs.Causes.{Rose};
 ghost use Rattle.fleet_io.specs.Held.{stream};
-ghost use Rattle.fleet_io.specs.Told.{Gives, IsInput, MayGive, Went, to_come};
+ghost use Rattle.fleet_io.specs.Told.{MayGive, Went, to_come};
 ghost use Rattle.fleet_curves.specs.Raised.{CurvesStandFor};
 ghost use Rattle.certificate_checker.specs.Bytes.{ApartWhereValid, HasRead, NamesFault};
 ghost use Rattle.refusals.specs.declared.refusal.Refusal.{Refusal};
 ghost use Rattle.show_plan.specs.Fitting.{IsValidFitted};
 ghost use Rattle.show_plan.specs.Separation.{FlyApart, clearance_of};
 ghost use Rattle.show_judge.specs.Answers.{AnswersInput, IsSaid, outcome_of};
-ghost use Rattle.show_judge.specs.Input.{IsReadBoth, IsWholeText, TakesOneText};
+ghost use Rattle.show_judge.specs.Input.{IsReadBoth, IsWholeText};
 ghost use Rattle.show_judge.specs.Outcome.{refused};
-ghost use Rattle.text_lines.specs.Marker.{part_of};
 ghost use Rattle.show_judge.specs.Runs.{Does};
 ghost use Rattle.show_judge.specs.Shows.{feeds};
 ghost use Rattle.show_judge.specs.Verb.{during};
 ghost use Rattle.show_verify.specs.Verify.{VerifyLaw, certificate_limit, verify_verb};
 ghost use Rattle.show_verify.specs.SecondTexts.{GivesSecond, IsFewTaken, IsTakenToEnd, IsTakenWhole, TakenGives, verdict_outcome};
-ghost use Rattle.fleet_math.specs.Limits.{most_text};
+ghost use Rattle.show_judge.specs.TextsRead.{TwoTextsRead};
 
 use crate::faults::not_valid;
 use crate::lines::valid_line;
@@ -232,12 +231,8 @@ fn answer_refused<S: Source>(
 
 // What `verify` ends with for what its source gives. A failed read comes before what is wrong with the show.
 fn answer_input<S: Source>(alloc: Global, source: &mut S) -> Result<Answer, Failure>
-    ensures answers { (all : List ℕ) → IsInput (S.told source.new) all → AnswersInput verify_verb (to_come all (S.told source.old)) (to_come all (S.told source.new)) result }
-    ensures both { (all : List ℕ) → IsInput (S.told source.new) all → IfOk result (λ _. IsReadBoth certificate_limit (to_come all (S.told source.old)) (to_come all (S.told source.new))) }
+    ensures reads { TwoTextsRead (λ left left_after. AnswersInput verify_verb left left_after result) (λ _ left left_after. IsReadBoth certificate_limit left left_after) (S.told source.old) (S.told source.new) result }
     ensures said { IfOk result IsSaid }
-    ensures failed { result ≡ Err Failure.Read → Rose (S.told source.old).faults (S.told source.new).faults }
-    ensures few { (all : List ℕ) → IsInput (S.told source.new) all → IfSome (to_come all (S.told source.old)) (λ comes. most_text < length (part_of comes)) → TakesOneText (to_come all (S.told source.old)) (to_come all (S.told source.new)) }
-    ensures gives { Gives (S.told source.old) (S.told source.new) }
 {
     let mut parts = Parts::make();
     let show = next_text(alloc, &mut parts, source, MOST_TEXT)?;

@@ -55,8 +55,9 @@ def with_words(line, words):
     return front + words.encode() + end
 
 
-def block(lines, written, dealt, name):
-    """The lines of a formation's block as it is dealt, under this name, and the index of its last line."""
+def block(lines, written, dealt, name, form):
+    """The lines of a formation's block as it is dealt, under this name, and the index of its last line; in a form of
+    the language."""
     last = next(k for k in range(written.body[-1].number, len(lines)) if lines[k].split(b"#")[0].split() == [b"end"])
     out = lines[written.number - 1:last + 1]
     if name != written.values[0]:
@@ -64,7 +65,7 @@ def block(lines, written, dealt, name):
     for old, new in zip(written.body, dealt.body):
         if old.values != new.values:
             at = old.number - written.number
-            out[at] = with_words(out[at], "at %s %d %d %d %d" % tuple(new.values))
+            out[at] = with_words(out[at], " ".join(choreo.words_of(new, form)))
     return last, out
 
 
@@ -91,7 +92,7 @@ def rewritten(text, flown):
         if places not in [way for way, _ in ways]:
             called = name if not ways else free_name(name, names)
             ways.append((places, called))
-            last, own = block(lines, flown.show.formations[name], formation, called)
+            last, own = block(lines, flown.show.formations[name], formation, called, flown.show.form)
             if called == name:
                 new[formation.number - 1:last + 1] = own
             else:

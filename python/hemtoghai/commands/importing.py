@@ -29,6 +29,7 @@ from hemtoghai.companion import add_depth, many, parser, stop
 from hemtoghai.exchange import foreign
 from hemtoghai.geometry import fitting, separation
 from hemtoghai.language import choreo
+from hemtoghai.language.lines import header, line_in, NEWEST
 
 MOST_JUDGED = 20000  # cues of a show that is only judged
 STRETCH = 150  # cues of curves, in 23 bytes each, fit into 4,096
@@ -54,15 +55,15 @@ def ask(text, deep):
     return status, output.decode(errors="replace").strip()
 
 
-def judge(fit, head, wanted, bound, deep):
+def judge(fit, head, form: int, wanted, bound, deep):
     """Says of the file's own curves whether the wanted ellipsoids keep apart; the status of `check`. Stretches that fit
     into a drone's memory are judged one after the other, since a show that is only judged needs no room."""
     for first in range(0, len(fit.cues), STRETCH):
         chosen = slice(first, first + STRETCH)
-        status, line = ask(fit.text(head, chosen), deep)
+        status, line = ask(fit.text(head, form, chosen), deep)
         print("check, from %.3f s on: %s" % (fit.cues[first][0] / 1000, line))
         if status == 5:
-            print_why(fit, fit.text(head, chosen, fit.cues[first][0]), wanted, deep)
+            print_why(fit, fit.text(head, form, chosen, fit.cues[first][0]), wanted, deep)
         elif status:
             print("NO ANSWER on separation: the import is refused for another reason; see docs/COMMANDS.md")
         if status:
@@ -125,13 +126,13 @@ def print_why(fit, text, wanted, deep):
 
 # ---- limits
 
-def too_much(fit, head):
+def too_much(fit, head, form: int):
     """What is too much of an import for a drone or for the language: a status, words, and how many times too much, or 0
     where less of it doesn't help; or None."""
     if len(fit.cues) > choreo.MOST_CUES:
         return FAULTY, "more than %d cues" % choreo.MOST_CUES, len(fit.cues) / choreo.MOST_CUES
     try:
-        flown = choreo.flown_of(fit.text(head).encode())
+        flown = choreo.flown_of(fit.text(head, form).encode())
         room = flown.room()
         most, name, segments = max((len(data), name, len(sent)) for name, data, sent in zip(
             flown.names, flown.data(), flown.sent))
@@ -149,7 +150,7 @@ def tolerance_for(paths, options, head, times, edges):
     many times fewer pieces. No tolerance does without the edges of rests and corners."""
     for mm in STEPS if edges <= choreo.MOST_CUES else ():
         if mm > max(options.tolerance, options.tolerance * times ** 2):
-            if too_much(fit_of(paths, options, mm), head) is None:
+            if too_much(fit_of(paths, options, mm), head, options.form) is None:
                 return mm
     return None
 
@@ -201,6 +202,8 @@ def options_of(words: list[str]):
                        help="the half axes that are wanted around the file's own curves, in mm; '120 300'")
     reader.add_argument("--memory", type=numbers((0, 255), (0, 4095)), default=(2, 0), metavar="'ID OFFSET'",
                        help="the show's line; '2 0'")
+    reader.add_argument("--form", type=int, choices=sorted(choreo.FORMS.values()), default=NEWEST,
+                        help="of the language: 2, with units, or 1, in whole numbers; 2")
     reader.add_argument("--starts", metavar="FILE", help="name,x,y,z a row (metres), added to polynomials")
     reader.add_argument("--judge", action="store_true", help="write no show: judge the file's own curves")
     add_depth(reader, "of --judge: 0 to 8, without it 6")
@@ -290,15 +293,16 @@ def head_of(options, bound, turned, factor, large):
             *("# Left out: %s." % what for what in options.left_out),
             "# Factor: %d %d is wanted around the source's curves, and %.4f times that is kept clear." % (
                 *options.ellipsoid, factor),
-            "choreo 1", "ellipsoid %d %d" % large, "memory %d %d" % options.memory]
+            header(options.form), line_in(options.form, "ellipsoid", *large),
+            line_in(options.form, "memory", *options.memory)]
 
 
 def main(words: list[str]) -> int:
     options = options_of(words)
     paths = paths_of(options)
     fit = fit_of(paths, options, options.tolerance)
-    head = ["choreo 1", "memory %d %d" % options.memory]
-    found = None if options.judge else too_much(fit, head)
+    head = [header(options.form), line_in(options.form, "memory", *options.memory)]
+    found = None if options.judge else too_much(fit, head, options.form)
     if found:
         return stop_for(paths, options, found, head, len(fit.edges) - 1)
     if options.judge and len(fit.cues) > MOST_JUDGED:
@@ -314,6 +318,6 @@ def main(words: list[str]) -> int:
     if options.judge:
         print("wanted: ellipsoids %d %d; judged: %d %d, %.4f times as large for %.2f mm of the import" % (
             *options.ellipsoid, *large, factor, bound))
-        return judge(fit, head, options.ellipsoid, bound, options.depth)
-    sys.stdout.write(fit.text(head))
+        return judge(fit, head, options.form, options.ellipsoid, bound, options.depth)
+    sys.stdout.write(fit.text(head, options.form))
     return 0 if bound <= math.ceil(100 * options.tolerance) / 100 else 1

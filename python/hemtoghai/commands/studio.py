@@ -32,24 +32,24 @@ from hemtoghai.seeing.studio_program import Program
 from hemtoghai.seeing.studio_server import Handler, Server
 from hemtoghai.seeing.studio_words import words_of_language
 
-PARTS = {"/*STYLE*/": "studio.css", "/*VIEW*/": "view.js", "/*TEXT*/": "studio_text.js", "/*EDIT*/": "studio_edit.js",
-         "/*FOUND*/": "studio_found.js", "/*MAIN*/": "studio.js"}
+PARTS = {"/*STYLE*/": "studio.css", "/*VIEW*/": "view.js", "/*TEXT*/": "studio_text.js",
+         "/*QUANTITIES*/": "studio_quantities.js", "/*EDIT*/": "studio_edit.js", "/*FOUND*/": "studio_found.js", "/*MAIN*/": "studio.js"}
 FOLDER = os.path.join(program.PACKAGE, "seeing")  # of the page's files
 MOST_JOBS = 8  # that run at a time, of all pages together
 MOST_PAGES = 64  # whose newest text is remembered
 MARKER = ["a line `%%` ends a show's text, and nothing may stand after it here", "", "take the line out"]
-TEMPLATE = b"""choreo 1
-# Lengths are micrometres, times milliseconds, yaws tenths of a degree: see docs/LANGUAGE.md.
+TEMPLATE = b"""choreo 2
+# A number has its unit right after it: 1.5m, 30cm, 2s, 90deg. See docs/LANGUAGE.md.
 
-drone a 0 0 1000000 0
-drone b 1000000 0 1000000 0
+drone a 0 0 1m 0
+drone b 1m 0 1m 0
 
-cue 3000
-a move 0 1000000 1000000 0
+cue 3s
+a move 0 1m 1m 0
 end
 
-cue 3000
-b move 0 0 1000000 0
+cue 3s
+b move 0 0 1m 0
 end
 """
 
@@ -153,7 +153,7 @@ class Studio:
             lines = text.split(b"\n")
             line = lines[number - 1] if number <= len(lines) else b""
             found["fault"] = {"line": number, "word": word or "marker", "text": shown(line)[0],
-                              "row": cure_of(word, line) if word else MARKER}
+                              "row": cure_of(word, line, choreo.form_of(text)) if word else MARKER}
         return found
 
 

@@ -12,6 +12,7 @@ from hemtoghai.companion import (add_depth, ask_check, ask_dynamics, begins, flo
                                  parser, place, seconds, value)
 from hemtoghai.flying import legs
 from hemtoghai.geometry import separation
+from hemtoghai.language.lines import line_in
 from hemtoghai.writing.margins import greatest, MOST, with_setting
 
 PLACES = 32
@@ -101,6 +102,11 @@ def print_nearest(flown, most):
             abs(first[2] - second[2]), seconds(times[cue] + flown.cues[cue].milliseconds * u), cue + 1))
 
 
+def in_words(flown, word, *numbers):
+    """What stands after a setting's word in the show's form of the language."""
+    return line_in(flown.show.form, word, *numbers).partition(" ")[2]
+
+
 def print_margin(flown, text, deep):
     """Prints by how much the ellipsoid can grow, in whole percent, and the stray and the lateness, in whole millimetres
     and milliseconds."""
@@ -110,17 +116,24 @@ def print_margin(flown, text, deep):
     if share is None:
         return print("no margin: refused even with the least ellipsoid: " + above)
     above = "; above that " + above if above else ""
-    print("accepted at depth %d with up to %d %% of the ellipsoid %d %d, which is %d %d%s" % (
-        deep, share, r, h, max(1, r * share // 100), max(1, h * share // 100), above))
-    for word, unit, others in (("stray", "mm", "late %d" % late), ("late", "ms", "stray %d" % stray)):
+    print("accepted at depth %d with up to %d %% of the ellipsoid %s, which is %s%s" % (
+        deep, share, in_words(flown, "ellipsoid", r, h),
+        in_words(flown, "ellipsoid", max(1, r * share // 100), max(1, h * share // 100)), above))
+    print_strays(flown, text, deep)
+    if not ask_check(text, deep):
+        print("as the tool works it out: " + missing())
+
+
+def print_strays(flown, text, deep):
+    """Prints by how much the stray and the lateness can grow, each while the other is as it is."""
+    for word, other, unit in (("stray", "late", "mm"), ("late", "stray", "ms")):
+        others = "%s %s" % (other, in_words(flown, other, *flown.show.settings[other]))
         most, above = greatest(deep, MOST + 1, lambda k: with_setting(text, word, k))
         if most is None:
             print("refused with %s, even with %s 0: %s" % (others, word, above))
         else:
             print("accepted with %s up to %d %s, and %s as it is%s" % (
                 word, most, unit, others, "; above that " + above if above else ", which is the most there is"))
-    if not ask_check(text, deep):
-        print("as the tool works it out: " + missing())
 
 
 def print_ways(flown):

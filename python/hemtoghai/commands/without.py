@@ -16,13 +16,14 @@ import sys
 
 from hemtoghai.companion import add_depth, ask_check, flown_of, missing, parser, stop
 from hemtoghai.language import choreo
+from hemtoghai.language.lines import line_in
 
 IDLE = "nobody"  # the role of a figure in which nobody acts
 
 
 def ends_of(text):
     """The numbers of the `end` lines of a good show, by those of the lines that open their blocks."""
-    blocks, ends, begun = [choreo.Line(0, "top", [])], {}, False
+    blocks, ends, begun = [choreo.Line(0, "top", [choreo.form_of(text)])], {}, False
     for number, line in enumerate(text.split(b"\n"), 1):
         words = line.partition(b"#")[0].decode().split()
         if words and begun:
@@ -116,8 +117,8 @@ class Editor:
     def cut_perform(self, line, name):
         """A perform of a figure without the roles of drones that are gone."""
         players = [player for player in line.values[6:] if player not in self.gone] or self.left[:1]
-        self.changed[line.number] = with_words(
-            self.lines[line.number - 1], ["perform", name, *map(str, line.values[1:6]), *players])
+        words = line_in(self.show.form, "perform", name, *line.values[1:6], *players).split()
+        self.changed[line.number] = with_words(self.lines[line.number - 1], words)
 
     def text(self):
         """The new show."""

@@ -4,12 +4,15 @@ Micrometres, milliseconds and tenths of a degree. All control values that are fl
 program sends them: its rounding changes nothing. Cues are looked for in doubles, and `bounds` says in exact fractions
 how far what was found leaves the paths.
 """
+from __future__ import annotations
+
 import bisect
 import math
 from fractions import Fraction
 
 from hemtoghai.geometry.paths import farthest, root_up, roughly_farthest
 from hemtoghai.language import choreo
+from hemtoghai.language.lines import line_in
 
 REST = 300  # milliseconds from which on a drone's rest is kept as it is
 LONGEST = choreo.LONGEST_SEGMENT
@@ -147,15 +150,17 @@ class Fit:
             out.append((root_up(worst[0] / 1000000), root_up(worst[1] / 100)))
         return out
 
-    def text(self, head, cues=slice(None), wait=0):
-        """The show's text, or that of some of its cues after a wait."""
+    def text(self, head: list[str], form: int, cues: slice = slice(None), wait: int = 0) -> str:
+        """The show's text after these first lines, in a form of the language, or that of some of its cues after a
+        wait."""
         chosen = self.cues[cues]
         starts = [[row[0] for row in rows] for _, rows in chosen[0][2]]
-        lines = head + ["drone %s %d %d %d %d" % (path.name, *start) for path, start in zip(self.paths, starts)]
-        lines += ["cue %d\nend" % min(LONGEST, wait - k) for k in range(0, wait, LONGEST)]
+        lines = head + [line_in(form, "drone", path.name, *start) for path, start in zip(self.paths, starts)]
+        for k in range(0, wait, LONGEST):
+            lines += [line_in(form, "cue", min(LONGEST, wait - k)), "end"]
         for begin, length, acts in chosen:
-            lines.append("cue %d   # from %.3f s" % (length, begin / 1000))
-            lines += ["%s %s" % (path.name, " ".join(map(str, words)))
+            lines.append("%s   # from %.3f s" % (line_in(form, "cue", length), begin / 1000))
+            lines += [line_in(form, "act", path.name, *words)
                       for path, (words, _) in zip(self.paths, acts) if words != ["hold"]]
             lines.append("end")
         return "\n".join(lines) + "\n"

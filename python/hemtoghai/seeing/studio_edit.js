@@ -1,8 +1,10 @@
 // Writing without counting micrometres in ./show studio: the number under the cursor in metres or seconds, new drones,
 // cues and acts with the numbers of where each drone is, cues that are dragged longer or shorter, and a drone's lines.
+// A number is kept whole, in the unit of `choreo 1`, and written in the form of the text.
 
-// By the unit of a number in the text: how many of it are one of the unit that is shown, its name, and a step.
+// By the unit of a whole number: how many of it are one of the unit that is shown, its name, and a step.
 const UNITS = {um: [1000000, "m", 100000], mm: [1000, "m", 10], ms: [1000, "s", 100], deg10: [10, "°", 100]};
+const MOST_SHOWN = 999999999;
 const OPENING = ["formation", "figure", "cue", "repeat"];  // what a line may open
 
 // ---- the number under the cursor
@@ -10,7 +12,10 @@ const OPENING = ["formation", "figure", "cue", "repeat"];  // what a line may op
 let target = null;  // that number: from and to in the text, its line, its place among the words, unit, name, value
 let writing = false;  // while a number of the field is written, the field isn't left
 const wordsOf = line => [...line.replace(/#.*/, "").matchAll(/\S+/g)].map(it => ({at: it.index, text: it[0]}));
-const isFirstForm = () => /^\s*choreo\s+1\b/.test(lines.find(line => line.replace(/#.*/, "").trim()) || "");
+// A whole number as a word of the text, and the whole number that a word of it is, or null.
+const numberWord = (unit, value) => textForm === 2 ? quantityWord(unit, value) : `${value}`;
+const numberOf = (unit, word) => textForm === 2 ? quantityOf(unit, word) :
+  textForm === 1 && /^-?[0-9]{1,9}$/.test(word) ? Number(word) : null;
 // What the words of a line after its first ones are, with the name of the drone, or null.
 function slotsOf(words) {
   const {acts, lines: kinds} = given.language;
@@ -23,14 +28,15 @@ function slotsOf(words) {
 }
 // The number that stands at an offset of a line, or null.
 function numberAt(line, column) {
-  const words = wordsOf(lines[line - 1] || ""), row = isFirstForm() ? slotsOf(words) : null;
+  const words = wordsOf(lines[line - 1] || ""), row = slotsOf(words);
   const place = words.findIndex(word => word.at <= column && column <= word.at + word.text.length);
   if (!row || place < row.first) return null;
   const slot = row.slots[place - row.first], text = words[place].text;
-  if (!Array.isArray(slot) || !UNITS[slot[1]] || !/^-?[0-9]{1,9}$/.test(text)) return null;
+  const value = Array.isArray(slot) && UNITS[slot[1]] ? numberOf(slot[1], text) : null;
+  if (value === null || Math.abs(value) > MOST_SHOWN) return null;
   const from = offsetOf(line) + words[place].at;
   const named = `${slot[0]} of ${row.name}`;
-  return {from, to: from + text.length, text, unit: slot[1], line, place, named, value: Number(text)};
+  return {from, to: from + text.length, text, unit: slot[1], line, place, named, value};
 }
 const asShown = (value, unit) => {
   const [factor] = UNITS[unit], digits = Math.round(Math.log10(factor));
@@ -51,8 +57,8 @@ function showNumber(force) {
 }
 // Writes a number of the field into the text, where the text still has the one that is shown; whether it was written.
 function writeNumber(value) {
-  const input = byId("number-value"), text = `${value}`;
-  if (!target || !Number.isFinite(value) || Math.abs(value) > 999999999) return false;
+  if (!target || !Number.isFinite(value) || Math.abs(value) > MOST_SHOWN) return false;
+  const input = byId("number-value"), text = value === target.value ? target.text : numberWord(target.unit, value);
   if (field.value.slice(target.from, target.to) !== target.text) return false;
   if (text !== target.text) {
     const focused = document.activeElement === input;
@@ -64,9 +70,10 @@ function writeNumber(value) {
   }
   return true;
 }
-// The number of the field in the unit of the text, or NaN.
+// The number of the field in whole numbers, or NaN. It may have its unit.
 function numberOfField() {
   const words = byId("number-value").value.trim().replace(",", ".");
+  if (/[a-z]$/.test(words)) return quantityOf(target.unit, words) ?? NaN;
   return /^-?([0-9]+\.?[0-9]*|\.[0-9]+)$/.test(words) ? Math.round(Number(words) * UNITS[target.unit][0]) : NaN;
 }
 function onNumber() {
@@ -218,12 +225,18 @@ function fillActs(places, free) {
   for (const name of places.formations) menuButton(`form ${name}`, () => insert(`form ${name} move`));
 }
 function fillPlaces(free) {
-  const line = row => `at ${row.join(" ")}`;
-  for (const row of free) menuButton(`place of ${row[0]}`, () => insert(line(row)));
-  if (free.length > 1) menuButton(`places of all ${free.length}`, () => insert(free.map(line).join("\n")));
+  for (const row of free) menuButton(`place of ${row[0]}`, () => insert(placeLine("at", row)));
+  if (free.length > 1) {
+    menuButton(`places of all ${free.length}`, () => insert(free.map(row => placeLine("at", row)).join("\n")));
+  }
+}
+// A line of a name with a place and a yaw.
+function placeLine(word, [name, x, y, z, yaw]) {
+  return [word, name, ...[x, y, z].map(it => numberWord("um", it)), numberWord("deg10", yaw)].join(" ");
 }
 function fillBlocks(places) {
-  const middle = middleOf(places.drones), all = places.drones, cue = body => insertBlock(`cue 3000\n${body}end`);
+  const middle = middleOf(places.drones), all = places.drones;
+  const cue = body => insertBlock(`cue ${numberWord("ms", 3000)}\n${body}end`);
   if (all.length) {
     menuButton(`cue of 3 s with a line of each ${places.in_figure ? "role" : "drone"}: ${actKind}`,
       () => cue(all.map(row => `${actLine(row, middle)}\n`).join("")));
@@ -233,7 +246,7 @@ function fillBlocks(places) {
   menuButton("drone", () => insert(droneLine(all)));
   if (!all.length) return;
   const name = freeName("place", [...places.formations, ...places.figures]);
-  const rows = all.map(row => `at ${row.join(" ")}\n`).join("");
+  const rows = all.map(row => `${placeLine("at", row)}\n`).join("");
   menuButton("formation with all drones where they are", () => insertBlock(`formation ${name}\n${rows}end`));
 }
 // The middle of all drones, in whole millimetres, for acts around a centre.
@@ -248,7 +261,7 @@ function actLine([name, x, y, z, yaw], [cx, cy]) {
   const numbers = given.language.acts[act].map(slot => {
     if (slot === "name") return name;
     if (isSense(slot)) return sense;
-    return UNITS[slot[1]] ? own[slot[0]] ?? own[slot[0][0]] ?? 0 : slot[0];
+    return UNITS[slot[1]] ? numberWord(slot[1], own[slot[0]] ?? own[slot[0][0]] ?? 0) : slot[0];
   });
   return [name, act, ...numbers].join(" ");
 }
@@ -256,7 +269,7 @@ function actLine([name, x, y, z, yaw], [cx, cy]) {
 function droneLine(rows) {
   const names = rows.map(row => row[0]), last = rows[rows.length - 1] || ["", -500000, 0, 1000000, 0];
   const x = Math.max(...rows.map(row => row[1]), last[1]) + 500000;
-  return `drone ${nextName(names)} ${x} ${last[2]} ${last[3]} ${last[4]}`;
+  return placeLine("drone", [nextName(names), x, ...last.slice(2)]);
 }
 function nextName(names) {
   const letters = [..."abcdefghijklmnopqrstuvwxyz"], last = names[names.length - 1] || "";
@@ -309,8 +322,9 @@ function stretchCue(cue, milliseconds) {
   if (given.watch || flightVersion !== version || !flight.lines) return;
   const line = flight.lines[cue][0][0], words = wordsOf(lines[line - 1] || "");
   if (words.length < 2 || words[0].text !== "cue") return;
-  const number = numberAt(line, words[1].at), value = `${Math.max(1, Math.min(65535, Math.round(milliseconds)))}`;
-  if (!number || value === words[1].text) return;
+  const number = numberAt(line, words[1].at), length = Math.max(1, Math.min(65535, Math.round(milliseconds)));
+  if (!number || length === number.value) return;
+  const value = numberWord("ms", length);
   writeText(number.from, number.to, value);
   field.setSelectionRange(number.from, number.from + value.length);
   scrollToLines(line, line);

@@ -1,9 +1,8 @@
 """What stands around a line of a show's text, and where each drone is there: for the menu of ./show studio, which writes
 new drones, cues and acts with these numbers. The text may be half written: then what stands before the line is
 taken."""
-import re
-
 from hemtoghai.language import choreo
+from hemtoghai.language.lines import header, line_in
 
 START = [0, 0, 1000000, 0]  # of a role whose place in its figure isn't known: a metre above the origin
 DECLARED = ("drone", "formation", "figure", *choreo.SETTINGS)
@@ -70,7 +69,8 @@ def before(lines: list, line: int, opened: list) -> list:
 def read(lines: list):
     """What the drones of these lines fly, with a pause at the end so that there is a cue; None where they are
     faulty."""
-    for pause in ([b"cue 1", b"end"], []):
+    pause_of_text = line_in(choreo.form_of(b"\n".join(lines)), "cue", 1).encode()
+    for pause in ([pause_of_text, b"end"], []):
         try:
             return choreo.flown_of(b"\n".join([*lines, *pause, b""]))
         except choreo.Refused:
@@ -87,17 +87,20 @@ def ends_of(flown) -> dict:
     return places
 
 
-def starts_of(lines: list) -> dict:
-    """By drone where its line puts it, of a text that can't be read as a whole."""
+def starts_of(lines: list, form: int) -> dict:
+    """By drone where its line puts it, of a text in a form of the language that can't be read as a whole."""
     found = {}
     for line in lines:
-        match = re.fullmatch(rb"\s*drone\s+([a-z][a-z0-9_]{0,15})((?:\s+-?[0-9]{1,9}){4})\s*(?:#.*)?", line)
-        if match:
-            found.setdefault(match[1].decode(), [int(word) for word in match[2].split()])
+        words = line.partition(b"#")[0].decode("ascii", "replace").split()
+        if len(words) == 6 and words[0] == "drone" and choreo.is_name(words[1]):
+            slots = choreo.LINES["drone"][1:]
+            numbers = [choreo.number_of(slot, word, form) for slot, word in zip(slots, words[2:])]
+            if all(number is not None and abs(number) < 10 ** 9 for number in numbers):
+                found.setdefault(words[1], numbers)
     return dict(list(found.items())[:choreo.MOST_DRONES])
 
 
-def in_figure(lines: list, line: int, opened: list) -> dict:
+def in_figure(lines: list, line: int, opened: list, form: int) -> dict:
     """By role where it is at a line of a figure, in the figure's own frame: the figure is flown by drones of its roles'
     names, each of which begins where its first line puts it, else a metre above the origin."""
     figure = opened[0]
@@ -105,8 +108,8 @@ def in_figure(lines: list, line: int, opened: list) -> dict:
              if choreo.is_name(word)][:choreo.MOST_DRONES]
     inner = [b"" if number == figure.number else it
              for number, it in enumerate(before(lines, line, opened), 1) if number >= figure.number]
-    begins = [b"drone %s %d %d %d %d" % (role.encode(), *START) for role in dict.fromkeys(roles)]
-    flown = read([b"choreo 1", *begins, *inner])
+    begins = [line_in(form, "drone", role, *START).encode() for role in dict.fromkeys(roles)]
+    flown = read([header(form).encode(), *begins, *inner])
     return ends_of(flown) if flown else {role: list(START) for role in roles}
 
 
@@ -155,13 +158,13 @@ def places_at(text: bytes, line: int) -> dict:
     figures, and whether the places could be computed or are the starts."""
     lines = text.split(b"\n")
     opened = around(lines, line)
-    where, exact = opened[-1].kind if opened else "top", True
+    where, exact, form = opened[-1].kind if opened else "top", True, choreo.form_of(text)
     if opened and opened[0].kind == "figure":
-        places = in_figure(lines, line, opened)
+        places = in_figure(lines, line, opened, form)
     else:
         flown_before = before(lines, line, opened)
         flown = read([*flown_before, *later_declarations(lines, line)]) or read(flown_before)
-        places, exact = (ends_of(flown), True) if flown else (starts_of(lines), False)
+        places, exact = (ends_of(flown), True) if flown else (starts_of(lines, form), False)
     has_lines = acted(lines, opened[-1]) if where in ("cue", "formation") else []
     if where == "cue" and opened[0].kind != "figure":
         has_lines += formed(lines, opened[-1])

@@ -6,6 +6,7 @@ const field = byId("text");
 let saves = 0;  // texts that were saved from here
 let file = null;  // the text as it was read or saved: text, stamp, ends, key
 let content = "", lines = [""], starts = [0];  // the text, its lines, and where in the text each begins
+let textForm = null;  // the form of the language that the text names: 1, 2, or null where it names none
 let marked = new Map();  // by line the mark that it has
 let version = 0;  // of the text: each change makes a new one, and a result of an older one isn't shown
 let keeping = null, typed = 0;  // the wait until it is kept, and the instant of the last key
@@ -23,8 +24,11 @@ function setContent(text) {
     starts[k] = begin;
     begin += lines[k].length + 1;
   }
+  const wordsIn = line => line.replace(/#.*/, "").trim();
+  textForm = {"choreo 1": 1, "choreo 2": 2}[wordsIn(lines.find(wordsIn) || "").split(/\s+/).join(" ")] || null;
 }
 const WORDS = new Set(given.language.words);
+const NUMBERS = {1: /^-?[0-9]+$/, 2: /^-?[0-9]+(\.[0-9]+)?(m|cm|mm|um|s|ms|deg)?$/};  // by the form of the language
 // Draws the lines that can be seen. The field's own letters are clear, so this follows each key and scroll at once.
 function drawPaper() {
   if (given.watch) return;
@@ -52,7 +56,7 @@ function tint(text, words) {
   const hash = text.indexOf("#"), code = hash < 0 ? text : text.slice(0, hash);
   for (const part of code.split(/([^\s]+)/)) {
     if (WORDS.has(part)) element("span", part, words).className = "k";
-    else if (/^-?[0-9]+$/.test(part)) element("span", part, words).className = "n";
+    else if (NUMBERS[textForm || 1].test(part)) element("span", part, words).className = "n";
     else words.append(part);
   }
   if (hash >= 0) element("span", text.slice(hash), words).className = "c";

@@ -1,7 +1,10 @@
 """The words of the language as the page of ./show studio needs them: for its colours, its menu and its field of numbers.
 They are taken from language/choreo.py, so a new act is known here once it is known there."""
-from hemtoghai.language import choreo
+from hemtoghai.language import choreo, quantities
 
+# By the unit in which a text in whole numbers has a number, what a place in a text with units counts.
+COUNTS = {"um": quantities.MICROMETRES, "mm": quantities.MILLIMETRES, "ms": quantities.MILLISECONDS,
+          "deg10": quantities.TENTHS}
 PLAIN = {("cue", 1): ("length", "ms"), ("late", 1): ("late", "ms"), ("stray", 1): ("stray", "mm"),
          ("ellipsoid", 1): ("to the side", "mm"), ("ellipsoid", 2): ("up and down", "mm"),
          ("repeat", 1): ("turns", "count"), ("perform", 3): ("quarter turns", "count")}
@@ -31,10 +34,13 @@ def slots_of(word: str, slots: list) -> list:
 
 
 def words_of_language() -> dict:
-    """All words that have a meaning of their own, and by the first word of a line, and by act, what stands there."""
+    """All words that have a meaning of their own; by the first word of a line, and by act, what stands there; and the
+    units of the second form of the language, as studio_quantities.js needs them."""
     lines = {word: slots_of(word, slots) for word, slots in choreo.LINES.items()}
     acts = {word: slots_of(word, slots) for word, slots in choreo.ACTS.items()}
     fixed = {word for slots in [*choreo.LINES.values(), *choreo.ACTS.values()]
              for slot in slots if isinstance(slot, set) for word in slot}
     mirrors = {"x", "y"}  # more often the names of drones
-    return {"words": sorted({"choreo", *lines, *acts, *fixed} - mirrors), "lines": lines, "acts": acts}
+    counts = {word: {"kind": it.kind, "usual": it.usual, "units": it.units} for word, it in COUNTS.items()}
+    return {"words": sorted({"choreo", *lines, *acts, *fixed} - mirrors), "lines": lines, "acts": acts,
+            "counts": counts}

@@ -12,9 +12,12 @@
 Lengths are in metres, times in seconds, angles in degrees. A place is (x, y, z). A path is a function from the part u
 of its time, 0 to 1, to a place; those of this module begin and end at rest. `Show.fly` cuts a path into a number of cues,
 writes each piece as the cubic with the path's place and velocity at both ends, and returns by how much the cubics
-leave the paths, in metres. Nothing is proved of what it writes: ./show check judges it as any other show.
+leave the paths, in metres. The text is in `choreo 2`, or with `form=1` in `choreo 1`. Nothing is proved of what it
+writes: ./show check judges it as any other show.
 """
 from math import cos, dist, pi, radians, sin
+
+from hemtoghai.language.lines import header, line_in, NEWEST
 
 STEP = 1e-5
 
@@ -136,15 +139,21 @@ def micrometres(v):
 
 
 class Show:
-    """A show that is being written."""
+    """A show that is being written, in a form of the language: 2 has units, 1 whole numbers. The half axes of the
+    ellipsoid and the stray are in millimetres, the lateness is in milliseconds."""
 
-    def __init__(self, comment="", ellipsoid=None, memory=None, trajectory=None, stray=None, late=None):
-        self.lines = ["# " + line for line in comment.split("\n") if line] + ["choreo 1"]
+    def __init__(self, comment="", ellipsoid=None, memory=None, trajectory=None, stray=None, late=None, form=NEWEST):
+        self.form = form
+        self.lines = ["# " + line for line in comment.split("\n") if line] + [header(form)]
         for kind, values in (("ellipsoid", ellipsoid), ("memory", memory), ("trajectory", trajectory and [trajectory]),
                              ("stray", stray and [stray]), ("late", late and [late])):
             if values:
-                self.lines.append("%s %s" % (kind, " ".join("%d" % v for v in values)))
+                self.add(kind, *map(int, values))
         self.places, self.yaws = {}, {}
+
+    def add(self, kind: str, *values: object) -> None:
+        """Adds a line; its numbers are whole ones of what their places count."""
+        self.lines.append(line_in(self.form, kind, *values))
 
     @property
     def names(self):
@@ -160,11 +169,12 @@ class Show:
         if name in self.places:
             raise ValueError("two drones have the name %s" % name)
         self.places[name], self.yaws[name] = tuple(place), yaw
-        self.lines.append("drone %s %d %d %d %d" % (name, *map(micrometres, place), round(10 * yaw)))
+        self.add("drone", name, *map(micrometres, place), round(10 * yaw))
 
     def hold(self, seconds):
         """All hold."""
-        self.lines += ["cue %d" % round(1000 * seconds), "end"]
+        self.add("cue", round(1000 * seconds))
+        self.add("end")
 
     def fly(self, seconds, paths, cuts=1, yaws=None):
         """Drones fly their paths, by name; the others hold. A drone's yaw turns evenly to that in `yaws`, if it is
@@ -175,16 +185,16 @@ class Show:
                 raise ValueError("%s is at %s, and its path begins at %s" % (name, self.places[name], path(0)))
         for k in range(cuts):
             u, v = k / cuts, (k + 1) / cuts
-            self.lines.append("cue %d" % (round(1000 * seconds * v) - round(1000 * seconds * u)))
+            self.add("cue", round(1000 * seconds * v) - round(1000 * seconds * u))
             for name, path in paths.items():
                 points, left = piece(path, u, v)
                 worst = max(worst, left)
                 yaw = self.yaws[name] + (yaws.get(name, self.yaws[name]) - self.yaws[name]) * v
-                words = [str(micrometres(c)) for point in points[1:] for c in point]
+                numbers = [micrometres(c) for point in points[1:] for c in point]
                 still = len({tuple(map(micrometres, point)) for point in points}) == 1
                 if not still or name in yaws:
-                    self.lines.append("%s curve %s %d" % (name, " ".join(words), round(10 * yaw)))
-            self.lines.append("end")
+                    self.add("act", name, "curve", *numbers, round(10 * yaw))
+            self.add("end")
         self.places.update({name: path(1) for name, path in paths.items()})
         self.yaws.update({name: yaw for name, yaw in yaws.items() if name in paths})
         return worst

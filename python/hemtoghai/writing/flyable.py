@@ -66,7 +66,8 @@ def small(flown) -> Optional[str]:
     """That all places are within some millimetres of the origin, where it is so, or None."""
     rows = (row for flight in flown.by_cue for _, elements in flight for row in elements[:3])
     if all(abs(v) <= SMALL for row in rows for v in row):
-        return "all places lie within %d mm of the origin: lengths are micrometres, so a metre is 1000000" % SMALL
+        cure = "a metre is 1m" if flown.show.form == 2 else "lengths are micrometres, so a metre is 1000000"
+        return "all places lie within %d mm of the origin: %s" % (SMALL, cure)
     return None
 
 

@@ -5,14 +5,15 @@ import re
 from hemtoghai.companion import ask_check
 from hemtoghai.geometry import separation
 from hemtoghai.language import choreo
+from hemtoghai.language.lines import line_in
 
 MOST = 1000  # millimetres of a stray, and milliseconds of lateness, in the language
 
 
-def with_setting(text: bytes, *words) -> bytes:
-    """The show's text with another setting: its word and its numbers."""
-    line = " ".join(map(str, words)).encode()
-    old = rb"(?m)^[ \t\r]*%s(?:[ \t\r]+\d+)+(?=[ \t\r]*(#|$))" % words[0].encode()
+def with_setting(text: bytes, word: str, *numbers: int) -> bytes:
+    """The show's text with another setting: its word and its numbers, which are written in the form of the text."""
+    line = line_in(choreo.form_of(text), word, *numbers).encode()
+    old = rb"(?m)^[ \t\r]*%s(?:[ \t\r]+-?[0-9][^\s#]*)+(?=[ \t\r]*(#|$))" % word.encode()
     new, found = re.subn(old, line, text)
     return new if found else text.rstrip(b"\n") + b"\n" + line + b"\n"
 

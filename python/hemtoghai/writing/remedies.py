@@ -1,6 +1,7 @@
 """What could help a drone that is blocked in a cue: how it and the others then fly, and the show's text with it. For
 ./show why."""
 from hemtoghai.language import choreo
+from hemtoghai.language.lines import line_in
 
 LOW = 300  # millimetres; nothing is advised that flies below
 # With a tenth more than the ellipsoids need a direction is found: docs/LANGUAGE.md, How much room is enough.
@@ -88,10 +89,11 @@ def place_at(flown: choreo.Flown, drone: int, cue: int) -> list:
     return at
 
 
-def higher(words: list, by: int) -> str:
-    """The words of an act, so many micrometres higher."""
+def higher(words: list, by: int, form: int) -> str:
+    """The words of an act, so many micrometres higher, in the form of the language that it is in."""
     numbers = {"line": [4], "move": [4], "curve": [4, 7, 10]}.get(words[1], [])
-    return " ".join(str(int(word) + by) if k in numbers else word for k, word in enumerate(words))
+    return " ".join(choreo.word_of(choreo.COORDINATE, choreo.number_of(choreo.COORDINATE, word, form) + by, form)
+                    if k in numbers else word for k, word in enumerate(words))
 
 
 def acts_of(flown: choreo.Flown, lines: list, cue: int, names: set) -> tuple:
@@ -102,11 +104,11 @@ def acts_of(flown: choreo.Flown, lines: list, cue: int, names: set) -> tuple:
     for line in cue_line(flown, cue).body:
         if line.kind == "form" and line.number in numbers:
             for place in flown.show.formations[line.values[0]].body:
-                words = [place.values[0], line.values[1], *map(str, place.values[1:])]
+                words = line_in(flown.show.form, "act", place.values[0], line.values[1], *place.values[1:])
                 if place.values[0] in names:
-                    own[place.values[0]] = words
+                    own[place.values[0]] = words.split()
                 else:
-                    others.append(" ".join(words).encode())
+                    others.append(words.encode())
         elif line.number in numbers:
             own[numbers[line.number]] = lines[line.number - 1].split(b"#")[0].decode().split()
         else:
@@ -118,13 +120,14 @@ def ways_of_lift(flown: choreo.Flown, cue: int, lifts: dict, up: bool):
     """The acts by which drones go to their heights where a cue begins, or come back where it ends."""
     for drone, by in sorted(lifts.items()):
         x, y, z, yaw = place_at(flown, drone, cue if up else cue + 1)
-        yield b"%s move %d %d %d %d" % (flown.names[drone].encode(), x, y, z + (1000 * by if up else 0), yaw)
+        yield line_in(flown.show.form, "act", flown.names[drone], "move", x, y, z + (1000 * by if up else 0),
+                      yaw).encode()
 
 
 def written(text: bytes, flown: choreo.Flown, cue: int, remedy: Remedy):
     """The show's text with a remedy, or None where it can't be written: a way up or down inside a repeat or a figure,
     whose turns begin at different places, or an act that isn't there."""
-    lines, start = text.split(b"\n"), flown.cues[cue].number - 1
+    lines, start, form = text.split(b"\n"), flown.cues[cue].number - 1, flown.show.form
     last = next(k for k in range(start, len(lines)) if lines[k].split(b"#")[0].split() == [b"end"])
     if remedy.how in ("wait", "first"):
         name = flown.names[remedy.drone]
@@ -132,15 +135,15 @@ def written(text: bytes, flown: choreo.Flown, cue: int, remedy: Remedy):
         if name not in own:
             return None
         rest = [lines[start], *others, b"end"]
-        alone = [b"cue %d" % flown.cues[cue].milliseconds, " ".join(own[name]).encode(), b"end"]
+        alone = [line_in(form, "cue", flown.cues[cue].milliseconds).encode(), " ".join(own[name]).encode(), b"end"]
         new = rest + alone if remedy.how == "wait" else alone + rest
     else:
         if flown.cues[cue].within:
             return None
         others, own = acts_of(flown, lines, cue, {flown.names[drone] for drone in remedy.how})
-        acts = [higher(own[flown.names[drone]], 1000 * by).encode() for drone, by in sorted(remedy.how.items())
+        acts = [higher(own[flown.names[drone]], 1000 * by, form).encode() for drone, by in sorted(remedy.how.items())
                 if flown.names[drone] in own]
-        slow = b"cue %d" % max(map(lift_time, remedy.how.values()))
+        slow = line_in(form, "cue", max(map(lift_time, remedy.how.values()))).encode()
         new = [slow, *ways_of_lift(flown, cue, remedy.how, True), b"end", lines[start], *others, *acts, b"end",
                slow, *ways_of_lift(flown, cue, remedy.how, False), b"end"]
     return b"\n".join([*lines[:start], *new, *lines[last + 1:]])

@@ -1,10 +1,9 @@
 use Rattle.show_studies.proofs.Prelude.{most_text, boxes_verb, input_two}
-use Rattle.show_judge.proofs.ReadLemmas.{two_read}
+use Rattle.show_judge.proofs.ReadLemmas.{two_made}
 use Rattle.show_studies.proofs.keeping.answer_input.Goals as goal
 
-pub returns-clause-answers : goal.returns-clause-answers
-returns-clause-answers g c all is =
-    input_two (boxes_verb c.args.depth) most_text _ _ c.in_ok-input.input c.in_ok-answer_two.field-0 (c.in_ok-input.ensures.texts all is) c.in_ok-answer_two.ensures
-
-pub returns-clause-both : goal.returns-clause-both
-returns-clause-both g c all is = two_read most_text _ _ c.in_ok-input.input (c.in_ok-input.ensures.texts all is) (c.in_ok-input.ensures.past all is)
+pub returns-clause-reads : goal.returns-clause-reads
+returns-clause-reads g c =
+    let reads = c.in_ok-input.ensures.reads in
+    two_made most_text _ _ _ c.in_ok-input.input _ reads (λ is. cc)
+    (λ all is. input_two (boxes_verb c.args.depth) most_text _ _ c.in_ok-input.input c.in_ok-answer_two.field-0 (reads.fact all is) c.in_ok-answer_two.ensures)

@@ -1,7 +1,7 @@
 use Rattle.fleet_io.specs.Told.{Told}
 use Rattle.fleet_math.specs.Limits.{most_text}
 use Rattle.show_judge.specs.Input.{IsNextText}
-use Rattle.show_judge.proofs.ReadLemmas.{little_two}
+use Rattle.show_judge.proofs.ReadLemmas.{little_two, rose_later}
 use Rattle.fleet_io.proofs.ToldLemmas.{takes_at_most}
 use Rattle.show_verify.proofs.Prelude.{ap, List, ℕ, Option, Gives-trans, GoesOn, back, of_source, takes_front, to_come, Held, stream, verify_verb, EndsWell, IsWholeText}
 use Rattle.show_judge.specs.declared.judging.Planned.TheVariants.{Fits}
@@ -9,64 +9,64 @@ use Rattle.show_verify.proofs.SecondLemmas.{both_read, input_fitted, input_refus
 use Rattle.show_judge.proofs.FewLemmas.{at_new}
 use Rattle.show_verify.proofs.verifying.answer_input.Goals as goal
 
-pub returns-in-Fits-clause-answers : goal.returns-in-Fits-clause-answers
-returns-in-Fits-clause-answers g c all input =
-    let whole = of_source _ _ all c.answer_second.ensures.went.at_end input in
-    let may = back _ _ _ _ all c.answer_second.ensures.went whole in
-    let first = at_new (λ (left : Option (List ℕ)). IsNextText most_text c.in_ok-show.show left) c.make-parts.result (to_come all (g.S.Source.told c.args.source.now)) (ap (λ (h : Held). h.waiting) c.make-parts.ensures) (c.in_ok-show.ensures.text all may) in
-    let goes = at_new (λ (left : Option (List ℕ)). GoesOn c.in_ok-show.show left (stream c.next_text.new.parts (to_come all (g.S.Source.told c.next_text.new.source)))) c.make-parts.result (to_come all (g.S.Source.told c.args.source.now)) (ap (λ (h : Held). h.waiting) c.make-parts.ensures) (c.in_ok-show.ensures.rest all may) in
-    let ends : EndsWell verify_verb.ways c.in_ok-show.show (Fits c.in-Fits.fitted) = rw c.in-Fits.is at c.in_ok-fitted.ensures.whole in
-    input_fitted _ (stream c.next_text.new.parts (to_come all (g.S.Source.told c.next_text.new.source))) _ c.in_ok-show.show c.in-Fits.fitted c.answer_second.result
-    first ends.0 goes (λ cut text. rw c.in-Fits.is at (c.in_ok-fitted.ensures.gives cut text))
-    (c.answer_second.ensures.gives all whole) c.answer_second.ensures.apart (c.answer_second.ensures.whole all whole) c.answer_second.ensures.said
-    (takes_front _ _ _ all (Gives-trans _ _ _ c.next_text.ensures.went.gives c.answer_second.ensures.went.gives) input)
+pub returns-in-Fits-clause-reads : goal.returns-in-Fits-clause-reads
+returns-in-Fits-clause-reads g c =
+    let second = c.answer_second.ensures in
+    let empty = ap (λ (h : Held). h.waiting) c.make-parts.ensures in
+    let gave = Gives-trans _ _ _ c.next_text.ensures.went.gives second.went.gives in
+    record {
+      fact = λ all input.
+          (let whole = of_source _ _ all second.went.at_end input in
+          let may = back _ _ _ _ all second.went whole in
+          let first = at_new (λ (left : Option (List ℕ)). IsNextText most_text c.in_ok-show.show left) c.make-parts.result (to_come all (g.S.Source.told c.args.source.now)) empty (c.in_ok-show.ensures.text all may) in
+          let goes = at_new (λ (left : Option (List ℕ)). GoesOn c.in_ok-show.show left (stream c.next_text.new.parts (to_come all (g.S.Source.told c.next_text.new.source)))) c.make-parts.result (to_come all (g.S.Source.told c.args.source.now)) empty (c.in_ok-show.ensures.rest all may) in
+          let ends : EndsWell verify_verb.ways c.in_ok-show.show (Fits c.in-Fits.fitted) = rw c.in-Fits.is at c.in_ok-fitted.ensures.whole in
+          input_fitted _ (stream c.next_text.new.parts (to_come all (g.S.Source.told c.next_text.new.source))) _ c.in_ok-show.show c.in-Fits.fitted c.answer_second.result first ends.0 goes
+          (λ cut text. rw c.in-Fits.is at (c.in_ok-fitted.ensures.gives cut text))
+          (second.gives all whole) second.apart (second.whole all whole) second.said (takes_front _ _ _ all gave input));
+      past = λ all input.
+          (let whole = of_source _ _ all second.went.at_end input in
+          let may = back _ _ _ _ all second.went whole in
+          let first = at_new (λ (left : Option (List ℕ)). IsNextText most_text c.in_ok-show.show left) c.make-parts.result (to_come all (g.S.Source.told c.args.source.now)) empty (c.in_ok-show.ensures.text all may) in
+          let goes = at_new (λ (left : Option (List ℕ)). GoesOn c.in_ok-show.show left (stream c.next_text.new.parts (to_come all (g.S.Source.told c.next_text.new.source)))) c.make-parts.result (to_come all (g.S.Source.told c.args.source.now)) empty (c.in_ok-show.ensures.rest all may) in
+          there c.answer_second.result (IsWholeText c.in_ok-show.show) _ _
+          (λ taken. both_read _ (stream c.next_text.new.parts (to_come all (g.S.Source.told c.next_text.new.source))) _ c.in_ok-show.show first goes taken (takes_front _ _ _ all gave input))
+          (λ _. second.both all whole));
+      failed = λ is. rose_later _ _ _ c.next_text.ensures.went.gives.later (second.failed is);
+      few = λ all input.
+          (let may = back _ _ _ _ all second.went (of_source _ _ all second.went.at_end input) in
+          let first = at_new (λ (left : Option (List ℕ)). IsNextText most_text c.in_ok-show.show left) c.make-parts.result (to_come all (g.S.Source.told c.args.source.now)) empty (c.in_ok-show.ensures.text all may) in
+          let ends : EndsWell verify_verb.ways c.in_ok-show.show (Fits c.in-Fits.fitted) = rw c.in-Fits.is at c.in_ok-fitted.ensures.whole in
+          little_two (to_come all (g.S.Source.told c.args.source.now)) (to_come all (g.S.Source.told c.next_text.new.source)) (to_come all (g.S.Source.told c.answer_second.new.source)) c.in_ok-show.show first
+          (takes_at_most _ _ _ all _ c.next_text.ensures.went.gives may c.next_text.ensures.few) (λ none. absurd (none ends.0)));
+      gives = gave;
+    }
 
-pub returns-in-Fits-clause-gives : goal.returns-in-Fits-clause-gives
-returns-in-Fits-clause-gives g c = Gives-trans _ _ _ c.next_text.ensures.went.gives c.answer_second.ensures.went.gives
-
-pub returns-clause-answers : goal.returns-clause-answers
-returns-clause-answers g c all input =
-    let whole = of_source _ _ all c.answer_refused.ensures.went.at_end input in
-    let may = back _ _ _ _ all c.answer_refused.ensures.went whole in
-    let first = at_new (λ (left : Option (List ℕ)). IsNextText most_text c.in_ok-show.show left) c.make-parts.result (to_come all (g.S.Source.told c.args.source.now)) (ap (λ (h : Held). h.waiting) c.make-parts.ensures) (c.in_ok-show.ensures.text all may) in
-    let goes = at_new (λ (left : Option (List ℕ)). GoesOn c.in_ok-show.show left (stream c.next_text.new.parts (to_come all (g.S.Source.told c.next_text.new.source)))) c.make-parts.result (to_come all (g.S.Source.told c.args.source.now)) (ap (λ (h : Held). h.waiting) c.make-parts.ensures) (c.in_ok-show.ensures.rest all may) in
-    input_refused _ _ c.in_ok-show.show c.in-Refused.refusal c.answer_refused.result first
-    (λ cut text. rw c.in-Refused.is at (c.in_ok-fitted.ensures.gives cut text)) (rw c.in-Refused.is at c.in_ok-fitted.ensures.sound) c.answer_refused.ensures.answer
-
-pub returns-clause-gives : goal.returns-clause-gives
-returns-clause-gives g c = Gives-trans _ _ _ c.next_text.ensures.went.gives c.answer_refused.ensures.went.gives
-
-pub returns-in-Fits-clause-both : goal.returns-in-Fits-clause-both
-returns-in-Fits-clause-both g c all input =
-    let whole = of_source _ _ all c.answer_second.ensures.went.at_end input in
-    let may = back _ _ _ _ all c.answer_second.ensures.went whole in
-    let first = at_new (λ (left : Option (List ℕ)). IsNextText most_text c.in_ok-show.show left) c.make-parts.result (to_come all (g.S.Source.told c.args.source.now)) (ap (λ (h : Held). h.waiting) c.make-parts.ensures) (c.in_ok-show.ensures.text all may) in
-    let goes = at_new (λ (left : Option (List ℕ)). GoesOn c.in_ok-show.show left (stream c.next_text.new.parts (to_come all (g.S.Source.told c.next_text.new.source)))) c.make-parts.result (to_come all (g.S.Source.told c.args.source.now)) (ap (λ (h : Held). h.waiting) c.make-parts.ensures) (c.in_ok-show.ensures.rest all may) in
-    there c.answer_second.result (IsWholeText c.in_ok-show.show) _ _
-    (λ taken. both_read _ (stream c.next_text.new.parts (to_come all (g.S.Source.told c.next_text.new.source))) _ c.in_ok-show.show first goes taken
-    (takes_front _ _ _ all (Gives-trans _ _ _ c.next_text.ensures.went.gives c.answer_second.ensures.went.gives) input))
-    (λ _. c.answer_second.ensures.both all whole)
-
-pub returns-clause-both : goal.returns-clause-both
-returns-clause-both g c all input =
-    let whole = of_source _ _ all c.answer_refused.ensures.went.at_end input in
-    let may = back _ _ _ _ all c.answer_refused.ensures.went whole in
-    let first = at_new (λ (left : Option (List ℕ)). IsNextText most_text c.in_ok-show.show left) c.make-parts.result (to_come all (g.S.Source.told c.args.source.now)) (ap (λ (h : Held). h.waiting) c.make-parts.ensures) (c.in_ok-show.ensures.text all may) in
-    let goes = at_new (λ (left : Option (List ℕ)). GoesOn c.in_ok-show.show left (stream c.next_text.new.parts (to_come all (g.S.Source.told c.next_text.new.source)))) c.make-parts.result (to_come all (g.S.Source.told c.args.source.now)) (ap (λ (h : Held). h.waiting) c.make-parts.ensures) (c.in_ok-show.ensures.rest all may) in
-    there c.answer_refused.result (IsWholeText c.in_ok-show.show) _ _
-    (λ taken. both_read _ (stream c.next_text.new.parts (to_come all (g.S.Source.told c.next_text.new.source))) _ c.in_ok-show.show first goes taken
-    (takes_front _ _ _ all (Gives-trans _ _ _ c.next_text.ensures.went.gives c.answer_refused.ensures.went.gives) input))
-    (c.answer_refused.ensures.both all whole)
-
-pub returns-in-Fits-clause-few : goal.returns-in-Fits-clause-few
-returns-in-Fits-clause-few g c all input =
-    let may = back _ _ _ _ all c.answer_second.ensures.went (of_source _ _ all c.answer_second.ensures.went.at_end input) in
-    let first = at_new (λ (left : Option (List ℕ)). IsNextText most_text c.in_ok-show.show left) c.make-parts.result (to_come all (g.S.Source.told c.args.source.now)) (ap (λ (h : Held). h.waiting) c.make-parts.ensures) (c.in_ok-show.ensures.text all may) in
-    let ends : EndsWell verify_verb.ways c.in_ok-show.show (Fits c.in-Fits.fitted) = rw c.in-Fits.is at c.in_ok-fitted.ensures.whole in
-    little_two (to_come all (g.S.Source.told c.args.source.now)) (to_come all (g.S.Source.told c.next_text.new.source)) (to_come all (g.S.Source.told c.answer_second.new.source)) c.in_ok-show.show first (takes_at_most _ _ _ all _ c.next_text.ensures.went.gives may c.next_text.ensures.few) (λ none. absurd (none ends.0))
-
-pub returns-clause-few : goal.returns-clause-few
-returns-clause-few g c all input =
-    let may = back _ _ _ _ all c.answer_refused.ensures.went (of_source _ _ all c.answer_refused.ensures.went.at_end input) in
-    let first = at_new (λ (left : Option (List ℕ)). IsNextText most_text c.in_ok-show.show left) c.make-parts.result (to_come all (g.S.Source.told c.args.source.now)) (ap (λ (h : Held). h.waiting) c.make-parts.ensures) (c.in_ok-show.ensures.text all may) in
-    little_two (to_come all (g.S.Source.told c.args.source.now)) (to_come all (g.S.Source.told c.next_text.new.source)) (to_come all (g.S.Source.told c.answer_refused.new.source)) c.in_ok-show.show first (takes_at_most _ _ _ all _ c.next_text.ensures.went.gives may c.next_text.ensures.few) (λ none. ap (λ (t : Told). to_come all t) (c.answer_refused.ensures.stays none))
+pub returns-clause-reads : goal.returns-clause-reads
+returns-clause-reads g c =
+    let second = c.answer_refused.ensures in
+    let empty = ap (λ (h : Held). h.waiting) c.make-parts.ensures in
+    let gave = Gives-trans _ _ _ c.next_text.ensures.went.gives second.went.gives in
+    record {
+      fact = λ all input.
+          (let whole = of_source _ _ all second.went.at_end input in
+          let may = back _ _ _ _ all second.went whole in
+          let first = at_new (λ (left : Option (List ℕ)). IsNextText most_text c.in_ok-show.show left) c.make-parts.result (to_come all (g.S.Source.told c.args.source.now)) empty (c.in_ok-show.ensures.text all may) in
+          input_refused _ _ c.in_ok-show.show c.in-Refused.refusal c.answer_refused.result first
+          (λ cut text. rw c.in-Refused.is at (c.in_ok-fitted.ensures.gives cut text)) (rw c.in-Refused.is at c.in_ok-fitted.ensures.sound) second.answer);
+      past = λ all input.
+          (let whole = of_source _ _ all second.went.at_end input in
+          let may = back _ _ _ _ all second.went whole in
+          let first = at_new (λ (left : Option (List ℕ)). IsNextText most_text c.in_ok-show.show left) c.make-parts.result (to_come all (g.S.Source.told c.args.source.now)) empty (c.in_ok-show.ensures.text all may) in
+          let goes = at_new (λ (left : Option (List ℕ)). GoesOn c.in_ok-show.show left (stream c.next_text.new.parts (to_come all (g.S.Source.told c.next_text.new.source)))) c.make-parts.result (to_come all (g.S.Source.told c.args.source.now)) empty (c.in_ok-show.ensures.rest all may) in
+          there c.answer_refused.result (IsWholeText c.in_ok-show.show) _ _
+          (λ taken. both_read _ (stream c.next_text.new.parts (to_come all (g.S.Source.told c.next_text.new.source))) _ c.in_ok-show.show first goes taken (takes_front _ _ _ all gave input))
+          (second.both all whole));
+      failed = λ is. rose_later _ _ _ c.next_text.ensures.went.gives.later (second.failed is);
+      few = λ all input.
+          (let may = back _ _ _ _ all second.went (of_source _ _ all second.went.at_end input) in
+          let first = at_new (λ (left : Option (List ℕ)). IsNextText most_text c.in_ok-show.show left) c.make-parts.result (to_come all (g.S.Source.told c.args.source.now)) empty (c.in_ok-show.ensures.text all may) in
+          little_two (to_come all (g.S.Source.told c.args.source.now)) (to_come all (g.S.Source.told c.next_text.new.source)) (to_come all (g.S.Source.told c.answer_refused.new.source)) c.in_ok-show.show first
+          (takes_at_most _ _ _ all _ c.next_text.ensures.went.gives may c.next_text.ensures.few) (λ none. ap (λ (t : Told). to_come all t) (second.stays none)));
+      gives = gave;
+    }

@@ -1,0 +1,18 @@
+"""Lines of a show's text in a form of the language, for tools that write them: a tool that changes a text writes in the
+form of that text, and one that makes a new text in the newest form."""
+from __future__ import annotations
+
+from hemtoghai.language import choreo
+
+NEWEST = max(choreo.FORMS.values())  # the form of the language in which new texts are written
+
+
+def header(form: int) -> str:
+    """The first line with words of a text."""
+    return f"choreo {form}"
+
+
+def line_in(form: int, kind: str, *values: object) -> str:
+    """A line of a kind with these values, each a word or a whole number of what its place counts. An act has the kind
+    `act`, and the drone and the act as its first two values."""
+    return " ".join(choreo.words_of(choreo.Line(0, kind, list(values)), form))
