@@ -588,6 +588,7 @@ class Page(unittest.TestCase):
         self.says("accepted")
         self.wait(lambda: self.browser.run("return Boolean(found.notes)"), "no notes")
         for milliseconds, word in ((1500, "1.5s"), (990, "990ms"), (70000, "65.535s")):
+            self.wait(lambda: self.browser.run("return flightVersion === version"), "no flight of this text")
             self.browser.run("stretchCue(0, arguments[0])", milliseconds)
             self.assertEqual(self.text(), text.replace("2s", word))
             self.says("1 cue, %.1f" % (min(65535, milliseconds) / 1000))

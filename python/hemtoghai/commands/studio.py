@@ -39,7 +39,7 @@ MOST_JOBS = 8  # that run at a time, of all pages together
 MOST_PAGES = 64  # whose newest text is remembered
 MARKER = ["a line `%%` ends a show's text, and nothing may stand after it here", "", "take the line out"]
 TEMPLATE = b"""choreo 2
-# A number has its unit right after it: 1.5m, 30cm, 2s, 90deg. See docs/LANGUAGE.md.
+# Units: 1.5m, 30cm, 2s, 90deg. See docs/LANGUAGE.md.
 
 drone a 0 0 1m 0
 drone b 1m 0 1m 0

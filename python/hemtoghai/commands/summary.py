@@ -12,6 +12,7 @@ from hemtoghai.companion import (add_depth, ask_check, ask_dynamics, begins, flo
                                  parser, place, seconds, value)
 from hemtoghai.flying import legs
 from hemtoghai.geometry import separation
+from hemtoghai.language import choreo
 from hemtoghai.language.lines import line_in
 from hemtoghai.writing.margins import greatest, MOST, with_setting
 
@@ -102,7 +103,7 @@ def print_nearest(flown, most):
             abs(first[2] - second[2]), seconds(times[cue] + flown.cues[cue].milliseconds * u), cue + 1))
 
 
-def in_words(flown, word, *numbers):
+def in_words(flown: choreo.Flown, word: str, *numbers: int) -> str:
     """What stands after a setting's word in the show's form of the language."""
     return line_in(flown.show.form, word, *numbers).partition(" ")[2]
 
@@ -124,7 +125,7 @@ def print_margin(flown, text, deep):
         print("as the tool works it out: " + missing())
 
 
-def print_strays(flown, text, deep):
+def print_strays(flown: choreo.Flown, text: bytes, deep: int) -> None:
     """Prints by how much the stray and the lateness can grow, each while the other is as it is."""
     for word, other, unit in (("stray", "late", "mm"), ("late", "stray", "ms")):
         others = "%s %s" % (other, in_words(flown, other, *flown.show.settings[other]))
