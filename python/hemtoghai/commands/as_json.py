@@ -23,7 +23,7 @@ from hemtoghai import companion, judging, texts
 from hemtoghai.commands import summary, why
 from hemtoghai.geometry import separation
 from hemtoghai.language import choreo
-from hemtoghai.launching import launcher, words as commands
+from hemtoghai.launching import helping, launcher, words as commands
 from hemtoghai.program import Unusable
 from hemtoghai.writing import margins
 
@@ -62,7 +62,7 @@ def by_program(words: list[str]) -> int:
     front, files, fault = commands.split(words)
     fault = fault or launcher.fault_of_files(front, files)
     if fault:
-        return launcher.refuse(front, fault)
+        return helping.refuse(front, fault)
     launcher.file_for(False)
     whole = input_of(files)
     verdict = judging.asked(front, choreo.parts_of(whole)[0], whole, depth_of(front))

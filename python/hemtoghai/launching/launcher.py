@@ -85,62 +85,19 @@ def file_for(unproved: bool) -> str | None:
 
 # ---- words and files
 
-def near_files(file: str) -> list[str]:
-    """The names of files in the folder of one that isn't there."""
-    folder = os.path.dirname(file)
-    try:
-        return [os.path.join(folder, name) for name in os.listdir(folder or ".")[:1000]]
-    except (OSError, ValueError):
-        return []
-
-
-def fault_of_file(file: str) -> str | None:
-    """What is wrong with a file, or None."""
-    if "\0" in file or os.path.isdir(file):
-        return "%s is a directory" % file
-    if not os.path.exists(file):
-        return "there is no file %s%s" % (file, commands.meant(file, near_files(file)))
-    return None if os.access(file, os.R_OK) else "%s can't be read: no permission" % file
-
-
-def has_regions(file: str) -> bool:
-    """Whether a text has a marker line, as far as it may be long; also where it isn't a file whose bytes stay."""
-    if not os.path.isfile(file):
-        return True
-    lines = texts.front_of(file, 2 * texts.SHOW).split(b"\n")
-    return any(line in (b"%%", b"%%\r") for line in lines)
+def are_usual(words: list[str], files: list[str]) -> bool:
+    """Whether nothing is wrong with the files, by a short look at those of a command that reads a show alone."""
+    if len(files) > 1 or words[0] in ("upload", "boxes") or words[0] in commands.known("NO_INPUT"):
+        return False
+    return all(file == "-" or os.path.isfile(file) and os.access(file, os.R_OK) for file in files)
 
 
 def fault_of_files(words: list[str], files: list[str]) -> str | None:
     """What is wrong with the files, or None."""
-    command, second = words[0], commands.SECOND.get(words[0])
-    for file in files:
-        fault = fault_of_file(file) if file != "-" else None
-        if fault:
-            return fault
-    if second == "frames" and len(files) > 1 and "-" in files:
-        return "upload reads frames while it writes: { cat SHOW; echo %%%%; cat; } | %s upload" % program.COMMAND
-    if command in commands.NO_INPUT and files:
-        return "%s reads no file" % command
-    if command == "upload" and len(files) == 1 and sys.stdout.isatty():
-        return "upload writes frames for a bridge, and nothing for people: %s bridge %s" % (program.COMMAND, files[0])
-    if len(files) > (2 if second else 1):
-        return "%s reads %s" % (command, "two files: a show and its " + second if second else "one file")
-    if files.count("-") > 1:
-        return "standard input is one of the two files, not both"
-    if command == "boxes" and len(files) == 1 and files[0] != "-" and not has_regions(files[0]):
-        return "boxes reads regions too: %s boxes SHOW REGIONS" % program.COMMAND
-    return None
-
-
-def refuse(words: list[str], fault: str) -> int:
-    """Says what is wrong with the words, and lets the program refuse them; nothing is built for that."""
-    say(fault)
-    found = file_for(False) if os.path.exists(program.MANIFEST) else file_if_current(program.PROGRAM)
-    if found is None:
-        return 2
-    null = os.open(os.devnull, os.O_RDONLY)
-    return running.ended(running.started(found, words, null))
+    if are_usual(words, files):
+        return None
+    from hemtoghai.launching import helping
+    return helping.fault_of_files(words, files)
 
 
 # ---- running
@@ -180,30 +137,17 @@ def answer(found: str | None, words: list[str], files: list[str]) -> int:
     if found and (status in REFUSALS or status == 0 and words[0] in ("check", "compile")):
         text = text_of(number, begin, files) if words[0] not in commands.NO_INPUT else None
         if text is not None:
-            (warn if status == 0 else explain)(found, text, status, files)
+            if status == 0:
+                warn(found, text)
+            else:
+                from hemtoghai.launching import helping
+                helping.explain(found, text, status, files)
     return status
 
 
 # ---- what helps
 
-def explain(found: str, text: bytes, status: int, files: list[str]) -> None:
-    """Says what helps after a refusal. The line that is faulty is asked for once more: the program's own output went
-    where it should."""
-    if status == 3:
-        output = running.said(found, ["check"], text)[1].split()
-        if len(output) >= 5 and output[2] == b"line":
-            from hemtoghai.language.cures import print_cure
-            return print_cure(program.NAME, int(output[3]), output[4].decode(), text)
-    if status in (4, 5):
-        from hemtoghai.writing.flyable import small_text
-        small = small_text(text)
-        if small:
-            say(small)
-        return say("%s why %s says more, and what to change" % (program.COMMAND, files[0] if files else "SHOW"))
-    return say("read on: docs/COMMANDS.md, Statuses and fault lines")
-
-
-def warn(found: str, text: bytes, _status: int, _files: list[str]) -> None:
+def warn(found: str, text: bytes) -> None:
     """Says what of an accepted show no drone flies."""
     from hemtoghai.launching import glance
     if glance.may_be_unflyable(found, text):
@@ -219,18 +163,19 @@ def main(words: list[str]) -> int:
     unproved = words[:1] == ["--unproved"]
     words = words[1:] if unproved else words
     if not words or words[0] in ("-h", "--help"):
-        from hemtoghai.launching import help as helping
-        sys.stdout.write(helping.help_text())
+        from hemtoghai.launching.help import help_text
+        sys.stdout.write(help_text())
         return 0
     if words == ["--version"]:
         from hemtoghai.launching import records
         return records.print_version()
     if words[0] in commands.FORMS and ("--help" in words or "-h" in words):
-        from hemtoghai.launching import help as helping
-        sys.stdout.write(helping.usage_of(words[0]))
+        from hemtoghai.launching.help import usage_of
+        sys.stdout.write(usage_of(words[0]))
         return 0
     front, files, fault = commands.split(words)
     fault = fault or fault_of_files(front, files)
     if fault:
-        return refuse(words, fault)
+        from hemtoghai.launching import helping
+        return helping.refuse(words, fault)
     return answer(file_for(unproved), front, files)
