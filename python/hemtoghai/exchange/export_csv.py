@@ -9,11 +9,14 @@ rounded to doubles; how far the rounded polynomial may leave the exact curve is 
 in doubles or floats comes on top. Nothing is proved of these files. Status 0: all files are written. 70: a file can't
 be read or written, or isn't a plan.
 """
+from __future__ import annotations
+
 import os
 from fractions import Fraction
 from math import comb
 
 from hemtoghai.companion import decoded, many, parser, plan_of, stop
+from hemtoghai.language.choreo import Row, Segment
 
 # A radian's tenths of a degree: pi to forty places.
 PI = Fraction(31415926535897932384626433832795028841972, 10 ** 40)
@@ -23,7 +26,7 @@ SCALES = [Fraction(1, 1000)] * 3 + [PI / 1800]
 HEAD = "Duration," + ",".join("%s^%d" % (axis, k) for axis in ("x", "y", "z", "yaw") for k in range(8))
 
 
-def polynomial(row, scale, duration):
+def polynomial(row: Row, scale: Fraction, duration: Fraction) -> list[Fraction]:
     """The eight coefficients of a curve by its control values, in the time that has passed."""
     n, out = len(row) - 1, []
     for k in range(n + 1):
@@ -32,14 +35,14 @@ def polynomial(row, scale, duration):
     return out + [Fraction(0)] * (7 - n)
 
 
-def lines_of(segments):
+def lines_of(segments: list[Segment]) -> tuple[list[str], Fraction, Fraction]:
     """A drone's lines, and by how much the rounded polynomials may leave the exact curves: in metres and radians."""
     lines, worst = [HEAD], [Fraction(0)] * 4
     for milliseconds, elements in segments:
         duration, words = Fraction(milliseconds, 1000), ["%.17g" % (milliseconds / 1000)]
         for axis, row in enumerate(elements):
             exact = polynomial(row, SCALES[axis], duration)
-            error = sum(abs(Fraction(float(c)) - c) * duration ** k for k, c in enumerate(exact))
+            error = sum((abs(Fraction(float(c)) - c) * duration ** k for k, c in enumerate(exact)), Fraction(0))
             worst[axis] = max(worst[axis], error)
             words += ["%.17g" % float(c) for c in exact]
         lines.append(",".join(words))

@@ -4,21 +4,21 @@ import time
 _speed = [1.0]
 
 
-def set_speed(speed):
+def set_speed(speed: float) -> None:
     """How many seconds of this clock pass in a real one."""
     _speed[0] = float(speed)
 
 
-def now():
+def now() -> float:
     """Seconds since some instant."""
     return time.monotonic() * _speed[0]
 
 
-def wait(seconds):
+def wait(seconds: float) -> None:
     """Waits for so many seconds of this clock."""
     time.sleep(max(0.0, seconds) / _speed[0])
 
 
-def real(seconds):
+def real(seconds: float) -> float:
     """Seconds of this clock as real ones: for what waits by itself."""
     return max(0.0, seconds) / _speed[0]

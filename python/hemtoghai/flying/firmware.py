@@ -64,7 +64,8 @@ def ask_item(number: int) -> bytes:
 
 def table_of(data: bytes) -> Tuple[int, int]:
     """How many items a table has, and its checksum."""
-    return struct.unpack_from("<HI", bytes(data), 1)
+    count, checksum = struct.unpack_from("<HI", bytes(data), 1)
+    return count, checksum
 
 
 def item_of(data: bytes) -> Tuple[str, int]:
@@ -82,7 +83,8 @@ def write_parameter(number: int, kind: int, value: float) -> bytes:
 
 def parameter_of(data: bytes, kind: int) -> float:
     """The value of a read parameter."""
-    return struct.unpack_from("<" + PARAMETER_TYPES[kind], bytes(data), 3)[0]
+    value: float = struct.unpack_from("<" + PARAMETER_TYPES[kind], bytes(data), 3)[0]
+    return value
 
 
 # ---- logs, port 5: settings on channel 1, data on channel 2 (90 %)
