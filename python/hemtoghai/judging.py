@@ -92,7 +92,8 @@ class Verdict:
         if not found:
             return None
         lines = self.text.split(b"\n")
-        row = cures.cure_of(found[2], lines[int(found[1]) - 1] if int(found[1]) <= len(lines) else b"")
+        line = lines[int(found[1]) - 1] if int(found[1]) <= len(lines) else b""
+        row = cures.cure_of(found[2], line, choreo.form_of(self.text))
         return str(row[-1]) if row else None
 
     @cached_property

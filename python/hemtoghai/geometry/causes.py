@@ -6,6 +6,7 @@ from collections.abc import Callable
 
 from hemtoghai.geometry import separation
 from hemtoghai.language import choreo
+from hemtoghai.language.lines import line_in
 
 
 def fastest_of(flown: choreo.Flown) -> list[int]:
@@ -70,9 +71,12 @@ def cause_of(flown: choreo.Flown, i: int, j: int, cue: int, deep: int) -> str | 
 
     def stray_as_it_is(k: int) -> bool:
         return are_apart(stray, k)
+
+    def line(word: str, number: int) -> str:
+        return "`%s`" % line_in(flown.show.form, word, number)
     borne = [("stray", stray, "late", late, late_as_it_is), ("late", late, "stray", stray, stray_as_it_is)]
-    words = ["`%s %d`: with%s they bear `%s %d` here" % (
-        word, number, " `%s %d`" % (other, beside) if beside else "", word, most_borne(number, borne_with))
+    words = ["%s: with%s they bear %s here" % (
+        line(word, number), " " + line(other, beside) if beside else "", line(word, most_borne(number, borne_with)))
         for word, number, other, beside, borne_with in borne if number and borne_with(0)]
     return ", or ".join(words).replace("with they", "they") or (
-        "`stray %d` and `late %d`, and each of them alone is too much here" % (stray, late))
+        "%s and %s, and each of them alone is too much here" % (line("stray", stray), line("late", late)))
