@@ -16,7 +16,9 @@ import time
 import unittest
 
 from common import TOP
+from hemtoghai.__main__ import COMMANDS
 from hemtoghai.launching import words as commands
+from hemtoghai.launching.help import PURPOSES
 
 # As rt does, it keeps others out of the crate's folder and of those below it, refuses a crate whose lower ones aren't
 # proved, builds PROGRAM, and runs a try in a folder of its own below TMPDIR. It notes each call in `calls`. Where SLOW
@@ -376,7 +378,8 @@ class Words(Processes):
         for words in ([], ["-h"], ["--help"]):
             status, said, told = self.show(*words)
             self.assertEqual((status, told), (0, ""))
-            self.assertEqual(re.findall("^([a-z]+) [^:\n]*  ", said, re.M), list(commands.FORMS))
+            self.assertEqual(re.findall("^([a-z]+) [^:\n]*  ", said, re.M), [*commands.FORMS, *PURPOSES])
+        self.assertEqual(set(PURPOSES), {word for word in COMMANDS if "_" not in word})
         for command, form in commands.FORMS.items():
             for words in ((command, "--help"), (command, "good", "-h")):
                 status, said, told = self.show(*words)

@@ -24,9 +24,33 @@ each plan.
 
 %s
 
-The language of shows: docs/LANGUAGE.md. Commands, statuses and fault lines: docs/COMMANDS.md. Other words, each
-with its --help, in docs/TOOLS.md: %s.
+The other words, each with its --help:
+
+%s
+
+The language of shows: docs/LANGUAGE.md. Commands, statuses and fault lines: docs/COMMANDS.md. The other words:
+docs/TOOLS.md.
 """
+# The words that aren't the program's own, as a user meets them, and the purpose of each.
+PURPOSES = {
+    "studio": "write a show in the browser, with the proof while you type",
+    "why": "where and when drones come too close, and what helps",
+    "summary": "room, speeds, jumps of speed, nearest pairs, settings",
+    "picture": "the flight as one page for any browser",
+    "deal": "the show with formations dealt so that ways are short",
+    "without": "the show without some of its drones",
+    "convert": "the show in the other form of the language",
+    "import": "a show from the files of other programs",
+    "export": "a plan as files for other programs",
+    "judge": "a second opinion on a certificate",
+    "legs": "the ways up from the pads and down again, judged",
+    "fly": "a flight, simulated or with drones",
+    "flown": "whether a flight's log kept to what the proof assumes",
+    "bridge": "the upload alone, over a link",
+    "library": "the judge as a library for C, C++ and Rust",
+    "manual": "the manual page, and completion for Bash",
+    "release": "an archive and a wheel",
+}
 
 
 def help_text() -> str:
@@ -34,7 +58,13 @@ def help_text() -> str:
     return (USAGE % ("\n".join("%-45s %s" % row for row in words.known("COMMANDS")),
                     "\n".join(textwrap.fill("%-13s %s. Without it: %s." % tuple(row), 108, subsequent_indent=" " * 14)
                               for row in words.known("OPTIONS")),
-                    ", ".join(word for word in sorted(COMMANDS) if "_" not in word))).replace("./show", COMMAND)
+                    "\n".join("%-45s %s" % (word, PURPOSES[word]) for word in ordered()))).replace("./show", COMMAND)
+
+
+def ordered() -> list[str]:
+    """The words that aren't the program's own, in the order of PURPOSES."""
+    words_ = {word for word in COMMANDS if "_" not in word}
+    return [word for word in PURPOSES if word in words_]
 
 
 def usage_of(command: str) -> str:
