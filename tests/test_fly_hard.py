@@ -296,6 +296,7 @@ FLIGHTS = {
     "gap": (fly, b("gap:1") + ["--silence", "1.5", *SLOW]), "sag": (fly, b("sag:1")), "drains": (fly, b("drains:1")),
     "high": (fly, b("high:0.9")), "riser": (fly, b("riser")), "pads": (with_pads, b("riser"), PADS),
     "stack": (with_pads, [], ASIDE, STACK), "stack no": (with_pads, [], ASIDE, STACK, "yes\nyes\nno\n"),
+    "stack gap": (with_pads, ["--fault", "a:gap:5.8"], ASIDE, STACK),
     "stack refuses": (with_pads, b("refuses"), ASIDE, STACK), "stack falls": (with_pads, b("drains:0.2"), ASIDE, STACK),
     "auto": (fly, b("auto")), "timeout": (fly, ["--fault", "d9:timeout"], LAYERS), "reboots": (fly, b("reboots")),
     "turned": (fly, b("turned")), "flying": (fly, b("flying")),
@@ -432,6 +433,14 @@ class Hard(unittest.TestCase):
             out = self.flown(name, status, words, without=["THIS LANDING"])
             self.assertGreater(nearest(out), 0.6, name)
             self.assertEqual((end(out, "a")[0], end(out, "b")[0]), (0.0, 0.0), name)
+
+    def test_who_did_not_hear_may_be_where_it_was(self):
+        # The lower drone's link is gone for three seconds when the way down begins: it doesn't hear that it is to go
+        # aside, and the upper one doesn't come down on it.
+        out = begun("stack gap").result()[1]
+        self.assertRegex(as_if_idle(out), "FAULT: a doesn't answer(.*\n)*landed\n")
+        self.assertNotIn("THIS LANDING", out)
+        self.assertGreater(nearest(out), 0.6, out)
 
     # ---- before take-off
 

@@ -306,10 +306,15 @@ class Fleet:
             raise Trouble("%s refuses to %s: status %d" % (self.names[drone], word, answer[3]))
         return begin, clock.now()
 
-    def commands(self, rows: Dict[int, bytes], word: str, look: Optional[Look]) -> float:
-        """Commands to drones, side by side: data by drone. The seconds within which all went out and were answered."""
-        times = self.radio.each(lambda k: self.command(k, rows[k], word) if k in rows else None, look)
-        times = [row for row in times if row]
+    def commands(self, rows: Dict[int, bytes], word: str, look: Optional[Look],
+                 heard: Callable[[int], object] = lambda k: None) -> float:
+        """Commands to drones, side by side: data by drone. `heard` is told of each that answered. The seconds within
+        which all went out and were answered."""
+        def command(k: int) -> Optional[Tuple[float, float]]:
+            times = self.command(k, rows[k], word) if k in rows else None
+            heard(k)
+            return times
+        times = [row for row in self.radio.each(command, look) if row]
         return max(row[1] for row in times) - min(row[0] for row in times)
 
     def holds(self, drone: int, memory: Sequence[int], data: bytes) -> bool:

@@ -17,6 +17,8 @@ LEAD = 100  # milliseconds until a landing that is decided is begun
 FAR_FOR = 0.3  # seconds for which a drone has to be far from its curve, or to send no numbers
 MOST_PAIRS = 10  # that are named where all land
 TELLS = 5  # seconds between two lines on how it goes
+UNHEARD = 0.5  # seconds that the sample of one that didn't answer may be old
+HEARD_AGAIN = 5.0  # seconds for which one that didn't answer is waited for, before what is left is judged
 ANSWERS = 0.4  # real seconds in which `check` has to answer where drones fly on meanwhile
 OLD = 0.2  # seconds that a sample may be old by which a landing is judged
 NO_ANSWER = "`check` didn't answer in time"
@@ -55,6 +57,7 @@ class Flight(Descent):
         self.stage_began: Optional[float] = None
         self.doubt: Optional[str] = None
         self.aims: Dict[int, legs.Place] = ways.standing()
+        self.unheard: Dict[int, legs.Place] = {}  # who didn't answer where to go, and where it was told to be before
 
     # ---- what is looked at
 
@@ -239,8 +242,9 @@ class Flight(Descent):
         """Gives the commands of a stage, says where they went out farther apart than was judged, and waits."""
         self.goes_out(stage)
         begin = clock.now()
+        self.unheard = {k: self.aims[k] for k in rows}
         self.aims.update(stage.to)
-        spread = 1000 * self.fleet.commands(rows, word, self.watch.look)
+        spread = 1000 * self.fleet.commands(rows, word, self.watch.look, lambda k: self.unheard.pop(k, None))
         if len(rows) > 1 and spread > self.ways.rules.late:
             say("OUTSIDE OF WHAT WAS JUDGED: commands within %.0f ms, and %d were judged" % (
                 spread, self.ways.rules.late))
@@ -449,13 +453,14 @@ class Flight(Descent):
         """Why not all may land from the stage that is flown, by what was judged before take-off, or None. Where a drone
         isn't where the stage has it nothing was judged."""
         row, began = self.ways.landings_at(self.leg, self.begun), self.stage_began
+        unsure = self.out | set(self.unheard)
         if self.zero is not None and self.leg is self.ways.up:
             return self.refusal_of_start()
         if row is None:
             return NO_ANSWER
         for k, state in enumerate(self.fleet.states):
             t = 0.0 if began is None else 1000 * (state.measured - began) if state.measured is not None else 0.0
-            if k in self.out or not self.is_fresh(k) or not row.has(k, t, [1000 * v for v in state.place]):
+            if k in unsure or not self.is_fresh(k) or not row.has(k, t, [1000 * v for v in state.place]):
                 return NO_ANSWER
         return row.now(0.0 if began is None else 1000 * (clock.now() - began))
 
@@ -472,7 +477,24 @@ class Flight(Descent):
     def refusal_here(self) -> Optional[str]:
         """Why not all may land straight down from where they are on the ways, or None: with how far they are carried
         on by the speed of their last two samples, and how far they fly until all are told."""
-        at, now = self.places_here(), clock.now()
+        lost = self.lost()
+        if lost and clock.now() < self.stage_ends:
+            return "%s may not have heard where to go" % self.words_of(lost)
+        at = self.places_here()
+        for places in (self.aims, self.unheard) if lost else (at,):
+            why = self.refusal_from({**at, **{k: places[k] for k in lost}})
+            if why:
+                return why
+        return None
+
+    def lost(self) -> List[int]:
+        """Who may not have heard where to go and doesn't say now where it is: it is there, or where it was before."""
+        times = {k: self.fleet.states[k].measured for k in self.unheard}
+        return [k for k, at in times.items() if at is None or clock.now() - at > UNHEARD]
+
+    def refusal_from(self, at: Dict[int, legs.Place]) -> Optional[str]:
+        """The same, with drones at these places."""
+        now = clock.now()
         moving = [k for k in self.silent if at[k] != tuple(self.ways.pads[k])] if now < self.stage_ends else []
         if moving:
             return "%s silent on the way" % self.words_of(moving)
@@ -518,8 +540,9 @@ class Flight(Descent):
             say("%s; a landing of all now isn't shown apart (%s): the stage that is flown goes to its end first" % (
                 front, landings.short(why)))
         self.pause(self.stage_ends)
+        self.wait_heard()
         why = NO_ANSWER if gone_back else self.refusal_ready()
-        if why == NO_ANSWER:  # else what was judged beforehand is as good where all are at rest, and `check` may be slow
+        if why == NO_ANSWER:  # else what was judged beforehand is as good where all are at rest; `check` may be slow
             why = self.meanwhile(self.refusal_here)
         if why is None:
             return None
@@ -532,6 +555,13 @@ class Flight(Descent):
         for stage in leg.stages:
             self.home_stage(stage)
         return self.meanwhile(self.refusal_here) if self.up(self.all) else None
+
+    def wait_heard(self) -> None:
+        """Waits until who may not have heard where to go says again where it is, but not for long: where it is, is
+        known of nobody else."""
+        until = clock.now() + HEARD_AGAIN
+        while self.lost() and clock.now() < until:
+            self.pause(clock.now() + 0.1)
 
     def break_off(self, front: str, why: str) -> None:
         """After a start that not all took: has all go back to their first places, from which the rest is judged."""
@@ -550,10 +580,13 @@ class Flight(Descent):
 
     def way_home(self, at: Dict[int, legs.Place]) -> Tuple[Optional[legs.Leg], str]:
         """A judged way down from places on the ways, and words for it; None where there is none."""
+        if self.lost():
+            return None, ""  # each is in one of two places
         hold, is_up = self.hold(at), self.leg is self.ways.up
         back = legs.Leg(self.names, self.leg.begin, self.ways.yaws, self.ways.rules)
         back.stages = self.leg.stages[:self.begun]
-        way, count = (back.reversed(), 0) if is_up else (self.leg, self.begun)
+        again = 1 if self.unheard and self.begun else 0  # the stage that not all heard of is flown once more
+        way, count = (back.reversed(), 0) if is_up else (self.leg, self.begun - again)
         rest = self.ways.rest_judged(way, count, at, hold)
         if rest:
             return rest, "the way that they came" if is_up else "by the rest of the way down"
