@@ -521,8 +521,8 @@ class Flight(Descent):
         """Where drones are, those who are where their leg has them after its stage by the leg's own places: from there
         the ways back were judged beforehand."""
         at, planned = self.places_here(), self.leg.places(self.begun)
-        return {k: planned[k] if math.dist(place, planned[k]) <= self.ways.rules.stray else place
-                for k, place in at.items()}
+        return {k: planned[k] if k in planned and math.dist(place, planned[k]) <= self.ways.rules.stray else place
+                for k, place in at.items()}  # a way beside a wreck has no place of it
 
     def come_home(self, front: str) -> Optional[str]:
         """At a fault on the ways: where a landing of all from here isn't shown apart, the stage that is flown goes to
