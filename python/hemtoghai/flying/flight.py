@@ -489,7 +489,7 @@ class Flight(Descent):
 
     def lost(self) -> List[int]:
         """Who may not have heard where to go and doesn't say now where it is: it is there, or where it was before."""
-        times = {k: self.fleet.states[k].measured for k in self.unheard}
+        times = {k: self.fleet.states[k].measured for k, place in self.unheard.items() if place != self.aims[k]}
         return [k for k, at in times.items() if at is None or clock.now() - at > UNHEARD]
 
     def refusal_from(self, at: Dict[int, legs.Place]) -> Optional[str]:
