@@ -1,5 +1,5 @@
-"""`import hemtoghai`: verdicts, plans and numbers as values, worked by hand. Where the program isn't built .ci/stand_in
-answers in its place, as far as it knows the words."""
+"""`import hemtoghai`: verdicts, plans and numbers as values, worked by hand. The library answers where it is built, else
+the program, and where that isn't built .ci/stand_in in its place, as far as it knows the words."""
 import dataclasses
 import hashlib
 import json
@@ -13,7 +13,7 @@ from unittest import mock
 
 import common
 import hemtoghai
-from hemtoghai import judging, program
+from hemtoghai import answering, judging, program
 
 IS_BUILT = os.access(program.PROGRAM, os.X_OK)
 PROVED = "logic=proved functions=3 axioms=1"
@@ -37,10 +37,11 @@ class Case(unittest.TestCase):
         os.chmod(self.path, 0o755)
 
     def take(self, path):
-        """Has another program be asked until the test ends."""
-        patch = mock.patch.object(program, "PROGRAM", path)
-        patch.start()
-        self.addCleanup(patch.stop)
+        """Has another program be asked until the test ends, and no library."""
+        for where, name, value in ((program, "PROGRAM", path), (answering, "_chosen", answering.Process())):
+            patch = mock.patch.object(where, name, value)
+            patch.start()
+            self.addCleanup(patch.stop)
 
 
 class Verdicts(Case):
@@ -96,6 +97,12 @@ class Verdicts(Case):
         for depth in (-1, 9):
             with self.assertRaises(ValueError):
                 hemtoghai.check(CURED, depth)
+
+    def test_any_command(self):
+        verdict = hemtoghai.run("check --depth 4", CROSSING)
+        self.assertEqual((verdict, verdict.depth), (hemtoghai.check(CROSSING, 4), 4))
+        self.assertEqual(verdict.line, "error 5 pair a b cue 1 part 7 of 16")
+        self.assertEqual((hemtoghai.run("chek", CURED).status, hemtoghai.run("chek", CURED).output), (2, b"error 2 usage\n"))
 
 
 class Plans(Case):

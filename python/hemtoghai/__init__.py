@@ -8,17 +8,18 @@
             print(place.first, place.second, place.begin_ms, place.end_ms, place.lines)
     plan = hemtoghai.compile(text)
 
-The proved program is asked: `verdict.proved` says whether its record has a proof. docs/PYTHON.md has whole programs.
+The proved library is asked in this process, or the proved program in one of its own: `verdict.proved` says whether the
+record of the one that answered has a proof. docs/PYTHON.md has whole programs.
 """
 from __future__ import annotations
 
 TYPE_CHECKING = False  # what is named below is imported where it is first asked for: ./show has to begin fast
 if TYPE_CHECKING:
     from hemtoghai.judging import (Blocked, Caution, DronePlan, Plan, Refused, Verdict, boxes, certify, check, compile,
-                                   dynamics, play, report, speed, verify)
+                                   dynamics, play, report, run, speed, verify)
 
 __all__ = ["Blocked", "Caution", "DronePlan", "Plan", "Refused", "Verdict", "boxes", "certify", "check", "compile",
-           "dynamics", "play", "report", "speed", "verify"]
+           "dynamics", "play", "report", "run", "speed", "verify"]
 
 
 def __getattr__(name: str) -> object:

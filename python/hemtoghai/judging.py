@@ -1,18 +1,20 @@
 """What the proved program says of a show's text, as values: for `import hemtoghai`.
 
-The verdict is the program's. What helps beside it, the places in which drones are blocked and what no drone flies, is
-worked out by the companions and proves nothing; those agree with the program on whether anything is blocked.
+The verdict is the program's, or that of the library with the same answers (answering.py). What helps beside it, the
+places in which drones are blocked and what no drone flies, is worked out by the companions and proves nothing; those
+agree with the program on whether anything is blocked.
 """
 from __future__ import annotations
 
 import json
+import operator
 import re
 from collections.abc import Iterator, Mapping
 from dataclasses import dataclass, field
 from functools import cached_property
 from typing import Any, Optional, Union
 
-from hemtoghai import companion, program
+from hemtoghai import answering, companion, program
 from hemtoghai.geometry import separation
 from hemtoghai.geometry.causes import cause_of
 from hemtoghai.language import choreo, cures
@@ -21,6 +23,7 @@ from hemtoghai.writing import flyable
 Text = Union[str, bytes]
 Place = tuple[int, int, int]
 DEPTH = 6
+NO_MEMORY = 1  # the status
 
 
 # ---- values
@@ -57,12 +60,13 @@ class Caution:
 
 @dataclass(frozen=True)
 class Verdict:
-    """What the program answers to a show."""
+    """What the program or the library answers to a show."""
     status: int  # docs/COMMANDS.md, Statuses and fault lines
     output: bytes = field(repr=False)
-    proof: Optional[str] = field(repr=False)  # the last line of the program's proof
+    proof: Optional[str] = field(repr=False)  # the last line of the proof of what answered
     text: bytes = field(repr=False)
     depth: int = DEPTH
+    by: Optional[str] = field(default=None, compare=False)  # "library" or "process": which of the two answered
 
     @property
     def ok(self) -> bool:
@@ -71,7 +75,7 @@ class Verdict:
 
     @property
     def proved(self) -> bool:
-        """Whether the program is the one of a record or manifest that has its proof."""
+        """Whether the file that answered is the one of a record or manifest that has its proof."""
         return self.proof is not None
 
     @property
@@ -204,8 +208,8 @@ def cautions_of(text: bytes) -> tuple[Caution, ...]:
 # ---- asking
 
 def bytes_of(text: Text) -> bytes:
-    """The bytes of a text."""
-    return text.encode("utf-8", "surrogateescape") if isinstance(text, str) else bytes(text)
+    """The bytes of a text; raises TypeError where it is neither a text nor bytes."""
+    return text.encode("utf-8", "surrogateescape") if isinstance(text, str) else bytes(memoryview(text))
 
 
 def joined(first: Text, second: Text) -> bytes:
@@ -215,13 +219,13 @@ def joined(first: Text, second: Text) -> bytes:
 
 
 def asked(words: list[str], text: Text, whole: Optional[bytes] = None, depth: int = DEPTH) -> Verdict:
-    """What the program answers to a text, or to a whole input of which it is the show; raises program.Unusable where it
-    can't be run, and MemoryError where it is out of memory."""
+    """What is answered to a text, or to a whole input of which it is the show; raises program.Unusable where neither
+    the library nor the program can be asked, and MemoryError where it is out of memory."""
     show = bytes_of(text)
-    status, output = program.ask(words, show if whole is None else whole)
-    if status == 1:
+    answer = answering.runner().run(words, show if whole is None else whole)
+    if answer.status == NO_MEMORY:
         raise MemoryError
-    return Verdict(status, output, program.proof(), show, depth)
+    return Verdict(answer.status, answer.output, answer.proof, show, depth, answer.by)
 
 
 def accepted(verdict: Verdict) -> Verdict:
@@ -233,14 +237,14 @@ def accepted(verdict: Verdict) -> Verdict:
 
 def depth_words(depth: int) -> list[str]:
     """The words of a depth."""
-    if not 0 <= depth <= 8:
+    if not 0 <= operator.index(depth) <= 8:
         raise ValueError("the depth is 0 to 8, not %r" % depth)
     return ["--depth", "%d" % depth]
 
 
 def option(word: str, number: Optional[int]) -> list[str]:
     """The words of an option, or none where it isn't given."""
-    return [] if number is None else [word, "%d" % number]
+    return [] if number is None else [word, "%d" % operator.index(number)]
 
 
 # ---- what the program writes
@@ -272,6 +276,14 @@ def speeds_in(output: str) -> dict[str, tuple[int, int, int]]:
 
 
 # ---- the calls
+
+def run(words: str, text: Text = b"") -> Verdict:
+    """The answer to a command with its options, as "explain --depth 4", over its whole input: nothing, a show, or a
+    show with a marker line and a second text (docs/COMMANDS.md). Its bytes are the verdict's `output`."""
+    listed, whole = re.findall(r"[^\0- ]+", words), bytes_of(text)
+    depth = re.search(r"--depth 0*([0-8])(?: |$)", " ".join(listed))
+    return asked(listed, choreo.parts_of(whole)[0], whole, int(depth[1]) if depth else DEPTH)
+
 
 def check(text: Text, depth: int = DEPTH) -> Verdict:
     """Whether a show is well-formed, fits into its drones' memories, and no two drones ever come too near."""
@@ -308,7 +320,8 @@ def verify(text: Text, certificate: Text) -> Verdict:
 def play(text: Text, step_ms: int = 100, depth: int = DEPTH) -> list[tuple[int, str, int, int, int, int]]:
     """Where each drone is at each step and in the end: the instant in milliseconds, the drone's name, x, y and z in
     micrometres, and yaw in hundredths of a degree. Raises Refused."""
-    verdict = accepted(asked(["play", *depth_words(depth), "--step", "%d" % step_ms], text, depth=depth))
+    words = ["play", *depth_words(depth), *option("--step", step_ms)]
+    verdict = accepted(asked(words, text, depth=depth))
     rows = (line.split(" ") for line in verdict.output.decode().splitlines())
     return [(int(at), name, int(x), int(y), int(z), int(yaw)) for at, name, x, y, z, yaw in rows]
 

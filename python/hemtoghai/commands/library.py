@@ -4,13 +4,16 @@
 
 FOLDER, without it library/out, has then include/hemtoghai.h, lib/libhemtoghai.a, lib/libhemtoghai.so with its two
 other names, lib/pkgconfig/hemtoghai.pc, python/hemtoghai.py, and MANIFEST.json: version, commit, toolchain, the SHA-256
-of each file and of the sources, and the last line of the proof of crates/hemtoghai, which names what it rests on. Both
+of each file, of the sources and of the program's, and the last line of the proof of crates/hemtoghai, which names what
+it rests on. `import hemtoghai` takes the library of library/out where the program is of the same sources. Both
 libraries show the names hemtoghai_run and hemtoghai_version, and no other. It takes the toolchain and a C compiler (the
 one that CC names, or cc) with ld, ar, nm, objcopy and size. Where `rt ci` has proved these crates on this machine, the
 crate itself is all that is proved once more; else `rt lib` proves first what isn't proved, or with --kept nothing is
 made. The library runs on x86-64 with the instructions of x86-64-v2. Status 0: the library is written. 70: it isn't.
 75: with --kept, `rt ci` has kept too little on this machine.
 """
+from __future__ import annotations
+
 import importlib.machinery
 import importlib.util
 import json
@@ -20,10 +23,12 @@ import shutil
 import subprocess
 import sys
 import tempfile
+from typing import Any, Optional
 
 from hemtoghai import program
 from hemtoghai.companion import parser, stop
-from hemtoghai.launching.built import git, launcher
+from hemtoghai.launching import records
+from hemtoghai.launching.built import git
 
 TOP = program.TOP
 CRATE = "hemtoghai"
@@ -37,7 +42,7 @@ VARIABLES = re.compile(r"\.(data|bss|tdata|tbss)\b(?!\.rel\.ro)")
 SHARED = "-Wl,-z,defs,-z,relro,-z,now,-z,noexecstack,--gc-sections,--build-id=none"
 
 
-def said(*words, place=TOP):
+def said(*words: str, place: str = TOP) -> str:
     """What a command says; where it fails the tool ends with all that it said."""
     try:
         done = subprocess.run(words, cwd=place, stdin=subprocess.DEVNULL, stdout=subprocess.PIPE,
@@ -50,20 +55,23 @@ def said(*words, place=TOP):
     return text
 
 
-def toolchain():
+def toolchain() -> str:
     """The folder of the toolchain."""
     return os.path.dirname(said("rt", "doc").strip())
 
 
-def rt_as_module():
+def rt_as_module() -> Any:
     """rt as a module: no command of it makes a static library over what `rt ci` has proved and kept."""
     loader = importlib.machinery.SourceFileLoader("rt", os.path.join(toolchain(), "bin", "rt"))
-    module = importlib.util.module_from_spec(importlib.util.spec_from_loader("rt", loader))
+    spec = importlib.util.spec_from_loader("rt", loader)
+    if spec is None:
+        stop("%s can't be read as a module" % loader.path)
+    module = importlib.util.module_from_spec(spec)
     loader.exec_module(module)
     return module
 
 
-def over_kept(room):
+def over_kept(room: str) -> Optional[tuple[str, str]]:
     """The archive and what its proof says, over the crates below as `rt ci` proved and kept them for the same files;
     or None, where one of them isn't kept. The crate itself is proved once more: `rt ci` keeps no archive."""
     rt, place = rt_as_module(), os.path.join(room, "proved")
@@ -91,7 +99,7 @@ def over_kept(room):
     return archive, text
 
 
-def prove(room, only_kept=False):
+def prove(room: str, only_kept: bool = False) -> tuple[str, str]:
     """The archive of the proved crate, and the last line of its proof."""
     place = os.path.join(TOP, "crates", CRATE)
     try:
@@ -108,7 +116,7 @@ def prove(room, only_kept=False):
     return archive, lines[-1]
 
 
-def heap():
+def heap() -> str:
     """The toolchain's archive with what takes memory from malloc."""
     archive = os.path.join(toolchain(), "c", "liblibc_c.a")
     if not os.path.exists(archive):
@@ -116,13 +124,13 @@ def heap():
     return archive
 
 
-def names_of(file, *flags):
+def names_of(file: str, *flags: str) -> set[str]:
     """The names that a file defines or takes, by the flags of nm."""
     lines = [line.split(" ")[0] for line in said("nm", "--format=posix", *flags, file).splitlines()]
     return {name.split("@")[0] for name in lines if name and not name.endswith(":")}
 
 
-def need_stateless(archive):
+def need_stateless(archive: str) -> None:
     """Ends the tool where the proved crate has variables of its own: then threads could disturb one another. The
     toolchain's object has one byte of them, of which the address alone is used."""
     lines = [line.split() for line in said("size", "--format=sysv", archive).splitlines()]
@@ -130,7 +138,7 @@ def need_stateless(archive):
         stop("%s has variables of its own" % archive)
 
 
-def one_object(room, archives):
+def one_object(room: str, archives: list[str]) -> str:
     """One object of all that the archives have, which shows the library's names alone."""
     whole = os.path.join(room, "hemtoghai.o")
     said("ld", "-r", "--whole-archive", *archives, "-o", whole)
@@ -141,14 +149,14 @@ def one_object(room, archives):
     return whole
 
 
-def need_names(file, *flags):
+def need_names(file: str, *flags: str) -> None:
     """Ends the tool where a library shows other names than its own."""
     shown = names_of(file, "--defined-only", *flags) - {"HEMTOGHAI_0"}
     if shown != set(NAMES):
         stop("%s shows other names: %s" % (file, " ".join(sorted(shown))))
 
 
-def make_libraries(lib, version, archives):
+def make_libraries(lib: str, version: str, archives: list[str]) -> list[str]:
     """Makes both libraries in a folder; their names, the links among them first."""
     static, shared = ARCHIVE, "libhemtoghai.so." + version
     links = ["libhemtoghai.so", "libhemtoghai.so.0"]
@@ -167,7 +175,7 @@ def make_libraries(lib, version, archives):
     return [static, shared]
 
 
-def make(out, version, only_kept=False):
+def make(out: str, version: str, only_kept: bool = False) -> tuple[list[str], str]:
     """Makes the files of the library in a folder. They are named, and so is what the proof rests on."""
     lib = os.path.join(out, "lib")
     with tempfile.TemporaryDirectory() as room:
@@ -185,25 +193,31 @@ def make(out, version, only_kept=False):
     return sorted(made), rests_on
 
 
+def stamps() -> dict[str, str]:
+    """What the sources of the library are, and those of the program, which has some that the library hasn't."""
+    return {name: records.stamp(records.crates_below(crate))
+            for name, crate in (("stamp", CRATE), ("program_stamp", records.LAST))}
+
+
 def main(words: list[str]) -> int:
+    """Makes the library; the status."""
     reader = parser(__doc__)
     reader.add_argument("--out", default=os.path.join(SOURCES, "out"), metavar="FOLDER", help="where the library goes")
     reader.add_argument("--kept", action="store_true", help="only over what rt ci has proved and kept on this machine")
-    given, show = reader.parse_args(words), launcher()
+    given = reader.parse_args(words)
     out = os.path.abspath(given.out)
-    if os.path.exists(show.MANIFEST):
+    if os.path.exists(program.MANIFEST):
         stop("this is a release: its library is in library/out")
     try:
-        below = show.crates_below(CRATE)
-        before = show.stamp(below)
-        made, rests_on = make(out, show.version(), given.kept)
-        if show.stamp(below) != before:
+        before = stamps()
+        made, rests_on = make(out, records.version(), given.kept)
+        if stamps() != before:
             stop("the sources were changed while they were proved: run it again")
-        sums = {path: show.sha256(os.path.join(out, path)) for path in made}
+        sums = {path: records.sha256(os.path.join(out, path)) for path in made}
         with open(os.path.join(out, "MANIFEST.json"), "w") as file:
-            json.dump({"version": show.version(), "commit": git("rev-parse", "HEAD"),
+            json.dump({"version": records.version(), "commit": git("rev-parse", "HEAD"),
                        "changed_since": git("status", "--porcelain") != "", "toolchain": said("rt", "version").strip(),
-                       "rests_on": rests_on, "stamp": before, "files": sums}, file, indent=1)
+                       "rests_on": rests_on, **before, "files": sums}, file, indent=1)
             file.write("\n")
     except OSError as error:
         stop("%s: %s" % (error.filename, error.strerror))
