@@ -537,7 +537,8 @@ class Wheel(unittest.TestCase):
                  for folder, _, names in os.walk(os.path.join(self.top, "hemtoghai")) for name in names
                  if "__pycache__" not in folder}
         self.assertEqual(found, {*manifest["files"], "MANIFEST.json"})
-        for path in ("seeing/studio.html", "seeing/view.js", "flying/simulated/cflib/air.py", "docs/COMMANDS.md", "VERSION"):
+        for path in ("seeing/studio.html", "seeing/view.js", "flying/simulated/cflib/air.py", "docs/COMMANDS.md", "VERSION",
+                     "library/out/MANIFEST.json", LIB[2]):
             self.assertIn(path, found)
         with zipfile.ZipFile(self.repository.wheel()) as packed:
             self.assertEqual(len({entry.date_time for entry in packed.infolist()}), 1)
@@ -573,8 +574,9 @@ class Wheel(unittest.TestCase):
 
     def test_module(self):
         code = ("import hemtoghai\nverdict = hemtoghai.check(open(%r).read())\n"
-                "print(verdict.ok, verdict.proved, hemtoghai.__file__)" % os.path.join(TOP, "examples", "solo.choreo"))
-        self.assertEqual(self.python("-c", code), (0, "True True %s\n" % os.path.join(self.top, "hemtoghai", "__init__.py"), ""))
+                "print(verdict.ok, verdict.proved, verdict.by, hemtoghai.__file__)" % os.path.join(TOP, "examples", "solo.choreo"))
+        wanted = "True True %s %s\n" % ("library" if HAS_LIBRARY else "process", os.path.join(self.top, "hemtoghai", "__init__.py"))
+        self.assertEqual(self.python("-c", code), (0, wanted, ""))
 
     def test_another_program(self):
         path = os.path.join(self.top, "hemtoghai", "crates", "show_cli", "out", "show_cli")

@@ -1,5 +1,5 @@
-"""The wheel of a release: the package with the proved program in it, its manifest, and the documents that it reads. It
-is made by setuptools, without a network, and the same files make the same bytes."""
+"""The wheel of a release: the package with the proved program and the proved library in it, their manifests, and the
+documents that it reads. It is made by setuptools, without a network, and the same files make the same bytes."""
 from __future__ import annotations
 
 import os
@@ -11,6 +11,7 @@ from hemtoghai.companion import stop
 
 PACKAGE = "python/hemtoghai/"
 BESIDE = ("VERSION", "docs/COMMANDS.md", "docs/LANGUAGE.md")  # in a checkout beside the package, and in the wheel in it
+LIBRARY = "library/out/MANIFEST.json", "library/out/lib/libhemtoghai.so."  # as the names of its files begin
 NAME = "hemtoghai-%s-py3-none-manylinux_2_34_x86_64.whl"
 SETTINGS = "[bdist_wheel]\nplat-name = manylinux_2_34_x86_64\n"
 MAKE = "import sys; from setuptools import build_meta; build_meta.build_wheel(sys.argv[1])"
@@ -25,7 +26,8 @@ def lacking() -> list[str]:
 def contents_of(contents: list[tuple[str, bytes, int]], executable: str) -> list[tuple[str, bytes, int]]:
     """Of the files of a release those of the wheel, by their paths in the package."""
     own = [(path[len(PACKAGE):], data, mode) for path, data, mode in contents if path.startswith(PACKAGE)]
-    return sorted(own + [file for file in contents if file[0] in (*BESIDE, executable)])
+    return sorted(own + [file for file in contents
+                         if file[0] in (*BESIDE, executable) or file[0].startswith(LIBRARY)])
 
 
 def make(out: str, version: str, contents: list[tuple[str, bytes, int]], project: bytes, when: int) -> str:
