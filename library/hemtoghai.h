@@ -3,37 +3,49 @@
  * One function answers every command of the program `show`, over bytes in memory. `input` is what the program would
  * read from standard input, `output` takes what it would write, and its status is returned. docs/COMMANDS.md has the
  * commands, their output and each status; docs/LANGUAGE.md has the language of shows; docs/CALLING.md has programs in
- * C, C++, Rust and Python.
+ * C, C++ and Rust.
  *
  *     char line[256];
  *     size_t size;
  *     uint8_t status = hemtoghai_run("check", 5, text, text_length, line, sizeof line, &size);
  *     if (status == HEMTOGHAI_DONE) puts("the drones keep apart");
  *
- * What status 0 says, and what is proved: the contract of hemtoghai_run in crates/hemtoghai/src/lib.rt. Its clauses
+ * What a status says, and what is proved: the contract of hemtoghai_run in crates/hemtoghai/src/lib.rt. Its clauses
  * stand in brackets here. "The show" is the one whose text stands in `input` before the marker line, if there is one.
+ * A drone's "curve" is that of the trajectory that it is sent.
  *
  * - 0 of check, compile, certify, play, report, verify, rehearse and upload: the text is that of a show. At every
- *   instant each drone's curve is within half a millimetre, on each axis, of what the text says. The ellipsoids around
- *   any two drones share no point at any instant, while each is within the show's `stray` of its curve and no two are
- *   further apart in time than its `late` (flies). Each upload of that show goes right, with the drone and the link of
- *   docs/RADIO.md (uploads).
+ *   instant each drone's curve is within half a millimetre of what the text says, on each of x, y and z, and its yaw is
+ *   equal. The ellipsoids around any two drones share no point at any instant, while each is within the show's `stray`
+ *   of its curve and no two are further apart in time than its `late` (flies). Each upload of that show goes right,
+ *   with the drone and the link of docs/RADIO.md (uploads).
  * - 0 of compile: the first `*size` bytes of `output` are the plan of trajectories of which that holds (headline).
- * - upload, whatever the status: once the first byte of a packet stands in `output`, the same holds of the show
- *   (begun).
- * - 0 of boxes: each drone keeps to each region at every instant (regions). 0 of speed: on no axis is a drone faster
- *   than the bound in `output`, and no bound is above the limit (speeds). 0 of explain: a touch that `output` names is
- *   one, and where it writes `separated` drones keep apart as above (touches). 0 of dynamics: within each segment a
- *   drone's speed changes by no more than the bound in `output`, no jump of it is greater than the one there, and
- *   neither is above its limit (motions). **These four return 0 for drones that collide, too.**
+ * - upload, whatever the status: where the answer begins with a packet, the same holds of the show (begun). So it is
+ *   where neither `*size` nor `output_length` is 0 and the first byte of `output` is 'P'.
  * - 0 of drill: the show that drill makes flies near and apart, as above (drilled).
- * - An input has one answer: two calls with the same words and input, neither of which ends with 1, differ in nothing
- *   but where a room is too small. An input without a fault gets 0, unless that is 1 or 7. Each other status but 17 is
- *   that of the program's first cause, and `output` has its line (behaves, outcomes, usage).
+ * - 0 of boxes, speed, explain and dynamics: the text is that of a show, and curves are as near to it as above
+ *   (behaves). **These four return 0 for drones that collide, too.** They say:
+ *   - boxes: at every instant each drone's curve, with `stray` and the half axes of its ellipsoid added to each side,
+ *     is outside of every keepout and inside of every volume of the regions (regions).
+ *   - speed: between any two instants a curve moves along x, y or z by at most the drone's bound in `output` times the
+ *     time between them, and no bound is above the limit (speeds).
+ *   - explain: where `output` begins with the line "separated", any two drones keep apart as above. A touch that it
+ *     names is one: there the ellipsoids around two drones share a point while both are where their curves are, and at
+ *     none of the listed instants before it do any two. Where it has "no-touch", no two do at any listed instant
+ *     (touches). docs/COMMANDS.md says which instants are listed.
+ *   - dynamics: within each segment the speed of a curve along x, y or z changes by at most the drone's bound in
+ *     `output` times the time. No jump of speed between two segments, at the beginning or at the end is greater than
+ *     the one there, and neither is above its limit (motions).
+ * - 0 of help and version says nothing of a show.
+ * - An input has one answer: two calls with the same words, in UTF-8, and the same input, neither of which ends with 1,
+ *   differ in nothing but where a room is too small. An input without a fault gets 0, unless that is 1 or 7. Each other
+ *   status but 7 and 17 is that of the program's first cause, and `output` has its line, or of upload its end frame
+ *   (behaves, outcomes, usage).
  * - 7 only where `output` is too small. Then it has the first `output_length` bytes of the answer. At every other
  *   status all `*size` bytes of the answer are in `output`, and the bytes after them stay as they were (no_room, whole,
- *   behaves).
+ *   behaves, usage).
  * - 17 only where a word isn't UTF-8. At 1 and 17 `*size` is 0 and `output` is as it was (memory, no_words).
+ * - There is no status 6, and none above 18 (read, known).
  * - The call returns, and touches no memory of yours but `output` and `*size`.
  *
  * What is not proved: that memory ran out where the status is 1; how long a call takes; what stands under "Stack" and
@@ -67,7 +79,7 @@ extern "C" {
 /* The statuses: the program's, but for three. 7 is of a room that is too small, and 17 of words that aren't UTF-8; 6
  * never comes, since no read fails. */
 enum hemtoghai_status {
-    HEMTOGHAI_DONE = 0,             /* what the command asks for holds, and the whole answer is in `output` */
+    HEMTOGHAI_DONE = 0,             /* what stands above for the command; the whole answer is in `output` */
     HEMTOGHAI_NO_MEMORY = 1,        /* out of memory: `*size` is 0, and `output` is as it was */
     HEMTOGHAI_USAGE = 2,            /* the words are no command */
     HEMTOGHAI_NO_SHOW = 3,          /* the show's text is faulty or too large */
