@@ -1,10 +1,8 @@
-"""The library for C, as ./show library made it in library/out: from C, C++, Rust and Python, by many threads at once,
-and with each malloc failing in turn; hemtoghai.py with the library and with the program; and the programs of
-docs/CALLING.md. What is expected is the program's own answer, or that of the documents. What needs a compiler or a
-build that isn't there, or isn't of these sources, is skipped."""
-import concurrent.futures
+"""The library for C, as ./show library made it in library/out: from C, C++ and Rust, by many threads at once, and with
+each malloc failing in turn; and the programs of docs/CALLING.md. What is expected is the program's own answer, or that
+of the documents. What needs a compiler or a build that isn't there, or isn't of these sources, is skipped. From Python
+it is called in test_library_answers.py."""
 import ctypes
-import importlib.util
 import json
 import os
 import re
@@ -13,15 +11,14 @@ import subprocess
 import sys
 import tempfile
 import unittest
-from unittest import mock
 
 sys.dont_write_bytecode = True
 sys.path.insert(0, os.path.dirname(os.path.abspath(__file__)))
 from common import PROGRAM, TOP, wants_program
+from hemtoghai import answering
 from hemtoghai.launching import built
 
 OUT = os.path.join(TOP, "library", "out")
-MODULE = os.path.join(TOP, "library", "hemtoghai.py")
 CALLING = os.path.join(TOP, "docs", "CALLING.md")
 STRICT = ["-O2", "-Wall", "-Wextra", "-pedantic", "-Werror"]
 SHOWS = ["solo", "crossing", "crossing_cured", "grid_to_ring_dealt", "every_act"]
@@ -73,17 +70,6 @@ def said(*words, text=b"", place=None, **more):
     return done.returncode, done.stdout
 
 
-def module_by(path=MODULE, **named):
-    """hemtoghai.py, loaded anew with the judge that these variables name, or without any."""
-    spec = importlib.util.spec_from_file_location("hemtoghai_by", path)
-    module = importlib.util.module_from_spec(spec)
-    with mock.patch.dict(os.environ, named):
-        for name in {"HEMTOGHAI_LIBRARY", "HEMTOGHAI_PROGRAM"} - set(named):
-            os.environ.pop(name, None)
-        spec.loader.exec_module(module)
-    return module
-
-
 def blocks_of(language):
     """The programs in a language in docs/CALLING.md, each with the output that stands after it."""
     with open(CALLING) as file:
@@ -124,10 +110,6 @@ class Room(unittest.TestCase):
         self.assertEqual((status, text), (0, b""))
         return program
 
-    def by_library(self):
-        """hemtoghai.py by the library."""
-        return module_by(HEMTOGHAI_LIBRARY=os.path.join(self.lib, "libhemtoghai.so.0"))
-
 
 class InC(Room):
     def stress(self):
@@ -165,10 +147,6 @@ class InC(Room):
 
     def test_threads(self):
         self.assertEqual(said(self.stress(), "threads", "8", "1000", *map(path_of, SHOWS)), (0, b"wrong 0 out 0\n"))
-        show = self.by_library().Show(text_of("solo"))
-        with concurrent.futures.ThreadPoolExecutor(8) as threads:
-            verdicts = set(threads.map(lambda _: tuple(show.check()), range(1000)))
-        self.assertEqual(verdicts, {ACCEPTED})
 
     def inputs(self):
         """Each command with the file of its input, and the status of its answer."""
@@ -189,7 +167,7 @@ class InC(Room):
         self.assertRegex(text, rb"^calls %d asks \d+ wrong 0 out 0\n$" % (3 * len(EVERY)))
         for words, path, wanted in self.inputs():
             with open(path, "rb") as file:
-                self.assertEqual(self.by_library().run(words, file.read()).status, wanted, words)
+                self.assertEqual(answering.library().run(words.split(), file.read()).status, wanted, words)
 
     def test_memory(self):
         for words, path, wanted in self.inputs():
@@ -238,113 +216,20 @@ class InC(Room):
             manifest = json.load(file)
         self.assertEqual(sorted(manifest["files"]), [
             "include/hemtoghai.h", "lib/libhemtoghai.a", "lib/libhemtoghai.so." + version(),
-            "lib/pkgconfig/hemtoghai.pc", "python/hemtoghai.py"])
+            "lib/pkgconfig/hemtoghai.pc"])
         self.assertRegex(manifest["rests_on"], "^logic=proved .* axioms=3 ")
-        self.assertEqual(self.by_library().proof(), manifest["rests_on"])
+        self.assertEqual(answering.library().proof, manifest["rests_on"])
 
 
-class Judges(Room):
-    """hemtoghai.py: the same answers, whichever judge it takes."""
-
-    def judges(self):
-        """The module by the library and by the program."""
-        return self.by_library(), module_by(HEMTOGHAI_PROGRAM=PROGRAM)
-
+class Same(Room):
     @wants_program
     def test_same_answers(self):
-        library, program = self.judges()
-        self.assertEqual((library.VERSION, type(library.judge).__name__, type(program.judge).__name__),
-                         (program.VERSION, "Library", "Program"))
+        library = answering.library()
         for show in SHOWS:
             text = text_of(show)
             for words in WORDS:
-                status, answer = said(PROGRAM, *words.split(), text=text)
-                for module in (library, program):
-                    self.assertEqual(tuple(module.run(words, text)), (status, answer), (words, show))
-
-    @wants_program
-    def test_names(self):
-        for module in self.judges():
-            with open(path_of("crossing")) as file:
-                show = module.Show(file.read())
-            self.assertEqual(".".join(map(str, module.VERSION)), version())
-            self.assertEqual((show.check().accepted, show.check().line),
-                             (False, "error 5 pair a b cue 1 part 28 of 64"))
-            with self.assertRaises(module.Refused) as refused:
-                show.compile()
-            self.assertEqual((refused.exception.verdict.status, str(refused.exception)),
-                             (5, "error 5 pair a b cue 1 part 28 of 64"))
-            for text in (text_of("solo"), bytearray(text_of("solo")), memoryview(text_of("solo"))):
-                self.assertEqual(tuple(module.run("check", text)), ACCEPTED)
-                self.assertEqual(tuple(module.Show(text).check(2)), ACCEPTED)
-            self.assertEqual(module.Show(text_of("solo")).compile(0).split(b"\n")[0], b"plan 1")
-            self.assertEqual(module.run("check \ud7ff").status, 2)
-            for wrong in (-1, 9, 2.5, float("nan"), "6"):
-                with self.assertRaises(ValueError):
-                    show.check(wrong)
-            for wrong in (5, None, "text"):
-                with self.assertRaises(TypeError):
-                    module.run("check", wrong)
-
-
-class Found(unittest.TestCase):
-    """Which judge hemtoghai.py takes; the program is a script."""
-
-    def setUp(self):
-        room = tempfile.TemporaryDirectory()
-        self.addCleanup(room.cleanup)
-        self.place = os.path.realpath(room.name)
-        none = mock.patch("ctypes.CDLL", side_effect=OSError("none"))  # whatever library the system may have
-        none.start()
-        self.addCleanup(none.stop)
-        self.module = self.file("library/hemtoghai.py", "")
-        shutil.copy(MODULE, self.module)
-
-    def file(self, name, text, mode=0o644):
-        """The path of a file that is written."""
-        path = os.path.join(self.place, name)
-        os.makedirs(os.path.dirname(path), exist_ok=True)
-        with open(path, "w") as file:
-            file.write(text)
-        os.chmod(path, mode)
-        return path
-
-    def test_none(self):
-        with self.assertRaises(ImportError):
-            module_by(self.module)
-        for name in ("HEMTOGHAI_LIBRARY", "HEMTOGHAI_PROGRAM"):
-            with self.assertRaises(ImportError):
-                module_by(self.module, **{name: os.path.join(self.place, "none")})
-
-    def test_places(self):
-        path = self.file("crates/show_cli/out/show_cli", "#!/bin/sh\necho hemtoghai 7.8.9\n", 0o755)
-        for name in ("library/out/python/hemtoghai.py", "library/hemtoghai.py"):
-            shutil.copy(MODULE, self.file(name, ""))
-            self.assertEqual(module_by(os.path.join(self.place, name)).judge.path, path)
-        shutil.copy(MODULE, self.file("library/python/hemtoghai.py", ""))  # whatever stands further up isn't its own
-        with self.assertRaises(ImportError):
-            module_by(os.path.join(self.place, "library/python/hemtoghai.py"))
-
-    def test_program(self):
-        path = self.file("crates/show_cli/out/show_cli", "#!/bin/sh\necho hemtoghai 7.8.9\n[ $1 = version ]\n", 0o755)
-        module = module_by(self.module)
-        self.assertEqual((module.judge.path, module.VERSION), (path, (7, 8, 9)))
-        self.assertIsNone(module.proof())
-        record = {"sha256": "0" * 64, "rests_on": "logic=proved"}
-        self.file("crates/show_cli/out/show_cli.built", json.dumps(record))
-        self.assertIsNone(module.proof())
-        record["sha256"] = "c3d5b8f4" * 8
-        with mock.patch("hashlib.sha256") as digest:
-            digest.return_value.hexdigest.return_value = record["sha256"]
-            self.file("MANIFEST.json", json.dumps(record))
-            self.assertEqual(module.proof(), "logic=proved")
-        with self.assertRaises(MemoryError):  # the script ends every other command with 1
-            module.run("check")
-
-    def test_no_program(self):
-        for text in ("#!/bin/sh\necho something else\n", "#!/bin/sh\nkill -9 $$\n"):
-            with self.assertRaises(ImportError):
-                module_by(self.module, HEMTOGHAI_PROGRAM=self.file("script", text, 0o755))
+                answer = library.run(words.split(), text)
+                self.assertEqual((answer.status, answer.output), said(PROGRAM, *words.split(), text=text), (words, show))
 
 
 class Page(Room):
@@ -366,12 +251,6 @@ class Page(Room):
             program = self.built(self.written("page/%s.%s" % (language, language), source), "-std=" + standard,
                                  compiler=compiler)
             self.assertEqual(said(program, place=TOP), (0, output.encode()), language)
-
-    def test_python(self):
-        (source, output), = blocks_of("python")
-        found = said(sys.executable, self.written("page/page.py", source), place=TOP,
-                     PYTHONPATH=os.path.join(OUT, "python"))
-        self.assertEqual(found, (0, output.encode()))
 
     @unittest.skipUnless(shutil.which("cargo"), "there is no cargo")
     def test_rust(self):

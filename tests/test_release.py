@@ -113,10 +113,8 @@ class Repository:
     def library(self, said=PROVED):
         """Makes the files of the library, and notes their build, as ./show library does."""
         out = self.path("library/out")
-        for name, source in (("include/hemtoghai.h", "library/hemtoghai.h"),
-                             ("python/hemtoghai.py", "library/hemtoghai.py")):
-            self.file(os.path.join(out, name), "")
-            shutil.copy(self.path(source), os.path.join(out, name))
+        self.file(os.path.join(out, "include/hemtoghai.h"), "")
+        shutil.copy(self.path("library/hemtoghai.h"), os.path.join(out, "include/hemtoghai.h"))
         for name, built in (("lib/libhemtoghai.a", "lib/libhemtoghai.a"),
                             ("lib/libhemtoghai.so.7.8.9", "lib/libhemtoghai.so"),
                             ("lib/pkgconfig/hemtoghai.pc", "lib/pkgconfig/hemtoghai.pc")):
@@ -255,7 +253,7 @@ class Release(unittest.TestCase):
         for path in ("README.md", "show", "docs/COMMANDS.md", "examples/solo.choreo", "python/hemtoghai/flying/simulated/cflib/air.py",
                      "share/show.1", "share/show.bash", "crates/show_cli/out/show_cli", "library/check.c",
                      "library/out/lib/libhemtoghai.a", *LIB, "library/out/include/hemtoghai.h",
-                     "library/out/lib/pkgconfig/hemtoghai.pc", "library/out/python/hemtoghai.py"):
+                     "library/out/lib/pkgconfig/hemtoghai.pc"):
             self.assertIn(path, found)
         for path, wanted in manifest["files"].items():
             with open(os.path.join(self.top, path), "rb") as file:
@@ -282,25 +280,27 @@ class Release(unittest.TestCase):
         for path in LIB[:2]:
             self.assertEqual(everything[path], everything[LIB[2]])
 
-    def asked(self, module, **named):
-        """What hemtoghai.py of the release says of a show: which judge answers, its proof, and the answer."""
-        ask = ("import hemtoghai as h\nwith open('examples/solo.choreo') as file:\n    show = h.Show(file.read())\n"
-               "print(type(h.judge).__name__, h.proof(), show.check().line)\n")
+    def asked(self, **named):
+        """What `import hemtoghai` of the release says of a show: by which of the two, its proof, and the answer."""
+        ask = ("import hemtoghai\nwith open('examples/solo.choreo') as file:\n    verdict = hemtoghai.check(file.read())\n"
+               "print(verdict.by, verdict.proof, verdict.line)\n")
         return done([os.path.join(self.bin, "python3"), "-c", ask], self.top,
-                    env={"PATH": self.bin, "LANG": "C", "PYTHONPATH": os.path.join(self.top, module),
+                    env={"PATH": self.bin, "LANG": "C", "PYTHONPATH": os.path.join(self.top, "python"),
                          "PYTHONDONTWRITEBYTECODE": "1", **named})
 
-    @unittest.skipUnless(IS_BUILT, "the program isn't built: ./show check FILE builds it")
-    def test_module_by_program(self):
-        program = os.path.join(self.top, "crates", "show_cli", "out", "show_cli")
-        wanted = 0, "Program %s ok drones 1 cues 1 duration_ms 2000\n" % PROVED, ""
-        self.assertEqual(self.asked("library", HEMTOGHAI_PROGRAM=program), wanted)
+    def test_module(self):
+        by = "library" if HAS_LIBRARY else "process"  # files of a few bytes are no library
+        for named, wanted in (({}, by), ({"HEMTOGHAI_BY": "process"}, "process")):
+            self.assertEqual(self.asked(**named), (0, "%s %s ok drones 1 cues 1 duration_ms 2000\n" % (wanted, PROVED), ""))
 
-    @unittest.skipUnless(HAS_LIBRARY, "the library isn't built: ./show library builds it")
-    def test_module_by_library(self):
-        for place in ("library", "library/out/python"):
-            wanted = 0, "Library %s ok drones 1 cues 1 duration_ms 2000\n" % PROVED, ""
-            self.assertEqual(self.asked(place), wanted)
+    def test_another_library(self):
+        path = os.path.join(self.top, LIB[2])
+        self.addCleanup(self.unpack_again)
+        with open(path, "ab") as file:
+            file.write(b"\n")
+        self.assertEqual(self.asked()[1].split(" ")[0], "process")
+        status, _, error = self.asked(HEMTOGHAI_BY="library")
+        self.assertEqual((status, "Unusable: the library isn't the one of its manifest" in error), (1, True))
 
     def test_version(self):
         status, out, error = self.run_there("show", "--version")

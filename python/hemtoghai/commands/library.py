@@ -3,10 +3,9 @@
     ./show library [--kept] [--out FOLDER]
 
 FOLDER, without it library/out, has then include/hemtoghai.h, lib/libhemtoghai.a, lib/libhemtoghai.so with its two
-other names, lib/pkgconfig/hemtoghai.pc, python/hemtoghai.py, and MANIFEST.json: version, commit, toolchain, the SHA-256
-of each file, of the sources and of the program's, and the last line of the proof of crates/hemtoghai, which names what
-it rests on. `import hemtoghai` takes the library of library/out where the program is of the same sources. Both
-libraries show the names hemtoghai_run and hemtoghai_version, and no other. It takes the toolchain and a C compiler (the
+other names, lib/pkgconfig/hemtoghai.pc, and MANIFEST.json: version, commit, toolchain, the SHA-256 of each file, of the
+sources and of the program's, and the last line of the proof of crates/hemtoghai, which names what it rests on.
+`import hemtoghai` takes the library of library/out where the program is of the same sources. Both libraries show the names hemtoghai_run and hemtoghai_version, and no other. It takes the toolchain and a C compiler (the
 one that CC names, or cc) with ld, ar, nm, objcopy and size. Where `rt ci` has proved these crates on this machine, the
 crate itself is all that is proved once more; else `rt lib` proves first what isn't proved, or with --kept nothing is
 made. The library runs on x86-64 with the instructions of x86-64-v2. Status 0: the library is written. 70: it isn't.
@@ -181,13 +180,11 @@ def make(out: str, version: str, only_kept: bool = False) -> tuple[list[str], st
     with tempfile.TemporaryDirectory() as room:
         archive, rests_on = prove(room, only_kept)
         need_stateless(archive)
-        for folder in ("include", "lib/pkgconfig", "python"):
+        for folder in ("include", "lib/pkgconfig"):
             os.makedirs(os.path.join(out, folder), exist_ok=True)
         made = ["lib/" + name for name in make_libraries(lib, version, [archive, heap()])]
-    for name, path in (("hemtoghai.h", "include/hemtoghai.h"), ("hemtoghai.py", "python/hemtoghai.py")):
-        shutil.copyfile(os.path.join(SOURCES, name), os.path.join(out, path))
-        made.append(path)
-    made.append("lib/pkgconfig/hemtoghai.pc")
+    shutil.copyfile(os.path.join(SOURCES, "hemtoghai.h"), os.path.join(out, "include", "hemtoghai.h"))
+    made += ["include/hemtoghai.h", "lib/pkgconfig/hemtoghai.pc"]
     with open(os.path.join(SOURCES, "hemtoghai.pc.in")) as file, open(os.path.join(out, made[-1]), "w") as copy:
         copy.write(file.read().replace("@VERSION@", version))
     return sorted(made), rests_on

@@ -38,7 +38,7 @@ SHIPPED = ["VERSION", "CHANGELOG.md", "show", "docs", "examples", "python", "too
 README = os.path.join("python", "hemtoghai", "launching", "release.md")  # of the release; it is its README.md
 PROGRAM = os.path.relpath(program.PROGRAM, TOP)
 LIBRARY = os.path.join("library", "out")
-COPIES = ["include/hemtoghai.h", "python/hemtoghai.py"]  # of its files these are copies of files of the repository
+COPIES = ["include/hemtoghai.h"]  # of its files this is a copy of one of the repository
 LINKS = ["lib/libhemtoghai.so", "lib/libhemtoghai.so.0"]
 
 
