@@ -95,7 +95,7 @@ class Case(unittest.TestCase):
             os.environ["HEMTOGHAI_BY"] = choice
         try:
             verdict = hemtoghai.check("")
-        except program.Unusable as why:
+        except hemtoghai.Unusable as why:
             return str(why)
         self.assertEqual((verdict.line, verdict.proved), {
             "library": ("check --depth 6|", verdict.proof == PROVED), "process": ("by the program", False)}[verdict.by])

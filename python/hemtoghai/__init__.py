@@ -15,11 +15,11 @@ from __future__ import annotations
 
 TYPE_CHECKING = False  # what is named below is imported where it is first asked for: ./show has to begin fast
 if TYPE_CHECKING:
-    from hemtoghai.judging import (Blocked, Caution, DronePlan, Plan, Refused, Verdict, boxes, certify, check, compile,
-                                   dynamics, play, report, run, speed, verify)
+    from hemtoghai.judging import (Blocked, Caution, DronePlan, Plan, Refused, Unusable, Verdict, boxes, certify, check,
+                                   compile, dynamics, play, report, run, speed, verify)
 
-__all__ = ["Blocked", "Caution", "DronePlan", "Plan", "Refused", "Verdict", "boxes", "certify", "check", "compile",
-           "dynamics", "play", "report", "run", "speed", "verify"]
+__all__ = ["Blocked", "Caution", "DronePlan", "Plan", "Refused", "Unusable", "Verdict", "boxes", "certify", "check",
+           "compile", "dynamics", "play", "report", "run", "speed", "verify"]
 
 
 def __getattr__(name: str) -> object:

@@ -24,6 +24,7 @@ Text = Union[str, bytes]
 Place = tuple[int, int, int]
 DEPTH = 6
 NO_MEMORY = 1  # the status
+Unusable = program.Unusable  # why neither the library nor the program can be asked
 
 
 # ---- values
@@ -219,8 +220,8 @@ def joined(first: Text, second: Text) -> bytes:
 
 
 def asked(words: list[str], text: Text, whole: Optional[bytes] = None, depth: int = DEPTH) -> Verdict:
-    """What is answered to a text, or to a whole input of which it is the show; raises program.Unusable where neither
-    the library nor the program can be asked, and MemoryError where it is out of memory."""
+    """What is answered to a text, or to a whole input of which it is the show; raises Unusable where neither the
+    library nor the program can be asked, and MemoryError where it is out of memory."""
     show = bytes_of(text)
     answer = answering.runner().run(words, show if whole is None else whole)
     if answer.status == NO_MEMORY:
