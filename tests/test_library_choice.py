@@ -244,6 +244,21 @@ class Questions(Case):
             verdict = hemtoghai.run("check", b"x" * count)
             self.assertEqual((verdict.status, verdict.output), (0, b"check|" + b"x" * count))
 
+    def test_a_question_within_a_question(self):
+        # As of a handler of signals, which runs between the call and the copy of its answer.
+        library, within = answering.library(), []
+        library.run(["check"], b"first")
+        call = library.call
+
+        def interrupted(*words):
+            status = call(*words)
+            if not within:
+                within.append(None)
+                within[0] = library.run(["compile"], b"within it").output
+            return status
+        library.call = interrupted
+        self.assertEqual((library.run(["check"], b"outer").output, within), (b"check|outer", [b"compile|within it"]))
+
     def test_statuses(self):
         with self.assertRaises(MemoryError):
             hemtoghai.check("1")

@@ -22,7 +22,8 @@ CHOICE = "HEMTOGHAI_BY"
 FOLDER = "library/out/"  # of a checkout, a release or an installed package
 FILE = "lib/libhemtoghai.so.%s"  # in it, with the version
 NO_ROOM = 7  # the library's status where the answer has more bytes than there is room for
-ROOM = 1 << 16  # bytes that an answer is given at first
+ROOM = 1 << 16  # bytes that a thread's first answer is given
+MOST_ROOM = 1 << 20  # bytes that a thread keeps for its next answer: making them anew takes as long as a small call
 
 
 class Answer(NamedTuple):
@@ -60,7 +61,8 @@ def line_of(words: list[str]) -> bytes:
 
 
 class Library:
-    """The library, loaded from a file. It has no state, and other threads of Python run during a call."""
+    """The library, loaded from a file. It has no state; other threads of Python run during a call, and each has a room
+    of its own for answers."""
 
     def __init__(self, path: str, proof: Optional[str]) -> None:
         try:
@@ -71,18 +73,23 @@ class Library:
         self.call.restype = ctypes.c_uint8
         self.call.argtypes = [ctypes.c_char_p, ctypes.c_size_t, ctypes.c_char_p, ctypes.c_size_t,
                               ctypes.c_void_p, ctypes.c_size_t, ctypes.POINTER(ctypes.c_size_t)]
-        self.proof = proof
+        self.proof, self.rooms = proof, threading.local()
 
     def run(self, words: list[str], text: bytes) -> Answer:
         """The answer to a command."""
         import ctypes
-        line, room, size = line_of(words), ROOM, ctypes.c_size_t()
+        line, size = line_of(words), ctypes.c_size_t()
+        # Taken away for the call: a handler of signals that asks meanwhile finds none, and makes its own.
+        output = vars(self.rooms).pop("output", None) or ctypes.create_string_buffer(ROOM)
         while True:
-            output = ctypes.create_string_buffer(room)
-            status = self.call(line, len(line), text, len(text), output, room, ctypes.byref(size))
+            status = self.call(line, len(line), text, len(text), output, len(output), ctypes.byref(size))
             if status != NO_ROOM:
-                return Answer(status, ctypes.string_at(output, size.value), self.proof, "library")
-            room = size.value  # the same question has the same answer
+                break
+            output = ctypes.create_string_buffer(size.value)  # the same question has the same answer
+        answer = Answer(status, ctypes.string_at(output, size.value), self.proof, "library")
+        if len(output) <= MOST_ROOM:
+            self.rooms.output = output
+        return answer
 
 
 def bytes_in(path: str) -> bytes:
