@@ -17,7 +17,7 @@ from hemtoghai import answering, program
 
 COMPILER = shutil.which(os.environ.get("CC", "cc")) or shutil.which("gcc")
 PROVED = "logic=proved functions=3 axioms=3"
-# Its answer is its words and its input with a bar between them; its status the input's first digit, and 1 writes nothing.
+# Its answer is its words and its input with a bar between them. The status is the input's first digit; 1 gives nothing.
 SOURCE = """
 #include <stddef.h>
 #include <stdint.h>
@@ -165,11 +165,12 @@ class Choice(Case):
         text = self.make()
         digest = hashlib.sha256(text).hexdigest()
         known = {"library/out/MANIFEST.json": digest}
-        for files, wanted in ((known, ("library", PROVED)), ({}, None), ({"library/out/MANIFEST.json": "0"}, None), (7, None)):
+        for files, wanted in ((known, ("library", PROVED)), ({}, None), (dict.fromkeys(known, "0"), None), (7, None)):
             record = {"sha256": hashlib.sha256(SCRIPT.encode()).hexdigest(), "files": files}
             self.write("MANIFEST.json", json.dumps(record).encode())
             self.assertEqual(self.by(), wanted or ("process", None))
-            self.assertEqual(self.by("library"), wanted or "the library's manifest isn't as released: unpack the release anew")
+            self.assertEqual(self.by("library"), wanted or (
+                "the library's manifest isn't as released: unpack the release anew"))
         # Whoever exchanges the library and its manifest still isn't taken for the release.
         self.write("MANIFEST.json", json.dumps({**record, "files": known}).encode())
         self.make(Case.compiled + b"\n")
