@@ -38,9 +38,9 @@
  *     the one there, and neither is above its limit (motions).
  * - 0 of help and version says nothing of a show.
  * - An input has one answer: two calls with the same words, in UTF-8, and the same input, neither of which ends with 1,
- *   differ in nothing but where a room is too small. An input without a fault gets 0, unless that is 1 or 7. Each other
- *   status but 7 and 17 is that of the program's first cause, and `output` has its line, or of upload its end frame
- *   (behaves, outcomes, usage).
+ *   differ in nothing but where a room is too small. An input without a fault gets 0, unless that is 1 or 7. A status
+ *   other than 0, 1, 7 and 17 is that of the program's first cause, and `output` has its line, or of upload its end
+ *   frame (behaves, outcomes, usage).
  * - 7 only where `output` is too small. Then it has the first `output_length` bytes of the answer. At every other
  *   status all `*size` bytes of the answer are in `output`, and the bytes after them stay as they were (no_room, whole,
  *   behaves, usage).
