@@ -17,3 +17,6 @@ pub mod ShowRows
 pub mod MeetRows
 pub mod ExplainRows
 pub mod HeadlineRows
+pub mod ShapeRows
+pub mod RangeRows
+pub mod ItemRows

@@ -17,3 +17,6 @@ pub mod Regions
 pub mod Shows
 pub mod Meetings
 pub mod Headlines
+pub mod Shapes
+pub mod Ranges
+pub mod Items

@@ -11,13 +11,16 @@ ghost use Rattle.definition_tests.specs.Certified.{ValidRows};
 ghost use Rattle.definition_tests.specs.Ends.{EndsLaw};
 ghost use Rattle.definition_tests.specs.Forms.{FormRows};
 ghost use Rattle.definition_tests.specs.Headlines.{HeadlineRows};
+ghost use Rattle.definition_tests.specs.Items.{ItemRows, SingleRows};
 ghost use Rattle.definition_tests.specs.Joined.{JoinedRows};
 ghost use Rattle.definition_tests.specs.Motion.{AccelerationRows, JumpRows, SpeedRows};
 ghost use Rattle.definition_tests.specs.Halves.{HalfRows};
 ghost use Rattle.definition_tests.specs.Meetings.{ExplainRows, MeetRows};
 ghost use Rattle.definition_tests.specs.Near.{ShowRows};
+ghost use Rattle.definition_tests.specs.Ranges.{NameRows, NumberRows, SettingRows};
 ghost use Rattle.definition_tests.specs.Regions.{RegionRows};
 ghost use Rattle.definition_tests.specs.Rights.{RightRows};
+ghost use Rattle.definition_tests.specs.Shapes.{FigureRows, FilledRows, NestingRows};
 ghost use Rattle.definition_tests.specs.Shows.{CueRows, PlanRows, WholeRows};
 ghost use Rattle.definition_tests.specs.Stands.{StandsRows};
 ghost use Rattle.definition_tests.specs.Stored.{LandedRows, UploadRows};
@@ -202,3 +205,43 @@ pub fn headline_rows()
 {
     uploads_law();
 }
+
+/// A law. A repeat without a block is not filled, wherever it stands, nor is a figure without one.
+pub fn filled_rows()
+    ensures { FilledRows }
+{}
+
+/// A law. A figure has no `form` line and no perform.
+pub fn figure_rows()
+    ensures { FigureRows }
+{}
+
+/// A law. Repeats stand inside each other eight deep, and no deeper.
+pub fn nesting_rows()
+    ensures { NestingRows }
+{}
+
+/// A law. Names have 1 to 16 bytes of their kinds, and aren't words of the language.
+pub fn name_rows()
+    ensures { NameRows }
+{}
+
+/// A law. Settings fit at both ends of their ranges, and no further.
+pub fn setting_rows()
+    ensures { SettingRows }
+{}
+
+/// A law. Points, yaws, turns, durations and counts fit at both ends of their ranges, and no further.
+pub fn number_rows()
+    ensures { NumberRows }
+{}
+
+/// A law. Each setting stands once at most.
+pub fn single_rows()
+    ensures { SingleRows }
+{}
+
+/// A law. The items of a text are filled, not too deep, and of their kinds.
+pub fn item_rows()
+    ensures { ItemRows }
+{}
