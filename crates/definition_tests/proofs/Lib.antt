@@ -20,3 +20,4 @@ pub mod HeadlineRows
 pub mod ShapeRows
 pub mod RangeRows
 pub mod ItemRows
+pub mod TextRows

@@ -19,8 +19,11 @@ names = record {
   forms = refl;
   last = refl;
   ends = refl;
-  drones = (refl, ((omega arith, omega arith), ((omega arith, omega arith), ((omega arith, omega arith), ((omega arith, omega arith), tt)))),
-      (refl, ((omega arith, omega arith), ((omega arith, omega arith), ((omega arith, omega arith), ((omega arith, omega arith), tt)))), tt));
+  drones = (
+    refl,
+    ((omega arith, omega arith), ((omega arith, omega arith), ((omega arith, omega arith), ((omega arith, omega arith), tt)))),
+    (refl, ((omega arith, omega arith), ((omega arith, omega arith), ((omega arith, omega arith), ((omega arith, omega arith), tt)))), tt),
+  );
   long_drone = λ fit. let name : false ≡ true = fit.2.0 in cc;
   nameless_drone = λ fit. let name : false ≡ true = fit.0 in cc;
   long_role = λ fit. let name : false ≡ true = fit.1.1.0 in cc;

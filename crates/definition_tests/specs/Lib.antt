@@ -20,3 +20,4 @@ pub mod Headlines
 pub mod Shapes
 pub mod Ranges
 pub mod Items
+pub mod Texts

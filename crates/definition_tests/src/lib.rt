@@ -24,6 +24,7 @@ ghost use Rattle.definition_tests.specs.Shapes.{FigureRows, FilledRows, NestingR
 ghost use Rattle.definition_tests.specs.Shows.{CueRows, PlanRows, WholeRows};
 ghost use Rattle.definition_tests.specs.Stands.{StandsRows};
 ghost use Rattle.definition_tests.specs.Stored.{LandedRows, UploadRows};
+ghost use Rattle.definition_tests.specs.Texts.{BlockRows, LimitRows, TwiceRows};
 
 use choreo_reader::show_law;
 use sep_certificate::certificate_law;
@@ -245,3 +246,24 @@ pub fn single_rows()
 pub fn item_rows()
     ensures { ItemRows }
 {}
+
+/// A law. A text that says a setting twice is that of no show.
+pub fn twice_rows()
+    ensures { TwiceRows }
+{
+    show_law();
+}
+
+/// A law. Blocks have lines in them, stand where they may, and end.
+pub fn block_rows()
+    ensures { BlockRows }
+{
+    show_law();
+}
+
+/// A law. A number or a name that is one above its range is a fault.
+pub fn limit_rows()
+    ensures { LimitRows }
+{
+    show_law();
+}
