@@ -32,7 +32,7 @@ use Rattle.definition_tests.proofs.StandsRows.{begins_so}
 abbrev only : DroneLine
 only = record { line = 2; name = record { items = codes "a" }; at = spot (pos 0) (pos 0) (pos 0) (pos 0) }
 
-stay_stands : StandsFor stay_text stay
+pub stay_stands : StandsFor stay_text stay
 stay_stands = record {
   form = Whole;
   items = Drone only ∷ Blocks stay.body ∷ [];
@@ -124,7 +124,7 @@ near = keeps_near_show (grid_of stay) is_grid
 uploads : UploadsLaw → Uploads (grid_of stay) stay.settings (flown ∷ [])
 uploads law = law (grid_of stay) stay.settings (flown ∷ []) uploadable near (λ a b t u other first second. absurd (no_two flown t u a b other first second))
 
-holds : UploadsLaw → Headline stay_text (Some []) (Some stay_plan)
+pub holds : UploadsLaw → Headline stay_text (Some []) (Some stay_plan)
 unfolding digits plan_text packet_at packet_count part_count read_count write_count
 holds law = record { s = stay; sent = flown ∷ []; stands = stay_stands; planned = refl; uploads = uploads law }
 

@@ -21,3 +21,6 @@ pub mod ShapeRows
 pub mod RangeRows
 pub mod ItemRows
 pub mod TextRows
+pub mod WrittenRows
+pub mod DepthRows
+pub mod GridRows

@@ -28,10 +28,10 @@ is_drone : (d : ℕ) → IsDrone (blank d)
 is_drone d = record { memory = length-replicate {A = ℕ} 4096 255; table = length-replicate {A = Option Def} 10 None }
 
 -- the write and the define are taken and answered
-abbrev events : List WorldEvent
+abbrev pub events : List WorldEvent
 events = Take 0 0 ∷ Hear 0 0 ∷ Take 0 1 ∷ Hear 0 1 ∷ []
 
-unaltered : IsUnaltered (events ++ [])
+pub unaltered : IsUnaltered (events ++ [])
 unaltered zero d address value is = absurd (let e : Some (Take 0 0) ≡ Some (Alter d address value) = is in cc)
 unaltered (suc zero) d address value is = absurd (let e : Some (Hear 0 0) ≡ Some (Alter d address value) = is in cc)
 unaltered (suc (suc zero)) d address value is = absurd (let e : Some (Take 0 1) ≡ Some (Alter d address value) = is in cc)

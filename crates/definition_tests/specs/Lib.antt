@@ -21,3 +21,5 @@ pub mod Shapes
 pub mod Ranges
 pub mod Items
 pub mod Texts
+pub mod Depths
+pub mod Grids

@@ -8,9 +8,11 @@ ghost use Rattle.definition_tests.specs.Apart.{ApartRows, LateRows, MarginRows, 
 ghost use Rattle.definition_tests.specs.Begins.{BeginRows, OrderRows, ReadRows, SafeRows};
 ghost use Rattle.definition_tests.specs.Carried.{CarriesRows};
 ghost use Rattle.definition_tests.specs.Certified.{ValidRows};
+ghost use Rattle.definition_tests.specs.Depths.{DepthRows, SearchRows};
 ghost use Rattle.definition_tests.specs.Ends.{EndsLaw};
 ghost use Rattle.definition_tests.specs.Forms.{FormRows};
-ghost use Rattle.definition_tests.specs.Headlines.{HeadlineRows};
+ghost use Rattle.definition_tests.specs.Grids.{CountRows, NamingRows};
+ghost use Rattle.definition_tests.specs.Headlines.{HeadlineRows, WrittenRows};
 ghost use Rattle.definition_tests.specs.Items.{ItemRows, SingleRows};
 ghost use Rattle.definition_tests.specs.Joined.{JoinedRows};
 ghost use Rattle.definition_tests.specs.Motion.{AccelerationRows, JumpRows, SpeedRows};
@@ -28,7 +30,7 @@ ghost use Rattle.definition_tests.specs.Texts.{BlockRows, LimitRows, TwiceRows};
 
 use choreo_reader::show_law;
 use sep_certificate::certificate_law;
-use show_plan::uploads_law;
+use show_plan::{plan_law, uploads_law};
 use speed_bound::reach_law;
 use traj_codec::join_law;
 
@@ -267,3 +269,33 @@ pub fn limit_rows()
 {
     show_law();
 }
+
+/// A law. The headline doesn't hold of a plan that isn't the show's: of a neighbouring show, another entry, another place
+/// in the memory or another drone.
+pub fn written_rows()
+    ensures { WrittenRows }
+{
+    show_law();
+    uploads_law();
+    plan_law();
+}
+
+/// A law. A pair that no direction separates in a whole cue is clear by a greater depth, and its tree is split there.
+pub fn depth_rows()
+    ensures { DepthRows }
+{}
+
+/// A law. The first part without a direction blocks a depth, and the best tree has the largest parts with one.
+pub fn search_rows()
+    ensures { SearchRows }
+{}
+
+/// A law. A show has 1 to 32 drones and 1 to 1,000 cues.
+pub fn count_rows()
+    ensures { CountRows }
+{}
+
+/// A law. Names stand once and are known, and the earliest fault counts.
+pub fn naming_rows()
+    ensures { NamingRows }
+{}
