@@ -1,6 +1,6 @@
 -- A show of one drone that stays, and its plan.
 use Rattle.std.proofs.lemmas.Grind.{common_steps}
-use Rattle.std.proofs.Common.{◌≡◌, ℕ, zero, suc, ◌-◌, ◌≤◌, length, pos, List, [], ◌∷◌, All, None, Some, codes, ap, get_or, arith, refl, ◌∙◌, slice_get}
+use Rattle.std.proofs.Common.{◌≡◌, ℕ, zero, suc, ◌-◌, ◌≤◌, length, pos, List, [], ◌∷◌, All, None, Some, codes, ap, get_or, arith, refl, slice_get}
 use Rattle.std.proofs.lemmas.List.Elements.{All-cons, All-nil}
 use Rattle.std.specs.Fmt.{digits}
 use Rattle.traj_codec.specs.declared.traj.Traj.{Traj}

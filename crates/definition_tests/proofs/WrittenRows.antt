@@ -26,7 +26,6 @@ use Rattle.upload_model.specs.Sessions.{packet_at, packet_count, part_count, rea
 use Rattle.upload_model.specs.Worlds.{happens, host_event, start_world}
 use Rattle.show_plan.specs.Fitting.{IsSendable, size}
 use Rattle.show_plan.specs.Flight.{KeepsNearShow}
-use Rattle.show_plan.specs.Landing.{AreUploadable}
 use Rattle.show_plan.specs.Texts.{IsPlan, PlanLaw, plan_text}
 use Rattle.show_plan.specs.Uploading.{Uploads, UploadsLaw}
 use Rattle.show_judge.specs.Shows.{names_of}
