@@ -24,3 +24,4 @@ pub mod TextRows
 pub mod WrittenRows
 pub mod DepthRows
 pub mod GridRows
+pub mod BlockedRows

@@ -23,3 +23,4 @@ pub mod Items
 pub mod Texts
 pub mod Depths
 pub mod Grids
+pub mod Blocked

@@ -6,6 +6,7 @@
 
 ghost use Rattle.definition_tests.specs.Apart.{ApartRows, LateRows, MarginRows, StrayRows, TouchRows};
 ghost use Rattle.definition_tests.specs.Begins.{BeginRows, OrderRows, ReadRows, SafeRows};
+ghost use Rattle.definition_tests.specs.Blocked.{BlockedRows};
 ghost use Rattle.definition_tests.specs.Carried.{CarriesRows};
 ghost use Rattle.definition_tests.specs.Certified.{ValidRows};
 ghost use Rattle.definition_tests.specs.Depths.{DepthRows, SearchRows};
@@ -298,4 +299,10 @@ pub fn count_rows()
 /// A law. Names stand once and are known, and the earliest fault counts.
 pub fn naming_rows()
     ensures { NamingRows }
+{}
+
+/// A law. A depth refuses two drones by the first part in which no direction separates them, and a greater depth accepts
+/// them.
+pub fn blocked_rows()
+    ensures { BlockedRows }
 {}
