@@ -25,3 +25,4 @@ pub mod WrittenRows
 pub mod DepthRows
 pub mod GridRows
 pub mod BlockedRows
+pub mod CalledRows

@@ -24,3 +24,4 @@ pub mod Texts
 pub mod Depths
 pub mod Grids
 pub mod Blocked
+pub mod Called

@@ -7,6 +7,7 @@
 ghost use Rattle.definition_tests.specs.Apart.{ApartRows, LateRows, MarginRows, StrayRows, TouchRows};
 ghost use Rattle.definition_tests.specs.Begins.{BeginRows, OrderRows, ReadRows, SafeRows};
 ghost use Rattle.definition_tests.specs.Blocked.{BlockedRows};
+ghost use Rattle.definition_tests.specs.Called.{CalledRows};
 ghost use Rattle.definition_tests.specs.Carried.{CarriesRows};
 ghost use Rattle.definition_tests.specs.Certified.{ValidRows};
 ghost use Rattle.definition_tests.specs.Depths.{DepthRows, SearchRows};
@@ -305,4 +306,9 @@ pub fn naming_rows()
 /// them.
 pub fn blocked_rows()
     ensures { BlockedRows }
+{}
+
+/// A law. Words are called by the first of them, whole.
+pub fn called_rows()
+    ensures { CalledRows }
 {}

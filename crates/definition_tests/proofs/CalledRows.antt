@@ -1,0 +1,59 @@
+-- Words, compared.
+use Rattle.std.proofs.Common.{◌≡◌, ◌<◌, ℕ, zero, suc, List, [], ◌∷◌, Some, Contains, ap, get_or, length, slice_index_or, arith, refl, sym, ◌∙◌}
+use Rattle.std.specs.Prelude.{codes, string_bytes, String}
+use Rattle.std.specs.declared.alloc.Global.{Global}
+use Rattle.std.proofs.lemmas.Option.{none-some}
+use Rattle.show_run.specs.Verbs.{IsCalled, judges_apart}
+use Rattle.definition_tests.specs.Called.{CalledRows}
+
+-- what words are called is the first of them
+first_is : (word : String Global) (others : List (String Global)) (bytes name : List ℕ) → string_bytes word ≡ bytes → IsCalled (word ∷ others) name → bytes ≡ name
+first_is word others bytes name is called = let same : string_bytes word ≡ name = cc in sym is ∙ same
+
+-- a byte of a name that none of the names has there is that of none of them
+no_name : (name : List ℕ) (at letter : ℕ) → get_or name at 0 ≡ letter →
+    ((k : ℕ) → k < 8 → get_or (slice_index_or judges_apart k name) at 0 ≡ letter → ⊥) → Contains judges_apart name → ⊥
+no_name name at letter is none found =
+    none found.0 found.1 (ap (λ (bytes : List ℕ). get_or bytes at 0) found.2 ∙ is)
+
+to_eight : (P : ℕ → Type 0) → P 0 → P 1 → P 2 → P 3 → P 4 → P 5 → P 6 → P 7 → (k : ℕ) → k < 8 → P k
+to_eight P a b c d e f g h zero small = a
+to_eight P a b c d e f g h (suc zero) small = b
+to_eight P a b c d e f g h (suc (suc zero)) small = c
+to_eight P a b c d e f g h (suc (suc (suc zero))) small = d
+to_eight P a b c d e f g h (suc (suc (suc (suc zero)))) small = e
+to_eight P a b c d e f g h (suc (suc (suc (suc (suc zero))))) small = f
+to_eight P a b c d e f g h (suc (suc (suc (suc (suc (suc zero)))))) small = g
+to_eight P a b c d e f g h (suc (suc (suc (suc (suc (suc (suc zero))))))) small = h
+to_eight P a b c d e f g h (suc (suc (suc (suc (suc (suc (suc (suc k)))))))) small = absurd (omega (arith, small))
+
+no_boxes : (k : ℕ) → k < 8 → get_or (slice_index_or judges_apart k (codes "boxes")) 0 0 ≡ 98 → ⊥
+no_boxes = to_eight _ (λ e. omega (arith, e)) (λ e. omega (arith, e)) (λ e. omega (arith, e)) (λ e. omega (arith, e)) (λ e. omega (arith, e)) (λ e. omega (arith, e)) (λ e. omega (arith, e)) (λ e. omega (arith, e))
+
+no_speed : (k : ℕ) → k < 8 → get_or (slice_index_or judges_apart k (codes "speed")) 0 0 ≡ 115 → ⊥
+no_speed = to_eight _ (λ e. omega (arith, e)) (λ e. omega (arith, e)) (λ e. omega (arith, e)) (λ e. omega (arith, e)) (λ e. omega (arith, e)) (λ e. omega (arith, e)) (λ e. omega (arith, e)) (λ e. omega (arith, e))
+
+no_explain : (k : ℕ) → k < 8 → get_or (slice_index_or judges_apart k (codes "explain")) 0 0 ≡ 101 → ⊥
+no_explain = to_eight _ (λ e. omega (arith, e)) (λ e. omega (arith, e)) (λ e. omega (arith, e)) (λ e. omega (arith, e)) (λ e. omega (arith, e)) (λ e. omega (arith, e)) (λ e. omega (arith, e)) (λ e. omega (arith, e))
+
+no_dynamics : (k : ℕ) → k < 8 → get_or (slice_index_or judges_apart k (codes "dynamics")) 0 0 ≡ 100 → ⊥
+no_dynamics = to_eight _ (λ e. omega (arith, e)) (λ e. omega (arith, e)) (λ e. omega (arith, e)) (λ e. omega (arith, e)) (λ e. omega (arith, e)) (λ e. omega (arith, e)) (λ e. omega (arith, e)) (λ e. omega (arith, e))
+
+pub called : CalledRows
+called = record {
+  first = λ word other is. ap Some is;
+  another = λ word is called.
+      let letters : ◌≡◌ {A = ℕ} 104 111 = ap (λ (bytes : List ℕ). get_or bytes 1 0) (first_is word [] _ _ is called) in omega (arith, letters);
+  second = λ word other is second called.
+      let letters : ◌≡◌ {A = ℕ} 104 111 = ap (λ (bytes : List ℕ). get_or bytes 1 0) (first_is word (other ∷ []) _ _ is called) in omega (arith, letters);
+  longer = λ word is called.
+      let lengths : 8 ≡ 7 = ap length (first_is word [] _ _ is called) in omega (arith, lengths);
+  shorter = λ word is called.
+      let lengths : 0 ≡ 7 = ap length (first_is word [] _ _ is called) in omega (arith, lengths);
+  nothing = λ name called. none-some name called;
+  judges = (1, omega arith, refl);
+  boxes = no_name (codes "boxes") 0 98 refl no_boxes;
+  speed = no_name (codes "speed") 0 115 refl no_speed;
+  explain = no_name (codes "explain") 0 101 refl no_explain;
+  dynamics = no_name (codes "dynamics") 0 100 refl no_dynamics;
+}
