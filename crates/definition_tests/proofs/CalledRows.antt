@@ -1,10 +1,11 @@
 -- Words, compared.
-use Rattle.std.proofs.Common.{◌≡◌, ◌<◌, ℕ, zero, suc, List, [], ◌∷◌, Some, Contains, ap, get_or, length, slice_index_or, arith, refl, sym, ◌∙◌}
+use Rattle.std.proofs.Common.{◌≡◌, ◌<◌, ◌≤◌, ℕ, List, [], ◌∷◌, Some, Contains, ap, get_or, length, slice_index_or, arith, refl, sym, ◌∙◌}
 use Rattle.std.specs.Prelude.{codes, string_bytes, String}
 use Rattle.std.specs.declared.alloc.Global.{Global}
 use Rattle.std.proofs.lemmas.Option.{none-some}
 use Rattle.show_run.specs.Verbs.{IsCalled, judges_apart}
 use Rattle.definition_tests.specs.Called.{CalledRows}
+use Rattle.definition_tests.proofs.Counting.{to_seven}
 
 -- what words are called is the first of them
 first_is : (word : String Global) (others : List (String Global)) (bytes name : List ℕ) → string_bytes word ≡ bytes → IsCalled (word ∷ others) name → bytes ≡ name
@@ -12,32 +13,21 @@ first_is word others bytes name is called = let same : string_bytes word ≡ nam
 
 -- a byte of a name that none of the names has there is that of none of them
 no_name : (name : List ℕ) (at letter : ℕ) → get_or name at 0 ≡ letter →
-    ((k : ℕ) → k < 8 → get_or (slice_index_or judges_apart k name) at 0 ≡ letter → ⊥) → Contains judges_apart name → ⊥
+    ((k : ℕ) → k ≤ 7 → get_or (slice_index_or judges_apart k name) at 0 ≡ letter → ⊥) → Contains judges_apart name → ⊥
 no_name name at letter is none found =
-    none found.0 found.1 (ap (λ (bytes : List ℕ). get_or bytes at 0) found.2 ∙ is)
+    none found.0 (let within : found.0 < 8 = found.1 in omega (arith, within)) (ap (λ (bytes : List ℕ). get_or bytes at 0) found.2 ∙ is)
 
-to_eight : (P : ℕ → Type 0) → P 0 → P 1 → P 2 → P 3 → P 4 → P 5 → P 6 → P 7 → (k : ℕ) → k < 8 → P k
-to_eight P a b c d e f g h zero small = a
-to_eight P a b c d e f g h (suc zero) small = b
-to_eight P a b c d e f g h (suc (suc zero)) small = c
-to_eight P a b c d e f g h (suc (suc (suc zero))) small = d
-to_eight P a b c d e f g h (suc (suc (suc (suc zero)))) small = e
-to_eight P a b c d e f g h (suc (suc (suc (suc (suc zero))))) small = f
-to_eight P a b c d e f g h (suc (suc (suc (suc (suc (suc zero)))))) small = g
-to_eight P a b c d e f g h (suc (suc (suc (suc (suc (suc (suc zero))))))) small = h
-to_eight P a b c d e f g h (suc (suc (suc (suc (suc (suc (suc (suc k)))))))) small = absurd (omega (arith, small))
+no_boxes : (k : ℕ) → k ≤ 7 → get_or (slice_index_or judges_apart k (codes "boxes")) 0 0 ≡ 98 → ⊥
+no_boxes = to_seven _ (λ e. omega (arith, e)) (λ e. omega (arith, e)) (λ e. omega (arith, e)) (λ e. omega (arith, e)) (λ e. omega (arith, e)) (λ e. omega (arith, e)) (λ e. omega (arith, e)) (λ e. omega (arith, e))
 
-no_boxes : (k : ℕ) → k < 8 → get_or (slice_index_or judges_apart k (codes "boxes")) 0 0 ≡ 98 → ⊥
-no_boxes = to_eight _ (λ e. omega (arith, e)) (λ e. omega (arith, e)) (λ e. omega (arith, e)) (λ e. omega (arith, e)) (λ e. omega (arith, e)) (λ e. omega (arith, e)) (λ e. omega (arith, e)) (λ e. omega (arith, e))
+no_speed : (k : ℕ) → k ≤ 7 → get_or (slice_index_or judges_apart k (codes "speed")) 0 0 ≡ 115 → ⊥
+no_speed = to_seven _ (λ e. omega (arith, e)) (λ e. omega (arith, e)) (λ e. omega (arith, e)) (λ e. omega (arith, e)) (λ e. omega (arith, e)) (λ e. omega (arith, e)) (λ e. omega (arith, e)) (λ e. omega (arith, e))
 
-no_speed : (k : ℕ) → k < 8 → get_or (slice_index_or judges_apart k (codes "speed")) 0 0 ≡ 115 → ⊥
-no_speed = to_eight _ (λ e. omega (arith, e)) (λ e. omega (arith, e)) (λ e. omega (arith, e)) (λ e. omega (arith, e)) (λ e. omega (arith, e)) (λ e. omega (arith, e)) (λ e. omega (arith, e)) (λ e. omega (arith, e))
+no_explain : (k : ℕ) → k ≤ 7 → get_or (slice_index_or judges_apart k (codes "explain")) 0 0 ≡ 101 → ⊥
+no_explain = to_seven _ (λ e. omega (arith, e)) (λ e. omega (arith, e)) (λ e. omega (arith, e)) (λ e. omega (arith, e)) (λ e. omega (arith, e)) (λ e. omega (arith, e)) (λ e. omega (arith, e)) (λ e. omega (arith, e))
 
-no_explain : (k : ℕ) → k < 8 → get_or (slice_index_or judges_apart k (codes "explain")) 0 0 ≡ 101 → ⊥
-no_explain = to_eight _ (λ e. omega (arith, e)) (λ e. omega (arith, e)) (λ e. omega (arith, e)) (λ e. omega (arith, e)) (λ e. omega (arith, e)) (λ e. omega (arith, e)) (λ e. omega (arith, e)) (λ e. omega (arith, e))
-
-no_dynamics : (k : ℕ) → k < 8 → get_or (slice_index_or judges_apart k (codes "dynamics")) 0 0 ≡ 100 → ⊥
-no_dynamics = to_eight _ (λ e. omega (arith, e)) (λ e. omega (arith, e)) (λ e. omega (arith, e)) (λ e. omega (arith, e)) (λ e. omega (arith, e)) (λ e. omega (arith, e)) (λ e. omega (arith, e)) (λ e. omega (arith, e))
+no_dynamics : (k : ℕ) → k ≤ 7 → get_or (slice_index_or judges_apart k (codes "dynamics")) 0 0 ≡ 100 → ⊥
+no_dynamics = to_seven _ (λ e. omega (arith, e)) (λ e. omega (arith, e)) (λ e. omega (arith, e)) (λ e. omega (arith, e)) (λ e. omega (arith, e)) (λ e. omega (arith, e)) (λ e. omega (arith, e)) (λ e. omega (arith, e))
 
 pub called : CalledRows
 called = record {

@@ -8,46 +8,45 @@ use Rattle.sep_parts.specs.Directions.{direction_of, root_above}
 use Rattle.sep_parts.specs.Levels.{left_half, right_half, root}
 use Rattle.sep_parts.specs.Separates.{Separates}
 use Rattle.pair_search.specs.Search.{IsClear, blocked_place}
-use Rattle.definition_tests.specs.Certified.{kept}
-use Rattle.definition_tests.specs.Depths.{DepthRows, SearchRows, slants, turning}
-use Rattle.definition_tests.proofs.KeptRows.{to_seven}
+use Rattle.definition_tests.specs.Depths.{DepthRows, SearchRows, near, slants, turning}
+use Rattle.definition_tests.proofs.Counting.{to_seven}
 
 -- the first half lies between x and y, the second between x backward and y
-first_half : Separates (kept 0 0 0) turning (left_half root) (direction_of slants 0)
+first_half : Separates near turning (left_half root) (direction_of slants 0)
 unfolding raised_of difference root_above polar bernstein raised_value
 first_half = to_seven _ (omega arith) (omega arith) (omega arith) (omega arith) (omega arith) (omega arith) (omega arith) (omega arith)
 
-second_half : Separates (kept 0 0 0) turning (right_half root) (direction_of slants 1)
+second_half : Separates near turning (right_half root) (direction_of slants 1)
 unfolding raised_of difference root_above polar bernstein raised_value
 second_half = to_seven _ (omega arith) (omega arith) (omega arith) (omega arith) (omega arith) (omega arith) (omega arith) (omega arith)
 
-first_quarter : Separates (kept 0 0 0) turning (left_half (left_half root)) (direction_of slants 0)
+first_quarter : Separates near turning (left_half (left_half root)) (direction_of slants 0)
 unfolding raised_of difference root_above polar bernstein raised_value
 first_quarter = to_seven _ (omega arith) (omega arith) (omega arith) (omega arith) (omega arith) (omega arith) (omega arith) (omega arith)
 
-second_quarter : Separates (kept 0 0 0) turning (right_half (left_half root)) (direction_of slants 0)
+second_quarter : Separates near turning (right_half (left_half root)) (direction_of slants 0)
 unfolding raised_of difference root_above polar bernstein raised_value
 second_quarter = to_seven _ (omega arith) (omega arith) (omega arith) (omega arith) (omega arith) (omega arith) (omega arith) (omega arith)
 
 -- at its end the drone is backward on x, and at its beginning forward; so no half has the direction of the other
-end_low : Separates (kept 0 0 0) turning root (direction_of slants 0) → ⊥
+end_low : Separates near turning root (direction_of slants 0) → ⊥
 unfolding raised_of difference root_above polar bernstein raised_value
 end_low is = let low = is 7 (omega arith) in absurd (omega (arith, low))
 
-beginning_low : Separates (kept 0 0 0) turning root (direction_of slants 1) → ⊥
+beginning_low : Separates near turning root (direction_of slants 1) → ⊥
 unfolding raised_of difference root_above polar bernstein raised_value
 beginning_low is = let low = is 0 (omega arith) in absurd (omega (arith, low))
 
-half_low : Separates (kept 0 0 0) turning (left_half root) (direction_of slants 1) → ⊥
+half_low : Separates near turning (left_half root) (direction_of slants 1) → ⊥
 unfolding raised_of difference root_above polar bernstein raised_value
 half_low is = let low = is 0 (omega arith) in absurd (omega (arith, low))
 
-whole_low : (dir : ℕ) → dir < 2 → Separates (kept 0 0 0) turning root (direction_of slants dir) → ⊥
+whole_low : (dir : ℕ) → dir < 2 → Separates near turning root (direction_of slants dir) → ⊥
 whole_low zero known is = end_low is
 whole_low (suc zero) known is = beginning_low is
 whole_low (suc (suc dir)) known is = absurd (omega (arith, known))
 
-in_halves : IsClear (kept 0 0 0) turning slants 1
+in_halves : IsClear near turning slants 1
 in_halves zero below = (0, omega arith, first_half)
 in_halves (suc zero) below = (1, omega arith, second_half)
 in_halves (suc (suc index)) below = absurd (let few : suc (suc index) < 2 = below in omega (arith, few))

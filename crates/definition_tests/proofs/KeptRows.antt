@@ -1,6 +1,6 @@
 -- Two drones 7 mm apart, by a certificate of one leaf: the direction of x.
 use Rattle.std.proofs.lemmas.Grind.{common_steps}
-use Rattle.std.proofs.Common.{◌≡◌, ℕ, zero, suc, pos, ◌≤◌, List, [], ◌∷◌, ◌++◌, All, ap, get_or, length, length-append, subst, arith, refl}
+use Rattle.std.proofs.Common.{◌≡◌, ℕ, suc, pos, ◌≤◌, List, [], ◌∷◌, ◌++◌, All, ap, get_or, length, length-append, subst, arith, refl}
 use Rattle.std.proofs.lemmas.List.Elements.{All-cons, All-nil}
 use Rattle.fleet_math.specs.Bernstein.{bernstein}
 use Rattle.bezier_core.specs.Raised.{raised_value}
@@ -27,6 +27,7 @@ use Rattle.speed_bound.proofs.Reaches.{formed_of}
 use Rattle.definition_tests.specs.Apart.{ApartRows, behind, beside}
 use Rattle.definition_tests.specs.Certified.{ValidRows, along_x, kept, with_trees}
 use Rattle.definition_tests.specs.Flights.{flight}
+use Rattle.definition_tests.proofs.Counting.{to_seven, to_two}
 
 -- ---- the trajectories
 
@@ -59,24 +60,6 @@ stand from to from' to' a b c d =
     (formed_of (flight (pos from) (pos to)).segments (moving from to a b).formed.segments) (formed_of (flight (pos from') (pos to')).segments (moving from' to' c d).formed.segments)) refl refl refl
 
 -- ---- the certificate
-
--- what holds of each number up to seven
-pub to_seven : (P : ℕ → Type 0) → P 0 → P 1 → P 2 → P 3 → P 4 → P 5 → P 6 → P 7 → (k : ℕ) → k ≤ 7 → P k
-to_seven P a b c d e f g h zero small = a
-to_seven P a b c d e f g h (suc zero) small = b
-to_seven P a b c d e f g h (suc (suc zero)) small = c
-to_seven P a b c d e f g h (suc (suc (suc zero))) small = d
-to_seven P a b c d e f g h (suc (suc (suc (suc zero)))) small = e
-to_seven P a b c d e f g h (suc (suc (suc (suc (suc zero))))) small = f
-to_seven P a b c d e f g h (suc (suc (suc (suc (suc (suc zero)))))) small = g
-to_seven P a b c d e f g h (suc (suc (suc (suc (suc (suc (suc zero))))))) small = h
-to_seven P a b c d e f g h (suc (suc (suc (suc (suc (suc (suc (suc k)))))))) small = absurd (omega (arith, small))
-
-pub to_two : (P : ℕ → Type 0) → P 0 → P 1 → P 2 → (k : ℕ) → k ≤ 2 → P k
-to_two P a b c zero small = a
-to_two P a b c (suc zero) small = b
-to_two P a b c (suc (suc zero)) small = c
-to_two P a b c (suc (suc (suc k))) small = absurd (omega (arith, small))
 
 small_x : All AreSmall (along_x ∷ [])
 small_x = All-cons AreSmall along_x [] (record {

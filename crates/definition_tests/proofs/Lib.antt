@@ -1,3 +1,4 @@
+pub mod Counting
 pub mod KeptRows
 pub mod ApartRows
 pub mod HalfRows

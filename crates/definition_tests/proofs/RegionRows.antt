@@ -15,7 +15,8 @@ use Rattle.keepout_boxes.proofs.Instants.{stays_clear}
 use Rattle.definition_tests.specs.Apart.{behind}
 use Rattle.definition_tests.specs.Flights.{flight}
 use Rattle.definition_tests.specs.Regions.{RegionRows, box, layer, volume}
-use Rattle.definition_tests.proofs.KeptRows.{stand, to_seven, to_two}
+use Rattle.definition_tests.proofs.Counting.{to_seven, to_two}
+use Rattle.definition_tests.proofs.KeptRows.{stand}
 
 -- each drone's only part
 abbrev KeptBy : Region → ℕ → Type 0

@@ -7,9 +7,9 @@ use Rattle.traj_codec.specs.declared.traj.Traj.{Traj}
 use Rattle.fleet_curves.specs.Raised.{difference, raised_of}
 use Rattle.sep_parts.specs.Levels.{root}
 use Rattle.sep_parts.specs.Trees.{IsValidTree, Tree, leaf, split}
+use Rattle.sep_parts.specs.declared.clearance.Clearance.{Clearance}
 use Rattle.sep_parts.specs.declared.rules.Rules.{Rules}
 use Rattle.pair_search.specs.Search.{IsClear, best_tree, blocked_place}
-use Rattle.definition_tests.specs.Certified.{kept}
 use Rattle.definition_tests.specs.Flights.{flight}
 
 -- a drone that flies in ten milliseconds from 10 mm on the one side of the origin, behind it, to 10 mm on the other
@@ -30,9 +30,12 @@ turning = difference (raised_of (flight (pos 0) (pos 0) ∷ around ∷ [])) 0 1 
 abbrev pub slants : List (List ℤ)
 slants = (pos 1 ∷ pos 1 ∷ pos 0 ∷ []) ∷ (negsuc 0 ∷ pos 1 ∷ pos 0 ∷ []) ∷ []
 
--- half axes of 1 mm, and this depth
+-- half axes of 1 mm, without stray and lateness; and this depth
+abbrev pub near : Clearance
+near = record { r = 1; h = 1; stray = 0; late = 0; reach = 0 ∷ 0 ∷ 0 ∷ [] }
+
 abbrev pub rules : ℕ → Rules
-rules depth = record { clearance = kept 0 0 0; depth = depth }
+rules depth = record { clearance = near; depth = depth }
 
 abbrev pub halves : Tree
 halves = split (leaf 0) (leaf 1)
@@ -40,8 +43,8 @@ halves = split (leaf 0) (leaf 1)
 -- No direction separates the two drones in the whole cue, and each half has one. So the pair is clear by a depth of 1 and
 -- not of 0, and its tree is split, where the depth lets it be, with each half by its own direction.
 pub record DepthRows : Type 0 where
-  pub whole : IsClear (kept 0 0 0) turning slants 0 → ⊥
-  pub in_halves : IsClear (kept 0 0 0) turning slants 1
+  pub whole : IsClear near turning slants 0 → ⊥
+  pub in_halves : IsClear near turning slants 1
   pub one_deep : IsValidTree (rules 1) slants turning root halves
   pub too_deep : IsValidTree (rules 0) slants turning root halves → ⊥
   pub first_leaf : IsValidTree (rules 1) slants turning root (leaf 0) → ⊥
