@@ -1,0 +1,4 @@
+pub mod Sends
+pub mod Flights
+pub mod Orders
+pub mod Steps
