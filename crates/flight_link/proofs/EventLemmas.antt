@@ -6,9 +6,10 @@ use Rattle.std.proofs.Math.Facts.{sfits_to_z}
 use Rattle.std.proofs.lemmas.Slice.Eq.{bytes_eq-Decides}
 use Rattle.std.specs.Str.{bytes_eq}
 use Rattle.std.proofs.lemmas.Bool.{cases_lt, leb-false}
-use Rattle.std.proofs.lemmas.List.{length-take, take-append-drop}
+use Rattle.std.proofs.lemmas.List.{length-take-le, take-append-drop}
 use Rattle.byteorder.specs.Endian.{little_bytes, little_number}
 use Rattle.flight_model.specs.declared.events.Sample.{Sample}
+use Rattle.flight_model.specs.declared.events.Signal.TheVariants as signal
 use Rattle.flight_frames.specs.declared.events.FrameFault.TheVariants as fault
 use Rattle.flight_frames.specs.Frames.{IsSample, flags, seen_of, signed}
 
@@ -71,7 +72,7 @@ longer (x ∷ a) b [] d l is = absurd (omega (arith, l))
 longer (x ∷ a) b (y ∷ c) d l is =
     let r = longer a b c d (omega (arith, l)) (cc) in
     let e : y ≡ x = cc in
-    (r.0, rw (e, r.1) refl)
+    (r.0, ap (λ (k : ℕ). k ∷ c) e ∙ ap (λ (l : List ℕ). x ∷ l) r.1)
 
 -- ---- one event at the front
 
@@ -84,6 +85,10 @@ step law d x y later after is_x is_y is =
     let size = same_size law x (length (event_bytes y)) later (event_bytes x ++ later) refl (sized law y after (event_bytes x ++ later) is) in
     let same = same_fronts (event_bytes x) later (event_bytes y) after size is in
     (ok_is x y _ _ (law.read d x is_x) (law.read d y is_y) (ap (λ (l : List ℕ). event_in d l) same.0), same.1)
+
+-- before any byte
+pub none_begun : (d : ℕ) → IsBegun d []
+none_begun d = record { event = Said signal.Go; more = 4 ∷ 0 ∷ []; formed = tt; cut = refl; some = omega arith }
 
 -- an event that is begun is no whole one
 pub begun : FrameLaw → (d : ℕ) (bytes : List ℕ) → IsBegun d bytes → BeginsNoEvent d bytes
@@ -155,7 +160,7 @@ found_front : FrameLaw → (d n : ℕ) (bytes : List ℕ) → length_of (slice_i
 found_front law d n bytes size long (inl (x, formed, is)) =
     inl (x, drop n bytes, formed, sym (take-append-drop n bytes) ∙ ap (λ (l : List ℕ). l ++ drop n bytes) is)
 found_front law d n bytes size long (inr none) = inr (λ x later formed is.
-    let len : length (take n bytes) ≡ length (event_bytes x) = length-take n bytes long ∙ sym (same_size law x n later bytes is size) in
+    let len : length (take n bytes) ≡ length (event_bytes x) = length-take-le n bytes long ∙ sym (same_size law x n later bytes is size) in
     none x formed (same_fronts (take n bytes) (drop n bytes) (event_bytes x) later len (take-append-drop n bytes ∙ is)).0)
 
 found_sized : FrameLaw → (d n : ℕ) (bytes : List ℕ) → length_of (slice_index bytes 0) ≡ Some n → (length bytes < n) ⊎ (n ≤ length bytes) → BeginsEvent d bytes ⊎ BeginsNoEvent d bytes

@@ -5,7 +5,8 @@ use Rattle.fleet_io.specs.Held.{buffer_bytes}
 use Rattle.link_frames.specs.Frames.{end_frame}
 use Rattle.flight_model.specs.declared.events.Event.{Event}
 use Rattle.flight_model.specs.declared.flights.Flight.{Flight}
-use Rattle.flight_model.specs.Directors.{Ended, after, drones, start}
+use Rattle.flight_model.specs.declared.states.Phase.TheVariants.{Ended}
+use Rattle.flight_model.specs.Directors.{after, drones, start}
 use Rattle.flight_frames.specs.Frames.{IsEvent}
 use Rattle.flight_link.specs.Sends.{BeginsNoEvent, IsBegun, ended, events_bytes, sent_over}
 

@@ -41,7 +41,7 @@ impl Model for Begun {
 }
 
 // What the first of these bytes give, where they are an event's or one byte more, and zeros stand after them.
-fn fed(bytes: &[u8; EVENT_BYTES], count: usize, drones: usize) -> Fed
+fn judged(bytes: &[u8; EVENT_BYTES], count: usize, drones: usize) -> Fed
     requires some { 1 ≤ count }
     requires few { count ≤ EVENT_BYTES }
     requires zeros { bytes.now ≡ take count bytes.now ++ replicate (EVENT_BYTES - count) 0 }
@@ -85,6 +85,6 @@ impl Begun {
     {
         self.bytes[self.count] = byte;
         self.count += 1;
-        fed(&self.bytes, self.count, drones)
+        judged(&self.bytes, self.count, drones)
     }
 }

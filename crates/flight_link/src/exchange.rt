@@ -7,6 +7,7 @@ ghost use Rattle.fleet_io.specs.Held.{buffer_bytes, stream};
 ghost use Rattle.fleet_io.specs.Taken.{AppendsFront};
 ghost use Rattle.fleet_io.specs.Told.{MayGive, Went, to_come};
 ghost use Rattle.link_frames.specs.Frames.{end_frame};
+ghost use Rattle.flight_model.specs.Directors.{drones};
 ghost use Rattle.flight_director.specs.Held.{IsHeld};
 ghost use Rattle.flight_link.specs.Sends.{end_in, end_of, status_of as word_status};
 ghost use Rattle.flight_link.specs.Steps.{Breaks, Ends, Fails};
@@ -50,6 +51,13 @@ fn end_in(said: &[Frame]) -> Option<u8>
     None
 }
 
+// How many drones fly.
+fn drone_count(flight: &Flight) -> usize
+    ensures { result ≡ drones flight.now }
+{
+    flight.curves.as_slice().len()
+}
+
 // Why events are taken no further, short of the end of the flight.
 #[derive(Clone, Copy, Debug, PartialEq, Eq)]
 enum Broken {
@@ -85,7 +93,7 @@ fn carry<S: Source, K: Sink>(
     ensures sink_later { K.faults sink.old ≤ K.faults sink.new }
 {
     frame_law();
-    let drones = flight.curves.as_slice().len();
+    let drones = drone_count(&flight);
     let mut director = Director::make(flight);
     let mut said = Out::new();
     let mut bytes = Bytes::new();
