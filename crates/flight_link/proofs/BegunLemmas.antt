@@ -2,8 +2,9 @@
 use Rattle.flight_link.proofs.Prelude.{◌≡◌, ◌⊎◌, inl, inr, ℕ, zero, suc, ◌+◌, ◌-◌, ◌<◌, ◌≤◌, Bool, true, false, cond, List, [], ◌∷◌, ◌++◌, length, take, replicate, slice_index, length-append, length-replicate, append_assoc, append-nil, Option, Some, None, Result, Ok, Err, refl, sym, ap, ◌∙◌, arith, common_steps, ◌==◌, nat_le, nat_lt, Event, Clock, Seen, Answered, Said, FrameFault, FrameLaw, IsEvent, event_bytes, event_in, length_of, BeginsNoEvent, IsBegun}
 use Rattle.std.proofs.lemmas.Bool.{leb-false, ltb-false, lt-leb, eqb-true}
 use Rattle.std.proofs.lemmas.Bool.Decides.{nat_tests}
-use Rattle.std.proofs.lemmas.List.{take-replicate}
-use Rattle.std.proofs.Math.Seq.{set-append_seam, take-append_seam, take-append-add}
+use Rattle.std.proofs.lemmas.List.{length-take, length-take-le, take-replicate, take_more, take_more_set}
+use Rattle.std.specs.Prelude.{get_or, slice_set}
+use Rattle.std.proofs.Math.Seq.{set-append_seam, take-append-add}
 use Rattle.byteorder.specs.Endian.{little_number}
 use Rattle.flight_model.specs.declared.events.Signal.TheVariants as signal
 use Rattle.flight_frames.specs.declared.events.FrameFault.TheVariants as fault
@@ -82,6 +83,9 @@ read_below d k xs ys x b is = by_kind (k == 1) (k == 2) (k == 3) (k == 4) is
 
 -- ---- zeros
 
+zero_count : (n : ℕ) → length (replicate {A = ℕ} n 0) ≡ n
+zero_count n = length-replicate {A = ℕ} n 0
+
 zeros : (n i : ℕ) → slice_index (replicate n 0) i ≤ 0
 zeros zero i = omega arith
 zeros (suc n) zero = omega arith
@@ -98,7 +102,7 @@ pub pads : FrameLaw → (d : ℕ) (x : Event) (front more : List ℕ) → IsEven
 pads law d x [] more formed some cut = absurd (omega (arith, some))
 pads law d x (k ∷ front) more formed some cut =
     read_below d k (front ++ more) (front ++ replicate (length more) 0) x
-    (record { size = omega (arith, length-append front more, length-append front (replicate (length more) 0), length-replicate (length more) 0); each = padded front more })
+    (record { size = omega (arith, length-append front more, length-append front (replicate (length more) 0), zero_count (length more)); each = padded front more })
     (ap (λ (l : List ℕ). event_in d l) (sym cut) ∙ law.read d x formed)
 
 -- ---- one byte more
@@ -144,3 +148,72 @@ none_reads law d n m (k ∷ front) later why some size sum fault x after formed 
     let more : length l.0 ≡ m = omega (arith, len, sum, ap (λ (l : List ℕ). length l) l.1, length-append (k ∷ front) l.0) in
     let reads = pads law d x (k ∷ front) l.0 formed some l.1 in
     let same = ap (λ (j : ℕ). event_in d ((k ∷ front) ++ replicate j 0)) more in cc
+
+-- ---- the bytes with the zeros after them
+
+-- the first byte is that of each front
+head_front : (count : ℕ) (bytes : List ℕ) → 1 ≤ count → count ≤ length bytes → slice_index bytes 0 ≡ slice_index (take count bytes) 0
+head_front count [] some few = absurd (omega (arith, some, few))
+head_front zero (k ∷ bytes) some few = absurd (omega (arith, some))
+head_front (suc count) (k ∷ bytes) some few = refl
+
+-- where zeros stand after the front, a longer front has some of them
+cut_is : (count size : ℕ) (bytes : List ℕ) → length bytes ≡ 11 → count ≤ size → size ≤ 11 → bytes ≡ take count bytes ++ replicate (11 - count) 0 →
+    take size bytes ≡ take count bytes ++ replicate (size - count) 0
+cut_is count size bytes len within few is =
+    let front : length (take count bytes) ≡ count = length-take-le count bytes (omega (arith, len, within, few)) in
+    let sum : size ≡ length (take count bytes) + (size - count) = omega (arith, front, within) in
+    ap (λ (l : List ℕ). take size l) is
+    ∙ ap (λ (n : ℕ). take n (take count bytes ++ replicate (11 - count) 0)) sum
+    ∙ take-append-add (take count bytes) (replicate (11 - count) 0) (size - count)
+    ∙ ap (λ (l : List ℕ). take count bytes ++ l) (take-replicate (size - count) (11 - count) 0 (omega (arith, within, few)))
+
+-- the front isn't longer than the event that its first byte begins
+pub size_past : FrameLaw → (d count size : ℕ) (bytes : List ℕ) → length bytes ≡ 11 → 1 ≤ count → count ≤ 11 → IsBegun d (take (count - 1) bytes) → length_of (slice_index bytes 0) ≡ Some size → count ≤ size
+size_past law d count size bytes len some few begun is =
+    let less : count ≡ (count - 1) + 1 = omega (arith, some) in
+    let whole : take count bytes ≡ take (count - 1) bytes ++ get_or bytes (count - 1) 0 ∷ [] =
+        ap (λ (n : ℕ). take n bytes) less ∙ take_more bytes (count - 1) 0 (omega (arith, len, some, few)) in
+    let first = head_front count bytes some (omega (arith, len, few)) in
+    let more = size_more law d (get_or bytes (count - 1) 0) size (take (count - 1) bytes) begun
+        (ap (λ (l : List ℕ). length_of (slice_index l 0)) (sym whole) ∙ ap length_of (sym first) ∙ is) in
+    omega (arith, more, length-take-le (count - 1) bytes (omega (arith, len, few)), some)
+
+pub judged_err : FrameLaw → (d count size : ℕ) (bytes : List ℕ) (why : FrameFault) → length bytes ≡ 11 → 1 ≤ count → count ≤ 11 → bytes ≡ take count bytes ++ replicate (11 - count) 0 →
+    IsBegun d (take (count - 1) bytes) → length_of (slice_index bytes 0) ≡ Some size → event_in d (take size bytes) ≡ Err why → (later : List ℕ) → BeginsNoEvent d (take count bytes ++ later)
+judged_err law d count size bytes why len some few zeros begun is fault later =
+    let within = size_past law d count size bytes len some few begun is in
+    let front : length (take count bytes) ≡ count = length-take-le count bytes (omega (arith, len, few)) in
+    none_reads law d size (size - count) (take count bytes) later why (omega (arith, front, some)) (ap length_of (sym (head_front count bytes some (omega (arith, len, few)))) ∙ is)
+    (omega (arith, front, within)) (ap (λ (l : List ℕ). event_in d l) (sym (cut_is count size bytes len within (size_few (slice_index bytes 0) size is) zeros)) ∙ fault)
+
+pub judged_more : (d count size : ℕ) (bytes : List ℕ) (x : Event) → length bytes ≡ 11 → bytes ≡ take count bytes ++ replicate (11 - count) 0 → length_of (slice_index bytes 0) ≡ Some size →
+    count < size → IsEvent d x → take size bytes ≡ event_bytes x → IsBegun d (take count bytes)
+judged_more d count size bytes x len zeros is less formed same = record {
+  event = x;
+  more = replicate (size - count) 0;
+  formed = formed;
+  cut = sym same ∙ cut_is count size bytes len (omega (arith, less)) (size_few (slice_index bytes 0) size is) zeros;
+  some = omega (arith, less, zero_count (size - count));
+}
+
+pub judged_whole : FrameLaw → (d count size : ℕ) (bytes : List ℕ) (x : Event) → length bytes ≡ 11 → 1 ≤ count → count ≤ 11 → IsBegun d (take (count - 1) bytes) → length_of (slice_index bytes 0) ≡ Some size →
+    size ≤ count → take size bytes ≡ event_bytes x → take count bytes ≡ event_bytes x
+judged_whole law d count size bytes x len some few begun is all same =
+    let both : count ≡ size = omega (arith, all, size_past law d count size bytes len some few begun is) in
+    ap (λ (n : ℕ). take n bytes) both ∙ same
+
+-- one byte more, and a zero less
+pub put_byte : (bytes : List ℕ) (count byte : ℕ) → count < 11 → bytes ≡ take count bytes ++ replicate (11 - count) 0 →
+    slice_set bytes count byte ≡ take (count + 1) (slice_set bytes count byte) ++ replicate (11 - (count + 1)) 0
+put_byte bytes count byte below is =
+    let len : length bytes ≡ length (take count bytes) + length (replicate (11 - count) 0) = ap (λ (l : List ℕ). length l) is ∙ length-append (take count bytes) (replicate (11 - count) 0) in
+    let front : length (take count bytes) ≡ count = omega (arith, len, zero_count (11 - count), length-take count bytes, below) in
+    let less : 11 - count ≡ suc (11 - (count + 1)) = omega (arith, below) in
+    let parts : bytes ≡ take count bytes ++ 0 ∷ replicate (11 - (count + 1)) 0 = is ∙ ap (λ (n : ℕ). take count bytes ++ replicate n 0) less in
+    let set_is : slice_set bytes count byte ≡ take count bytes ++ byte ∷ replicate (11 - (count + 1)) 0 =
+        ap (λ (l : List ℕ). slice_set l count byte) parts
+        ∙ ap (λ (n : ℕ). slice_set (take count bytes ++ 0 ∷ replicate (11 - (count + 1)) 0) n byte) (sym front)
+        ∙ set-append_seam (take count bytes) 0 (replicate (11 - (count + 1)) 0) byte in
+    let more : take (count + 1) (slice_set bytes count byte) ≡ take count bytes ++ byte ∷ [] = take_more_set bytes count byte (omega (arith, len, front, zero_count (11 - count), below)) in
+    set_is ∙ sym (ap (λ (l : List ℕ). l ++ replicate (11 - (count + 1)) 0) more ∙ append_assoc (take count bytes) (byte ∷ []) (replicate (11 - (count + 1)) 0))

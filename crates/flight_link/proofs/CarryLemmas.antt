@@ -1,5 +1,6 @@
 -- What is carried from event to event, and how it ends.
-use Rattle.flight_link.proofs.Prelude.{common_steps, ◌≡◌, inl, inr, ℕ, ◌+◌, ◌<◌, ◌≤◌, Bool, false, List, [], ◌∷◌, ◌++◌, length, take, append_assoc, append-nil, length-append, Option, Some, None, IfSome, refl, sym, ap, ◌∙◌, arith, ◌==◌, All, Contains, Appends, Consumes, IsAtEnd, prepend_known, length_push, take_at, All-head, All-nil, All-push, Rose, buffer_bytes, AppendsFront, Appends-append, Consumes-append, Consumes-nil, Event, Flight, FrameLaw, IsEvent, State, after, drones, event_bytes, happens, start, BeginsNoEvent, IsBegun, ended, end_in, events_bytes, sent_over, Breaks, Ends, Fails, BeginsWith, EndsGoing, EndsWith, StaysPrompt, StopsAtEnd, Takes, event_limit}
+use Rattle.flight_link.proofs.Prelude.{common_steps, ◌≡◌, inl, inr, ℕ, ◌+◌, ◌<◌, ◌≤◌, Bool, true, false, List, [], ◌∷◌, ◌++◌, length, take, append_assoc, append-nil, length-append, Option, Some, None, IfSome, refl, sym, ap, subst, ◌∙◌, arith, ◌==◌, All, Contains, Appends, Consumes, IsAtEnd, prepend_known, length_push, take_at, All-head, All-nil, All-push, Rose, buffer_bytes, AppendsFront, Appends-append, Consumes-append, Consumes-nil, Event, Frame, Flight, FrameLaw, IsEvent, State, after, drones, event_bytes, happens, start, BeginsNoEvent, IsBegun, ended, end_in, events_bytes, sent_over, Breaks, Ends, Fails, BeginsWith, EndsGoing, EndsWith, StaysPrompt, StopsAtEnd, Takes, event_limit}
+use Rattle.flight_model.specs.declared.events.Frame.TheVariants.{To, ToAll, Noted, Over}
 use Rattle.flight_link.proofs.EventLemmas.{event_few, event_some, short, step}
 use Rattle.flight_link.proofs.SendLemmas.{BeginsWith-trans, after-push, answer, ended-none, ended-push, said_at, sent-front, sent-none, sent-push}
 use Rattle.flight_link.proofs.FrontLemmas.{compare}
@@ -37,6 +38,19 @@ same_front (x ∷ a) b c e = same_front a b c (cc)
 -- a count that rose after a later one rose
 pub Rose-later : (a b c : ℕ) → a ≤ b → Rose b c → Rose a c
 Rose-later a b c l r = grind (arith, common_steps)
+
+same_status : (a b : ℕ) → Some a ≡ Some b → a ≡ b
+same_status a b is = cc
+
+-- the status of a flight's own end is one of those
+pub end_known : (frames : List Frame) (status : ℕ) → end_in frames ≡ Some status → Contains (0 ∷ 8 ∷ 11 ∷ 13 ∷ 20 ∷ []) status
+end_known [] status is = absurd (cc)
+end_known (To d o ∷ frames) status is = end_known frames status is
+end_known (ToAll o ∷ frames) status is = end_known frames status is
+end_known (Noted n ∷ frames) status is = end_known frames status is
+end_known (Over true true ∷ frames) status is = subst (λ (n : ℕ). Contains (0 ∷ 8 ∷ 11 ∷ 13 ∷ 20 ∷ []) n) (same_status 0 status is) (0, omega arith, refl)
+end_known (Over true false ∷ frames) status is = subst (λ (n : ℕ). Contains (0 ∷ 8 ∷ 11 ∷ 13 ∷ 20 ∷ []) n) (same_status 20 status is) (4, omega arith, refl)
+end_known (Over false kept ∷ frames) status is = subst (λ (n : ℕ). Contains (0 ∷ 8 ∷ 11 ∷ 13 ∷ 20 ∷ []) n) (same_status 20 status is) (4, omega arith, refl)
 
 -- ---- from event to event
 

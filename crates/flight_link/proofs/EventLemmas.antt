@@ -100,7 +100,7 @@ begun law d bytes b y later formed is =
 
 -- ---- which bytes are an event
 
-by_cond : {X E : Type 0} (P : Type 0) (b : Bool) (x y r : Result X E) → (b ≡ true → x ≡ r → P) → (b ≡ false → y ≡ r → P) → cond b x y ≡ r → P
+pub by_cond : {X E : Type 0} (P : Type 0) (b : Bool) (x y r : Result X E) → (b ≡ true → x ≡ r → P) → (b ≡ false → y ≡ r → P) → cond b x y ≡ r → P
 by_cond P true x y r f g h = f refl h
 by_cond P false x y r f g h = g refl h
 

@@ -85,11 +85,11 @@ Grew stream old new = IfSome stream (λ _. (output : List ℕ) × Appends old ne
 
 pub grew_ended : (f : Flight) (status : ℕ) (stream old new : Option (List ℕ)) → Ends f status stream old new → Grew stream old new
 grew_ended f status None old new e = tt
-grew_ended f status (Some bytes) old new e = (sent_over x e.0, e.4)
+grew_ended f status (Some bytes) old new e = (sent_over f e.0, e.4)
 
 pub grew_failed : (f : Flight) (stream left old new : Option (List ℕ)) → Fails f stream left old new → Grew stream old new
 grew_failed f None left old new x = tt
-grew_failed f (Some bytes) left old new x = (sent_over x x.1, x.8)
+grew_failed f (Some bytes) left old new x = (sent_over f x.1, x.8)
 
 -- more that was sent is prompt too
 pub prompt_kept : (f : Flight) (stream left old mid new : Option (List ℕ)) (more : List ℕ) → StaysPrompt f stream left old mid → Grew stream old mid → AppendsFront mid new more → StaysPrompt f stream left old new

@@ -4,7 +4,7 @@ ghost use Rattle.std.specs.Prelude.{◌≡◌, ◌≤◌, ◌-◌, ◌==◌, ◌
 ghost use Rattle.flight_link.specs.Sends.{IsBegun};
 ghost use Rattle.flight_link.specs.Steps.{FedGives};
 
-use flight_frames::{event_length, read_event};
+use flight_frames::{event_length, frame_law, read_event};
 use flight_model::Event;
 use std::marker::Model;
 
@@ -41,13 +41,15 @@ impl Model for Begun {
 }
 
 // What the first of these bytes give, where they are an event's or one byte more, and zeros stand after them.
-fn judged(bytes: &[u8; EVENT_BYTES], count: usize, drones: usize) -> Fed
+fn judged(bytes: &[u8], count: usize, drones: usize) -> Fed
+    requires whole { length bytes.now ≡ EVENT_BYTES }
     requires some { 1 ≤ count }
     requires few { count ≤ EVENT_BYTES }
     requires zeros { bytes.now ≡ take count bytes.now ++ replicate (EVENT_BYTES - count) 0 }
     requires begun { IsBegun drones (take (count - 1) bytes.now) }
     ensures { FedGives drones result (take count bytes.now) }
 {
+    frame_law();
     let size = match event_length(bytes[0]) {
         None => return Fed::Bad,
         Some(size) => size,

@@ -3,6 +3,18 @@ use Rattle.flight_link.proofs.EventLemmas.{begun, none_begun, short}
 use Rattle.flight_link.proofs.StepLemmas.{bad_front, cut_front}
 use Rattle.flight_link.proofs.input.next_event.Goals as goal
 
+pub bytes-init : goal.bytes-init
+bytes-init g c = record {
+  begun = rw c.make-begun.ensures (none_begun c.args.drones);
+  counted = rw c.make-begun.ensures refl;
+  took = rw c.make-begun.ensures (Took-none _ _);
+  sound = c.requires.sound;
+  holds = c.requires.holds;
+  at_end = c.requires.at_end;
+  began = λ e. e;
+  went = Went-none _ _ _ refl c.requires.at_end;
+}
+
 pub returns-in-Whole-clause-gives : goal.returns-in-Whole-clause-gives
 returns-in-Whole-clause-gives g c all may =
     let whole = rw c.in-Whole.is at c.feed.ensures.gives in
