@@ -1,0 +1,57 @@
+-- What three shows are as a flight.
+use Rattle.std.proofs.Common.{◌≡◌, ◌≤◌, ◌∷◌, [], ◌++◌, List, length, map, Option, Some, None, refl, sym, ◌∙◌, arith, length-append}
+use Rattle.std.proofs.lemmas.List.{length-map}
+use Rattle.std.specs.List.{flat_map, range_with_len}
+use Rattle.choreo_show.specs.Plain.{PlainShow}
+use Rattle.choreo_show.specs.declared.show.DroneLine.{DroneLine}
+use Rattle.cue_grid.specs.Cues.{grid_of}
+use Rattle.flight_model.specs.Legs.{Routes, arm_step, down_step, last_step, lasts, leg_count, legs_of, start_step, up_step}
+unfoldable use Rattle.flight_model.specs.Legs.{steps_of}
+use Rattle.flight_steps.specs.declared.ways.Crews.{Crews}
+use Rattle.flight_steps.specs.declared.ways.Ways.{Ways}
+use Rattle.flight_steps.specs.Ways.{AreFitted}
+use Rattle.flight_steps.proofs.Judged.{flight-of}
+use Rattle.show_plan.proofs.Flight.{by_cue_counted}
+use Rattle.show_judge.specs.Shows.{names_of, trajectories_of}
+use Rattle.show_direct.specs.declared.options.Options.{Options}
+use Rattle.show_direct.specs.Flights.{AreFlight, fault_of, routes_of}
+
+-- a flight has steps: the start, and the last one
+pub some_steps : (w : Routes) → 1 ≤ length (steps_of w)
+unfolding steps_of
+some_steps w =
+    let ups = map legs_of w.up in
+    let downs = map legs_of w.down in
+    let before = flat_map (λ k. arm_step w ups k ∷ up_step w ups k ∷ []) (range_with_len 0 (leg_count ups)) in
+    let after = map (down_step w (lasts w.show) downs) (range_with_len 0 (leg_count downs)) ++ last_step w downs ∷ [] in
+    omega (arith, length-append before (start_step w ups ∷ after))
+
+-- a show has a trajectory for each of its names
+pub counted : (s : PlainShow) → length (trajectories_of s) ≡ length (names_of s)
+counted s = by_cue_counted (grid_of s) ∙ sym (length-map s.drones (λ (d : DroneLine). d.name))
+
+crews_of : PlainShow → PlainShow → PlainShow → Crews
+crews_of up show down = record {
+  up = record { ref_ptr = (0, 0); now = names_of up };
+  show = record { ref_ptr = (0, 0); now = names_of show };
+  down = record { ref_ptr = (0, 0); now = names_of down };
+}
+
+ways_of : Options → PlainShow → PlainShow → PlainShow → Ways
+ways_of o up show down = record {
+  up = record { ref_ptr = (0, 0); now = trajectories_of up };
+  show = record { ref_ptr = (0, 0); now = trajectories_of show };
+  down = record { ref_ptr = (0, 0); now = trajectories_of down };
+  show_ms = lasts (trajectories_of show);
+  stray = up.settings.stray;
+  near = o.near;
+  at_place = o.at_place;
+}
+
+-- where nothing keeps three shows from being a flight, they are one
+pub are_flight : (o : Options) (up show down : PlainShow) → fault_of o up show down ≡ None → AreFlight o up show down
+unfolding crews_of ways_of
+are_flight o up show down none =
+    let fitted : AreFitted (crews_of up show down) (ways_of o up show down) = record { up = counted up; show = counted show; down = counted down; duration = refl } in
+    let is = flight-of (crews_of up show down) (ways_of o up show down) fitted none in
+    record { up_names = is.up; down_names = is.down; flight = is.flight }

@@ -1,0 +1,50 @@
+-- What three shows are as a flight: their routes, the first cause why they are none, and the flight.
+use Rattle.std.specs.Prelude.{◌≡◌, ℕ, not, Option}
+use Rattle.std.specs.Option.{option_or}
+use Rattle.choreo_show.specs.Plain.{PlainShow}
+use Rattle.flight_model.specs.declared.flights.Flight.{Flight}
+use Rattle.flight_model.specs.Legs.{IsFlight, Routes, lasts, steps_of}
+use Rattle.flight_steps.specs.declared.faults.FlightFault.{FlightFault}
+use Rattle.flight_steps.specs.declared.faults.Way.TheVariants as way
+use Rattle.flight_steps.specs.Faults.{first_other, other_drone, route_fault}
+use Rattle.show_judge.specs.Shows.{names_of, sent_of, trajectories_of, words_of}
+use Rattle.show_direct.specs.declared.options.Options.{Options}
+
+-- The routes of a way up, a show and a way down, one segment a cue. How far drones may stray from their way up is what
+-- the settings of that show say.
+abbrev pub routes_of : Options → PlainShow → PlainShow → PlainShow → Routes
+routes_of o up show down = record {
+  up = trajectories_of up;
+  show = trajectories_of show;
+  down = trajectories_of down;
+  stray = up.settings.stray;
+  near = o.near;
+  at_place = o.at_place;
+}
+
+-- The first cause why the three are no flight: of their names, and then of their ways.
+abbrev pub fault_of : Options → PlainShow → PlainShow → PlainShow → Option FlightFault
+fault_of o up show down =
+    option_or (option_or (other_drone way.Up (first_other 0 (names_of up) (names_of show))) (other_drone way.Down (first_other 0 (names_of down) (names_of show))))
+    (route_fault (routes_of o up show down))
+
+-- The three are a flight: the same drones, by name, in the same order; and their ways are a flight.
+pub record AreFlight (o : Options) (up show down : PlainShow) : Type 0 where
+  pub up_names : words_of up ≡ words_of show
+  pub down_names : words_of down ≡ words_of show
+  pub flight : IsFlight (routes_of o up show down)
+
+-- The flight. Its curves are what the drones were sent for the show, and how far drones may be from them is what the
+-- show's settings say.
+abbrev pub flight_of : Options → PlainShow → PlainShow → PlainShow → Flight
+flight_of o up show down = record {
+  steps = steps_of (routes_of o up show down);
+  curves = sent_of show;
+  show_ms = lasts (trajectories_of show);
+  stray = show.settings.stray;
+  late = show.settings.late;
+  silence = o.silence;
+  flies_on = not o.then_land;
+  floor = o.floor;
+  descent = o.descent;
+}
