@@ -77,7 +77,7 @@ pub record Runs (c : Verb) (r : Run) (status : ℕ) : Type 0 where
   -- Some read nothing.
   pub unread : reads c ≡ false → (r.left_after ≡ r.left) × (r.reads_failed_after ≡ r.reads_failed)
   -- There is no other status; 2 is none of a command.
-  pub known : Contains (0 ∷ 1 ∷ 3 ∷ 4 ∷ 5 ∷ 6 ∷ 7 ∷ 8 ∷ 9 ∷ 10 ∷ 11 ∷ 12 ∷ 13 ∷ 14 ∷ 15 ∷ 16 ∷ 18 ∷ []) status
+  pub known : Contains (0 ∷ 1 ∷ 3 ∷ 4 ∷ 5 ∷ 6 ∷ 7 ∷ 8 ∷ 9 ∷ 10 ∷ 11 ∷ 12 ∷ 13 ∷ 14 ∷ 15 ∷ 16 ∷ 18 ∷ 19 ∷ 20 ∷ []) status
   pub taken : TakesFront r.left r.left_after
   pub reads_later : r.reads_failed ≤ r.reads_failed_after
   pub writes_later : r.writes_failed ≤ r.writes_failed_after
