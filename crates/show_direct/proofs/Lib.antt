@@ -1,3 +1,9 @@
 pub mod ExchangeLemmas
 pub mod FlightLemmas
 pub mod DirectLemmas
+pub mod FewLemmas
+pub mod ReadingLemmas
+pub mod CarryLemmas
+pub mod FlownLemmas
+pub mod MakingLemmas
+pub mod RunLemmas

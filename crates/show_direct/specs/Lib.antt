@@ -1,3 +1,4 @@
 pub mod Flights
 pub mod Exchanges
 pub mod Direct
+pub mod Steps

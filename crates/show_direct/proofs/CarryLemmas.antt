@@ -1,0 +1,281 @@
+-- An exchange that is carried, from what its steps did.
+use Rattle.std.proofs.Common.{◌≡◌, ◌≢◌, ◌⊎◌, inl, inr, ℕ, ◌+◌, ◌<◌, ◌≤◌, Bool, true, false, List, [], ◌∷◌, ◌++◌, Contains, append_assoc, append-nil, length, length-append, Option, Some, None, refl, sym, ap, subst, ◌∙◌, arith}
+use Rattle.std.proofs.lemmas.Grind.{common_steps}
+use Rattle.std.proofs.lemmas.List.{append_cancel_left, append_cancel_right}
+use Rattle.std.proofs.lemmas.List.Elements.{All-cons, All-contains, All-nil}
+use Rattle.std.specs.Io.KnownBytes.{Appends, Consumes}
+use Rattle.text_lines.specs.Marker.{part_of, rest_of}
+use Rattle.choreo_reader.specs.Grammar.{StandsFor}
+use Rattle.choreo_reader.specs.Laws.{ShowLaw}
+use Rattle.choreo_show.specs.Plain.{PlainShow}
+use Rattle.fleet_io.proofs.MarkerLaws.{whole_marker-front}
+use Rattle.fleet_io.specs.Causes.{Rose}
+use Rattle.fleet_io.specs.Held.{buffer_bytes, has_whole_marker}
+use Rattle.fleet_io.specs.Parts.{MarkerLaw}
+use Rattle.fleet_io.specs.Taken.{AppendsFront}
+use Rattle.fleet_io.specs.Told.{Told, Went}
+use Rattle.fleet_math.specs.Limits.{most_text}
+use Rattle.link_frames.specs.Frames.{end_byte, end_frame}
+use Rattle.refusals.specs.declared.refusal.Refusal.{Refusal}
+use Rattle.refusals.specs.Refusals.{status_of}
+use Rattle.show_judge.proofs.AnswerLemmas.{accepted_outcome, refused_outcome, refused_some}
+use Rattle.show_judge.proofs.RunLemmas.{refused_among, refused_judged}
+use Rattle.show_judge.proofs.TextLemmas.{stands_unrefused}
+use Rattle.show_judge.specs.Answers.{IsAccepted, IsRefusedBy, Wrote}
+use Rattle.show_judge.specs.Outcome.{IsOutcomeOf}
+use Rattle.show_judge.specs.Refused.{IsOfInput, show_refusal, text_refusal}
+use Rattle.show_judge.specs.Shows.{cut_of}
+use Rattle.show_judge.specs.Verb.{IsJudged, Outcome, Span, outcome}
+use Rattle.show_judge.specs.declared.judging.Accepted.{Accepted}
+use Rattle.show_direct.specs.declared.reading.Unread.{Unread}
+use Rattle.show_direct.specs.declared.reading.Unread.TheVariants as unread
+use Rattle.show_direct.specs.Exchanges.{Accepts, Exchange, TextBegun, TextEnds, TextIsPrompt, TextStops, text_exchange, text_verb, text_ways}
+use Rattle.show_direct.specs.Direct.{HasBegun}
+use Rattle.show_direct.specs.Steps.{AreMarked, Carries, EndsBy, IsCut, IsRead, IsUnread, direct_statuses}
+
+-- ---- what was written
+
+-- a byte that begins no end frame isn't the first of one
+pub never_front : (status : ℕ) (old new : Option (List ℕ)) → AppendsFront old new (end_frame status) → HasBegun old new → ⊥
+never_front status old new (sent, rest, e, appends) (before, later, byte, is, is_new, other) =
+    let grown : before ++ byte ∷ later ≡ before ++ sent = rw (is, is_new) at appends in
+    let same : byte ∷ later ≡ sent = append_cancel_left before (byte ∷ later) sent grown in
+    let whole : end_byte ∷ status ∷ [] ≡ byte ∷ (later ++ rest) = e ∙ ap (λ (xs : List ℕ). xs ++ rest) (sym same) in
+    let first : byte ≡ end_byte = cc in
+    other first
+
+pub never_appended : (status : ℕ) (old new : Option (List ℕ)) → Appends old new (end_frame status) → HasBegun old new → ⊥
+never_appended status old new appends begun =
+    never_front status old new (end_frame status, [], sym (append-nil (end_frame status)), appends) begun
+
+-- nor is anything where nothing was written
+never_same : (old new : Option (List ℕ)) → new ≡ old → HasBegun old new → ⊥
+never_same old new same (before, later, byte, is, is_new, other) =
+    let both : Some before ≡ Some (before ++ byte ∷ later) = sym is ∙ sym same ∙ is_new in
+    let grown : before ≡ before ++ byte ∷ later = cc in
+    omega (arith, ap (λ (xs : List ℕ). length xs) grown, length-append before (byte ∷ later))
+
+rose_later : (a b c : ℕ) → a ≤ b → Rose b c → Rose a c
+rose_later a b c later rose = grind (arith, common_steps)
+
+-- ---- a show that is accepted
+
+-- one text is accepted as one that has the same part
+accepts_as : (depth : ℕ) (bytes other : List ℕ) (s : PlainShow) → part_of bytes ≡ part_of other → Accepts depth bytes s → Accepts depth other s
+accepts_as depth bytes other s same accepts = record {
+  short = subst (λ (text : List ℕ). length text ≤ most_text) same accepts.short;
+  stands = subst (λ (text : List ℕ). StandsFor text s) same accepts.stands;
+  accepted = accepts.accepted;
+}
+
+accepts_of : (depth : ℕ) (bytes : List ℕ) (a : Accepted) → (is : IsAccepted (text_ways depth) depth (cut_of bytes) a) → Accepts depth bytes is.s
+accepts_of depth bytes a is = record { short = is.short; stands = is.stands; accepted = is.accepted }
+
+-- bytes that stand before others, and come to the same, are none
+none_before : (ys xs : List ℕ) → xs ≡ ys ++ xs → ys ≡ []
+none_before [] xs e = refl
+none_before (y ∷ ys) xs e = absurd (omega (arith, ap length e, length-append ys xs))
+
+-- a read failed in what the show leads to
+cut_next : MarkerLaw → (depth : ℕ) (next : PlainShow → Exchange) (s : PlainShow) (bytes left : List ℕ) (ended met : Bool) (m : Span) (mid : Told) (output : List ℕ) →
+    Accepts depth bytes s → (met ≡ false → AreMarked bytes (rest_of bytes)) → (met ≡ false → ended ≡ false) → m.told.faults ≤ mid.faults →
+    IsCut (next s) (rest_of bytes) left met (record m { told = mid }) output → IsCut (text_exchange depth next) bytes left ended m output
+cut_next marker depth next s bytes left ended met m mid output accepts fed back later cut =
+    let text = fed cut.unmet in
+    let whole = marker text.0 (rest_of bytes) text.2 in
+    let short = marker text.0 cut.taken text.2 in
+    let none : rest_of text.0 ≡ [] = none_before (rest_of text.0) (rest_of bytes) (ap (λ (xs : List ℕ). rest_of xs) text.1 ∙ whole.1) in
+    let part : part_of bytes ≡ part_of (text.0 ++ cut.taken) = ap (λ (xs : List ℕ). part_of xs) text.1 ∙ whole.0 ∙ sym short.0 in
+    let frames : cut.taken ≡ rest_of (text.0 ++ cut.taken) = sym (short.1 ∙ ap (λ (xs : List ℕ). xs ++ cut.taken) none) in
+    let stops : TextStops depth next true (text.0 ++ cut.taken) output =
+    (s, accepts_as depth bytes (text.0 ++ cut.taken) s part accepts, subst (λ (xs : List ℕ). (next s).stops xs output) frames cut.stops) in
+    record {
+      rose = rose_later m.told.faults mid.faults m.tells.faults later cut.rose;
+      unmet = back cut.unmet;
+      taken = text.0 ++ cut.taken;
+      is = text.1 ∙ ap (λ (xs : List ℕ). text.0 ++ xs) cut.is ∙ sym (append_assoc text.0 cut.taken left);
+      stops = subst (λ (b : Bool). TextStops depth next b (text.0 ++ cut.taken) output) (sym (whole_marker-front text.0 cut.taken text.2)) stops;
+    }
+
+-- A show was accepted, and what it leads to was carried.
+carried_next : ShowLaw → MarkerLaw → (depth : ℕ) (next : PlainShow → Exchange) (bytes left : List ℕ) (ended met : Bool) (a : Accepted) (m : Span) (mid : Told) (status : ℕ) →
+    (is : IsAccepted (text_ways depth) depth (cut_of bytes) a) → (met ≡ false → AreMarked bytes (rest_of bytes)) → (met ≡ false → ended ≡ false) → m.told.faults ≤ mid.faults →
+    Carries (next is.s) (rest_of bytes) left met (record m { told = mid }) status → Carries (text_exchange depth next) bytes left ended m status
+carried_next show marker depth next bytes left ended met a m mid status is fed back later c =
+    let accepts = accepts_of depth bytes a is in
+    let cut : (output : List ℕ) → IsCut (next is.s) (rest_of bytes) left met (record m { told = mid }) output → IsCut (text_exchange depth next) bytes left ended m output =
+    λ output it. cut_next marker depth next is.s bytes left ended met m mid output accepts fed back later it in
+    record {
+      gives = λ judged. (let it = c.gives judged in (it.0, accepted_outcome (text_verb depth next) depth (cut_of bytes) a it.0 is it.1, it.2, it.3));
+      one = c.one;
+      six = λ six. (let it = c.six six in (it.0, cut it.0 it.1, it.2));
+      seven = λ seven.
+          (let it = c.seven seven in
+          (it.0, (it.1.0, it.1.1, elim it.1.2 [
+            | inl gives ↦ inl (gives.0, accepted_outcome (text_verb depth next) depth (cut_of bytes) a gives.0 is gives.1, gives.2)
+            | inr broken ↦ inr (cut it.1.0 broken)
+          ])));
+      prompt = λ seven taken sent before split old new whole s others.
+          (let halves = marker taken left whole in
+          let same : is.s ≡ s = show.one (part_of taken) is.s s
+          (subst (λ (text : List ℕ). StandsFor text is.s) (ap (λ (xs : List ℕ). part_of xs) split ∙ halves.0) is.stands) others.stands in
+          subst (λ (p : PlainShow). (next p).prompt (rest_of taken) sent) same
+          (c.prompt seven (rest_of taken) sent before (ap (λ (xs : List ℕ). rest_of xs) split ∙ halves.1) old new));
+      ends = λ judged. record {
+        accepted = λ s others. subst (λ (p : PlainShow). (next p).ends (rest_of bytes) left) (show.one (part_of bytes) is.s s is.stands others.stands) (c.ends judged);
+        refused = λ none. absurd (none is.s accepts);
+      };
+      begun = λ began. record { s = is.s; accepts = accepts; safe = is.safe; begun = c.begun began };
+      known = c.known;
+      reads_later = omega (arith, later, c.reads_later);
+      writes_later = c.writes_later;
+    }
+
+-- The same, of what a reader has read.
+pub carried_read : ShowLaw → MarkerLaw → (depth : ℕ) (next : PlainShow → Exchange) (bytes rest left : List ℕ) (ended met : Bool) (a : Accepted) (m : Span) (mid : Told) (status : ℕ) →
+    (read : IsRead depth bytes rest met a) → (met ≡ false → ended ≡ false) → m.told.faults ≤ mid.faults →
+    Carries (next read.accepted.s) rest left met (record m { told = mid }) status → Carries (text_exchange depth next) bytes left ended m status
+carried_read show marker depth next bytes rest left ended met a m mid status read back later c =
+    carried_next show marker depth next bytes left ended met a m mid status read.accepted (λ off. subst (AreMarked bytes) read.after (read.fed off)) back later
+    (subst (λ (xs : List ℕ). Carries (next read.accepted.s) xs left met (record m { told = mid }) status) read.after c)
+
+-- ---- no show
+
+-- a text that is refused isn't accepted as any show
+unrefused : (r : Option Refusal) (why : Refusal) → r ≡ None → r ≡ Some why → ⊥
+unrefused r why none is = absurd (cc)
+
+refused_none : ShowLaw → (depth : ℕ) (bytes : List ℕ) (r : Refusal) → IsRefusedBy (text_ways depth) (cut_of bytes) r → (s : PlainShow) → Accepts depth bytes s → ⊥
+refused_none show depth bytes r (inl is) s accepts = unrefused (text_refusal (part_of bytes)) r (stands_unrefused show (part_of bytes) s accepts.short accepts.stands) is
+refused_none show depth bytes r (inr (t, short, stands, is)) s accepts =
+    unrefused (show_refusal (text_ways depth) (cut_of bytes) s) r accepts.accepted
+    (subst (λ (p : PlainShow). show_refusal (text_ways depth) (cut_of bytes) p ≡ Some r) (show.one (part_of bytes) t s stands accepts.stands) is)
+
+-- the end frame of a refusal was written
+carried_refusal : ShowLaw → MarkerLaw → (depth : ℕ) (next : PlainShow → Exchange) (bytes left : List ℕ) (ended : Bool) (m : Span) (r : Refusal) (status : ℕ) →
+    IsRefusedBy (text_ways depth) (cut_of bytes) r → IsOfInput r → length (rest_of bytes) ≤ length left + buffer_bytes → m.told.faults ≤ m.tells.faults →
+    Wrote (status_of r) (end_frame (status_of r)) m.written m.written_after m.writes_failed m.writes_failed_after status → Carries (text_exchange depth next) bytes left ended m status
+carried_refusal show marker depth next bytes left ended m r status is of_input few later (inl (e, appends, writes)) =
+    let judged = refused_judged r of_input in
+    record {
+      gives = λ j. (outcome (status_of r) (end_frame (status_of r)), refused_outcome (text_verb depth next) (cut_of bytes) r is, e, appends);
+      one = λ one. absurd (judged.0 (sym e ∙ one));
+      six = λ six. absurd (judged.1 (sym e ∙ six));
+      seven = λ seven. absurd (judged.2 (sym e ∙ seven));
+      prompt = λ seven. absurd (judged.2 (sym e ∙ seven));
+      ends = λ j. record { accepted = λ s accepts. absurd (refused_none show depth bytes r is s accepts); refused = λ none. few };
+      begun = elim [
+        | inl began ↦ absurd (never_appended (status_of r) m.written m.written_after appends began)
+        | inr done ↦ absurd (refused_some r (sym e ∙ done))
+      ];
+      known = subst (Contains direct_statuses) (sym e) (refused_among r of_input);
+      reads_later = later;
+      writes_later = writes;
+    }
+carried_refusal show marker depth next bytes left ended m r status is of_input few later (inr (e, rose, front, writes)) = record {
+  gives = λ j. absurd (j.2 e);
+  one = λ one. absurd (omega (arith, one, e));
+  six = λ six. absurd (omega (arith, six, e));
+  seven = λ seven.
+      (rose, (end_frame (status_of r), front, inl (outcome (status_of r) (end_frame (status_of r)), refused_outcome (text_verb depth next) (cut_of bytes) r is, refl)));
+  prompt = λ seven taken sent before split old new whole s accepts.
+      absurd (refused_none show depth bytes r is s
+      (accepts_as depth taken bytes s (sym (ap (λ (xs : List ℕ). part_of xs) split ∙ (marker taken left whole).0)) accepts));
+  ends = λ j. absurd (j.2 e);
+  begun = elim [
+    | inl began ↦ absurd (never_front (status_of r) m.written m.written_after front began)
+    | inr done ↦ absurd (omega (arith, done, e))
+  ];
+  known = subst (Contains direct_statuses) (sym e) (6, omega arith, refl);
+  reads_later = later;
+  writes_later = writes;
+}
+
+-- the end frame of a failed read was written
+carried_failed : (depth : ℕ) (next : PlainShow → Exchange) (bytes left taken : List ℕ) (ended : Bool) (m : Span) (status : ℕ) →
+    ended ≡ false → Rose m.told.faults m.tells.faults → bytes ≡ taken ++ left → has_whole_marker taken ≡ false → m.told.faults ≤ m.tells.faults →
+    Wrote 6 (end_frame 6) m.written m.written_after m.writes_failed m.writes_failed_after status → Carries (text_exchange depth next) bytes left ended m status
+carried_failed depth next bytes left taken ended m status unmet rose is none later wrote =
+    let cut : IsCut (text_exchange depth next) bytes left ended m (end_frame 6) = record {
+      rose = rose;
+      unmet = unmet;
+      taken = taken;
+      is = is;
+      stops = subst (λ (b : Bool). TextStops depth next b taken (end_frame 6)) (sym none) refl;
+    } in
+    elim wrote [
+      | inl (e, appends, writes) ↦ record {
+        gives = λ j. absurd (j.1 e);
+        one = λ one. absurd (omega (arith, one, e));
+        six = λ six. (end_frame 6, cut, appends);
+        seven = λ seven. absurd (omega (arith, seven, e));
+        prompt = λ seven. absurd (omega (arith, seven, e));
+        ends = λ j. absurd (j.1 e);
+        begun = elim [
+          | inl began ↦ absurd (never_appended 6 m.written m.written_after appends began)
+          | inr done ↦ absurd (omega (arith, done, e))
+        ];
+        known = subst (Contains direct_statuses) (sym e) (5, omega arith, refl);
+        reads_later = later;
+        writes_later = writes;
+      }
+      | inr (e, failed, front, writes) ↦ record {
+        gives = λ j. absurd (j.2 e);
+        one = λ one. absurd (omega (arith, one, e));
+        six = λ six. absurd (omega (arith, six, e));
+        seven = λ seven. (failed, (end_frame 6, front, inr cut));
+        prompt = λ seven others sent before split old new whole s accepts.
+            absurd (let same : taken ≡ others = append_cancel_right taken others left (sym is ∙ split) in
+            let off : false ≡ true = sym none ∙ ap (λ (xs : List ℕ). has_whole_marker xs) same ∙ whole in
+            cc);
+        ends = λ j. absurd (j.2 e);
+        begun = elim [
+          | inl began ↦ absurd (never_front 6 m.written m.written_after front began)
+          | inr done ↦ absurd (omega (arith, done, e))
+        ];
+        known = subst (Contains direct_statuses) (sym e) (6, omega arith, refl);
+        reads_later = later;
+        writes_later = writes;
+      }
+    ]
+
+-- out of memory, and nothing was written
+pub carried_memory : (x : Exchange) (bytes left : List ℕ) (ended : Bool) (m : Span) (status : ℕ) → m.told.faults ≤ m.tells.faults → status ≡ 1 → m.written_after ≡ m.written →
+    m.writes_failed_after ≡ m.writes_failed → Carries x bytes left ended m status
+carried_memory x bytes left ended m status later e same faults = record {
+  gives = λ j. absurd (j.0 e);
+  one = λ one. (same, faults);
+  six = λ six. absurd (omega (arith, six, e));
+  seven = λ seven. absurd (omega (arith, seven, e));
+  prompt = λ seven. absurd (omega (arith, seven, e));
+  ends = λ j. absurd (j.0 e);
+  begun = elim [
+    | inl began ↦ absurd (never_same m.written m.written_after same began)
+    | inr done ↦ absurd (omega (arith, done, e))
+  ];
+  known = subst (Contains direct_statuses) (sym e) (1, omega arith, refl);
+  reads_later = later;
+  writes_later = omega (arith, faults);
+}
+
+-- No show was read.
+pub carried_unread : ShowLaw → MarkerLaw → (depth : ℕ) (next : PlainShow → Exchange) (bytes left : List ℕ) (ended : Bool) (m : Span) (why : Unread) (status : ℕ) →
+    IsUnread depth bytes left ended m.told.faults m.tells.faults why → m.told.faults ≤ m.tells.faults →
+    EndsBy why m.written m.written_after m.writes_failed m.writes_failed_after status → Carries (text_exchange depth next) bytes left ended m status
+carried_unread show marker depth next bytes left ended m (unread.Refused r) status is later wrote =
+    carried_refusal show marker depth next bytes left ended m r status is.0 is.1 is.2 later wrote
+carried_unread show marker depth next bytes left ended m unread.Read status is later wrote =
+    carried_failed depth next bytes left is.2.0 ended m status is.0 is.1 is.2.1 is.2.2 later wrote
+carried_unread show marker depth next bytes left ended m unread.Memory status is later wrote =
+    carried_memory (text_exchange depth next) bytes left ended m status later wrote.0 wrote.1 wrote.2
+
+-- ---- from one step to the next
+
+-- a reader that has met no end now hadn't met it before
+pub unmet_before : (met meets : Bool) (t u : Told) → Went met meets t u → meets ≡ false → met ≡ false
+unmet_before false meets t u went off = refl
+unmet_before true meets t u went off = absurd (let on = (went.stays refl).0 in let e : false ≡ true = sym off ∙ on in cc)
+
+-- where the text is too large no show was read
+pub little_read : (depth : ℕ) (bytes rest : List ℕ) (met : Bool) (a : Accepted) (P : Type 0) → IsRead depth bytes rest met a → most_text < length (part_of bytes) → P
+little_read depth bytes rest met a P read long = absurd (omega (arith, long, read.accepted.short))

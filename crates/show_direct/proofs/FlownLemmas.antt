@@ -1,0 +1,125 @@
+-- Three shows are flown, or are no flight.
+use Rattle.std.proofs.Common.{◌≡◌, ◌≢◌, ◌⊎◌, inl, inr, ℕ, ◌+◌, ◌≤◌, Bool, false, List, [], ◌∷◌, ◌++◌, Contains, length, length-append, Option, Some, None, refl, sym, subst, arith}
+use Rattle.std.proofs.lemmas.List.Elements.{All-cons, All-contains, All-nil}
+use Rattle.std.specs.Io.KnownBytes.{Appends, Consumes}
+use Rattle.choreo_show.specs.Plain.{PlainShow}
+use Rattle.fleet_io.specs.Causes.{Rose}
+use Rattle.fleet_io.specs.Held.{buffer_bytes}
+use Rattle.fleet_io.specs.Taken.{AppendsFront}
+use Rattle.link_frames.specs.Frames.{end_frame}
+use Rattle.flight_model.specs.declared.flights.Flight.{Flight}
+use Rattle.flight_steps.specs.declared.faults.FlightFault.{FlightFault}
+use Rattle.flight_link.specs.Flights.{FlightFails, FlightGives, StaysPrompt, StopsAtEnd}
+use Rattle.show_judge.specs.Answers.{Wrote}
+use Rattle.show_judge.specs.Verb.{Span, outcome}
+use Rattle.show_direct.specs.declared.options.Options.{Options}
+use Rattle.show_direct.specs.Flights.{fault_of, flight_of}
+use Rattle.show_direct.specs.Direct.{exchange_by, flight_exchange}
+use Rattle.show_direct.specs.Steps.{Carries, IsCut, direct_statuses}
+use Rattle.show_direct.proofs.CarryLemmas.{never_appended, never_front}
+use Rattle.show_direct.proofs.FlightLemmas.{are_flight}
+
+-- the statuses of a flight are among those of `direct`, and none is 1
+abbrev IsAmong : ℕ → Type 0
+IsAmong status = Contains direct_statuses status × (status ≢ 1)
+
+among_of : (status : ℕ) → Contains (0 ∷ 6 ∷ 7 ∷ 8 ∷ 11 ∷ 13 ∷ 20 ∷ []) status → IsAmong status
+among_of status known = All-contains IsAmong (0 ∷ 6 ∷ 7 ∷ 8 ∷ 11 ∷ 13 ∷ 20 ∷ []) status
+    (All-cons IsAmong 0 (6 ∷ 7 ∷ 8 ∷ 11 ∷ 13 ∷ 20 ∷ []) ((0, omega arith, refl), λ e. omega (arith, e))
+    (All-cons IsAmong 6 (7 ∷ 8 ∷ 11 ∷ 13 ∷ 20 ∷ []) ((5, omega arith, refl), λ e. omega (arith, e))
+    (All-cons IsAmong 7 (8 ∷ 11 ∷ 13 ∷ 20 ∷ []) ((6, omega arith, refl), λ e. omega (arith, e))
+    (All-cons IsAmong 8 (11 ∷ 13 ∷ 20 ∷ []) ((7, omega arith, refl), λ e. omega (arith, e))
+    (All-cons IsAmong 11 (13 ∷ 20 ∷ []) ((10, omega arith, refl), λ e. omega (arith, e))
+    (All-cons IsAmong 13 (20 ∷ []) ((12, omega arith, refl), λ e. omega (arith, e))
+    (All-cons IsAmong 20 [] ((18, omega arith, refl), λ e. omega (arith, e)) (All-nil IsAmong))))))))
+    known
+
+-- What a flight through frames says of the bytes that came.
+pub record Flown (f : Flight) (bytes left : List ℕ) (ended : Bool) (m : Span) (status : ℕ) : Type 0 where
+  pub ends : status ≢ 6 → status ≢ 7 → (output : List ℕ) × FlightGives f bytes status output × Appends m.written m.written_after output
+  pub six : status ≡ 6 → Rose m.told.faults m.tells.faults × (ended ≡ false)
+      × ((taken output : List ℕ) × Consumes (Some bytes) (Some left) taken × FlightFails f taken output × Appends m.written m.written_after output)
+  pub seven : status ≡ 7 → Rose m.writes_failed m.writes_failed_after
+      × ((output : List ℕ) × AppendsFront m.written m.written_after output
+      × (((st : ℕ) × FlightGives f bytes st output)
+      ⊎ (Rose m.told.faults m.tells.faults × (ended ≡ false) × ((taken : List ℕ) × Consumes (Some bytes) (Some left) taken × FlightFails f taken output))))
+  pub prompt : StaysPrompt f (Some bytes) (Some left) m.written m.written_after
+  pub stops : StopsAtEnd f (Some bytes) (Some left)
+  pub known : Contains (0 ∷ 6 ∷ 7 ∷ 8 ∷ 11 ∷ 13 ∷ 20 ∷ []) status
+  pub reads_later : m.told.faults ≤ m.tells.faults
+  pub writes_later : m.writes_failed ≤ m.writes_failed_after
+
+-- a flight was flown
+flown : (o : Options) (up show down : PlainShow) (bytes left : List ℕ) (ended : Bool) (m : Span) (status : ℕ) → fault_of o up show down ≡ None →
+    Flown (flight_of o up show down) bytes left ended m status → Carries (exchange_by o up show down None) bytes left ended m status
+flown o up show down bytes left ended m status none f = record {
+  gives = λ j. (let it = f.ends j.1 j.2 in (outcome status it.0, it.1, refl, it.2));
+  one = λ one. absurd ((among_of status f.known).1 one);
+  six = λ six.
+      (let it = f.six six in
+      (it.2.1, record { rose = it.0; unmet = it.1; taken = it.2.0; is = it.2.2; stops = it.2.3 }, it.2.4));
+  seven = λ seven.
+      (let it = f.seven seven in
+      (it.0, (it.1.0, it.1.1, elim it.1.2 [
+        | inl gives ↦ inl (outcome gives.0 it.1.0, gives.1, refl)
+        | inr failed ↦ inr (record { rose = failed.0; unmet = failed.1; taken = failed.2.0; is = failed.2.1; stops = failed.2.2 })
+      ])));
+  prompt = λ seven taken sent before split old new. f.prompt bytes left before taken sent refl refl split old new;
+  ends = λ j. f.stops;
+  begun = λ began. are_flight o up show down none;
+  known = (among_of status f.known).0;
+  reads_later = f.reads_later;
+  writes_later = f.writes_later;
+}
+
+pub carried_flight : (o : Options) (up show down : PlainShow) (f : Flight) (bytes left : List ℕ) (ended : Bool) (m : Span) (status : ℕ) →
+    (f ≡ flight_of o up show down) × (fault_of o up show down ≡ None) → Flown f bytes left ended m status → Carries (flight_exchange o up show down) bytes left ended m status
+carried_flight o up show down f bytes left ended m status made is =
+    subst (λ (why : Option FlightFault). Carries (exchange_by o up show down why) bytes left ended m status) (sym made.1)
+    (flown o up show down bytes left ended m status made.1 (subst (λ (g : Flight). Flown g bytes left ended m status) made.0 is))
+
+-- The end frame of 19 was written, and nothing was read.
+no_flight : (o : Options) (up show down : PlainShow) (fault : FlightFault) (bytes left : List ℕ) (ended : Bool) (m : Span) (status : ℕ) → length bytes ≤ length left + buffer_bytes →
+    m.told.faults ≤ m.tells.faults → Wrote 19 (end_frame 19) m.written m.written_after m.writes_failed m.writes_failed_after status →
+    Carries (exchange_by o up show down (Some fault)) bytes left ended m status
+no_flight o up show down fault bytes left ended m status few later (inl (e, appends, writes)) = record {
+  gives = λ j. (outcome 19 (end_frame 19), refl, e, appends);
+  one = λ one. absurd (omega (arith, one, e));
+  six = λ six. absurd (omega (arith, six, e));
+  seven = λ seven. absurd (omega (arith, seven, e));
+  prompt = λ seven taken sent before split old new. tt;
+  ends = λ j. few;
+  begun = elim [
+    | inl began ↦ absurd (never_appended 19 m.written m.written_after appends began)
+    | inr done ↦ absurd (omega (arith, done, e))
+  ];
+  known = subst (Contains direct_statuses) (sym e) (17, omega arith, refl);
+  reads_later = later;
+  writes_later = writes;
+}
+no_flight o up show down fault bytes left ended m status few later (inr (e, rose, front, writes)) = record {
+  gives = λ j. absurd (j.2 e);
+  one = λ one. absurd (omega (arith, one, e));
+  six = λ six. absurd (omega (arith, six, e));
+  seven = λ seven. (rose, (end_frame 19, front, inl (outcome 19 (end_frame 19), refl, refl)));
+  prompt = λ seven taken sent before split old new. tt;
+  ends = λ j. absurd (j.2 e);
+  begun = elim [
+    | inl began ↦ absurd (never_front 19 m.written m.written_after front began)
+    | inr done ↦ absurd (omega (arith, done, e))
+  ];
+  known = subst (Contains direct_statuses) (sym e) (6, omega arith, refl);
+  reads_later = later;
+  writes_later = writes;
+}
+
+pub carried_fault : (o : Options) (up show down : PlainShow) (fault : FlightFault) (bytes left : List ℕ) (ended : Bool) (m : Span) (status : ℕ) → fault_of o up show down ≡ Some fault →
+    length bytes ≤ length left + buffer_bytes → m.told.faults ≤ m.tells.faults → Wrote 19 (end_frame 19) m.written m.written_after m.writes_failed m.writes_failed_after status →
+    Carries (flight_exchange o up show down) bytes left ended m status
+carried_fault o up show down fault bytes left ended m status made few later wrote =
+    subst (λ (why : Option FlightFault). Carries (exchange_by o up show down why) bytes left ended m status) (sym made)
+    (no_flight o up show down fault bytes left ended m status few later wrote)
+
+-- where nothing was read, a reader holds few of the bytes that came
+pub few_unread : (waiting left : List ℕ) → length waiting ≤ buffer_bytes → length (waiting ++ left) ≤ length left + buffer_bytes
+few_unread waiting left few = omega (arith, few, length-append waiting left)

@@ -1,0 +1,190 @@
+-- A flight that is made of three shows that fit.
+use Rattle.std.proofs.Common.{◌≡◌, ℕ, suc, ◌+◌, ◌*◌, ◌<◌, ◌≤◌, ℤ, not, List, [], ◌∷◌, length, map, Option, Some, None, Result, Ok, Err, refl, sym, ap, subst, ◌∙◌, arith}
+use Rattle.std.proofs.lemmas.List.{length-map}
+use Rattle.std.proofs.lemmas.List.Elements.{All-cons, All-head, All-nil, All-tail, All-weaker}
+use Rattle.std.proofs.lemmas.List.Sums.{sum_by-cons}
+use Rattle.std.specs.List.{sum}
+use Rattle.std.specs.Option.{option_or}
+use Rattle.std.specs.Prelude.{All}
+use Rattle.choreo_lines.specs.Name.{Name}
+use Rattle.choreo_show.specs.Plain.{PlainShow}
+use Rattle.choreo_show.specs.declared.show.Settings.{Settings}
+use Rattle.integer_player.specs.Played.{duration_of}
+use Rattle.traj_codec.specs.Joined.{JoinLaw, joined}
+use Rattle.traj_codec.specs.Positions.{durations}
+use Rattle.traj_codec.specs.Spelling.{IsSegment, IsTrajectory}
+use Rattle.traj_codec.specs.declared.traj.Segment.{Segment}
+use Rattle.traj_codec.specs.declared.traj.Traj.{Traj}
+use Rattle.flight_model.specs.declared.flights.Flight.{Flight}
+use Rattle.flight_model.specs.declared.flights.Orders.{Orders}
+use Rattle.flight_model.specs.declared.flights.Orders.TheVariants.{Each, All as ToEach}
+use Rattle.flight_model.specs.declared.flights.Step.{Step}
+use Rattle.flight_model.specs.Legs.{Routes, lasts, steps_of}
+use Rattle.flight_director.specs.Held.{AreFew, IsCurve, IsHeld}
+use Rattle.flight_steps.proofs.Judged.{fault-of}
+use Rattle.flight_steps.specs.declared.faults.FlightFault.{FlightFault}
+use Rattle.flight_steps.specs.declared.faults.StepsError.{StepsError}
+use Rattle.flight_steps.specs.declared.faults.StepsError.TheVariants as error
+use Rattle.flight_steps.specs.declared.faults.Way.TheVariants as way
+use Rattle.flight_steps.specs.declared.ways.Crews.{Crews}
+use Rattle.flight_steps.specs.declared.ways.Ways.{Ways}
+use Rattle.flight_steps.specs.Faults as faults
+use Rattle.flight_steps.specs.Faults.{StepsGive, first_other, flight_fault, other_drone, route_fault}
+use Rattle.flight_steps.specs.Sizes.{AreOrdersOf, IsStepOf}
+use Rattle.flight_steps.specs.Ways.{AreFitted, routes}
+use Rattle.show_plan.specs.declared.fitted.Fitted.{Fitted}
+use Rattle.show_plan.specs.Fitting.{IsFitted, IsSendable, IsValidFitted}
+use Rattle.show_plan.specs.Landing.{AreUploadable}
+use Rattle.show_judge.specs.Shows.{names_of, sent_of, trajectories_of}
+use Rattle.show_direct.specs.declared.options.Options.{Options}
+use Rattle.show_direct.specs.Flights.{fault_of, flight_of, routes_of}
+use Rattle.show_direct.specs.Steps.{FlightMade, StepsMade}
+
+-- ---- steps
+
+-- a flight has no cause against it
+no_fault : (c : Crews) (w : Routes) (why : Option FlightFault) → flight_fault c w ≡ why → faults.AreFlight c w → why ≡ None
+no_fault c w None is flight = refl
+no_fault c w (Some f) is flight = absurd ((fault-of c w f is).none flight)
+
+-- the first cause, by names and routes
+abbrev fault_by : List Name → List Name → List Name → Routes → Option FlightFault
+fault_by up show down w =
+    option_or (option_or (other_drone way.Up (first_other 0 up show)) (other_drone way.Down (first_other 0 down show))) (route_fault w)
+
+fault_is : (o : Options) (u s d : PlainShow) (c : Crews) (w : Routes) → c.up.now ≡ names_of u → c.show.now ≡ names_of s → c.down.now ≡ names_of d → w ≡ routes_of o u s d →
+    flight_fault c w ≡ fault_of o u s d
+fault_is o u s d c w up show down same =
+    ap (λ (xs : List Name). fault_by xs c.show.now c.down.now w) up ∙ ap (λ (xs : List Name). fault_by (names_of u) xs c.down.now w) show
+    ∙ ap (λ (xs : List Name). fault_by (names_of u) (names_of s) xs w) down ∙ ap (λ (r : Routes). fault_by (names_of u) (names_of s) (names_of d) r) same
+
+-- the steps of fitted shows are those of the shows
+pub steps_made : (o : Options) (u s d : PlainShow) (c : Crews) (w : Routes) (result : Result (List Step) StepsError) → c.up.now ≡ names_of u → c.show.now ≡ names_of s → c.down.now ≡ names_of d →
+    w ≡ routes_of o u s d → StepsGive c w result → StepsMade o u s d result
+steps_made o u s d c w (Ok steps) up show down same gives =
+    (gives.steps ∙ ap (λ (r : Routes). steps_of r) same, sym (fault_is o u s d c w up show down same) ∙ no_fault c w (flight_fault c w) refl gives.flight)
+steps_made o u s d c w (Err (error.Fault f)) up show down same gives = sym (fault_is o u s d c w up show down same) ∙ gives.first
+steps_made o u s d c w (Err error.Memory) up show down same gives = tt
+
+-- ---- times
+
+-- segments last at most 65,535 milliseconds each
+sum_short : (segments : List Segment) → All IsSegment segments → sum (durations segments) ≤ 65535 * length segments
+sum_short [] all = omega arith
+sum_short (s ∷ segments) all =
+    omega (arith, sum_by-cons (λ (n : ℕ). n) s.ms (durations segments), (All-head IsSegment s segments all).short, sum_short segments (All-tail IsSegment s segments all))
+
+-- cues of as many milliseconds as the segments of trajectories
+abbrev HasTimes : List ℕ → Traj → Type 0
+HasTimes times t = durations t.segments ≡ times
+
+total_short : (times : List ℕ) (ts : List Traj) → 1 ≤ length ts → All (HasTimes times) ts → All IsTrajectory ts → length times ≤ 1000 → sum times ≤ 1000000000
+total_short times [] some lasting formed few = absurd (omega (arith, some))
+total_short times (t ∷ ts) some lasting formed few =
+    let is = All-head (HasTimes times) t ts lasting in
+    let each = sum_short t.segments (All-head IsTrajectory t ts formed).segments in
+    omega (arith, each, few, ap (λ (xs : List ℕ). sum xs) is, ap (λ (xs : List ℕ). length xs) is, length-map t.segments (λ (s : Segment). s.ms))
+
+lasts_as : (times : List ℕ) (ts : List Traj) → 1 ≤ length ts → All (HasTimes times) ts → lasts ts ≡ sum times
+lasts_as times [] some lasting = absurd (omega (arith, some))
+lasts_as times (t ∷ ts) some lasting = ap (λ (xs : List ℕ). sum xs) (All-head (HasTimes times) t ts lasting)
+
+-- what is sent lasts as long as the cues
+sent_lasts : JoinLaw → (times : List ℕ) (total : ℕ) → sum times ≡ total → (ts : List Traj) → All (HasTimes times) ts → All (λ (t : Traj). duration_of t ≡ total) (map joined ts)
+sent_lasts law times total is [] lasting = All-nil (λ (t : Traj). duration_of t ≡ total)
+sent_lasts law times total is (t ∷ ts) lasting =
+    All-cons (λ (t : Traj). duration_of t ≡ total) (joined t) (map joined ts)
+    (law.lasts t ∙ ap (λ (ms : List ℕ). sum ms) (All-head (HasTimes times) t ts lasting) ∙ is)
+    (sent_lasts law times total is ts (All-tail (HasTimes times) t ts lasting))
+
+some_trajs : (f : Fitted) → IsValidFitted f → 1 ≤ length f.trajs
+some_trajs f valid = omega (arith, valid.some_drone, valid.trajs_counted)
+
+-- a fitted show says how long its trajectories last
+pub fitted_lasts : (f : Fitted) → IsValidFitted f → lasts f.trajs ≡ f.duration
+fitted_lasts f valid = lasts_as valid.times f.trajs (some_trajs f valid) valid.lasting ∙ valid.duration
+
+abbrev routes_from : List Traj → List Traj → List Traj → ℕ → ℕ → ℕ → Routes
+routes_from up show down stray near at_place = record { up = up; show = show; down = down; stray = stray; near = near; at_place = at_place }
+
+-- what the ways of fitted shows are
+routes_is : (o : Options) (up show down : Fitted) (u s d : PlainShow) (w : Ways) → w.up.now ≡ up.trajs → w.show.now ≡ show.trajs → w.down.now ≡ down.trajs → w.stray ≡ up.settings.stray →
+    w.near ≡ o.near → w.at_place ≡ o.at_place → IsFitted up u → IsFitted show s → IsFitted down d → routes w ≡ routes_of o u s d
+routes_is o up show down u s d w e_up e_show e_down stray near at_place is_up is_show is_down =
+    ap (λ (ts : List Traj). routes_from ts w.show.now w.down.now w.stray w.near w.at_place) (e_up ∙ is_up.trajs)
+    ∙ ap (λ (ts : List Traj). routes_from (trajectories_of u) ts w.down.now w.stray w.near w.at_place) (e_show ∙ is_show.trajs)
+    ∙ ap (λ (ts : List Traj). routes_from (trajectories_of u) (trajectories_of s) ts w.stray w.near w.at_place) (e_down ∙ is_down.trajs)
+    ∙ ap (λ (n : ℕ). routes_from (trajectories_of u) (trajectories_of s) (trajectories_of d) n w.near w.at_place) (stray ∙ ap (λ (e : Settings). e.stray) is_up.settings)
+    ∙ ap (λ (n : ℕ). routes_from (trajectories_of u) (trajectories_of s) (trajectories_of d) u.settings.stray n w.at_place) near
+    ∙ ap (λ (n : ℕ). routes_from (trajectories_of u) (trajectories_of s) (trajectories_of d) u.settings.stray o.near n) at_place
+
+-- the shows' trajectories are counted as their names
+pub are_fitted : (up show down : Fitted) (c : Crews) (w : Ways) → IsValidFitted up → IsValidFitted show → IsValidFitted down → c.up.now ≡ up.names → c.show.now ≡ show.names → c.down.now ≡ down.names →
+    w.up.now ≡ up.trajs → w.show.now ≡ show.trajs → w.down.now ≡ down.trajs → w.show_ms ≡ show.duration → AreFitted c w
+are_fitted up show down c w valid_up valid_show valid_down n_up n_show n_down t_up t_show t_down ms = record {
+  up = ap (λ (ts : List Traj). length ts) t_up ∙ valid_up.trajs_counted ∙ sym (ap (λ (ns : List Name). length ns) n_up);
+  show = ap (λ (ts : List Traj). length ts) t_show ∙ valid_show.trajs_counted ∙ sym (ap (λ (ns : List Name). length ns) n_show);
+  down = ap (λ (ts : List Traj). length ts) t_down ∙ valid_down.trajs_counted ∙ sym (ap (λ (ns : List Name). length ns) n_down);
+  duration = ap lasts t_show ∙ fitted_lasts show valid_show ∙ sym ms;
+}
+
+-- the steps of fitted shows
+pub steps_fitted : (o : Options) (up show down : Fitted) (u s d : PlainShow) (c : Crews) (w : Ways) (result : Result (List Step) StepsError) → IsFitted up u → IsFitted show s → IsFitted down d →
+    c.up.now ≡ up.names → c.show.now ≡ show.names → c.down.now ≡ down.names → w.up.now ≡ up.trajs → w.show.now ≡ show.trajs → w.down.now ≡ down.trajs → w.stray ≡ up.settings.stray →
+    w.near ≡ o.near → w.at_place ≡ o.at_place → StepsGive c (routes w) result → StepsMade o u s d result
+steps_fitted o up show down u s d c w result is_up is_show is_down n_up n_show n_down t_up t_show t_down stray near at_place gives =
+    steps_made o u s d c (routes w) result (n_up ∙ is_up.names) (n_show ∙ is_show.names) (n_down ∙ is_down.names)
+    (routes_is o up show down u s d w t_up t_show t_down stray near at_place is_up is_show is_down) gives
+
+-- ---- the flight
+
+-- the flight of these steps and this show
+abbrev pub made_of : Options → ℤ → List Step → List Traj → ℕ → Settings → Flight
+made_of o floor steps curves ms e = record {
+  steps = steps;
+  curves = curves;
+  show_ms = ms;
+  stray = e.stray;
+  late = e.late;
+  silence = o.silence;
+  flies_on = not o.then_land;
+  floor = floor;
+  descent = o.descent;
+}
+
+flight_is : (o : Options) (floor : ℤ) (u s d : PlainShow) (f : Fitted) (steps : List Step) → floor ≡ o.floor → IsValidFitted f → IsFitted f s → steps ≡ steps_of (routes_of o u s d) →
+    made_of o floor steps f.sent f.duration f.settings ≡ flight_of o u s d
+flight_is o floor u s d f steps low valid is same =
+    let ms : f.duration ≡ lasts (trajectories_of s) = sym (fitted_lasts f valid) ∙ ap lasts is.trajs in
+    ap (λ (z : ℤ). made_of o z steps f.sent f.duration f.settings) low
+    ∙ ap (λ (xs : List Step). made_of o o.floor xs f.sent f.duration f.settings) same
+    ∙ ap (λ (ts : List Traj). made_of o o.floor (steps_of (routes_of o u s d)) ts f.duration f.settings) is.sent
+    ∙ ap (λ (n : ℕ). made_of o o.floor (steps_of (routes_of o u s d)) (sent_of s) n f.settings) ms
+    ∙ ap (λ (e : Settings). made_of o o.floor (steps_of (routes_of o u s d)) (sent_of s) (lasts (trajectories_of s)) e) is.settings
+
+pub flight_made : (o : Options) (floor : ℤ) (u s d : PlainShow) (f : Fitted) (steps : List Step) → floor ≡ o.floor → IsValidFitted f → IsFitted f s → StepsMade o u s d (Ok steps) →
+    FlightMade o u s d (Ok (made_of o floor steps f.sent f.duration f.settings))
+flight_made o floor u s d f steps low valid is made = (flight_is o floor u s d f steps low valid is made.0, made.1)
+
+few_orders : (n : ℕ) (x : Orders) → n ≤ 32 → AreOrdersOf n x → AreFew x
+few_orders n (Each orders) few are = omega (arith, few, are)
+few_orders n (ToEach order) few are = tt
+
+-- it fits the director
+pub is_held : JoinLaw → (o : Options) (floor : ℤ) (f : Fitted) (steps : List Step) → IsValidFitted f → AreUploadable f.settings f.sent → All (IsStepOf (length f.trajs)) steps →
+    IsHeld (made_of o floor steps f.sent f.duration f.settings)
+is_held law o floor f steps valid up sizes =
+    let few : length f.trajs ≤ 32 = omega (arith, valid.few_drones, valid.trajs_counted) in
+    let total = total_short valid.times f.trajs (some_trajs f valid) valid.lasting valid.formed (omega (arith, valid.times_counted, valid.few_cues)) in
+    let lasting : All (λ (t : Traj). duration_of t ≡ f.duration) f.sent =
+    subst (All (λ (t : Traj). duration_of t ≡ f.duration)) (sym valid.sent) (sent_lasts law valid.times f.duration valid.duration f.trajs valid.lasting) in
+    record {
+      few = up.few;
+      short = omega (arith, total, valid.duration);
+      orders = All-weaker (IsStepOf (length f.trajs)) (λ (step : Step). AreFew step.orders) (λ step is. few_orders (length f.trajs) step.orders few is.orders) steps sizes;
+      conditions = All-weaker (IsStepOf (length f.trajs)) (λ (step : Step). length step.conditions ≤ 32) (λ step is. omega (arith, few, is.conditions)) steps sizes;
+      curves = λ k t inside. record {
+        playable = record { some = up.segments k t inside; few = (up.sendable k t inside).few; lasting = (up.sendable k t inside).last };
+        lasts = omega (arith, lasting k t inside);
+      };
+    }

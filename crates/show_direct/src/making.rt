@@ -1,0 +1,93 @@
+//! A flight is made of three shows.
+
+ghost use Rattle.std.specs.Int.{w16};
+ghost use Rattle.std.specs.Prelude.{◌≡◌, length, All, FitsSigned, IfOk};
+ghost use Rattle.choreo_show.specs.Plain.{PlainShow};
+ghost use Rattle.flight_director.specs.Held.{IsHeld};
+ghost use Rattle.flight_steps.specs.Sizes.{IsStepOf};
+ghost use Rattle.show_plan.specs.Fitting.{IsFitted, IsValidFitted};
+ghost use Rattle.show_direct.specs.Steps.{FlightMade, StepsMade};
+
+use crate::options::Options;
+use flight_model::{Flight, Step};
+use flight_steps::{Crews, StepsError, Ways, steps_of};
+use listed::Listed;
+use show_plan::{Fitted, uploadable_law};
+use std::alloc::Global;
+use traj_codec::join_law;
+
+/// The way up and the show of a flight.
+#[derive(Drop)]
+pub struct Shows {
+    pub up: Fitted,
+    pub show: Fitted,
+}
+
+// The steps of a flight of three shows, or the first cause why they are none.
+fn make_steps(
+    alloc: Global,
+    options: &Options,
+    up: &Fitted,
+    show: &Fitted,
+    down: &Fitted,
+) -> Result<Listed<Step>, StepsError>
+    requires up { IsValidFitted up.now }
+    requires show { IsValidFitted show.now }
+    requires down { IsValidFitted down.now }
+    ensures made { (rise middle return : PlainShow) → IsFitted up.now rise → IsFitted show.now middle → IsFitted down.now return → StepsMade options.now rise middle return result }
+    ensures sizes { IfOk result (λ steps. All (IsStepOf (length show.now.trajs)) steps) }
+{
+    let crews = Crews {
+        up: up.names.as_slice(),
+        show: show.names.as_slice(),
+        down: down.names.as_slice(),
+    };
+    let ways = Ways {
+        up: up.trajs.as_slice(),
+        show: show.trajs.as_slice(),
+        down: down.trajs.as_slice(),
+        show_ms: show.duration,
+        stray: up.settings.stray,
+        near: options.near,
+        at_place: options.at_place,
+    };
+    steps_of(alloc, &crews, &ways)
+}
+
+// The height of the floor.
+fn floor_of(options: &Options) -> i16
+    ensures value { result ≡ options.now.floor }
+    ensures fits { FitsSigned w16 result }
+{
+    options.floor
+}
+
+/// The flight of a way up, a show and a way down, or the first cause why they are none.
+pub fn make_flight(
+    alloc: Global,
+    options: &Options,
+    shows: Shows,
+    down: &Fitted,
+) -> Result<Flight, StepsError>
+    requires up { IsValidFitted shows.up }
+    requires show { IsValidFitted shows.show }
+    requires down { IsValidFitted down.now }
+    ensures made { (rise middle return : PlainShow) → IsFitted shows.up rise → IsFitted shows.show middle → IsFitted down.now return → FlightMade options.now rise middle return result }
+    ensures held { IfOk result IsHeld }
+{
+    join_law();
+    uploadable_law(&shows.show);
+    let steps = make_steps(alloc, options, &shows.up, &shows.show, down)?;
+    let show = shows.show;
+    Ok(Flight {
+        steps,
+        curves: show.sent,
+        show_ms: show.duration,
+        stray: show.settings.stray,
+        late: show.settings.late,
+        silence: options.silence,
+        flies_on: !options.then_land,
+        floor: floor_of(options),
+        descent: options.descent,
+    })
+}
