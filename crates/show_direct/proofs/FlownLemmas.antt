@@ -1,5 +1,5 @@
 -- Three shows are flown, or are no flight.
-use Rattle.std.proofs.Common.{◌≡◌, ◌≢◌, ◌⊎◌, inl, inr, ℕ, ◌+◌, ◌≤◌, Bool, false, List, [], ◌∷◌, ◌++◌, Contains, length, length-append, Option, Some, None, refl, sym, subst, arith}
+use Rattle.std.proofs.Common.{◌≡◌, ◌≢◌, ◌⊎◌, inl, inr, ℕ, ◌+◌, ◌≤◌, Bool, false, List, [], ◌∷◌, ◌++◌, Contains, length, length-append, Option, Some, None, Err, refl, sym, subst, arith}
 use Rattle.std.proofs.lemmas.List.Elements.{All-cons, All-contains, All-nil}
 use Rattle.std.specs.Io.KnownBytes.{Appends, Consumes}
 use Rattle.choreo_show.specs.Plain.{PlainShow}
@@ -9,14 +9,16 @@ use Rattle.fleet_io.specs.Taken.{AppendsFront}
 use Rattle.link_frames.specs.Frames.{end_frame}
 use Rattle.flight_model.specs.declared.flights.Flight.{Flight}
 use Rattle.flight_steps.specs.declared.faults.FlightFault.{FlightFault}
+use Rattle.flight_steps.specs.declared.faults.StepsError.{StepsError}
+use Rattle.flight_steps.specs.declared.faults.StepsError.TheVariants as error
 use Rattle.flight_link.specs.Flights.{FlightFails, FlightGives, StaysPrompt, StopsAtEnd}
 use Rattle.show_judge.specs.Answers.{Wrote}
 use Rattle.show_judge.specs.Verb.{Span, outcome}
 use Rattle.show_direct.specs.declared.options.Options.{Options}
 use Rattle.show_direct.specs.Flights.{fault_of, flight_of}
 use Rattle.show_direct.specs.Direct.{exchange_by, flight_exchange}
-use Rattle.show_direct.specs.Steps.{Carries, IsCut, direct_statuses}
-use Rattle.show_direct.proofs.CarryLemmas.{never_appended, never_front}
+use Rattle.show_direct.specs.Steps.{Carries, EndsFlight, FlightMade, IsCut, direct_statuses}
+use Rattle.show_direct.proofs.CarryLemmas.{carried_memory, never_appended, never_front}
 use Rattle.show_direct.proofs.FlightLemmas.{are_flight}
 
 -- the statuses of a flight are among those of `direct`, and none is 1
@@ -113,7 +115,7 @@ no_flight o up show down fault bytes left ended m status few later (inr (e, rose
   writes_later = writes;
 }
 
-pub carried_fault : (o : Options) (up show down : PlainShow) (fault : FlightFault) (bytes left : List ℕ) (ended : Bool) (m : Span) (status : ℕ) → fault_of o up show down ≡ Some fault →
+carried_fault : (o : Options) (up show down : PlainShow) (fault : FlightFault) (bytes left : List ℕ) (ended : Bool) (m : Span) (status : ℕ) → fault_of o up show down ≡ Some fault →
     length bytes ≤ length left + buffer_bytes → m.told.faults ≤ m.tells.faults → Wrote 19 (end_frame 19) m.written m.written_after m.writes_failed m.writes_failed_after status →
     Carries (flight_exchange o up show down) bytes left ended m status
 carried_fault o up show down fault bytes left ended m status made few later wrote =
@@ -123,3 +125,12 @@ carried_fault o up show down fault bytes left ended m status made few later wrot
 -- where nothing was read, a reader holds few of the bytes that came
 pub few_unread : (waiting left : List ℕ) → length waiting ≤ buffer_bytes → length (waiting ++ left) ≤ length left + buffer_bytes
 few_unread waiting left few = omega (arith, few, length-append waiting left)
+
+-- There is no flight.
+pub carried_error : (o : Options) (up show down : PlainShow) (e : StepsError) (bytes left : List ℕ) (ended : Bool) (m : Span) (status : ℕ) → FlightMade o up show down (Err e) →
+    length bytes ≤ length left + buffer_bytes → m.told.faults ≤ m.tells.faults → EndsFlight e m.written m.written_after m.writes_failed m.writes_failed_after status →
+    Carries (flight_exchange o up show down) bytes left ended m status
+carried_error o up show down (error.Fault fault) bytes left ended m status made few later wrote =
+    carried_fault o up show down fault bytes left ended m status made few later wrote
+carried_error o up show down error.Memory bytes left ended m status made few later wrote =
+    carried_memory (flight_exchange o up show down) bytes left ended m status later wrote.0 wrote.1 wrote.2

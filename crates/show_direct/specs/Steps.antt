@@ -116,3 +116,8 @@ abbrev pub FlightMade : Options → PlainShow → PlainShow → PlainShow → Re
 FlightMade o up show down (Ok f) = (f ≡ flight_of o up show down) × (fault_of o up show down ≡ None)
 FlightMade o up show down (Err (error.Fault fault)) = fault_of o up show down ≡ Some fault
 FlightMade o up show down (Err error.Memory) = Unit {0}
+
+-- What is written where there is no flight: the end frame of 19, or nothing for want of memory.
+abbrev pub EndsFlight : StepsError → Option (List ℕ) → Option (List ℕ) → ℕ → ℕ → ℕ → Type 0
+EndsFlight (error.Fault fault) old new before after status = Wrote 19 (end_frame 19) old new before after status
+EndsFlight error.Memory old new before after status = (status ≡ 1) × (new ≡ old) × (after ≡ before)

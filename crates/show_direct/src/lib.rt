@@ -6,8 +6,10 @@
 //! `flight_link` carries it.
 #![tactic(auto)]
 
+mod flying;
 mod making;
 mod options;
 mod reading;
 
+pub use flying::{NO_FLIGHT, direct, direct_law};
 pub use options::Options;

@@ -1,0 +1,5 @@
+use Rattle.show_direct.proofs.DirectLemmas.{direct_laws}
+use Rattle.show_direct.proofs.flying.direct_law.Goals as goal
+
+pub returns : goal.returns
+returns c = direct_laws c.show_law.ensures c.flight_link_law.ensures c.orders_law.ensures

@@ -1,0 +1,27 @@
+use Rattle.fleet_io.proofs.ToldLemmas.{Went-trans, back}
+use Rattle.show_judge.specs.Verb.{during}
+use Rattle.show_direct.specs.Direct.{down_exchange}
+use Rattle.show_direct.specs.Steps.{coming, left_of}
+use Rattle.show_direct.proofs.CarryLemmas.{carried_read, carried_unread, unmet_before}
+use Rattle.show_direct.proofs.flying.fly_show.Goals as goal
+
+pub returns-in-Ok-clause-carries : goal.returns-in-Ok-clause-carries
+returns-in-Ok-clause-carries g c all rise may fitted =
+    let told = g.S.Source.told in
+    let mid = back _ _ _ _ all c.fly_down.ensures.went may in
+    let read = c.in-Ok.ensures.gives all mid in
+    carried_read c.show_law.ensures c.marker_law.ensures c.args.options.now.depth (λ s. down_exchange c.args.options.now rise s) (coming c.args.parts.now all (told c.args.source.now))
+    (coming c.read_show.new.parts all (told c.read_show.new.source)) (left_of all (told c.fly_down.new.source)) c.args.parts.now.ended c.read_show.new.parts.ended c.in-Ok.show
+    (during told g.K.Sink.written g.K.Sink.faults c.args.source.now c.fly_down.new.source c.args.sink.now c.fly_down.new.sink) (told c.read_show.new.source) c.fly_down.result read
+    (unmet_before _ _ _ _ c.read_show.ensures.went) c.read_show.ensures.went.gives.later (c.fly_down.ensures.carries all rise read.accepted.s may fitted read.accepted.fitted)
+
+pub returns-in-Ok-clause-went : goal.returns-in-Ok-clause-went
+returns-in-Ok-clause-went g c = Went-trans _ _ _ _ _ _ c.read_show.ensures.went c.fly_down.ensures.went
+
+pub returns-in-Err-clause-carries : goal.returns-in-Err-clause-carries
+returns-in-Err-clause-carries g c all rise may fitted =
+    let told = g.S.Source.told in
+    carried_unread c.show_law.ensures c.marker_law.ensures c.args.options.now.depth (λ s. down_exchange c.args.options.now rise s) (coming c.args.parts.now all (told c.args.source.now))
+    (left_of all (told c.read_show.new.source)) c.args.parts.now.ended
+    (during told g.K.Sink.written g.K.Sink.faults c.args.source.now c.read_show.new.source c.args.sink.now c.end_unread.new.sink) c.in-Err.why c.end_unread.result
+    (c.in-Err.ensures.gives all may) c.read_show.ensures.went.gives.later c.end_unread.ensures
