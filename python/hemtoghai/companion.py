@@ -5,7 +5,8 @@ import argparse
 import re
 import sys
 from collections.abc import Sequence
-from typing import List, NoReturn, Tuple
+from fractions import Fraction
+from typing import List, NoReturn, Tuple, TypeVar
 
 from hemtoghai import program as proved, texts
 from hemtoghai.language import choreo
@@ -14,6 +15,7 @@ from hemtoghai.language.cures import print_cure
 from hemtoghai.program import COMMAND
 from hemtoghai.streams import tell
 
+Number = TypeVar("Number", float, Fraction)  # in doubles or exact
 Motion = Tuple[List[float], List[float], List[int]]  # accelerations, jumps of speed, and the cues of these
 NO_ANSWER = 70
 _running = ["hemtoghai"]  # the command, as its messages begin
@@ -125,7 +127,7 @@ def missing(program: str | None = None) -> str:
     return "`check` was not asked: %s" % (no_program(program) or "it gave no answer")
 
 
-def value(row: Sequence[float], u: float) -> float:
+def value(row: Sequence[Number], u: Number) -> Number:
     """The place on an axis at a fraction of a cue, by its control values."""
     while len(row) > 1:
         row = [a + (b - a) * u for a, b in zip(row, row[1:])]

@@ -6,44 +6,66 @@ how far what was found leaves the paths.
 """
 from __future__ import annotations
 
+from __future__ import annotations
+
 import bisect
 import math
+from collections.abc import Sequence
 from fractions import Fraction
+from typing import List, NamedTuple, Tuple, Union
 
-from hemtoghai.geometry.paths import farthest, root_up, roughly_farthest
+from hemtoghai.geometry.paths import farthest, Path, root_up, roughly_farthest
 from hemtoghai.language import choreo
 from hemtoghai.language.lines import line_in
+
+Sides = Tuple[List[float], List[float]]  # the velocities before and after an instant, on x, y, z and of yaw
 
 REST = 300  # milliseconds from which on a drone's rest is kept as it is
 LONGEST = choreo.LONGEST_SEGMENT
 
 
-def whole(v):
+def whole(v: float) -> int:
     """The nearest whole millimetre, in micrometres, as the program rounds."""
     return 1000 * choreo.rounded(round(v))
 
 
-class Fit:
-    """The cues of a show for paths, as (begin, milliseconds, for each drone its words and its rows of control values).
-    `forced` has the instants at which a cue begins that leaves a path farther than the tolerance."""
+class Act(NamedTuple):
+    """What a drone does in a cue: its words after its name, and its rows of control values."""
+    words: List[Union[str, int]]
+    rows: List[choreo.Row]
 
-    def __init__(self, paths, tolerance, yaw_tolerance, least, pinned=True, most=None):
+
+class Cue(NamedTuple):
+    """A cue of the show, with each drone's act."""
+    begin: int
+    milliseconds: int
+    acts: List[Act]
+
+
+class Fit:
+    """The cues of a show for paths. `forced` has the instants at which a cue begins that leaves a path farther than the
+    tolerance."""
+
+    def __init__(self, paths: list[Path[Fraction]], tolerance: float, yaw_tolerance: float, least: int,
+                 pinned: bool = True, most: int | None = None) -> None:
         self.exact, self.paths, self.least = paths, [path.in_doubles() for path in paths], least
         # A little less, for what doubles are off.
         self.enough = (tolerance * 999.999) ** 2, (yaw_tolerance * 9.99999) ** 2
         self.end = max(1, max(math.ceil(path.pieces[-1][1]) for path in paths))
         self.now = [self.goal(path.at(0.0)) for path in self.paths]
-        self.cues, self.forced, self.order = [], [], list(range(len(paths)))
+        self.cues: list[Cue] = []
+        self.forced: list[int] = []
+        self.order = list(range(len(paths)))
         self.edges, self.sides = self.edges_of(REST if pinned else math.inf)
         begin = 0
         while begin < self.end and (most is None or len(self.cues) <= most):
             begin = self.add_cue(begin)
 
-    def goal(self, place):
+    def goal(self, place: Sequence[float]) -> choreo.Row:
         """Where a drone is flown for a place: whole millimetres and tenths of a degree."""
         return [*map(whole, place[:3]), round(place[3])]
 
-    def edges_of(self, rest):
+    def edges_of(self, rest: float) -> tuple[list[int], list[dict[int, Sides]]]:
         """The instants at which cues end in any case, and for each drone, at those of them at which its speed jumps,
         its velocities before and after. Drones begin or end to rest there, so that one at rest holds and no curve dips
         below the floor; or they turn a corner at speed. None is nearer to another one than the least cue."""
@@ -56,51 +78,51 @@ class Fit:
             place = bisect.bisect(kept, edge)
             if 0 < place < len(kept) and kept[place - 1] + self.least <= edge <= kept[place] - self.least:
                 kept.insert(place, edge)
-        sides = [{} for _ in self.paths]
+        sides: list[dict[int, Sides]] = [{} for _ in self.paths]
         for k, t in corners:
             sides[k].setdefault(near[t], self.paths[k].slopes(t))
         return kept, sides
 
-    def velocities(self, k, t):
+    def velocities(self, k: int, t: int) -> Sides:
         """A drone's velocities before and after an instant: two only where its speed jumps."""
         if t in self.sides[k]:
             return self.sides[k][t]
         one = self.paths[k].slope(float(t))
         return one, one
 
-    def rest_of(self, begin):
+    def rest_of(self, begin: int) -> int:
         """How long it is until the next instant at which a cue ends in any case."""
         return self.edges[bisect.bisect(self.edges, begin)] - begin
 
-    def act(self, k, begin, end):
+    def act(self, k: int, begin: int, end: int) -> Act:
         """What a drone does between two instants: its words, and its rows of control values."""
         path, now, third = self.paths[k], self.now[k], (end - begin) / 3
         place = path.at(float(end))
         goal, first, last = self.goal(place), self.velocities(k, begin)[1], self.velocities(k, end)[0]
         if path.rests(begin, end) and goal[3] == now[3] and all(abs(a - b) <= 501 for a, b in zip(now[:3], place)):
-            return ["hold"], [[a] for a in now]
+            return Act(["hold"], [[a] for a in now])
         rows = [[a, whole(a + s * third), whole(b - e * third), b]
                 for a, b, s, e in zip(now[:3], goal, first, last)]
         turn = [now[3], goal[3]] if goal[3] != now[3] else [now[3]]
         if all(len(set(row)) == 1 for row in [*rows, turn]):
-            return ["hold"], [[a] for a in now]
+            return Act(["hold"], [[a] for a in now])
         if all(abs(3 * row[j] - (row[0] * (3 - j) + row[3] * j)) <= 3000 for row in rows for j in (1, 2)):
-            return ["line", *goal], [[row[0], row[3]] for row in rows] + [turn]
-        return ["curve", *(row[j] for j in (1, 2, 3) for row in rows), goal[3]], rows + [turn]
+            return Act(["line", *goal], [[row[0], row[3]] for row in rows] + [turn])
+        return Act(["curve", *(row[j] for j in (1, 2, 3) for row in rows), goal[3]], rows + [turn])
 
-    def fits(self, begin, end, forced=False):
+    def fits(self, begin: int, end: int) -> list[Act] | None:
         """What all drones do between two instants, or None where one leaves its path too far."""
-        out = [None] * len(self.paths)
+        found: dict[int, Act] = {}
         for place, k in enumerate(self.order):
-            out[k] = self.act(k, begin, end)
-            if not forced:
-                far = self.paths[k].leaves(begin, end, out[k][1], 4, self.enough, roughly_farthest)
-                if far[0] > self.enough[0] or far[1] > self.enough[1]:
-                    self.order.insert(0, self.order.pop(place))  # who failed last is looked at first
-                    return None
-        return out
+            found[k] = self.act(k, begin, end)
+            far = self.paths[k].leaves(begin, end, [[float(v) for v in row] for row in found[k].rows], 4, self.enough,
+                                       roughly_farthest)
+            if far[0] > self.enough[0] or far[1] > self.enough[1]:
+                self.order.insert(0, self.order.pop(place))  # who failed last is looked at first
+                return None
+        return [found[k] for k in range(len(self.paths))]
 
-    def longest_from(self, begin):
+    def longest_from(self, begin: int) -> tuple[int, list[Act]]:
         """The greatest length of a cue that fits, as far as doubling and halving find it, and what is flown."""
         rest = self.rest_of(begin)
         most, low, found, length = min(LONGEST, rest), 0, None, min(self.least, rest)
@@ -111,7 +133,7 @@ class Fit:
             low, found, length = length, fit, min(2 * length, most)
         if found is None:
             self.forced.append(begin)
-            return length, self.fits(begin, begin + length, forced=True)
+            return length, [self.act(k, begin, begin + length) for k in range(len(self.paths))]
         while length - low > max(1, low // 50):
             middle = (low + length) // 2
             fit = self.fits(begin, begin + middle)
@@ -121,7 +143,7 @@ class Fit:
                 low, found = middle, fit
         return low, found
 
-    def balanced(self, begin, length, found):
+    def balanced(self, begin: int, length: int, found: list[Act]) -> tuple[int, list[Act]]:
         """The same, but shorter where the last cue before an edge would be a sliver: about half of what is left."""
         rest = self.rest_of(begin) - length
         for share in (50, 60, 40, 70, 80, 90) if 0 < rest < self.least else ():
@@ -131,21 +153,21 @@ class Fit:
                 return less, fit
         return length, found
 
-    def add_cue(self, begin):
+    def add_cue(self, begin: int) -> int:
         """Finds the next cue; its end."""
         length, found = self.balanced(begin, *self.longest_from(begin))
-        self.cues.append((begin, length, found))
-        self.now = [[row[-1] for row in rows] for _, rows in found]
+        self.cues.append(Cue(begin, length, found))
+        self.now = [[row[-1] for row in act.rows] for act in found]
         return begin + length
 
-    def bounds(self):
+    def bounds(self) -> list[tuple[Fraction, Fraction]]:
         """For each drone how far what it flies leaves its path at most, at every instant: millimetres and degrees of
         yaw, exact fractions, rounded up to a hundredth."""
         out = []
         for k, path in enumerate(self.exact):
             worst = Fraction(0), Fraction(0)
             for begin, length, acts in self.cues:
-                rows = [[Fraction(v) for v in row] for row in acts[k][1]]
+                rows = [[Fraction(v) for v in row] for row in acts[k].rows]
                 worst = path.leaves(Fraction(begin), Fraction(begin + length), rows, 6, worst, farthest)
             out.append((root_up(worst[0] / 1000000), root_up(worst[1] / 100)))
         return out
@@ -154,7 +176,7 @@ class Fit:
         """The show's text after these first lines, in a form of the language, or that of some of its cues after a
         wait."""
         chosen = self.cues[cues]
-        starts = [[row[0] for row in rows] for _, rows in chosen[0][2]]
+        starts = [[row[0] for row in act.rows] for act in chosen[0].acts]
         lines = head + [line_in(form, "drone", path.name, *start) for path, start in zip(self.paths, starts)]
         for k in range(0, wait, LONGEST):
             lines += [line_in(form, "cue", min(LONGEST, wait - k)), "end"]

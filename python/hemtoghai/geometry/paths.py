@@ -3,19 +3,26 @@
 Micrometres and milliseconds; yaw in tenths of a degree. A path whose numbers are fractions is exact, and so is what is
 said of it; `in_doubles` gives the same path in doubles, for a search whose finds are judged by the exact one.
 """
+from __future__ import annotations
+
 import bisect
+from collections.abc import Callable, Iterator, Sequence
 from fractions import Fraction
 from math import ceil, isqrt, lcm
+from typing import Generic, List, Tuple
 
-from hemtoghai.companion import value
+from hemtoghai.companion import Number, value
 
+Row = List[Number]  # the control values of a curve on an axis
+Piece = Tuple[Number, Number, List[Row[Number]]]  # its begin, its end, and its rows on x, y, z and yaw
+Farthest = Callable[[List[Row[Number]], int, Number], Number]  # as `farthest`
 MANY, SAMPLE = 20, 250  # from so many lines on of at most so many milliseconds each they are samples
 FINE = 1024  # fractions are judged in whole numbers of a 1,024th of their common denominator
 
 
 # ---- curves by control values
 
-def split(row, u):
+def split(row: Row[Number], u: Number) -> tuple[Row[Number], Row[Number]]:
     """The control values of both sides of a curve."""
     left, right = [row[0]], [row[-1]]
     while len(row) > 1:
@@ -25,7 +32,7 @@ def split(row, u):
     return left, right[::-1]
 
 
-def part(row, u, v):
+def part(row: Row[Number], u: Number, v: Number) -> Row[Number]:
     """The control values of a curve between two fractions of it."""
     if len(row) == 1:
         return row
@@ -39,13 +46,13 @@ def part(row, u, v):
     return split(row, v)[0] if v < 1 else row
 
 
-def in_whole_numbers(row):
+def in_whole_numbers(row: Row[Fraction]) -> tuple[list[int], int]:
     """Fractions as whole numbers, and what these are to be divided by."""
     over = lcm(*(v.denominator for v in row))
     return [v.numerator * (over // v.denominator) for v in row], over
 
 
-def exact_part(row, u, v):
+def exact_part(row: Row[Fraction], u: Fraction, v: Fraction) -> Row[Fraction]:
     """The control values of a curve between two fractions of it, exactly: by de Casteljau's rule in whole numbers, with
     k of its steps at the later end for the control value k."""
     c, n = lcm(u.denominator, v.denominator), len(row) - 1
@@ -60,7 +67,7 @@ def exact_part(row, u, v):
     return out
 
 
-def raised(row, degree):
+def raised(row: Row[Number], degree: int) -> Row[Number]:
     """The same curve by more control values."""
     if len(row) > degree:
         return row
@@ -72,7 +79,7 @@ def raised(row, degree):
     return row
 
 
-def halves(row):
+def halves(row: Sequence[int]) -> tuple[list[int], list[int]]:
     """The control values of both halves of a curve, each times 2 to its degree: whole numbers stay whole."""
     left, right, n = [], [], len(row) - 1
     for k in range(n + 1):
@@ -82,7 +89,7 @@ def halves(row):
     return left, right[::-1]
 
 
-def farthest(rows, splits, enough):
+def farthest(rows: list[Row[Fraction]], splits: int, enough: Fraction) -> Fraction:
     """A bound on the square of the length of a curve in space, at every fraction of it: the greatest of its control
     points, of those of its halves where that isn't `enough` and may get better. Rows of fractions; rounded up."""
     unit = FINE * lcm(*(v.denominator for row in rows for v in row))
@@ -90,9 +97,9 @@ def farthest(rows, splits, enough):
     return Fraction(in_whole(whole, splits, ceil(enough * unit * unit)), unit * unit)
 
 
-def in_whole(rows, splits, enough):
+def in_whole(rows: list[list[int]], splits: int, enough: int) -> int:
     """The same of whole numbers."""
-    squares = [sum(v * v for v in point) for point in zip(*rows)]
+    squares: list[int] = [sum(v * v for v in point) for point in zip(*rows)]
     best, floor = max(squares), max(squares[0], squares[-1])
     if best <= enough or best == floor or not splits:
         return best
@@ -104,9 +111,9 @@ def in_whole(rows, splits, enough):
     return enough
 
 
-def roughly_farthest(rows, splits, enough):
+def roughly_farthest(rows: list[Row[float]], splits: int, enough: float) -> float:
     """The same of doubles."""
-    squares = [sum(v * v for v in point) for point in zip(*rows)]
+    squares: list[float] = [sum(v * v for v in point) for point in zip(*rows)]
     best, floor = max(squares), max(squares[0], squares[-1])
     if best <= enough or best == floor or not splits:
         return best
@@ -116,7 +123,7 @@ def roughly_farthest(rows, splits, enough):
     return enough
 
 
-def root_up(square, steps=100):
+def root_up(square: Fraction, steps: int = 100) -> Fraction:
     """The root of a fraction, rounded up to a part of one."""
     wanted = ceil(square * steps * steps)
     root = isqrt(wanted)
@@ -125,36 +132,38 @@ def root_up(square, steps=100):
 
 # ---- paths
 
-class Path:
+class Path(Generic[Number]):
     """A drone's path: pieces of (begin, end, rows of control values on x, y, z and yaw), each of which begins when the
     one before it ends. The drone stays where it is before and after them. Many short lines are samples of a smooth
     path: `reach` is then half the time between two, and else 0."""
 
-    def __init__(self, name, pieces, reach=None):
-        self.name, self.pieces, self.begins = name, pieces, [piece[0] for piece in pieces]
+    def __init__(self, name: str, pieces: list[Piece[Number]], reach: Number | None = None) -> None:
+        self.name = name
+        self.pieces: list[Piece[Number]] = pieces
+        self.begins: Row[Number] = [piece[0] for piece in pieces]
         if reach is None:
             straight = len(pieces) >= MANY and all(len(row) <= 2 for piece in pieces for row in piece[2])
             step = sorted(piece[1] - piece[0] for piece in pieces)[len(pieces) // 2]
-            reach = step / 2 if straight and step <= SAMPLE else 0
-        self.reach = reach
+            reach = step / 2 if straight and step <= SAMPLE else step * 0
+        self.reach: Number = reach
         self.still = [all(max(row) == min(row) for row in rows) for _, _, rows in pieces]
 
-    def in_doubles(self):
+    def in_doubles(self) -> Path[float]:
         """The same path in doubles."""
         pieces = [(float(a), float(b), [[float(v) for v in row] for row in rows]) for a, b, rows in self.pieces]
         return Path(self.name, pieces, float(self.reach))
 
-    def piece_at(self, t):
+    def piece_at(self, t: Number) -> int:
         """The number of the piece that an instant is in; of two that meet there, the later one."""
         return max(0, bisect.bisect_right(self.begins, t) - 1)
 
-    def at(self, t):
+    def at(self, t: Number) -> Row[Number]:
         """The place at an instant."""
         begin, end, rows = self.pieces[self.piece_at(t)]
-        u = min(max((t - begin) / (end - begin), 0), 1)
+        u = (min(max(t, begin), end) - begin) / (end - begin)
         return [value(row, u) for row in rows]
 
-    def rests(self, begin, end):
+    def rests(self: Path[float], begin: float, end: float) -> bool:
         """Whether it stays where it is between two instants."""
         for k in range(self.piece_at(begin), len(self.pieces)):
             if self.begins[k] >= end:
@@ -163,10 +172,11 @@ class Path:
                 return False
         return True
 
-    def stills(self, end, least):
+    def stills(self: Path[float], end: float, least: float) -> list[tuple[float, float]]:
         """The stretches of at least so many milliseconds in which it rests, until the end of the show."""
-        out, first, last = [], self.pieces[0], self.pieces[-1]
-        stays = [(0, first[0])] + [(a, b) for (a, b, _), still in zip(self.pieces, self.still) if still]
+        first, last = self.pieces[0], self.pieces[-1]
+        out: list[tuple[float, float]] = []
+        stays = [(0.0, first[0])] + [(a, b) for (a, b, _), still in zip(self.pieces, self.still) if still]
         for a, b in stays + [(last[1], end)]:
             if out and out[-1][1] == a:
                 out[-1] = out[-1][0], b
@@ -174,13 +184,13 @@ class Path:
                 out.append((a, b))
         return [(a, b) for a, b in out if b - a >= least]
 
-    def one_slope(self, k, u):
+    def one_slope(self: Path[float], k: int, u: float) -> Row[float]:
         """The velocity in a piece at a fraction of it."""
         begin, end, rows = self.pieces[k]
         rates = [[(b - a) * (len(row) - 1) / (end - begin) for a, b in zip(row, row[1:])] for row in rows]
         return [value(rate or [0.0], u) for rate in rates]
 
-    def slopes(self, t):
+    def slopes(self: Path[float], t: float) -> tuple[Row[float], Row[float]]:
         """The velocities just before and just after an instant."""
         k, rest = self.piece_at(t), [0.0] * 4
         begin, end, _ = self.pieces[k]
@@ -190,7 +200,7 @@ class Path:
         before = self.one_slope(k, u) if t > begin else self.one_slope(k - 1, 1) if k else rest
         return before, self.one_slope(k, u) if t < end else rest
 
-    def slope(self, t, rest=20):
+    def slope(self: Path[float], t: float, rest: int = 20) -> Row[float]:
         """The velocity at an instant: none where it rests before or after, the mean of both sides where they differ."""
         if self.rests(t - rest, t) or self.rests(t, t + rest):
             return [0.0] * 4
@@ -199,7 +209,7 @@ class Path:
             return [(b - a) / (2 * self.reach) for a, b in zip(low, high)]
         return [(a + b) / 2 for a, b in zip(*self.slopes(t))]
 
-    def corners(self, least=30):
+    def corners(self: Path[float], least: int = 30) -> Iterator[tuple[float, float]]:
         """The jumps of speed of at least so many micrometres a millisecond, and when they are; none of samples."""
         edges = [] if self.reach else [self.pieces[0][0], *(piece[1] for piece in self.pieces)]
         for t in edges:
@@ -208,12 +218,12 @@ class Path:
             if jump >= least:
                 yield jump, t
 
-    def jumps(self):
+    def jumps(self) -> Iterator[tuple[Number, Number]]:
         """Where a piece doesn't begin where the one before ends: by how much on an axis, and when."""
         for (_, t, rows), (_, _, others) in zip(self.pieces, self.pieces[1:]):
             yield max(abs(a[-1] - b[0]) for a, b in zip(rows[:3], others[:3])), t
 
-    def overlaps(self, begin, end):
+    def overlaps(self, begin: Number, end: Number) -> Iterator[Piece[Number]]:
         """The pieces between two instants, cut there, as (begin, end, rows)."""
         first, last = self.pieces[0], self.pieces[-1]
         if begin < first[0]:
@@ -228,13 +238,14 @@ class Path:
         if end > last[1]:
             yield max(begin, last[1]), end, [row[-1:] for row in last[2]]
 
-    def leaves(self, begin, end, rows, splits, worst=(0, 0), far=farthest):
+    def leaves(self, begin: Number, end: Number, rows: list[Row[Number]], splits: int, worst: tuple[Number, Number],
+               far: Farthest[Number]) -> tuple[Number, Number]:
         """How far curves between two instants leave the path at most, at every instant: the squares, of the place and
         of yaw, no less than `worst`. Exact by `farthest`, where path and curves are fractions."""
         place, turn = worst
         for low, high, own in self.overlaps(begin, end):
             u, v = (low - begin) / (end - begin), (high - begin) / (end - begin)
-            degree = max(map(len, [*own, *rows])) - 1
+            degree = max(len(row) for row in own + rows) - 1
             gaps = [[a - b for a, b in zip(raised(theirs, degree), raised(part(row, u, v), degree))]
                     for theirs, row in zip(own, rows)]
             place = max(place, far(gaps[:3], splits, place))

@@ -10,6 +10,17 @@ from fractions import Fraction
 
 from hemtoghai.program import TOP
 
+TYPE_CHECKING = False  # of a reader of types; what it names is imported where it is needed: ./show has to begin fast
+if TYPE_CHECKING:
+    from collections.abc import Iterable, Iterator
+    from typing import List, Tuple
+
+    from hemtoghai.language.choreo import Number
+    from hemtoghai.language.quantities import Counts
+
+    Row = List[str]  # what a fault means, its commonest cause or nothing, and its cure
+    Meaning = Tuple[str, str, str, str]  # of a number: what it is, its unit, a cause of being out of range, the cure
+
 LANGUAGE = "docs/LANGUAGE.md"
 METRES = "a coordinate", "micrometres", "a number that was multiplied twice", \
     "one metre is 1000000, and no drone flies farther than 32 m from the origin"
@@ -54,7 +65,7 @@ IN_UNITS = {
 LONGEST_SHOWN = 40  # bytes of a word of which other ways of writing it are named
 
 
-def row_of(word: str):
+def row_of(word: str) -> Row | None:
     """What a fault of a line means, its commonest cause or nothing, and its cure; None where the table has no such
     word."""
     with open(os.path.join(TOP, LANGUAGE), encoding="utf-8") as lines:
@@ -72,9 +83,9 @@ def short(digits: str) -> str:
 
 # ---- numbers
 
-def numbers_of(line: bytes):
+def numbers_of(line: bytes) -> Iterator[tuple[str, Number, Meaning]]:
     """The numbers of a line of a text: for each its word, its slot, and its row as NUMBERS has it."""
-    from hemtoghai.language.choreo import ACTS, LINES, YAW, Number  # where it is needed: ./show has to begin fast
+    from hemtoghai.language.choreo import ACTS, LINES, YAW, Number
     words = line.partition(b"#")[0].decode("ascii", "replace").split()
     is_act = len(words) > 1 and words[1] in ACTS
     slots = ["name", "act", *ACTS[words[1]]] if is_act else ["word", *LINES.get("".join(words[:1]), [])]
@@ -84,7 +95,7 @@ def numbers_of(line: bytes):
             yield word, slot, usual if is_act else NUMBERS.get((words[0], at), usual)
 
 
-def range_row(line: bytes, form: int = 1):
+def range_row(line: bytes, form: int = 1) -> Row | None:
     """The row of the number of a line that is out of its range; None where none is found. `line` is a line of a text,
     in bytes, in a form of the language."""
     from hemtoghai.language.choreo import number_of
@@ -101,7 +112,7 @@ def range_row(line: bytes, form: int = 1):
     return None
 
 
-def number_row(line: bytes, form: int):
+def number_row(line: bytes, form: int) -> Row | None:
     """The row of the word of a line that stands in the place of a number and is none; None where nothing more is known
     of it."""
     from hemtoghai.language.choreo import number_of
@@ -111,14 +122,14 @@ def number_row(line: bytes, form: int):
                 return None
             if slot.counts is None:
                 return unitless_row(name, word)
-            return quantity_row(name, slot, word) if form == 2 else whole_row(name, slot, word)
+            return (quantity_row if form == 2 else whole_row)(name, slot, slot.counts, word)
     return None
 
 
-def unitless_row(name: str, word: str):
+def unitless_row(name: str, word: str) -> Row | None:
     """The row of a word with a unit where none is wanted, in both forms."""
     found = re.fullmatch("(-?[0-9]+)([a-z]+)", word)
-    return found and [f"{name} is {word}, and has no unit", "", f"write {found[1]}"]
+    return [f"{name} is {word}, and has no unit", "", f"write {found[1]}"] if found else None
 
 
 def kind_of(unit: str) -> str:
@@ -127,60 +138,58 @@ def kind_of(unit: str) -> str:
     return {"length": "a length", "time": "a time", "angle": "an angle"}.get(KINDS.get(unit, ""), "")
 
 
-def whole_row(name: str, slot, word: str):
+def whole_row(name: str, slot: Number, counts: Counts, word: str) -> Row | None:
     """The row of a word that is no whole number, in `choreo 1`."""
     from hemtoghai.language.quantities import value_of
     found = re.fullmatch("-?[0-9]+([.][0-9]+)?([a-z]*)", word)
-    kind = found and kind_of(found[2])
-    if not found or found[2] and not kind:
+    if not found or found[2] and not kind_of(found[2]):
         return None
-    first = next(iter(slot.counts.units))
-    meant = word if found[2] else word + first
-    value = value_of(slot.counts, meant)
+    kind, meant = kind_of(found[2]), word if found[2] else word + next(iter(counts.units))
+    value = value_of(counts, meant)
     what = f"{name} is {word}, which is {kind}" if kind else f"{name} is {word}, which isn't whole"
     cause = "a number with a unit, as in `choreo 2`: this text is in `choreo 1`" if kind else f"{meant} is meant"
     if value is None or not slot.least <= value <= slot.most:
-        return [what, cause, f"write whole numbers, here of {slot.counts.name}"]
-    return [what, cause, f"write whole numbers: {meant} is {value} {slot.counts.name}. Or begin the text with "
+        return [what, cause, f"write whole numbers, here of {counts.name}"]
+    return [what, cause, f"write whole numbers: {meant} is {value} {counts.name}. Or begin the text with "
                          f"`choreo 2`, and write {meant}: there each length, time and angle has a unit"]
 
 
 # ---- numbers with units
 
-def listed(words) -> str:
+def listed(words: Iterable[str]) -> str:
     """Words as a choice."""
-    words = list(words)
-    return ", ".join(words[:-1]) + " or " * (len(words) > 1) + words[-1]
+    *others, last = words
+    return ", ".join(others) + " or " * bool(others) + last
 
 
-def fits(slot, word: str) -> bool:
+def fits(slot: Number, word: str) -> bool:
     """Whether a word is a quantity in a slot and in its range."""
-    from hemtoghai.language.quantities import value_of
-    value = value_of(slot.counts, word)
+    from hemtoghai.language.choreo import number_of
+    value = number_of(slot, word, 2)
     return value is not None and slot.least <= value <= slot.most
 
 
-def quantity_row(name: str, slot, word: str):
+def quantity_row(name: str, slot: Number, counts: Counts, word: str) -> Row:
     """The row of a word that is no quantity in its place, in `choreo 2`."""
-    sign, whole, point, fraction, unit = re.fullmatch(r"([+-]?)([0-9]*)([.,]?)([0-9]*)(.*)", word, re.S).groups()
-    units = slot.counts.units
+    (sign, whole, point, fraction, unit), = re.findall(r"\A([+-]?)([0-9]*)([.,]?)([0-9]*)(.*)\Z", word, re.S)
+    units = counts.units
     if not whole + fraction:
         return [f"{name} is {word}, which has no digits", "", f"write a number with its unit: {listed(units)}"]
     if not unit:
-        return bare_row(name, slot, word, point == "")
+        return bare_row(name, slot, counts, word, point == "")
     if unit not in units:
         kind, zero = kind_of(unit), "" if (whole + fraction).strip("0") else "; zero needs no unit: write 0"
         return [f"{name} is {word}, which is {kind}" if kind else f"{name} is {word}, and {unit} is no unit here", "",
-                f"{name} is {kind_of(slot.counts.usual)}: write its number with {listed(units)} right after it{zero}"]
+                f"{name} is {kind_of(counts.usual)}: write its number with {listed(units)} right after it{zero}"]
     plain = sign.replace("+", "") + (whole or "0") + ("." + fraction if fraction else "") + unit
     if plain != word:
         cause = "a `+`" if sign == "+" else "a comma in place of the point" if point == "," else \
             "no digit before the point or after it"
         return [f"{name} is {word}", cause, f"write {plain}"]
-    return finer_row(name, slot.counts, word, unit)
+    return finer_row(name, counts, word, unit)
 
 
-def finer_row(name: str, counts, word: str, unit: str):
+def finer_row(name: str, counts: Counts, word: str, unit: str) -> Row:
     """The row of a quantity that isn't whole in its place: it lies between two that are."""
     from hemtoghai.language.quantities import in_unit
     size = Fraction(word[:-len(unit)]) * Fraction(10) ** counts.units[unit]
@@ -190,26 +199,26 @@ def finer_row(name: str, counts, word: str, unit: str):
             f"more digits than fit: the next after 0 is {in_unit(counts, 1, unit)}", f"write {listed(near)}"]
 
 
-def bare_row(name: str, slot, word: str, is_whole: bool):
+def bare_row(name: str, slot: Number, counts: Counts, word: str, is_whole: bool) -> Row:
     """The row of a number without a unit: with the units that may be meant, and what `choreo 1` reads."""
     from hemtoghai.language.quantities import in_unit, value_of, written
     what, digits = f"{name} is {word}, without a unit", word.lstrip("+").replace(",", ".")
     if not digits.strip("-0."):
         return [what, "", "write 0: zero alone needs no unit"]
-    fitting = [digits + unit for unit in slot.counts.units if fits(slot, digits + unit)]
+    fitting = [digits + unit for unit in counts.units if fits(slot, digits + unit)]
     value = int(digits) if is_whole else slot.least - 1
     meant = ", whichever is meant" * (len(fitting) > 1)
     if not slot.least <= value <= slot.most:
-        cure = f"write {listed(fitting)}" if fitting else f"write {listed(slot.counts.units)} right after the number"
+        cure = f"write {listed(fitting)}" if fitting else f"write {listed(counts.units)} right after the number"
         return [what, "", cure + meant]
-    first = written(slot.counts, value)
-    if all(value_of(slot.counts, it) == value for it in fitting):
-        same = [in_unit(slot.counts, value, unit) for unit in list(slot.counts.units)[:3]]
+    first = written(counts, value)
+    if all(value_of(counts, it) == value for it in fitting):
+        same = [in_unit(counts, value, unit) for unit in list(counts.units)[:3]]
         return [what, f"a number of `choreo 1`, which reads it as {first}", f"write {listed(same)}"]
     return [what, "", f"write {listed(fitting)}{meant}; `choreo 1` reads it as {first}"]
 
 
-def count_row(line: bytes):
+def count_row(line: bytes) -> Row | None:
     """The row of a line that has a word too many, since a unit stands alone; None where none does."""
     from hemtoghai.language.quantities import KINDS
     found = re.search(rb"(?<!\S)(-?[0-9.]+)\s+(" + "|".join(KINDS).encode() + rb")(?!\S)", line.partition(b"#")[0])
@@ -221,7 +230,7 @@ def count_row(line: bytes):
             f"write {number}{unit}"]
 
 
-def cure_of(word: str, line: bytes, form: int = 1):
+def cure_of(word: str, line: bytes, form: int = 1) -> Row | None:
     """What a fault of a line means, its commonest cause or nothing, and its cure; None where there is none. `form` is
     that of the text: choreo.form_of gives it."""
     row = None
@@ -234,7 +243,7 @@ def cure_of(word: str, line: bytes, form: int = 1):
     return row or row_of(word)
 
 
-def shown(line: bytes) -> tuple:
+def shown(line: bytes) -> tuple[str, int | None]:
     """A line of a text as it can be printed, and the place of its first byte that may not stand there, or None."""
     text, place = "", None
     for at, byte in enumerate(line):
