@@ -85,9 +85,9 @@ def helped(flown: choreo.Flown, place: judging.Blocked, depth: int) -> dict[str,
     i, j = flown.names.index(place.first), flown.names.index(place.second)
     ends = why.standing(flown, i, j, place.cue - 1, depth)
     rows = [] if ends else [row for row in why.helps(flown, (i, j), place.cue - 1, depth)
-                            if not {place.first, place.second} & set(row[2])]
+                            if not {place.first, place.second} & set(row[1])]
     return {"blocked_where_the_cue": ends, "helps": [
-        {"words": remedy.words, "takes_ms": remedy.takes, "still_blocked": left} for _, remedy, left in rows[:3]]}
+        {"words": remedy.words, "takes_ms": remedy.takes, "still_blocked": left} for remedy, left in rows[:3]]}
 
 
 def by_why(words: list[str]) -> int:

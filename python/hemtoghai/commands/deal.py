@@ -10,30 +10,33 @@ where it already is stays as it is written, since nobody would move.
 The new text goes to standard output, what was done and what `check` says of it to standard error. The status is that of
 `check`; 71 where a `form` line stays since nobody would move. 70: no answer.
 """
+from __future__ import annotations
+
 import re
 import sys
+from collections.abc import Callable
 
 from hemtoghai.companion import add_depth, ask_check, flown_of, missing, parser, stop, tool_name
 from hemtoghai.geometry import separation
 from hemtoghai.language import choreo
-from hemtoghai.writing.dealing import deal, form_lines, names_of, on_their_own, state, words_of
-
+from hemtoghai.language.lines import free_name, with_words
+from hemtoghai.writing.dealing import deal, Dealt, form_lines, names_of, on_their_own, State, state, Words, words_of
 
 NOBODY_MOVES = 71
 
 
-def say(words):
+def say(words: str) -> None:
     """Writes a line to standard error."""
     print("%s: %s" % (tool_name(), words), file=sys.stderr)
 
 
-def listed(numbers):
+def listed(numbers: list[int]) -> str:
     """Line numbers, the first eight of them."""
     return "line" + ("s " if len(numbers) > 1 else " ") + ", ".join(map(str, numbers[:8])) + (
         " .." if len(numbers) > 8 else "")
 
 
-def report(made, before):
+def report(made: Dealt, before: list[State]) -> None:
     """Says of each `form` line how many places were dealt anew, and how many drones stay where they are."""
     for (line, _), old, new in zip(form_lines(made.flown), before, state(made.flown)):
         formation, (before_sum, _, written), (sum_, stay, places) = made.flown.show.formations[line.values[0]], old, new
@@ -49,13 +52,8 @@ def report(made, before):
 
 # ---- the text
 
-def with_words(line, words):
-    """A line of the text with other words; blanks before them, comments and line ends stay."""
-    front, _, end = re.fullmatch(rb"(\s*)([^#]*?)(\s*(?:#.*)?)", line, re.S).groups()
-    return front + words.encode() + end
-
-
-def block(lines, written, dealt, name, form):
+def block(lines: list[bytes], written: choreo.Line, dealt: choreo.Line, name: str,
+          form: int) -> tuple[int, list[bytes]]:
     """The lines of a formation's block as it is dealt, under this name, and the index of its last line; in a form of
     the language."""
     last = next(k for k in range(written.body[-1].number, len(lines)) if lines[k].split(b"#")[0].split() == [b"end"])
@@ -69,7 +67,7 @@ def block(lines, written, dealt, name, form):
     return last, out
 
 
-def with_names(line, names, kind):
+def with_names(line: bytes, names: list[str], kind: str) -> bytes:
     """A line of an act or a perform with other drones; all else in it stays."""
     code, hash_, comment = line.partition(b"#")
     words = re.split(rb"(\s+)", code)
@@ -79,18 +77,22 @@ def with_names(line, names, kind):
     return b"".join(words) + hash_ + comment
 
 
-def rewritten(text, flown):
+def rewritten(text: bytes, made: Dealt) -> tuple[bytes, Callable[[int], int]]:
     """The show's text with the places as they are dealt, a further block for each way in which a formation is formed
     that isn't its first one, and the acts that go with their places; and by the number of a line in the old text the
     one in the new text."""
-    lines, names = text.split(b"\n"), {line.values[0] for line in flown.show.top.body if line.kind == "formation"}
-    new, known, after = list(lines), {}, {}
+    flown, lines = made.flown, text.split(b"\n")
+    names = {line.values[0] for line in flown.show.top.body if line.kind == "formation"}
+    new = list(lines)
+    known: dict[str, list[tuple[list[Words], str]]] = {}
+    after: dict[int, list[bytes]] = {}
     for line, _ in form_lines(flown):
         formation = flown.show.formations[line.values[0]]
         name, places = formation.values[0], words_of(formation)
         ways = known.setdefault(name, [])
         if places not in [way for way, _ in ways]:
             called = name if not ways else free_name(name, names)
+            names.add(called)
             ways.append((places, called))
             last, own = block(lines, flown.show.formations[name], formation, called, flown.show.form)
             if called == name:
@@ -100,52 +102,28 @@ def rewritten(text, flown):
         called = next(called for way, called in ways if way == places)
         if called != name:
             new[line.number - 1] = with_words(new[line.number - 1], "form %s %s" % (called, line.values[1]))
-    for line in choreo.inside(flown.show.top):
-        if line.kind in ("act", "perform") and names_of(line) != line.written:
-            new[line.number - 1] = with_names(new[line.number - 1], names_of(line), line.kind)
+    for line in made.renamed():
+        new[line.number - 1] = with_names(new[line.number - 1], names_of(line), line.kind)
     for last in sorted(after, reverse=True):
         new[last + 1:last + 1] = after[last]
     return b"\n".join(new), lambda number: number + sum(len(own) for last, own in after.items() if last < number - 1)
 
 
-def renamed_lines(flown):
-    """The lines of acts and performs that are flown by other drones than were written."""
-    return sorted(line.number for line in choreo.inside(flown.show.top)
-                  if line.kind in ("act", "perform") and names_of(line) != line.written)
-
-
-def free_name(name, names):
-    """A name for a formation that none has, made from another's; it has at most 16 letters."""
-    number = 2
-    while True:
-        end = "_%d" % number
-        if name[:16 - len(end)] + end not in names:
-            names.add(name[:16 - len(end)] + end)
-            return name[:16 - len(end)] + end
-        number += 1
-
-
-def judged(text, deep):
+def judged(text: bytes, deep: int) -> int:
     """Says what `check` finds, or this tool where the program isn't built; the status."""
     answer = ask_check(text, deep)
     if answer:
         say("check: " + answer[1])
         return answer[0]
     say(missing())
-    try:
-        flown = choreo.flown_of(text)
-        choreo.judge_room(flown)
-        separation.judge_separation(flown, deep)
-    except choreo.Refused as refusal:
-        say("as this tool computes it: %s" % refusal)
-        return refusal.status
-    say("as this tool computes it, nothing is refused")
-    return 0
+    refusal = separation.refusal_of(text, deep)
+    say("as this tool computes it%s" % (": %s" % refusal if refusal else ", nothing is refused"))
+    return refusal.status if refusal else 0
 
 
-def say_carried(made, new_line):
+def say_carried(made: Dealt, new_line: Callable[[int], int]) -> None:
     """Says which acts go with their places, and which can't."""
-    carried = renamed_lines(made.flown)
+    carried = sorted(line.number for line in made.renamed())
     if carried:
         say("%s of the new text: the acts go with their places, so other drones fly them" % listed(
             [new_line(number) for number in carried]))
@@ -157,11 +135,11 @@ def say_carried(made, new_line):
             "one before, so from there on each drone flies its own acts" % new_line(number))
 
 
-def dealt_text(text, flown, keep):
+def dealt_text(text: bytes, flown: choreo.Flown, keep: list[str]) -> tuple[bytes, Dealt]:
     """The show's text as it is dealt, and what was done."""
     on_their_own(flown)
     before, made = state(flown), deal(flown, keep)
-    new, new_line = rewritten(text, made.flown)
+    new, new_line = rewritten(text, made)
     report(made, before)
     say_carried(made, new_line)
     return new, made

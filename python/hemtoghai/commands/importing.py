@@ -25,7 +25,7 @@ from fractions import Fraction
 
 from hemtoghai import program
 from hemtoghai.commands import why
-from hemtoghai.companion import add_depth, many, parser, stop
+from hemtoghai.companion import add_depth, begins, many, parser, stop
 from hemtoghai.exchange import foreign
 from hemtoghai.geometry import fitting, separation
 from hemtoghai.language import choreo
@@ -100,10 +100,10 @@ def nearest(fit, pair, begin, end, wanted):
 def print_why(fit, text, wanted, deep):
     """Says of a refusal for separation whether the file is to blame, where and when, and what `why` says. The
     text begins with a wait, so that its time is the file's."""
-    flown, explain, found = choreo.flown_of(text.encode()), why, []
-    begins = explain.begins(flown)
+    flown, found = choreo.flown_of(text.encode()), []
+    edges = begins(flown)
     for i, j, cue, index in separation.blocked_places(flown, deep):
-        t = nearest(fit, (i, j), begins[cue], begins[cue + 1], wanted)
+        t = nearest(fit, (i, j), edges[cue], edges[cue + 1], wanted)
         found.append((share_of(fit, (i, j), Fraction(t), wanted), t, i, j, cue, index))
     found.sort(key=lambda row: row[0][0])
     (square, places), t, i, j, cue, index = found[0]
@@ -121,7 +121,7 @@ def print_why(fit, text, wanted, deep):
     print("./show why, of the import: its cues and lines, and its larger ellipsoids")
     near = separation.Nearest(separation.difference(*(flown.by_cue[k][cue][1] for k in (i, j))),
                               *flown.show.settings["ellipsoid"])
-    explain.print_place(flown, text.encode().split(b"\n"), (near, i, j, cue, index), deep, [])
+    why.print_place(flown, text.encode().split(b"\n"), why.Place(near, i, j, cue, index), deep, [])
 
 
 # ---- limits

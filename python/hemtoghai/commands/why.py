@@ -4,6 +4,10 @@ It computes the flight by itself and proves nothing; where the program is built,
 first. With --cured it writes the show with what helps, place by place, and of several cures the one that makes the show
 least longer. The status is that of the show: 0 where nothing is wrong, 5 or 4 where it is refused so. 70: no answer.
 """
+from __future__ import annotations
+
+from collections.abc import Iterable, Iterator
+from dataclasses import dataclass
 from math import hypot
 
 from hemtoghai.companion import (add_depth, ask_check, begins, cue_words, flown_of, many, missing, parser, place,
@@ -11,14 +15,26 @@ from hemtoghai.companion import (add_depth, ask_check, begins, cue_words, flown_
 from hemtoghai.geometry import separation
 from hemtoghai.geometry.causes import cause_of, is_clear, reach_with, ruler_of
 from hemtoghai.language import choreo
+from hemtoghai.language.choreo import Flown
 from hemtoghai.writing.dealing import costs, dealt, form_lines, total
 from hemtoghai.writing.flyable import small
-from hemtoghai.writing.remedies import ENOUGH, first_of, last_of, lift_all, lifted, remedies, written
+from hemtoghai.writing.remedies import ENOUGH, first_of, last_of, lift_all, lifted, remedies, Remedy, written
 
 MOST_CURES = 40
 
 
-def act_words(flown, lines, drone, cue):
+@dataclass(frozen=True)
+class Place:
+    """Two drones that are blocked in a cue, where they come nearest in it, and the first of its parts that is
+    blocked."""
+    near: separation.Nearest
+    i: int
+    j: int
+    cue: int
+    index: int
+
+
+def act_words(flown: Flown, lines: list[bytes], drone: int, cue: int) -> str:
     """A drone's line in a cue, or that it holds."""
     name = flown.names[drone]
     acts = flown.cues[cue].acts
@@ -29,15 +45,17 @@ def act_words(flown, lines, drone, cue):
     return "line %d: %s%s" % (number, text, "" if text.split()[:1] == [name] else " (for %s)" % name)
 
 
-def both_words(flown, i, j, cue, u):
+def both_words(flown: Flown, i: int, j: int, cue: int, u: float) -> tuple[str, float, float]:
     """Where two drones are at a fraction of a cue, and how far apart."""
     first, second = place(flown, i, cue, u), place(flown, j, cue, u)
     x, y, z = (b - a for a, b in zip(first, second))
-    places = ["%s at (%d, %d, %d)" % (flown.names[k], *map(round, at)) for k, at in ((i, first), (j, second))]
-    return "%s, %s mm: %.0f mm to the side, %.0f mm up or down" % (*places, hypot(x, y), abs(z)), hypot(x, y), abs(z)
+    places = ["%s at (%s)" % (flown.names[k], ", ".join("%d" % round(v) for v in at)) for k, at in (
+        (i, first), (j, second))]
+    side, up = hypot(x, y), abs(z)
+    return "%s, %s mm: %.0f mm to the side, %.0f mm up or down" % (places[0], places[1], side, up), side, up
 
 
-def axes_of(flown):
+def axes_of(flown: Flown) -> tuple[float, float]:
     """The half axes of what is kept clear around a drone, with the show's stray and half of the way that it may fly
     while it is late."""
     (r, h), (stray,), (late,) = [flown.show.settings[word] for word in ("ellipsoid", "stray", "late")]
@@ -45,7 +63,7 @@ def axes_of(flown):
     return r + stray + max(x, y) / 2, h + stray + z / 2
 
 
-def more_room(side, up, r, h):
+def more_room(side: float, up: float, r: float, h: float) -> str:
     """How much farther apart, to the side alone or up and down alone, leaves room enough."""
     wide = r * max(0, 4 * ENOUGH ** 2 - (up / h) ** 2) ** 0.5
     high = h * max(0, 4 * ENOUGH ** 2 - (side / r) ** 2) ** 0.5
@@ -53,10 +71,11 @@ def more_room(side, up, r, h):
         wide, side, high, up)
 
 
-def layers(flown, cue, pairs, deep):
+def layers(flown: Flown, cue: int, pairs: list[tuple[int, int]], deep: int) -> dict[int, int] | None:
     """By drone how much higher it may fly a cue in which many are blocked, so that none is, or None."""
     _, h = flown.show.settings["ellipsoid"]
-    ruler, step, level = ruler_of(flown), -(-int(2 * h * ENOUGH) // 50) * 50, {}
+    ruler, step = ruler_of(flown), -(-int(2 * h * ENOUGH) // 50) * 50
+    level: dict[int, int] = {}
     drones = range(len(flown.names))
     for drone in sorted(drones, key=lambda k: -sum(k in pair for pair in pairs)):
         others = {a + b - drone for a, b in pairs if drone in (a, b)}
@@ -72,9 +91,9 @@ def layers(flown, cue, pairs, deep):
     return None
 
 
-def helps(flown, drones, cue, deep):
-    """What helps, tried against all other drones of the cue: how many are still blocked, the remedy, and the names of
-    these. Those that help most come first, and of these the ones that make the show least longer."""
+def helps(flown: Flown, drones: Iterable[int], cue: int, deep: int) -> list[tuple[Remedy, list[str]]]:
+    """What helps, tried against all other drones of the cue: each remedy with the names of those that are still
+    blocked. Those that help most come first, and of these the ones that make the show least longer."""
     ruler, found = ruler_of(flown), []
     for drone in drones:
         for remedy in remedies(flown, drone, cue):
@@ -84,11 +103,11 @@ def helps(flown, drones, cue, deep):
                 if other != drone and not all(is_clear(mine, become(theirs), ruler, deep)
                                               for mine, become in remedy.stages):
                     left.append(name)
-            found.append((len(left), remedy, left))
-    return sorted(found, key=lambda row: (row[0], row[1].takes))
+            found.append((remedy, left))
+    return sorted(found, key=lambda row: (len(row[1]), row[0].takes))
 
 
-def standing(flown, i, j, cue, deep):
+def standing(flown: Flown, i: int, j: int, cue: int, deep: int) -> list[str]:
     """At which ends of a cue two drones would be blocked if they stood there: the words."""
     ruler, out = ruler_of(flown), []
     first, second = flown.by_cue[i][cue][1], flown.by_cue[j][cue][1]
@@ -98,7 +117,7 @@ def standing(flown, i, j, cue, deep):
     return out
 
 
-def print_help(flown, i, j, cue, deep):
+def print_help(flown: Flown, i: int, j: int, cue: int, deep: int) -> None:
     """Prints what helps two drones in a cue."""
     ends = standing(flown, i, j, cue, deep)
     for word in ends:
@@ -110,22 +129,22 @@ def print_help(flown, i, j, cue, deep):
     if ends:
         return
     names = {flown.names[i], flown.names[j]}
-    tried = [row for row in helps(flown, (i, j), cue, deep) if not names & set(row[2])]
+    tried = [row for row in helps(flown, (i, j), cue, deep) if not names & set(row[1])]
     if not tried:
         print("  nothing that was tried helps these two: waiting, going first, flying it higher or lower. Give one of "
               "them another way")
         return
-    least = tried[0][0]
+    least = len(tried[0][1])
     print("  what helps%s:" % (", tried in this cue against all drones" if least == 0 else " these two, but not all"))
-    for still, remedy, left in tried[:3]:
-        if still == least:
+    for remedy, left in tried[:3]:
+        if len(left) == least:
             print("    %s%s (%s more)" % (remedy.words, " (still blocked: %s)" % ", ".join(left) if left else "",
                                           seconds(remedy.takes)))
 
 
-def print_place(flown, lines, found, deep, others):
+def print_place(flown: Flown, lines: list[bytes], found: Place, deep: int, others: list[int]) -> None:
     """Prints what is known of one pair in one cue, and what helps; `others` are later cues with the same."""
-    near, i, j, cue, index = found
+    near, i, j, cue, index = found.near, found.i, found.j, found.cue, found.index
     begin, time, parts = begins(flown)[cue], flown.cues[cue].milliseconds, 2 ** deep
     print("%s and %s in cue %d, %s" % (flown.names[i], flown.names[j], cue + 1, cue_words(flown.cues[cue])))
     if others:
@@ -152,55 +171,54 @@ def print_place(flown, lines, found, deep, others):
     print()
 
 
-def alike(flown, found):
+def alike(flown: Flown, found: list[Place]) -> list[list[Place]]:
     """The blocked places in groups in which the same pair flies the same: in the turns of a repeat."""
-    groups = {}
-    for near, i, j, cue, index in found:
-        flights = [tuple(map(tuple, flown.by_cue[k][cue][1][:3])) for k in (i, j)]
-        groups.setdefault((i, j, flown.cues[cue].number, *flights), []).append((near, i, j, cue, index))
+    groups: dict[object, list[Place]] = {}
+    for it in found:
+        flights = [tuple(tuple(row) for row in flown.by_cue[k][it.cue][1][:3]) for k in (it.i, it.j)]
+        groups.setdefault((it.i, it.j, flown.cues[it.cue].number, *flights), []).append(it)
     return list(groups.values())
 
 
-def print_counts(flown, deep, found):
+def print_counts(flown: Flown, deep: int, found: list[Place]) -> None:
     """Prints how many pairs, cues and places are blocked, and how near they are there."""
-    touching = sum(near.touch for near, *_ in found)
-    cues = sorted({cue + 1 for _, _, _, cue, _ in found})
-    pairs = len({(i, j) for _, i, j, _, _ in found})
+    touching = sum(it.near.touch for it in found)
+    cues = sorted({it.cue + 1 for it in found})
+    pairs = len({(it.i, it.j) for it in found})
     listed = ", ".join(map(str, cues[:12])) + (" .." if len(cues) > 12 else "")
     print("At depth %d %s blocked in %s (%s)." % (
         deep, many(pairs, "pair") + (" is" if pairs == 1 else " are"), many(len(cues), "cue"), listed))
-    caused = sum(not near.touch and cause_of(flown, i, j, cue, deep) is not None for near, i, j, cue, _ in found)
+    caused = sum(not it.near.touch and cause_of(flown, it.i, it.j, it.cue, deep) is not None for it in found)
     print("Of %s, %d too near, %d apart but along no direction%s." % (
         many(len(found), "place"), touching, len(found) - touching - caused,
         ", %d apart but for `stray` or `late`" % caused if caused else ""))
     print("Cues are counted with repeats and figures written out.\n")
 
 
-def explain_separation(flown, lines, deep, most):
+def explain_separation(flown: Flown, lines: list[bytes], deep: int, most: int) -> int:
     """Prints each pair and cue that is blocked, in the order of time; the number of them."""
     r, h = flown.show.settings["ellipsoid"]
     found = []
     for i, j, cue, index in separation.blocked_places(flown, deep):
         part = separation.difference(flown.by_cue[i][cue][1], flown.by_cue[j][cue][1])
-        found.append((separation.Nearest(part, r, h), i, j, cue, index))
+        found.append(Place(separation.Nearest(part, r, h), i, j, cue, index))
     if not found:
         return 0
     print_counts(flown, deep, found)
-    found.sort(key=lambda row: (row[3], row[0].share))
+    found.sort(key=lambda it: (it.cue, it.near.share))
     groups = alike(flown, found)
     for group in groups[:most]:
-        print_place(flown, lines, group[0], deep, [row[3] for row in group[1:]])
+        print_place(flown, lines, group[0], deep, [it.cue for it in group[1:]])
     if len(groups) > most:
         print("and %d more: --most N shows them" % (len(groups) - most))
     print_together(flown, groups, deep)
     return len(found)
 
 
-def print_together(flown, groups, deep):
+def print_together(flown: Flown, groups: list[list[Place]], deep: int) -> None:
     """Prints what helps all pairs of a cue at once, where there are several."""
-    cues = sorted({group[0][3] for group in groups})
-    for cue in cues:
-        together = [(i, j) for group in groups for _, i, j, at, _ in group if at == cue]
+    for cue in sorted({group[0].cue for group in groups}):
+        together = [(it.i, it.j) for group in groups for it in group if it.cue == cue]
         lifts = layers(flown, cue, together, deep) if 1 < len(together) <= MOST_CURES else None
         if lifts:
             remedy = lift_all(flown, lifts)
@@ -210,7 +228,7 @@ def print_together(flown, groups, deep):
             print("Line %d forms a formation whose ways cross: ./show deal deals its places anew." % line.number)
 
 
-def crossing_forms(flown, cue):
+def crossing_forms(flown: Flown, cue: int) -> list[choreo.Line]:
     """The `form` lines of a cue whose places can be dealt so that the sum of the squared ways is less."""
     out = []
     for line, cues in form_lines(flown):
@@ -222,45 +240,41 @@ def crossing_forms(flown, cue):
     return out
 
 
-def explain_room(flown):
-    """Prints what each drone takes of its memory, where one takes too much."""
+def explain_room(flown: Flown) -> None:
+    """Prints what the drones take of their memories that take too much."""
     room = flown.room()
-    rows = []
     for name, data, segments, flight in zip(flown.names, flown.data(), flown.sent, flown.by_cue):
-        kinds = {}
+        if len(data) <= room and len(segments) <= choreo.MOST_SEGMENTS:
+            continue
+        print("%s takes %d bytes of %d, in %d segments of at most %d (%d cues)" % (
+            name, len(data), room, len(segments), choreo.MOST_SEGMENTS, len(flight)))
+        kinds: dict[str, tuple[int, int]] = {}
         for milliseconds, elements in segments:
             kind = " ".join("%s %s" % (axis, {2: "line", 4: "cubic", 8: "move"}[len(e)])
                             for axis, e in zip(choreo.AXES, elements) if len(e) > 1) or "hold"
             often, taken = kinds.get(kind, (0, 0))
             kinds[kind] = often + 1, taken + len(choreo.segment_bytes(milliseconds, elements))
-        if len(data) > room or len(segments) > choreo.MOST_SEGMENTS:
-            rows.append((name, len(data), len(segments), len(flight), kinds))
-    for name, size, segments, cues, kinds in rows:
-        print("%s takes %d bytes of %d, in %d segments of at most %d (%d cues)" % (
-            name, size, room, segments, choreo.MOST_SEGMENTS, cues))
         for kind, (often, taken) in sorted(kinds.items(), key=lambda it: -it[1][1])[:6]:
             print("  %5d bytes in %s: %s" % (taken, many(often, "segment"), kind))
-    if rows:
-        print("What saves most: in place of `move X Y Z YAW`, 14 bytes an axis, from (X0, Y0, Z0)")
-        print("`curve X0 Y0 Z0 X Y Z X Y Z YAW` is from rest to rest too, with 6. docs/LANGUAGE.md, What a cue costs.")
-    return len(rows)
+    print("What saves most: in place of `move X Y Z YAW`, 14 bytes an axis, from (X0, Y0, Z0)")
+    print("`curve X0 Y0 Z0 X Y Z X Y Z YAW` is from rest to rest too, with 6. docs/LANGUAGE.md, What a cue costs.")
 
 
-def cures_of(flown, cue, pairs, deep):
+def cures_of(flown: Flown, cue: int, pairs: list[tuple[int, int]], deep: int) -> Iterator[Remedy]:
     """What helps in a cue, that first which makes the show least longer: what helps one drone of the first pair, and
     where no drone is in all pairs, what helps them all at once."""
-    shared = set.intersection(*map(set, pairs))
+    shared = set.intersection(*(set(pair) for pair in pairs))
     lifts = layers(flown, cue, pairs, deep) if not shared and len(pairs) <= MOST_CURES else None
     if lifts:
         yield lift_all(flown, lifts)
-    tried = [remedy for still, remedy, _ in helps(flown, pairs[0], cue, deep) if still == 0]
+    tried = [remedy for remedy, left in helps(flown, pairs[0], cue, deep) if not left]
     yield from sorted(tried, key=lambda remedy: remedy.takes)
 
 
-def cured(text, deep):
+def cured(text: bytes, deep: int) -> tuple[bytes, list[str], str | None]:
     """The show's text with what helps in each place that is blocked, in the order of time, and what was done; it ends
     where nothing is blocked, or nothing helps that can be written."""
-    done = []
+    done: list[str] = []
     while len(done) < MOST_CURES:
         flown = choreo.flown_of(text)
         found = list(separation.blocked_places(flown, deep))
@@ -279,7 +293,7 @@ def cured(text, deep):
     return text, done, "more than %d places" % MOST_CURES
 
 
-def write_cured(path, text, deep):
+def write_cured(path: str, text: bytes, deep: int) -> None:
     """Writes the cured show, and says what was done, how long it lasts, and what `check` says of it."""
     try:
         new, done, left = cured(text, deep)
@@ -315,8 +329,9 @@ def main(words: list[str]) -> int:
     else:
         print(missing())
     print()
-    if small(flown):
-        print(small(flown) + "\n")
+    smallness = small(flown)
+    if smallness:
+        print(smallness + "\n")
     lines = text.split(b"\n")
     try:
         choreo.judge_room(flown)

@@ -11,19 +11,22 @@ the same length, so that no later cue comes earlier.
 What `check` says of the new show is written to standard error, and the status is that of `check`. 2: wrong words, as
 where no drone would be left. 3: the show is faulty. 70: no answer.
 """
-import re
+from __future__ import annotations
+
 import sys
+from collections.abc import Collection
 
 from hemtoghai.companion import add_depth, ask_check, flown_of, missing, parser, stop
 from hemtoghai.language import choreo
-from hemtoghai.language.lines import line_in
+from hemtoghai.language.lines import free_name, line_in, with_words
 
 IDLE = "nobody"  # the role of a figure in which nobody acts
 
 
-def ends_of(text):
+def ends_of(text: bytes) -> dict[int, int]:
     """The numbers of the `end` lines of a good show, by those of the lines that open their blocks."""
-    blocks, ends, begun = [choreo.Line(0, "top", [choreo.form_of(text)])], {}, False
+    blocks, begun = [choreo.Line(0, "top", [choreo.form_of(text)])], False
+    ends: dict[int, int] = {}
     for number, line in enumerate(text.split(b"\n"), 1):
         words = line.partition(b"#")[0].decode().split()
         if words and begun:
@@ -35,25 +38,21 @@ def ends_of(text):
     return ends
 
 
-def with_words(line, words):
-    """A line with other words; blanks before them, a comment and the line's end stay."""
-    front, _, end = re.fullmatch(rb"(\s*)([^#]*?)(\s*(?:#.*)?)", line, re.S).groups()
-    return front + " ".join(words).encode() + end
-
-
 class Editor:
     """The lines of a show: which of them go, what stands in the place of others, and what comes after some."""
 
-    def __init__(self, text, show, gone):
+    def __init__(self, text: bytes, show: choreo.Show, gone: Collection[str]) -> None:
         self.lines, self.show, self.gone, self.ends = text.split(b"\n"), show, set(gone), ends_of(text)
-        self.dropped, self.changed, self.after = set(), {}, {}
+        self.dropped: set[int] = set()
+        self.changed: dict[int, bytes] = {}
+        self.after: dict[int, list[tuple[str, list[bytes]]]] = {}
         self.left = [name for name in show.names if name not in self.gone]
 
-    def drop(self, line):
+    def drop(self, line: choreo.Line) -> None:
         """A line goes, with the block that it opens."""
         self.dropped.update(range(line.number, self.ends.get(line.number, line.number) + 1))
 
-    def drop_drones(self):
+    def drop_drones(self) -> None:
         """Drops the drones, their places and their acts outside figures, and what is left empty."""
         emptied = set()
         for line in self.show.drones:
@@ -75,11 +74,12 @@ class Editor:
                     if line.kind == "act" and line.values[0] in self.gone:
                         self.drop(line)
 
-    def change_performs(self):
+    def change_performs(self) -> None:
         """Takes the drones out of performs, and their roles out of figures."""
         performs = [line for line in choreo.inside(self.show.top) if line.kind == "perform"]
         for name, figure in self.show.figures.items():
-            roles, cast = figure.values[1:], {}
+            roles = figure.values[1:]
+            cast: dict[tuple[str, ...], list[choreo.Line]] = {}
             for line in performs:
                 if line.values[0] == name:
                     lost = tuple(role for role, player in zip(roles, line.values[6:]) if player in self.gone)
@@ -87,25 +87,17 @@ class Editor:
             for lost, lines in cast.items():
                 if lost:
                     alone = len(cast) == 1
-                    new = name if alone else self.free_name(name)
+                    taken = {*self.show.figures, *(new for rows in self.after.values() for new, _ in rows)}
+                    new = name if alone else free_name(name, taken)
                     self.cut_figure(figure, new, set(lost), alone)
                     for line in lines:
                         self.cut_perform(line, new)
 
-    def free_name(self, name):
-        """A name for one more figure."""
-        taken, k = {*self.show.figures, *(new for rows in self.after.values() for new, _ in rows)}, 2
-        while True:
-            new = "%s_%d" % (name[:16 - len("_%d" % k)], k)
-            if new not in taken:
-                return new
-            k += 1
-
-    def cut_figure(self, figure, name, lost, in_place):
+    def cut_figure(self, figure: choreo.Line, name: str, lost: set[str], in_place: bool) -> None:
         """A figure without some roles: in its own place, or once more after itself."""
         roles = [role for role in figure.values[1:] if role not in lost] or [IDLE]
         acts = {line.number for line in choreo.inside(figure) if line.kind == "act" and line.values[0] in lost}
-        head = with_words(self.lines[figure.number - 1], ["figure", name, *roles])
+        head = with_words(self.lines[figure.number - 1], " ".join(["figure", name, *roles]))
         if in_place:
             self.changed[figure.number] = head
             self.dropped |= acts
@@ -114,13 +106,13 @@ class Editor:
                     if number not in acts]
             self.after.setdefault(self.ends[figure.number], []).append((name, [head, *rows]))
 
-    def cut_perform(self, line, name):
+    def cut_perform(self, line: choreo.Line, name: str) -> None:
         """A perform of a figure without the roles of drones that are gone."""
         players = [player for player in line.values[6:] if player not in self.gone] or self.left[:1]
-        words = line_in(self.show.form, "perform", name, *line.values[1:6], *players).split()
+        words = line_in(self.show.form, "perform", name, *line.values[1:6], *players)
         self.changed[line.number] = with_words(self.lines[line.number - 1], words)
 
-    def text(self):
+    def text(self) -> bytes:
         """The new show."""
         out = []
         for number, line in enumerate(self.lines, 1):

@@ -12,7 +12,7 @@ from itertools import combinations
 from math import comb, gcd, isqrt, lcm
 from typing import List, Optional, Tuple
 
-from hemtoghai.language.choreo import Flown, LONGEST_CERTIFICATE, Refused, Row
+from hemtoghai.language.choreo import Flown, flown_of, judge_room, LONGEST_CERTIFICATE, Refused, Row
 
 Direction = Tuple[int, int, int]
 Part = List[Row]  # on x, y and z eight control values
@@ -190,6 +190,17 @@ def judge_separation(flown: Flown, depth: int, version: int = 2) -> None:
     for i, j, cue, index in blocked_places(flown, depth, version):
         names = flown.names[i], flown.names[j]
         raise Refused(5, "pair %s %s cue %d part %d of %d" % (*names, cue + 1, index, 2 ** depth), "too near")
+
+
+def refusal_of(text: bytes, depth: int) -> Refused | None:
+    """The refusal of a show's text, as the tools work it out, or None."""
+    try:
+        flown = flown_of(text)
+        judge_room(flown)
+        judge_separation(flown, depth)
+    except Refused as refusal:
+        return refusal
+    return None
 
 
 # ---- certificates

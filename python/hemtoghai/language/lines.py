@@ -2,6 +2,9 @@
 form of that text, and one that makes a new text in the newest form."""
 from __future__ import annotations
 
+import re
+from collections.abc import Collection
+
 from hemtoghai.language import choreo
 
 NEWEST = max(choreo.FORMS.values())  # the form of the language in which new texts are written
@@ -16,3 +19,19 @@ def line_in(form: int, kind: str, *values: object) -> str:
     """A line of a kind with these values, each a word or a whole number of what its place counts. An act has the kind
     `act`, and the drone and the act as its first two values."""
     return " ".join(choreo.words_of(choreo.Line(0, kind, list(values)), form))
+
+
+def with_words(line: bytes, words: str) -> bytes:
+    """A line of a text with other words; blanks before them, a comment and the line's end stay."""
+    return re.sub(rb"\A(\s*)[^#]*?(\s*(?:#.*)?)\Z", lambda found: found[1] + words.encode() + found[2], line,
+                  flags=re.S)
+
+
+def free_name(name: str, taken: Collection[str]) -> str:
+    """A name that none has, made from another one; it has at most 16 letters."""
+    number = 2
+    while True:
+        end = "_%d" % number
+        if name[:16 - len(end)] + end not in taken:
+            return name[:16 - len(end)] + end
+        number += 1

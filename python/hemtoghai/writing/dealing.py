@@ -1,19 +1,28 @@
 """Which places of a formation go to which drones, so that the sum of the squared ways is least, and which later acts
 change hands with them: for ./show deal and ./show why."""
+from __future__ import annotations
+
+from collections.abc import Collection, Iterator, Sequence
+from typing import Any, List, Tuple
+
 from hemtoghai.language import choreo
 from hemtoghai.writing.figures import least
 
+Words = Tuple[Any, ...]  # of a place: its drone, and its numbers
+# Of a `form` line the sum of its squared ways, how many drones stay at their places there, and the places.
+State = Tuple[int, int, List[Words]]
 MOST_PASSES = 3  # over the lines of a repeat, whose first one begins where the last one ends
 
 
-def cue_lines(flown: choreo.Flown) -> dict:
+def cue_lines(flown: choreo.Flown) -> dict[int, choreo.Line]:
     """The show's cue lines by their number."""
     return {line.number: line for line in choreo.inside(flown.show.top) if line.kind == "cue"}
 
 
-def form_lines(flown: choreo.Flown) -> list:
+def form_lines(flown: choreo.Flown) -> list[tuple[choreo.Line, list[int]]]:
     """The show's `form` lines in the order of their first use, each with the cues in which it is played."""
-    cues, found = cue_lines(flown), {}
+    cues = cue_lines(flown)
+    found: dict[int, tuple[choreo.Line, list[int]]] = {}
     for k, cue in enumerate(flown.cues):
         for line in cues[cue.number].body:
             if line.kind == "form":
@@ -21,7 +30,7 @@ def form_lines(flown: choreo.Flown) -> list:
     return list(found.values())
 
 
-def costs(flown: choreo.Flown, places: list, cues: list) -> list:
+def costs(flown: choreo.Flown, places: Sequence[choreo.Line], cues: list[int]) -> list[list[int]]:
     """For each place's drone and each place the sum of the squared ways to it over these cues, in square
     micrometres."""
     drones = [flown.names.index(place.values[0]) for place in places]
@@ -33,39 +42,53 @@ def costs(flown: choreo.Flown, places: list, cues: list) -> list:
     return rows
 
 
-def dealt(cost: list) -> dict:
+def dealt(cost: list[list[int]]) -> dict[int, int]:
     """Which place each drone gets: the sum is least, and as many as can keep theirs."""
     size = len(cost)
     return least([[(size + 1) * cost[k][j] + (j != k) for j in range(size)] for k in range(size)])
 
 
-def total(cost: list, ways=None) -> int:
+def total(cost: list[list[int]], ways: dict[int, int] | None = None) -> int:
     """The sum of the squared ways as they are dealt, or as the places are written."""
     return sum(cost[k][ways[k] if ways else k] for k in range(len(cost)))
 
 
+class Place(choreo.Line):
+    """A place of a formation that is dealt: `owner` is the drone for which it is written, also where another one gets
+    it, and `written` the name that stands in its line."""
+
+    def __init__(self, line: choreo.Line) -> None:
+        super().__init__(line.number, "at", list(line.values))
+        self.owner: str = line.values[0]
+        self.written: str = line.values[0]
+
+
 def on_their_own(flown: choreo.Flown) -> None:
-    """Gives each `form` line a formation of its own, with the places as they are written. Each place notes the drone
-    for which it is written, its owner, also where another one gets it; each line the names that are written there."""
+    """Gives each `form` line a formation of its own, with the places as they are written."""
     for line, _ in form_lines(flown):
         old = flown.show.formations[line.values[0]]
         new = choreo.Line(old.number, "formation", list(old.values))
-        for place in old.body:
-            new.body.append(choreo.Line(place.number, "at", list(place.values)))
-            new.body[-1].owner = new.body[-1].written = place.values[0]
-        flown.show.formations[line.number] = new
-        line.values[0] = line.number
-    for line in choreo.inside(flown.show.top):
-        if line.kind in ("act", "perform"):
-            line.written = names_of(line)
+        new.body += [Place(place) for place in old.body]
+        line.values[0] = str(line.number)  # which no name is
+        flown.show.formations[line.values[0]] = new
 
 
-def names_of(line: choreo.Line) -> list:
+def places_of(flown: choreo.Flown, line: choreo.Line) -> list[Place]:
+    """The places of a `form` line that has a formation of its own."""
+    return [place for place in flown.show.formations[line.values[0]].body if isinstance(place, Place)]
+
+
+def naming_lines(flown: choreo.Flown) -> list[choreo.Line]:
+    """The lines of acts and performs."""
+    return [line for line in choreo.inside(flown.show.top) if line.kind in ("act", "perform")]
+
+
+def names_of(line: choreo.Line) -> list[str]:
     """The drones that a line of an act or a perform names."""
     return line.values[:1] if line.kind == "act" else line.values[6:]
 
 
-def rename(line: choreo.Line, names: list) -> None:
+def rename(line: choreo.Line, names: list[str]) -> None:
     """Gives a line of an act or a perform other drones."""
     if line.kind == "act":
         line.values[:1] = names
@@ -75,7 +98,7 @@ def rename(line: choreo.Line, names: list) -> None:
 
 # ---- who flies what was written for whom
 
-def performers(flown: choreo.Flown, lost=None) -> list:
+def performers(flown: choreo.Flown, lost: set[int] | None = None) -> list[dict[str, str]]:
     """For each cue, by the drone for which something is written, the drone that stands where that one would stand. A
     formation that is dealt anew changes it; until the next one the acts of each drone go with its place. `lost` gets
     the `form` lines after which that can't be followed, since a drone would fly for two: there each flies its own."""
@@ -84,8 +107,7 @@ def performers(flown: choreo.Flown, lost=None) -> list:
         out.append(plays)
         for line in cues[cue.number].body:
             if line.kind == "form":
-                places = flown.show.formations[line.values[0]].body
-                plays = {**plays, **{place.owner: place.values[0] for place in places}}
+                plays = {**plays, **{place.owner: place.values[0] for place in places_of(flown, line)}}
                 if len(set(plays.values())) < len(plays):
                     plays = {name: name for name in flown.names}
                     if lost is not None:
@@ -93,10 +115,11 @@ def performers(flown: choreo.Flown, lost=None) -> list:
     return out
 
 
-def carried_lines(flown: choreo.Flown):
+def carried_lines(flown: choreo.Flown) -> Iterator[tuple[list[choreo.Line], list[int]]]:
     """The cues with acts of drones, and the performs: the lines that name drones, and the cues in which these are
     played."""
-    groups, cues = {}, cue_lines(flown)
+    cues = cue_lines(flown)
+    groups: dict[int, list[int]] = {}
     for k, cue in enumerate(flown.cues):
         performed = [number for kind, number, *_ in cue.within if kind == "perform"]
         groups.setdefault((performed or [cue.number])[0], []).append(k)
@@ -108,21 +131,23 @@ def carried_lines(flown: choreo.Flown):
             yield [line for line in cues[number].body if line.kind == "act"], played
 
 
-def carry(flown: choreo.Flown) -> list:
-    """Renames the acts and performs after each formation, so that they go with the places; returns the lines that
-    can't be renamed, since their turns of a repeat are flown by different drones."""
+def carry(flown: choreo.Flown, written: dict[int, list[str]]) -> list[int]:
+    """Renames the acts and performs after each formation, so that they go with the places, by the names that are
+    written in them; returns the lines that can't be renamed, since their turns of a repeat are flown by different
+    drones."""
     plays, unsure = performers(flown), []
     for lines, played in carried_lines(flown):
-        names = [name for line in lines for name in line.written]
+        names = [name for line in lines for name in written[line.number]]
         alike = len({tuple(plays[k][name] for name in names) for k in played}) == 1
         for line in lines:
-            rename(line, [plays[played[0]][name] for name in line.written] if alike else list(line.written))
+            own = written[line.number]
+            rename(line, [plays[played[0]][name] for name in own] if alike else list(own))
         # A drone that stays where it is may come from anywhere.
         unsure += [line.number for line in lines if not alike and line.values[1] not in ("hold", "turn")]
     return sorted(unsure)
 
 
-def join_players(places: list, plays: list, cues: list) -> None:
+def join_players(places: list[Place], plays: list[dict[str, str]], cues: list[int]) -> None:
     """Gives places to the drones that stand where the ones with places were to stand. Where these differ from turn to
     turn of a repeat the names stay as they are."""
     players = {tuple(plays[k][place.owner] for place in places) for k in cues}
@@ -131,7 +156,7 @@ def join_players(places: list, plays: list, cues: list) -> None:
             place.values[0] = name
 
 
-def settle(places: list) -> None:
+def settle(places: list[Place]) -> None:
     """Puts each drone into the line that was written for it, as far as there is one."""
     held = {place.values[0]: (place.owner, place.values) for place in places}
     written = {place.written for place in places}
@@ -145,34 +170,40 @@ def settle(places: list) -> None:
 
 class Dealt:
     """What was dealt: the show as it is then flown, the `form` lines at which nobody would move, the lines whose acts
-    can't go with their places, and the `form` lines after which no act can."""
+    can't go with their places, the `form` lines after which no act can, and by its line the names that were written
+    there in an act or a perform."""
 
-    def __init__(self, flown):
-        self.flown, self.still, self.unsure, self.lost = flown, set(), [], set()
+    def __init__(self, flown: choreo.Flown) -> None:
+        self.flown = flown
+        self.still: set[int] = set()
+        self.unsure: list[int] = []
+        self.lost: set[int] = set()
+        self.written = {line.number: list(names_of(line)) for line in naming_lines(flown)}
+
+    def renamed(self) -> list[choreo.Line]:
+        """The lines of acts and performs that are flown by other drones than were written."""
+        return [line for line in naming_lines(self.flown) if names_of(line) != self.written[line.number]]
 
 
-def deal(flown: choreo.Flown, keep: list, carrying: bool = True) -> Dealt:
+def deal(flown: choreo.Flown, keep: Collection[str]) -> Dealt:
     """Deals the places at each `form` line but those of formations to keep, until nothing changes. A line at which
     every drone would get the place where it already is stays as it is written: else nobody would move."""
     made = Dealt(flown)
     for _ in range(MOST_PASSES):
-        changed = False
-        for line, cues in form_lines(flown):
-            changed |= deal_line(made, line, cues, keep, carrying)
-        if not changed:
+        changed = [deal_line(made, line, cues, keep) for line, cues in form_lines(flown)]
+        if not any(changed):
             break
     performers(made.flown, made.lost)
     return made
 
 
-def deal_line(made: Dealt, line: choreo.Line, cues: list, keep: list, carrying: bool) -> bool:
+def deal_line(made: Dealt, line: choreo.Line, cues: list[int], keep: Collection[str]) -> bool:
     """Deals the places at a `form` line; whether something changed."""
     formation = made.flown.show.formations[line.values[0]]
     if formation.values[0] in keep:
         return False
-    places, before = formation.body, words_of(formation)
-    if carrying:
-        join_players(places, performers(made.flown), cues)
+    places, before = places_of(made.flown, line), words_of(formation)
+    join_players(places, performers(made.flown), cues)
     cost = costs(made.flown, places, cues)
     ways = dealt(cost)
     if total(cost, ways) == 0 < total(cost):
@@ -185,19 +216,18 @@ def deal_line(made: Dealt, line: choreo.Line, cues: list, keep: list, carrying: 
     settle(places)
     if words_of(formation) == before:
         return False
-    if carrying:
-        made.unsure = carry(made.flown)
+    made.unsure = carry(made.flown, made.written)
     made.flown = choreo.Flown(made.flown.show)
     return True
 
 
-def words_of(formation: choreo.Line) -> list:
+def words_of(formation: choreo.Line) -> list[Words]:
     """A formation's places, as they are compared and written."""
     return [tuple(place.values) for place in formation.body]
 
 
-def state(flown: choreo.Flown) -> list:
-    """Of each `form` line the sum of its squared ways, how many drones stay at their places there, and the places."""
+def state(flown: choreo.Flown) -> list[State]:
+    """The state of each `form` line."""
     out = []
     for line, cues in form_lines(flown):
         formation = flown.show.formations[line.values[0]]

@@ -1,12 +1,15 @@
 """What of an accepted show no drone flies: one line for ./show, with lines of the text. Accelerations and jumps are
 those of the program's `dynamics`, places those of the tools' own reader."""
+from __future__ import annotations
+
 import re
+from collections.abc import Sequence
 from math import hypot
-from typing import Dict, Optional, Sequence
 
 from hemtoghai import program as proved
 from hemtoghai.geometry.curves import powers
 from hemtoghai.language import choreo
+from hemtoghai.language.choreo import Flown
 
 MOST = {"accel": 10000, "jump": 300}  # millimetres per second squared, and per second
 PLACES = 32  # of a cue, where heights are looked at
@@ -17,12 +20,12 @@ class NoAnswer(Exception):
     """The program didn't say what a show wants of a drone."""
 
 
-def line_of_cue(flown, cue: int) -> int:
+def line_of_cue(flown: Flown, cue: int) -> int:
     """The line of a cue, which counts from 1; the end of the show is that of the last one."""
     return flown.cues[min(cue, len(flown.cues)) - 1].number
 
 
-def motion(program: str, flown, text: bytes, most: Optional[Dict[str, int]] = None) -> Optional[str]:
+def motion(program: str, flown: Flown, text: bytes, most: dict[str, int] | None = None) -> str | None:
     """What `dynamics` refuses with limits, those of MOST where none are given, or None; raises NoAnswer where it neither
     accepts nor refuses the show."""
     most = most or MOST
@@ -45,7 +48,7 @@ def motion(program: str, flown, text: bytes, most: Optional[Dict[str, int]] = No
 
 def lowest(row: Sequence[int]) -> float:
     """The lowest of the places that are looked at."""
-    def height(u):
+    def height(u: float) -> float:
         v = 0.0
         for c in powers(row):
             v = v * u + c
@@ -53,7 +56,7 @@ def lowest(row: Sequence[int]) -> float:
     return min(height(at / PLACES) for at in range(PLACES + 1))
 
 
-def below(flown) -> Optional[str]:
+def below(flown: Flown) -> str | None:
     """The first drone, and its first cue, in which it goes below z 0, or None."""
     for name, flight in zip(flown.names, flown.by_cue):
         for cue, (_, elements) in enumerate(flight, 1):
@@ -62,7 +65,7 @@ def below(flown) -> Optional[str]:
     return None
 
 
-def small(flown) -> Optional[str]:
+def small(flown: Flown) -> str | None:
     """That all places are within some millimetres of the origin, where it is so, or None."""
     rows = (row for flight in flown.by_cue for _, elements in flight for row in elements[:3])
     if all(abs(v) <= SMALL for row in rows for v in row):
@@ -71,7 +74,7 @@ def small(flown) -> Optional[str]:
     return None
 
 
-def small_text(text: bytes) -> Optional[str]:
+def small_text(text: bytes) -> str | None:
     """The same of a show's text, which may be refused for nearness."""
     try:
         return small(choreo.flown_of(choreo.parts_of(text)[0]))
@@ -79,7 +82,7 @@ def small_text(text: bytes) -> Optional[str]:
         return None
 
 
-def stacked(flown) -> Optional[str]:
+def stacked(flown: Flown) -> str | None:
     """The first two drones that begin so near to each other from above that they can't go up below their places, or
     None; `./show legs` plans their ways, and judges them."""
     (radius, _), (stray,) = flown.show.settings["ellipsoid"], flown.show.settings["stray"]
@@ -92,7 +95,7 @@ def stacked(flown) -> Optional[str]:
     return None
 
 
-def motion_if_known(program: str, flown, text: bytes) -> Optional[str]:
+def motion_if_known(program: str, flown: Flown, text: bytes) -> str | None:
     """What `dynamics` refuses, or None, also where it doesn't answer."""
     try:
         return motion(program, flown, text)
@@ -100,7 +103,7 @@ def motion_if_known(program: str, flown, text: bytes) -> Optional[str]:
         return None
 
 
-def warning(program: str, text: bytes) -> Optional[str]:
+def warning(program: str, text: bytes) -> str | None:
     """The line on what no drone flies, or None where nothing of that is found."""
     try:
         flown = choreo.flown_of(text)

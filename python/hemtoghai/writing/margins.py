@@ -1,6 +1,9 @@
 """What a show still bears: the greatest ellipsoid, stray or lateness with which it is accepted. For ./show summary and
 ./show studio."""
+from __future__ import annotations
+
 import re
+from collections.abc import Callable
 
 from hemtoghai.companion import ask_check
 from hemtoghai.geometry import separation
@@ -18,21 +21,17 @@ def with_setting(text: bytes, word: str, *numbers: int) -> bytes:
     return new if found else text.rstrip(b"\n") + b"\n" + line + b"\n"
 
 
-def judged(text: bytes, deep: int) -> tuple:
+def judged(text: bytes, deep: int) -> tuple[int, str]:
     """The status and line of `check`, or what the tools work out where the program isn't built."""
     answer = ask_check(text, deep)
     if answer:
         return answer
-    try:
-        flown = choreo.flown_of(text)
-        choreo.judge_room(flown)
-        separation.judge_separation(flown, deep)
-    except choreo.Refused as refusal:
-        return refusal.status, str(refusal)
-    return 0, "ok"
+    refusal = separation.refusal_of(text, deep)
+    return (refusal.status, str(refusal)) if refusal else (0, "ok")
 
 
-def greatest(deep: int, high: int, changed, judge=judged) -> tuple:
+def greatest(deep: int, high: int, changed: Callable[[int], bytes],
+             judge: Callable[[bytes, int], tuple[int, str]] = judged) -> tuple[int | None, str]:
     """The greatest number below `high` with which the show is accepted, by halving, and the refusal above it; None
     where it isn't with the least, and what is said then."""
     low, refusal = -1, ""

@@ -1,7 +1,16 @@
 """What could help a drone that is blocked in a cue: how it and the others then fly, and the show's text with it. For
 ./show why."""
+from __future__ import annotations
+
+from collections.abc import Callable, Iterator, Sequence
+from dataclasses import dataclass
+from typing import List, Tuple
+
 from hemtoghai.language import choreo
 from hemtoghai.language.lines import line_in
+
+Elements = List[choreo.Row]  # what a drone flies in a cue, by axis
+Become = Callable[[Elements], Elements]  # how the others' elements become
 
 LOW = 300  # millimetres; nothing is advised that flies below
 # With a tenth more than the ellipsoids need a direction is found: docs/LANGUAGE.md, How much room is enough.
@@ -9,29 +18,31 @@ ENOUGH = 1.1
 LEAST_LIFT, EASY_LIFT = 2000, 700  # milliseconds for a way up or down of so many millimetres: less than 1 m/s
 
 
-def first_of(elements: list) -> list:
+def first_of(elements: Elements) -> Elements:
     """The elements of a drone that stays where a cue begins."""
     return [row[:1] for row in elements]
 
 
-def last_of(elements: list) -> list:
+def last_of(elements: Elements) -> Elements:
     """The elements of a drone that stays where a cue ends."""
     return [row[-1:] for row in elements]
 
 
-def lifted(own: list, by: int) -> tuple:
+def lifted(own: Elements, by: int) -> tuple[Elements, Elements, Elements]:
     """A drone's elements in three cues: it rises, flies its cue so much higher, and sinks again."""
     x, y, z = own[:3]
     return ([x[:1], y[:1], [z[0]] * 4 + [z[0] + by] * 4], [x, y, [v + by for v in z]],
             [x[-1:], y[-1:], [z[-1] + by] * 4 + [z[-1]] * 4])
 
 
+@dataclass(frozen=True)
 class Remedy:
-    """What drones do else in a cue: words; in stages one drone's own elements and how the others' become; how it is
-    written, "wait", "first", or by drone how many millimetres it is lifted; and how many milliseconds it takes."""
-
-    def __init__(self, drone, how, words, stages, takes):
-        self.drone, self.how, self.words, self.stages, self.takes = drone, how, words, stages, takes
+    """What drones do else in a cue."""
+    how: str  # it is written: "wait", "first" or "lift"
+    lifts: dict[int, int]  # by drone how many millimetres it flies higher: 0 where it waits or goes first
+    words: str
+    stages: Sequence[tuple[Elements, Become]]  # one drone's own elements, and how the others' become
+    takes: int  # milliseconds
 
 
 def lift_time(by: int) -> int:
@@ -39,14 +50,14 @@ def lift_time(by: int) -> int:
     return max(LEAST_LIFT, -(-LEAST_LIFT * abs(by) // EASY_LIFT // 100) * 100)
 
 
-def lift_all(flown: choreo.Flown, lifts: dict) -> Remedy:
+def lift_all(flown: choreo.Flown, lifts: dict[int, int]) -> Remedy:
     """The remedy by which several drones fly a cue higher."""
     words = "fly it higher, with a cue before to get there and one after to come back: " + ", ".join(
         "%s %d mm" % (flown.names[drone], by) for drone, by in sorted(lifts.items()))
-    return Remedy(None, lifts, words, (), 2 * lift_time(max(lifts.values())))
+    return Remedy("lift", lifts, words, (), 2 * lift_time(max(lifts.values())))
 
 
-def remedies(flown: choreo.Flown, drone: int, cue: int):
+def remedies(flown: choreo.Flown, drone: int, cue: int) -> Iterator[Remedy]:
     """What a drone could do else in a cue."""
     (time, own), (_, h) = flown.by_cue[drone][cue], flown.show.settings["ellipsoid"]
     name, high = flown.names[drone], -(-int(2 * h * ENOUGH) // 50) * 50
@@ -54,15 +65,15 @@ def remedies(flown: choreo.Flown, drone: int, cue: int):
     out = "leave it out of this cue"
     if form is not None:
         out = "write the places of line %d as acts, and leave it out" % form.number
-    yield Remedy(drone, "wait", "let %s wait: %s, and let it fly alone in a cue after it" % (name, out),
+    yield Remedy("wait", {drone: 0}, "let %s wait: %s, and let it fly alone in a cue after it" % (name, out),
                  [(first_of(own), list), (own, last_of)], time)
-    yield Remedy(drone, "first", "let %s go first: %s here, and let it fly alone in a cue before this one" % (
+    yield Remedy("first", {drone: 0}, "let %s go first: %s here, and let it fly alone in a cue before this one" % (
         name, out.replace(" of this cue", "")), [(own, first_of), (last_of(own), list)], time)
     for by in (high, -high):
         if min(own[2]) + by >= LOW:
             words = "let %s fly this cue %d mm %s: a cue before it to get there, and one after it to come back" % (
                 name, abs(by), "higher" if by > 0 else "lower")
-            yield Remedy(drone, {drone: by}, words, list(zip(lifted(own, by), (first_of, list, last_of))),
+            yield Remedy("lift", {drone: by}, words, list(zip(lifted(own, by), (first_of, list, last_of))),
                          2 * lift_time(by))
 
 
@@ -74,13 +85,13 @@ def cue_line(flown: choreo.Flown, cue: int) -> choreo.Line:
     return next(line for line in choreo.inside(flown.show.top) if line.kind == "cue" and line.number == number)
 
 
-def form_of(flown: choreo.Flown, name: str, cue: int):
+def form_of(flown: choreo.Flown, name: str, cue: int) -> choreo.Line | None:
     """The `form` line that gives a drone its act in a cue, or None."""
     number = flown.cues[cue].acts.get(name, (0,))[0]
     return next((line for line in cue_line(flown, cue).body if line.kind == "form" and line.number == number), None)
 
 
-def place_at(flown: choreo.Flown, drone: int, cue: int) -> list:
+def place_at(flown: choreo.Flown, drone: int, cue: int) -> choreo.Row:
     """Where a drone is when a cue begins, in micrometres, with its yaw."""
     at = list(flown.starts[drone])
     for earlier in flown.cues[:cue]:
@@ -89,17 +100,19 @@ def place_at(flown: choreo.Flown, drone: int, cue: int) -> list:
     return at
 
 
-def higher(words: list, by: int, form: int) -> str:
+def higher(words: list[str], by: int, form: int) -> str:
     """The words of an act, so many micrometres higher, in the form of the language that it is in."""
     numbers = {"line": [4], "move": [4], "curve": [4, 7, 10]}.get(words[1], [])
-    return " ".join(choreo.word_of(choreo.COORDINATE, choreo.number_of(choreo.COORDINATE, word, form) + by, form)
+    return " ".join(choreo.word_of(choreo.COORDINATE, choreo.value_of(0, choreo.COORDINATE, word, form) + by, form)
                     if k in numbers else word for k, word in enumerate(words))
 
 
-def acts_of(flown: choreo.Flown, lines: list, cue: int, names: set) -> tuple:
+def acts_of(flown: choreo.Flown, lines: list[bytes], cue: int,
+            names: set[str]) -> tuple[list[bytes], dict[str, list[str]]]:
     """The lines of a cue without the acts of some drones, and by name the words of these acts; a `form` line becomes
     acts, where it is for one of the drones."""
-    others, own = [], {}
+    others: list[bytes] = []
+    own: dict[str, list[str]] = {}
     numbers = {flown.cues[cue].acts[name][0]: name for name in names if name in flown.cues[cue].acts}
     for line in cue_line(flown, cue).body:
         if line.kind == "form" and line.number in numbers:
@@ -116,7 +129,7 @@ def acts_of(flown: choreo.Flown, lines: list, cue: int, names: set) -> tuple:
     return others, own
 
 
-def ways_of_lift(flown: choreo.Flown, cue: int, lifts: dict, up: bool):
+def ways_of_lift(flown: choreo.Flown, cue: int, lifts: dict[int, int], up: bool) -> Iterator[bytes]:
     """The acts by which drones go to their heights where a cue begins, or come back where it ends."""
     for drone, by in sorted(lifts.items()):
         x, y, z, yaw = place_at(flown, drone, cue if up else cue + 1)
@@ -124,26 +137,25 @@ def ways_of_lift(flown: choreo.Flown, cue: int, lifts: dict, up: bool):
                       yaw).encode()
 
 
-def written(text: bytes, flown: choreo.Flown, cue: int, remedy: Remedy):
+def written(text: bytes, flown: choreo.Flown, cue: int, remedy: Remedy) -> bytes | None:
     """The show's text with a remedy, or None where it can't be written: a way up or down inside a repeat or a figure,
     whose turns begin at different places, or an act that isn't there."""
     lines, start, form = text.split(b"\n"), flown.cues[cue].number - 1, flown.show.form
     last = next(k for k in range(start, len(lines)) if lines[k].split(b"#")[0].split() == [b"end"])
-    if remedy.how in ("wait", "first"):
-        name = flown.names[remedy.drone]
-        others, own = acts_of(flown, lines, cue, {name})
-        if name not in own:
-            return None
-        rest = [lines[start], *others, b"end"]
-        alone = [line_in(form, "cue", flown.cues[cue].milliseconds).encode(), " ".join(own[name]).encode(), b"end"]
-        new = rest + alone if remedy.how == "wait" else alone + rest
-    else:
+    names = {flown.names[drone]: by for drone, by in sorted(remedy.lifts.items())}
+    others, own = acts_of(flown, lines, cue, set(names))
+    rest = [lines[start], *others]
+    if remedy.how == "lift":
         if flown.cues[cue].within:
             return None
-        others, own = acts_of(flown, lines, cue, {flown.names[drone] for drone in remedy.how})
-        acts = [higher(own[flown.names[drone]], 1000 * by, form).encode() for drone, by in sorted(remedy.how.items())
-                if flown.names[drone] in own]
-        slow = line_in(form, "cue", max(map(lift_time, remedy.how.values()))).encode()
-        new = [slow, *ways_of_lift(flown, cue, remedy.how, True), b"end", lines[start], *others, *acts, b"end",
-               slow, *ways_of_lift(flown, cue, remedy.how, False), b"end"]
+        acts = [higher(own[name], 1000 * by, form).encode() for name, by in names.items() if name in own]
+        slow = line_in(form, "cue", max(map(lift_time, remedy.lifts.values()))).encode()
+        new = [slow, *ways_of_lift(flown, cue, remedy.lifts, True), b"end", *rest, *acts, b"end",
+               slow, *ways_of_lift(flown, cue, remedy.lifts, False), b"end"]
+    else:
+        if not own:
+            return None
+        acts = [" ".join(words).encode() for words in own.values()]
+        alone = [line_in(form, "cue", flown.cues[cue].milliseconds).encode(), *acts, b"end"]
+        new = [*rest, b"end", *alone] if remedy.how == "wait" else [*alone, *rest, b"end"]
     return b"\n".join([*lines[:start], *new, *lines[last + 1:]])
