@@ -15,6 +15,7 @@ from __future__ import annotations
 
 import json
 import sys
+from functools import partial
 from itertools import combinations
 from math import hypot
 from typing import Any
@@ -135,8 +136,8 @@ def margin_data(flown: choreo.Flown, text: bytes, depth: int) -> dict[str, Any]:
     r, h = flown.show.settings["ellipsoid"]
     share, _ = margins.greatest(depth, 100 * 2000 // max(r, h) + 1, lambda k: margins.with_setting(
         text, "ellipsoid", max(1, r * k // 100), max(1, h * k // 100)))
-    return {"ellipsoid_percent": share, **{word: margins.greatest(
-        depth, margins.MOST + 1, lambda k, word=word: margins.with_setting(text, word, k))[0]
+    return {"ellipsoid_percent": share, **{
+        word: margins.greatest(depth, margins.MOST + 1, partial(margins.with_setting, text, word))[0]
         for word in ("stray", "late")}}
 
 

@@ -12,13 +12,46 @@ every tree is right will do, since each of them shows that all drones are apart 
 certificate is right. 12: it isn't, and the first tree that can't be right is named. 11: it is no certificate. 70: a
 file can't be read or is no plan of this show.
 """
+from __future__ import annotations
+
 import sys
 if __name__ == "__main__" and not sys.flags.isolated:
     sys.path[:1] = []  # Python's own modules alone, whatever lies beside this file
 import os
 import re
+from collections.abc import Iterator, Sequence
 from itertools import combinations, product
 from math import comb, gcd, isqrt
+from typing import Dict, List, NamedTuple, NoReturn, Tuple
+
+Rows = List[List[str]]  # lines as words
+Curve = List[int]  # its control values on an axis
+Counts = Tuple[Dict[str, int], int]
+Direction = Tuple[int, int, int]
+Ruler = Tuple[Direction, int]  # a direction's weights, and how far apart drones have to be by them
+
+
+class Segment(NamedTuple):
+    """What a drone flies between two instants in milliseconds, on x, y and z in millimetres, and whether it holds."""
+    begin: int
+    end: int
+    axes: list[Curve]
+    holds: bool
+
+
+class Drone(NamedTuple):
+    """A drone of a plan."""
+    name: str
+    segments: list[Segment]
+
+
+class Certificate(NamedTuple):
+    """A certificate: its depth, its table of directions by their words, and the lines of its trees."""
+    depth: int
+    words: dict[str, Direction]
+    trees: list[str]
+    version: int
+
 
 LARGEST = {"show": 1048576, "plan": 1 << 22, "certificate": 400000000}  # bytes
 LIMITS = {"ellipsoid": (1, 2000), "stray": (0, 1000), "late": (0, 1000)}
@@ -31,7 +64,7 @@ MICROMETRES, MILLIMETRES, MILLISECONDS, TENTHS = [
 COUNTED = {"ellipsoid": MILLIMETRES, "stray": MILLIMETRES, "late": MILLISECONDS}
 
 
-def stop(text, status=70):
+def stop(text: str, status: int = 70) -> NoReturn:
     """Ends with a line: on standard output where the certificate was judged."""
     stream = sys.stderr if status == 70 else sys.stdout
     try:
@@ -43,7 +76,7 @@ def stop(text, status=70):
     sys.exit(status)
 
 
-def read(path, kind):
+def read(path: str, kind: str) -> bytes:
     """The bytes of a file, if they aren't too many; no more of them are read."""
     try:
         with open(path, "rb") as file:
@@ -53,7 +86,7 @@ def read(path, kind):
     return data if len(data) <= LARGEST[kind] else stop("%s: a %s of more than %d bytes" % (path, kind, LARGEST[kind]))
 
 
-def lines_of_show(path):
+def lines_of_show(path: str) -> Rows:
     """The lines of the show as words, without comments, the first of them its form."""
     lines = read(path, "show").decode("latin-1").split("\n")
     rows = [row for row in (line.partition("#")[0].split() for line in lines) if row]
@@ -62,13 +95,13 @@ def lines_of_show(path):
     return rows
 
 
-def value_of(show, word, counts):
+def value_of(show: Rows, word: str, counts: Counts) -> int | None:
     """The whole number that a word of a show is in a place that counts this; None where it is none."""
     if show[0] == ["choreo", "1"] or NUMBER.fullmatch(word):
-        found = NUMBER.fullmatch(word) and word.lstrip("-").lstrip("0")
-        if found is None or len(found) > 40 or found and show[0] == ["choreo", "2"]:
+        digits = word.lstrip("-").lstrip("0")
+        if not NUMBER.fullmatch(word) or len(digits) > 40 or digits and show[0] == ["choreo", "2"]:
             return None  # in `choreo 2` zero alone has no unit
-        return int("-" * (word[0] == "-") + (found or "0"))
+        return int("-" * (word[0] == "-") + (digits or "0"))
     (units, least), found = counts, QUANTITY.fullmatch(word)
     if found is None or found[4] not in units:
         return None
@@ -79,19 +112,20 @@ def value_of(show, word, counts):
     return None if rest else -size if found[1] else size
 
 
-def setting(show, word, *default):
+def setting(show: Rows, word: str, *default: int) -> Sequence[int]:
     """The numbers of the show's line of this word, which stands at most once outside of blocks."""
     low, high = LIMITS[word]
     found = [row[1:] for row in outside(show) if row[0] == word]
     if not found:
         return default
-    values = [value_of(show, it, COUNTED[word]) for it in found[0]]
-    if len(found) > 1 or len(values) != len(default) or not all(it is not None and low <= it <= high for it in values):
+    read = [value_of(show, it, COUNTED[word]) for it in found[0]]
+    values = [value for value in read if value is not None and low <= value <= high]
+    if len(found) > 1 or not len(read) == len(values) == len(default):
         stop("the show's line `%s` is faulty" % word)
-    return tuple(values)
+    return values
 
 
-def outside(show):
+def outside(show: Rows) -> Iterator[list[str]]:
     """The lines outside of formations, figures, repeats and cues: in these the first word may be a drone's name."""
     depth = 0
     for row in show[1:]:
@@ -104,21 +138,22 @@ def outside(show):
             yield row
 
 
-def starts_of(show):
+def starts_of(show: Rows) -> list[tuple[str, list[int]]]:
     """The show's drones: their names, and their first places in millimetres with the yaw in tenths of a degree."""
     out = []
     for row in outside(show):
         if row[0] == "drone":
-            values = [value_of(show, it, counts) for it, counts in zip(row[2:], [*[MICROMETRES] * 3, TENTHS])]
-            if len(row) != 6 or None in values:
+            read = (value_of(show, it, counts) for it, counts in zip(row[2:], [*[MICROMETRES] * 3, TENTHS]))
+            values = [value for value in read if value is not None]
+            if len(row) != 6 or len(values) != 4:
                 stop("the show's line `%s` is faulty" % " ".join(row)[:60])
             out.append((row[1], [*((v + 500) // 1000 for v in values[:3]), values[3]]))
     return out
 
 
-def trajectory(data, pieces):
-    """A trajectory's segments as (begin, end, [x, y, z], whether it holds), in milliseconds and millimetres."""
-    def number(at):
+def trajectory(data: bytes, pieces: int) -> list[Segment]:
+    """A trajectory's segments."""
+    def number(at: int) -> int:
         return int.from_bytes(data[at:at + 2], "little", signed=True)
     last, at, time, out = [number(k) for k in (0, 2, 4, 6)], 8, 0, []
     if not 1 <= pieces <= 255 or not 8 <= len(data) <= 4096:
@@ -134,19 +169,19 @@ def trajectory(data, pieces):
             last[axis] = axes[-1][-1]
         if milliseconds == 0:
             raise ValueError("a segment of duration 0")
-        out.append((time, time + milliseconds, axes[:3], header == 0))
+        out.append(Segment(time, time + milliseconds, axes[:3], header == 0))
         time += milliseconds
     if len(data) != at + 3 or any(data[at:]):
         raise ValueError("%d bytes for %d segments" % (len(data), pieces))
     return out
 
 
-def bytes_of(words):
+def bytes_of(words: list[str]) -> bytes:
     """The bytes of words of two hexadecimal digits."""
     return bytes.fromhex("".join(word if len(word) == 2 else "?" for word in words))
 
 
-def are_packets_of(data, pieces, packets):
+def are_packets_of(data: bytes, pieces: int, packets: list[tuple[str, bytes]]) -> bool:
     """Whether packets bring these bytes into a memory, from their offset on, name them as so many segments, and start
     them: docs/RADIO.md."""
     *writes, (define, named), (start, begun) = packets if len(packets) > 2 else [("", b"")] * 3
@@ -159,8 +194,8 @@ def are_packets_of(data, pieces, packets):
             and start == "start" and begun == bytes([0x8C, 5, 0, 0, 0, named[2], 0, 0, 0x80, 0x3F]))
 
 
-def drone_of(lines):
-    """A drone of a plan, from its lines as words: name, segments, and its first place."""
+def drone_of(lines: Rows) -> tuple[Drone, list[int]]:
+    """A drone of a plan, from its lines as words, and its first place."""
     (_, name, *sizes), (word, *digits), *packets = lines
     if word != "data" or sizes[0::2] != ["bytes", "pieces"] or len(sizes) != 4:
         raise ValueError("this is no drone of a plan")
@@ -168,10 +203,10 @@ def drone_of(lines):
     segments = trajectory(data, pieces)
     if int(sizes[1]) != len(data) or not are_packets_of(data, pieces, [(it[0], bytes_of(it[1:])) for it in packets]):
         raise ValueError("the packets don't bring the bytes of %s" % name)
-    return name, segments, [int.from_bytes(data[k:k + 2], "little", signed=True) for k in (0, 2, 4, 6)]
+    return Drone(name, segments), [int.from_bytes(data[k:k + 2], "little", signed=True) for k in (0, 2, 4, 6)]
 
 
-def plan_of(path, starts):
+def plan_of(path: str, starts: list[tuple[str, list[int]]]) -> list[Drone]:
     """The drones of a plan, which has to be whole and one of these drones, each with its name and its segments."""
     lines = read(path, "plan").decode("latin-1").split("\n")
     if lines[0] != "plan 1" or lines[-2:] != ["end", ""]:
@@ -184,42 +219,43 @@ def plan_of(path, starts):
             drones.append(drone_of(words[first:last]))
         except (ValueError, IndexError) as error:
             stop("%s, from line %d on: %s" % (path, first + 2, error))
-    if edges[0] or [(word, start) for word, _, start in drones] != starts:
+    if edges[0] or [(drone.name, start) for drone, start in drones] != starts:
         stop("%s: its drones, or the places where they start, aren't those of the show" % path)
-    if not drones or len({segments[-1][1] for _, segments, _ in drones}) > 1:
+    if not drones or len({drone.segments[-1].end for drone, _ in drones}) > 1:
         stop("%s: it has no drones, or they fly for different times" % path)
-    return [(name, segments) for name, segments, _ in drones]
+    return [drone for drone, _ in drones]
 
 
-def intervals_of(drones):
+def intervals_of(drones: list[Drone]) -> list[tuple[list[list[Curve]], bool]]:
     """The stretches between which no drone has an edge; for each the three curves of each drone, and whether all
     hold."""
-    edges = sorted({0, *(segment[1] for _, segments in drones for segment in segments)})
+    edges = sorted({0, *(segment.end for drone in drones for segment in drone.segments)})
     at, out = [0] * len(drones), []
     for begin, end in zip(edges, edges[1:]):
         curves, hold = [], True
         for k, (name, segments) in enumerate(drones):
-            while segments[at[k]][1] <= begin:
+            while segments[at[k]].end <= begin:
                 at[k] += 1
-            first, last, axes, holds = segments[at[k]]
-            if (first, last) != (begin, end) and not holds:
-                stop("the plan's drones have no common cues: %s moves from %d to %d ms" % (name, first, last))
-            curves.append(axes)
-            hold = hold and holds
+            own = segments[at[k]]
+            if (own.begin, own.end) != (begin, end) and not own.holds:
+                stop("the plan's drones have no common cues: %s moves from %d to %d ms" % (name, own.begin, own.end))
+            curves.append(own.axes)
+            hold = hold and own.holds
         out.append((curves, hold))
     return out
 
 
-def raised(b):
+def raised(b: Curve) -> Curve:
     """The eight control values of degree seven of 5,040 times a curve."""
     n = len(b) - 1
     return [5040 // comb(7, k) * sum(comb(n, j) * comb(7 - n, k - j) * b[j]
                                      for j in range(n + 1) if j <= k <= 7 - n + j) for k in range(8)]
 
 
-def halves(b):
+def halves(b: Curve) -> tuple[Curve, Curve]:
     """Both halves of a curve, each times 2^7, by de Casteljau's rule."""
-    left, right = [], []
+    left: Curve = []
+    right: Curve = []
     for k in range(8):
         left.append(b[0] << 7 - k)
         right.insert(0, b[-1] << 7 - k)
@@ -227,20 +263,20 @@ def halves(b):
     return left, right
 
 
-def reach_of(drones, late):
+def reach_of(drones: list[Drone], late: int) -> list[int]:
     """How many millimetres any drone moves on each axis in so many milliseconds at most."""
     fastest = [0, 0, 0]
-    for begin, end, axes in (segment[:3] for _, segments in drones for segment in segments if late):
-        for axis, b in enumerate(axes):
+    for own in (segment for drone in drones for segment in drone.segments if late):
+        for axis, b in enumerate(own.axes):
             parts = [raised(b)]
             for _ in range(6):
                 parts = [half for part in parts for half in halves(part)]
             step = max(abs(v - u) for part in parts for u, v in zip(part, part[1:]))
-            fastest[axis] = max(fastest[axis], -(-7000000 * step // (5040 * (end - begin) << 36)))
+            fastest[axis] = max(fastest[axis], -(-7000000 * step // (5040 * (own.end - own.begin) << 36)))
     return [min(65536, -(-late * speed // 1000000)) for speed in fastest]
 
 
-def ruler(n, r, h, stray, reach):
+def ruler(n: Direction, r: int, h: int, stray: int, reach: Sequence[int]) -> Ruler:
     """A direction's weights, and how far apart drones have to be by them."""
     w = h * n[0], h * n[1], r * n[2]
     strays = 4 * stray * stray * sum(v * v for v in w)
@@ -248,7 +284,7 @@ def ruler(n, r, h, stray, reach):
                + sum(abs(v) * far for v, far in zip(w, reach)))
 
 
-def tokens(line, width):
+def tokens(line: str, width: int) -> list[str] | None:
     """A tree's nodes: `.` and words of a given number of bytes; None where the line isn't one whole tree."""
     nodes, owed, at = [], 1, 0
     while at < len(line) and owed:
@@ -258,8 +294,8 @@ def tokens(line, width):
     return nodes if owed == 0 and at == len(line) else None
 
 
-def certificate_of(path):
-    """The depth, the table of directions by their words, and the lines of the trees of a certificate."""
+def certificate_of(path: str) -> Certificate:
+    """The certificate of a file."""
     lines = read(path, "certificate").decode("latin-1").split("\n")
     lines = [line[:-1] if line.endswith("\r") and k < len(lines) - 1 else line for k, line in enumerate(lines)]
     lines = lines[:-1] if lines[-1] == "" else lines
@@ -273,10 +309,10 @@ def certificate_of(path):
         nodes = tokens(line, version)
         if nodes is None or not all(node == "." or node in words for node in nodes):
             stop("error 11 line %d" % number, 11)
-    return int(lines[version - 1][-1]), words, lines[version:], version
+    return Certificate(int(lines[version - 1][-1]), words, lines[version:], version)
 
 
-def is_right(nodes, first, second, depth, rulers):
+def is_right(nodes: list[str], first: list[Curve], second: list[Curve], depth: int, rulers: dict[str, Ruler]) -> bool:
     """Whether a tree shows two drones to be apart while they fly these curves."""
     stack = [([[v - u for u, v in zip(raised(a), raised(b))] for a, b in zip(first, second)], 0)]
     for node in nodes:
@@ -293,9 +329,9 @@ def is_right(nodes, first, second, depth, rulers):
     return True
 
 
-def judge(drones, depth, words, trees, version, kept):
+def judge(drones: list[Drone], given: Certificate, rulers: dict[str, Ruler]) -> tuple[str, int]:
     """What is said of a certificate, and the status."""
-    rulers = {word: ruler(n, *kept) for word, n in words.items()}
+    depth, _, trees, version = given
     pairs, intervals = list(combinations(range(len(drones)), 2)), intervals_of(drones)
     if not pairs:
         return ("extra: a show of one drone has no tree", 12) if trees else ("valid: one drone", 0)
@@ -306,10 +342,11 @@ def judge(drones, depth, words, trees, version, kept):
         ahead.discard(len(intervals))
         for p, (i, j) in enumerate(pairs):
             number = p * cues + cue
-            name = "pair %s %s cue %d" % (drones[i][0], drones[j][0], cue + 1)
+            name = "pair %s %s cue %d" % (drones[i].name, drones[j].name, cue + 1)
             if number >= len(trees):
                 return "missing %s" % name, 12
-            nodes, curves = tokens(trees[number], version), [(k, intervals[k][0][i], intervals[k][0][j]) for k in ahead]
+            nodes = tokens(trees[number], version) or []
+            curves = [(k, intervals[k][0][i], intervals[k][0][j]) for k in ahead]
             ahead = {k for k, first, second in curves if is_right(nodes, first, second, depth, rulers)}
             if not ahead:
                 return "refused at tree %d, %s" % (number + 1, name), 12
@@ -319,17 +356,18 @@ def judge(drones, depth, words, trees, version, kept):
     return "valid depth %d trees %d" % (depth, len(trees)), 0
 
 
-def main(words):
+def main(words: list[str]) -> int:
     """Judges a certificate; the status."""
     if len(words) != 3 or words[0] in ("-h", "--help"):
         is_help = words[:1] in (["-h"], ["--help"])
-        print(__doc__.strip(), file=sys.stdout if is_help else sys.stderr)
+        print((__doc__ or "").strip(), file=sys.stdout if is_help else sys.stderr)
         return 0 if is_help else 70
     show = lines_of_show(words[0])
     drones, certificate = plan_of(words[1], starts_of(show)), certificate_of(words[2])
     reach = reach_of(drones, *setting(show, "late", 0))
-    kept = *setting(show, "ellipsoid", 120, 300), *setting(show, "stray", 0), reach
-    return stop(*judge(drones, *certificate, kept))
+    (r, h), (stray,) = setting(show, "ellipsoid", 120, 300), setting(show, "stray", 0)
+    rulers = {word: ruler(n, r, h, stray, reach) for word, n in certificate.words.items()}
+    return stop(*judge(drones, certificate, rulers))
 
 
 if __name__ == "__main__":

@@ -10,14 +10,18 @@ or room are worked out by the tool, and what is refused is marked, the pair that
 one drawing, of positions that the tool works out. The page looks at single instants and proves nothing. Status 0: the
 page is written, also of a show that is refused with 4 or 5; 3: the show is faulty. 70: no answer.
 """
+from __future__ import annotations
+
+import argparse
 import json
 import os
 import sys
+from typing import Any
 
 from hemtoghai import program
 from hemtoghai.companion import add_depth, ask_dynamics, begins, cue_words, flown_of, missing, parser, read_file
 from hemtoghai.geometry import separation
-from hemtoghai.language import choreo
+from hemtoghai.language.choreo import Flown
 from hemtoghai.seeing import drawing
 from hemtoghai.seeing.sampling import ask, blocked_marks, boxes_said, played, regions_of, shares, step_of, worked_out
 
@@ -26,20 +30,16 @@ PAGE, VIEW = [os.path.join(program.PACKAGE, "seeing", name) for name in ("pictur
 
 # ---- what is refused
 
-def judged(flown, text, options):
+def judged(text: bytes, options: argparse.Namespace) -> tuple[str, int, str]:
     """The line of `check`, its status, and who says so."""
     answer = ask(options.program, ["check", "--depth", str(options.depth)], text)
     if answer and answer[0] in (0, 4, 5):
         return answer[1].strip(), answer[0], "check"
-    try:
-        choreo.judge_room(flown)
-        separation.judge_separation(flown, options.depth)
-    except choreo.Refused as refusal:
-        return str(refusal), refusal.status, "this tool"
-    return "nothing is refused", 0, "this tool"
+    refusal = separation.refusal_of(text, options.depth)
+    return (str(refusal), refusal.status, "this tool") if refusal else ("nothing is refused", 0, "this tool")
 
 
-def motion_said(options, text, flown):
+def motion_said(options: argparse.Namespace, text: bytes, flown: Flown) -> str:
     """What `dynamics` says of the show: for the drone with the greatest acceleration, and for that with the greatest
     jump of speed, a few words; that it wasn't asked where the program isn't there or refuses the show."""
     motions = ask_dynamics(text, options.program)
@@ -55,9 +55,9 @@ def motion_said(options, text, flown):
         force, axis, drone, jumps if jump else "no speed jumps")
 
 
-def picture_of(options, text, flown):
+def picture_of(options: argparse.Namespace, text: bytes, flown: Flown) -> dict[str, Any]:
     """What the page shows, as data."""
-    line, status, judge = judged(flown, text, options)
+    line, status, judge = judged(text, options)
     step, marks = step_of(flown, options.step), blocked_marks(flown, options.depth) if status == 5 else []
     answer = None
     if status == 0:
@@ -84,7 +84,7 @@ def picture_of(options, text, flown):
     }
 
 
-def step(word):
+def step(word: str) -> int:
     """Milliseconds from one sample to the next."""
     if not word.isdigit() or len(word) > 9 or not 1 <= int(word) <= 60000:
         raise ValueError
@@ -108,8 +108,8 @@ def main(words: list[str]) -> int:
         return 0
     data = picture_of(options, text, flown)
     # In a script `<` could begin an end tag.
-    words = json.dumps(data, separators=(",", ":")).replace("<", "\\u003C")
-    sys.stdout.write(read_file(PAGE).decode().replace("/*VIEW*/", read_file(VIEW).decode()).replace("/*DATA*/", words))
+    said = json.dumps(data, separators=(",", ":")).replace("<", "\\u003C")
+    sys.stdout.write(read_file(PAGE).decode().replace("/*VIEW*/", read_file(VIEW).decode()).replace("/*DATA*/", said))
     print("picture: %s; a sample every %d ms; positions by %s" % (
         data["line"], data["step"], "the program's play" if data["source"] == "play" else "this tool"), file=sys.stderr)
     if data["judge"] != "check":

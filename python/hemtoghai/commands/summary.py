@@ -6,13 +6,16 @@ there are none. Speeds are looked at in 32 places a cue, from the curves as they
 ellipsoid, the stray and the lateness are each grown as far as `check` still accepts the show, the other two as they are
 set. The status is 0, or that of a faulty show. 70: no answer.
 """
-from math import hypot
+from __future__ import annotations
 
-from hemtoghai.companion import (add_depth, ask_check, ask_dynamics, begins, flown_of, many, missing, no_program,
-                                 parser, place, seconds, value)
+from collections.abc import Iterable, Sequence
+from math import hypot, inf
+
+from hemtoghai.companion import (add_depth, ask_check, ask_dynamics, begins, flown_of, many, missing, Motion,
+                                 no_program, parser, place, seconds, value)
 from hemtoghai.flying import legs
 from hemtoghai.geometry import separation
-from hemtoghai.language import choreo
+from hemtoghai.language.choreo import Flown
 from hemtoghai.language.lines import line_in
 from hemtoghai.writing.margins import greatest, MOST, with_setting
 
@@ -20,14 +23,15 @@ PLACES = 32
 LEAST = 0.03  # metres a second: what a jump is at most that comes of rounding
 
 
-def rates(row, seconds_):
+def rates(row: Sequence[float], seconds_: float) -> list[float]:
     """The control values of a curve's rate of change in a second."""
     return [(len(row) - 1) * (b - a) / seconds_ for a, b in zip(row, row[1:])] or [0.0]
 
 
-def look(flown, drone):
+def look(flown: Flown, drone: int) -> tuple[float, list[tuple[float, float]]]:
     """A drone's top speed in metres a second, and its box in mm."""
-    speed, box = 0, [[], [], []]
+    speed = 0.0
+    box: list[list[float]] = [[], [], []]
     for milliseconds, elements in flown.by_cue[drone]:
         first = [rates(row, milliseconds / 1000) for row in elements[:3]]
         for at in range(PLACES + 1):
@@ -38,17 +42,17 @@ def look(flown, drone):
     return speed, [(min(row), max(row)) for row in box]
 
 
-def triple(numbers):
+def triple(numbers: Iterable[float]) -> str:
     """Three numbers as they are printed."""
     return ", ".join("%.2f" % v for v in numbers)
 
 
-def print_drones(flown, motions):
+def print_drones(flown: Flown, motions: dict[str, Motion] | None) -> None:
     """Prints a line for each drone."""
     room = flown.room()
     print("%-16s %6s %6s %6s %8s  %-19s %-19s %-8s %s" % (
         "drone", "bytes", "of", "pieces", "m/s", "m/s2: x, y, z", "jump m/s: x, y, z", "in cues", "box in mm: x, y, z"))
-    most = 0
+    most = 0.0
     for k, (name, data, segments) in enumerate(zip(flown.names, flown.data(), flown.sent)):
         speed, box = look(flown, k)
         forces, jumps, cues = motions[name] if motions else ((), (), ())
@@ -66,12 +70,12 @@ def print_drones(flown, motions):
         print("docs/LANGUAGE.md, How fast, says more.")
 
 
-def print_cues(flown):
+def print_cues(flown: Flown) -> None:
     """Prints the cue sheet."""
     print("%5s %12s %12s  %-12s %s" % ("cue", "from", "to", "line", "who does what"))
     times = begins(flown)
     for k, cue in enumerate(flown.cues):
-        by_act = {}
+        by_act: dict[str, list[str]] = {}
         for name, (_, act, _) in cue.acts.items():
             by_act.setdefault(act, []).append(name)
         words = ["%s %s" % (act, ", ".join(names[:6]) + (" .." if len(names) > 6 else ""))
@@ -80,35 +84,35 @@ def print_cues(flown):
             k + 1, seconds(times[k]), seconds(times[k + 1]), cue.number, "; ".join(words) or "all hold"))
 
 
-def print_nearest(flown, most):
+def print_nearest(flown: Flown, most: int) -> None:
     """Prints the pairs that come nearest, measured by their ellipsoids."""
     r, h = flown.show.settings["ellipsoid"]
     rows, times = [], begins(flown)
     for i in range(len(flown.names)):
         for j in range(i + 1, len(flown.names)):
-            best = None
+            best = inf, i, j, 0, 0.0
             for cue in range(len(flown.cues)):
                 first, second = flown.by_cue[i][cue][1], flown.by_cue[j][cue][1]
                 gap = [max(0, min(b) - max(a), min(a) - max(b)) for a, b in zip(first[:3], second[:3])]
-                if best is None or hypot(gap[0] / r, gap[1] / r, gap[2] / h) / 2 < best[0].share:
+                if hypot(gap[0] / r, gap[1] / r, gap[2] / h) / 2 < best[0]:
                     near = separation.Nearest(separation.difference(first, second), r, h)
-                    best = (near, cue) if best is None or near.share < best[0].share else best
-            rows.append((best[0].share, i, j, best[1], best[0].at))
+                    best = (near.share, i, j, cue, near.at) if near.share < best[0] else best
+            rows.append(best)
     for share, i, j, cue, u in sorted(rows)[:most]:
-        first, second = place(flown, i, cue, u), place(flown, j, cue, u)
+        at, other = place(flown, i, cue, u), place(flown, j, cue, u)
         words = "%s and %s: %.0f %% of the distance at which their ellipsoids touch, %.0f mm to the side and %.0f " \
                 "up, at %s in cue %d"
         print(words % (
-            flown.names[i], flown.names[j], 100 * share, hypot(first[0] - second[0], first[1] - second[1]),
-            abs(first[2] - second[2]), seconds(times[cue] + flown.cues[cue].milliseconds * u), cue + 1))
+            flown.names[i], flown.names[j], 100 * share, hypot(at[0] - other[0], at[1] - other[1]),
+            abs(at[2] - other[2]), seconds(times[cue] + flown.cues[cue].milliseconds * u), cue + 1))
 
 
-def in_words(flown: choreo.Flown, word: str, *numbers: int) -> str:
+def in_words(flown: Flown, word: str, *numbers: int) -> str:
     """What stands after a setting's word in the show's form of the language."""
     return line_in(flown.show.form, word, *numbers).partition(" ")[2]
 
 
-def print_margin(flown, text, deep):
+def print_margin(flown: Flown, text: bytes, deep: int) -> None:
     """Prints by how much the ellipsoid can grow, in whole percent, and the stray and the lateness, in whole millimetres
     and milliseconds."""
     (r, h), (stray,), (late,) = [flown.show.settings[word] for word in ("ellipsoid", "stray", "late")]
@@ -125,7 +129,7 @@ def print_margin(flown, text, deep):
         print("as the tool works it out: " + missing())
 
 
-def print_strays(flown: choreo.Flown, text: bytes, deep: int) -> None:
+def print_strays(flown: Flown, text: bytes, deep: int) -> None:
     """Prints by how much the stray and the lateness can grow, each while the other is as it is."""
     for word, other, unit in (("stray", "late", "mm"), ("late", "stray", "ms")):
         others = "%s %s" % (other, in_words(flown, other, *flown.show.settings[other]))
@@ -137,14 +141,14 @@ def print_strays(flown: choreo.Flown, text: bytes, deep: int) -> None:
                 word, most, unit, others, "; above that " + above if above else ", which is the most there is"))
 
 
-def print_ways(flown):
+def print_ways(flown: Flown) -> None:
     """Prints the ways up from pads straight below the first places, and down to them, or why there are none."""
-    rules, (firsts, lasts, begin, end) = legs.Rules(flown.show.settings), legs.places_of(flown)
+    rules, (firsts, lasts, begin, end) = legs.Rules({**flown.show.settings}), legs.places_of(flown)
     pads = legs.below(firsts)
-    for name, way in (("up", lambda: legs.way_up(flown.names, pads, firsts, begin, rules)),
-                      ("down", lambda: legs.down(flown.names, pads, lasts, end, rules))):
+    for name in ("up", "down"):
         try:
-            leg = way()
+            leg = (legs.way_up(flown.names, pads, firsts, begin, rules) if name == "up" else
+                   legs.down(flown.names, pads, lasts, end, rules))
             print("way %s with pads below the first places: %s, %.1f s, judged %s; ./show legs has the rest" % (
                 name, many(len(leg.stages), "stage"), leg.milliseconds() / 1000,
                 "as a whole" if leg.whole else "stage by stage"))

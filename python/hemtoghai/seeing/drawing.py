@@ -1,13 +1,22 @@
 """One drawing of a show in space, as SVG: paths, and the drones with their ellipsoids at two instants. For
 ./show picture."""
+from __future__ import annotations
+
+from collections.abc import Iterable, Iterator, Sequence
 from math import cos, hypot, radians, sin
+from typing import Tuple
+
+from hemtoghai.language.choreo import Flown
+
+Place = Sequence[float]  # in millimetres
+Point = Tuple[float, float]  # of the drawing
 
 WIDTH, GAP = 880, 40
 TURN, TILT = 28, 30  # degrees
 FEW = ["#0072b2", "#d55e00", "#008a64", "#b8478f", "#7a5c00", "#5b3fb0", "#0092a8", "#a01830"]
 
 
-def colour(k, count):
+def colour(k: int, count: int) -> str:
     """A drone's colour, as on the page."""
     if count <= len(FEW):
         return FEW[k]
@@ -19,37 +28,37 @@ def colour(k, count):
 class View:
     """From places in millimetres to points of the drawing."""
 
-    def __init__(self, low, high):
+    def __init__(self, low: Place, high: Place) -> None:
         turn, tilt = radians(TURN), radians(TILT)
         self.turn, self.tilt = (cos(turn), sin(turn)), (cos(tilt), sin(tilt))
         self.centre = [(a + b) / 2 for a, b in zip(low, high)]
         corners = [self.flat((x, y, z)) for x in (low[0], high[0]) for y in (low[1], high[1])
                    for z in (low[2], high[2])]
         self.scale = (WIDTH - 2 * GAP) / (2 * max(corner[0] for corner in corners))
-        self.above, self.height = 0, 0
+        self.above, self.height = 0.0, 0
 
-    def fit(self, places, up):
+    def fit(self, places: Iterable[Place], up: float) -> None:
         """Leaves room above and below for these places, and above for so many millimetres more."""
         heights = [self.flat(place)[1] for place in places]
         self.above = (max(heights) + up) * self.scale + GAP
         self.height = round(self.above - min(heights) * self.scale + GAP)
 
-    def flat(self, place):
+    def flat(self, place: Place) -> tuple[float, float, float]:
         """To the right, up, and away from whoever looks, in millimetres from the middle."""
         dx, dy, dz = (v - c for v, c in zip(place, self.centre))
         (ca, sa), (ce, se) = self.turn, self.tilt
         far = ca * dy - sa * dx
         return ca * dx + sa * dy, far * se + dz * ce, far * ce - dz * se
 
-    def point(self, place):
+    def point(self, place: Place) -> Point:
         """The point of a place."""
         x, y, _ = self.flat(place)
         return WIDTH / 2 + self.scale * x, self.above - self.scale * y
 
 
-def coordinates(points):
+def coordinates(points: Iterable[Point]) -> str:
     """Points as the words of a line of SVG, without those that lie on the line between their neighbours."""
-    kept = []
+    kept: list[Point] = []
     for x, y in points:
         if len(kept) > 1:
             (ax, ay), (bx, by) = kept[-2:]
@@ -62,7 +71,7 @@ def coordinates(points):
     return " ".join("%.1f,%.1f" % point for point in kept)
 
 
-def floor_lines(view, low, high):
+def floor_lines(view: View, low: Place, high: Place) -> Iterator[str]:
     """The lines of a floor at the height 0, half a metre or a metre apart."""
     step = 500 if max(high[0] - low[0], high[1] - low[1]) < 6000 else 1000
     for axis in (0, 1):
@@ -75,7 +84,7 @@ def floor_lines(view, low, high):
             yield '<polyline points="%s" fill="none" stroke="#ddd"/>' % coordinates(ends)
 
 
-def drone_lines(view, flown, row, k, opacity):
+def drone_lines(view: View, flown: Flown, row: Place, k: int, opacity: float) -> Iterator[str]:
     """A drone with its ellipsoid and its way down to the floor."""
     r, h = flown.show.settings["ellipsoid"]
     (x, y), (_, low), shade = view.point(row[:3]), view.point((*row[:2], 0)), colour(k, len(flown.names))
@@ -87,16 +96,16 @@ def drone_lines(view, flown, row, k, opacity):
     yield '<circle cx="%.1f" cy="%.1f" r="3" fill="%s" fill-opacity="%.2f"/>' % (x, y, shade, opacity)
 
 
-def drawing_of(flown, times, places):
+def drawing_of(flown: Flown, times: Sequence[int], places: Sequence[Sequence[Place]]) -> str:
     """The text of the drawing: the floor, all paths, the drones at their starts, faint, and in the first cue in which
     they fly."""
     r, h = flown.show.settings["ellipsoid"]
-    rows = [place[:3] for row in places for place in row]
+    rows: list[Place] = [place[:3] for row in places for place in row]
     low = [min(row[k] for row in rows) - r for k in range(3)]
     high = [max(row[k] for row in rows) + (r if k < 2 else h) for k in range(3)]
     low[2] = min(0, low[2])
     view = View(low, high)
-    floor = [(x, y, 0) for x in (low[0], high[0]) for y in (low[1], high[1])]
+    floor: list[Place] = [(x, y, 0) for x in (low[0], high[0]) for y in (low[1], high[1])]
     view.fit(rows + floor, hypot(r * view.tilt[1], h * view.tilt[0]))
     out = ['<svg xmlns="http://www.w3.org/2000/svg" viewBox="0 0 %d %d" width="%d" height="%d">' % (
                WIDTH, view.height, WIDTH, view.height),
@@ -113,7 +122,7 @@ def drawing_of(flown, times, places):
     return "\n".join([*out, "</svg>"]) + "\n"
 
 
-def middle(flown, times):
+def middle(flown: Flown, times: Sequence[int]) -> int:
     """The sample nearest to three fifths of the first cue in which drones fly."""
     begin = 0
     for cue in flown.cues:
