@@ -49,7 +49,7 @@ class RoundTrips(Case):
         status, out, said = self.run_tool("export skyc", *words, self.file("plan", flown.plan()), path)
         self.assertEqual(status, 0, said)
         self.assertIn("are their own bytes: nothing is promised of those", out)
-        return foreign.read_skyc(path), path, bound_of(out)
+        return foreign.read_skyc(path, {}), path, bound_of(out)
 
     def both(self, name, flown, tolerance):
         """To .skyc and back: each within its bound, and both within the sum, by exact comparison."""
@@ -119,7 +119,7 @@ class RoundTrips(Case):
             self.assertIn(line, said)
         path = self.file("solo.skyc")
         self.assertEqual(self.run_tool("export skyc", os.path.join(EXAMPLES, "solo.choreo"), path)[0], 0)
-        self.assertEqual([way.name for way in foreign.read_skyc(path)], ["solo"])
+        self.assertEqual([way.name for way in foreign.read_skyc(path, {})], ["solo"])
 
 
 class Judged(Case):

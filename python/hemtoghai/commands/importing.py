@@ -17,20 +17,27 @@ reads the file as its own program flies it.
 Status 0: written, and within the tolerance. 1: written, but farther. 2: wrong words. 3: a faulty file, or too many
 drones or cues, or too far away. 4: no room in a drone's memory. With --judge that of `check`. 70: no answer.
 """
+from __future__ import annotations
+
 import argparse
 import math
 import os
 import sys
+from collections.abc import Callable, Sequence
 from fractions import Fraction
+from typing import Any, List, NamedTuple, NoReturn, Tuple
 
 from hemtoghai import program
 from hemtoghai.commands import why
 from hemtoghai.companion import add_depth, begins, many, parser, stop
 from hemtoghai.exchange import foreign
 from hemtoghai.geometry import fitting, separation
+from hemtoghai.geometry.paths import Path
 from hemtoghai.language import choreo
 from hemtoghai.language.lines import header, line_in, NEWEST
 
+Paths = List[Path[Fraction]]
+Axes = Tuple[int, int]  # half axes of an ellipsoid, in millimetres
 MOST_JUDGED = 20000  # cues of a show that is only judged
 STRETCH = 150  # cues of curves, in 23 bytes each, fit into 4,096
 STEPS = [1, 2, 5, 10, 20, 30, 50, 70, 100, 200, 500, 1000]  # millimetres
@@ -39,31 +46,32 @@ FAULTY = 3
 
 # ---- the ellipsoid, and judging
 
-def grown(wanted, bound):
+def grown(wanted: Axes, bound: Fraction) -> tuple[Fraction, Axes]:
     """The factor 1 + bound / (the smaller half axis), rounded up to a ten-thousandth, and the half axes times that,
     rounded up: around a point such an ellipsoid holds the wanted one around any point within the bound."""
     factor = Fraction(math.ceil(10000 * (1 + bound / min(wanted))), 10000)
-    return factor, tuple(math.ceil(axis * factor) for axis in wanted)
+    return factor, (math.ceil(wanted[0] * factor), math.ceil(wanted[1] * factor))
 
 
-def ask(text, deep):
+def ask(text: str, deep: int) -> tuple[int, str]:
     """The status and the line of `check`."""
     try:
         status, output = program.ask(["check", "--depth", str(deep)], text.encode())
-    except program.Unusable as why:
-        return stop("`check` was not asked: %s" % why)
+    except program.Unusable as fault:
+        return stop("`check` was not asked: %s" % fault)
     return status, output.decode(errors="replace").strip()
 
 
-def judge(fit, head, form: int, wanted, bound, deep):
+def judge(fit: fitting.Fit, head: list[str], form: int, wanted: Axes, bound: Fraction, deep: int) -> int:
     """Says of the file's own curves whether the wanted ellipsoids keep apart; the status of `check`. Stretches that fit
     into a drone's memory are judged one after the other, since a show that is only judged needs no room."""
     for first in range(0, len(fit.cues), STRETCH):
         chosen = slice(first, first + STRETCH)
         status, line = ask(fit.text(head, form, chosen), deep)
-        print("check, from %.3f s on: %s" % (fit.cues[first][0] / 1000, line))
+        begin = fit.cues[first].begin
+        print("check, from %.3f s on: %s" % (begin / 1000, line))
         if status == 5:
-            print_why(fit, fit.text(head, form, chosen, fit.cues[first][0]), wanted, deep)
+            print_why(fit, fit.text(head, form, chosen, begin), wanted, deep)
         elif status:
             print("NO ANSWER on separation: the import is refused for another reason; see docs/COMMANDS.md")
         if status:
@@ -73,7 +81,8 @@ def judge(fit, head, form: int, wanted, bound, deep):
     return 0
 
 
-def share_of(fit, pair, t, wanted):
+def share_of(fit: fitting.Fit, pair: tuple[int, int], t: Fraction,
+             wanted: Axes) -> tuple[Fraction, list[list[Fraction]]]:
     """The square of the share that two drones have by the file, at an instant, of the distance at which ellipsoids
     touch, and their places in micrometres: exact. The ellipsoids share a point where it is at most 1."""
     (r, h), places = wanted, [fit.exact[k].at(t) for k in pair]
@@ -81,12 +90,13 @@ def share_of(fit, pair, t, wanted):
     return (h * h * (x * x + y * y) + r * r * z * z) / (4000000 * r * r * h * h), places
 
 
-def nearest(fit, pair, begin, end, wanted):
+def nearest(fit: fitting.Fit, pair: tuple[int, int], begin: float, end: float, wanted: Axes) -> float:
     """An instant between two at which two drones are nearest by the file, as far as it is looked for in doubles."""
     (r, h), paths = wanted, [fit.paths[k] for k in pair]
 
-    def far(t):
-        x, y, z = (b - a for a, b in zip(*(path.at(t)[:3] for path in paths)))
+    def far(t: float) -> float:
+        first, second = (path.at(t) for path in paths)
+        x, y, z = (b - a for a, b in zip(first[:3], second[:3]))
         return h * h * (x * x + y * y) + r * r * z * z
     step = (end - begin) / 256
     best = min(range(257), key=lambda k: far(begin + k * step))
@@ -97,7 +107,7 @@ def nearest(fit, pair, begin, end, wanted):
     return min((begin + best * step, (low + high) / 2), key=far)
 
 
-def print_why(fit, text, wanted, deep):
+def print_why(fit: fitting.Fit, text: str, wanted: Axes, deep: int) -> None:
     """Says of a refusal for separation whether the file is to blame, where and when, and what `why` says. The
     text begins with a wait, so that its time is the file's."""
     flown, found = choreo.flown_of(text.encode()), []
@@ -126,11 +136,17 @@ def print_why(fit, text, wanted, deep):
 
 # ---- limits
 
-def too_much(fit, head, form: int):
-    """What is too much of an import for a drone or for the language: a status, words, and how many times too much, or 0
-    where less of it doesn't help; or None."""
+class TooMuch(NamedTuple):
+    """What is too much of an import for a drone or for the language."""
+    status: int
+    words: str
+    times: float  # too much; 0 where less of it doesn't help
+
+
+def too_much(fit: fitting.Fit, head: list[str], form: int) -> TooMuch | None:
+    """What is too much of an import, or None."""
     if len(fit.cues) > choreo.MOST_CUES:
-        return FAULTY, "more than %d cues" % choreo.MOST_CUES, len(fit.cues) / choreo.MOST_CUES
+        return TooMuch(FAULTY, "more than %d cues" % choreo.MOST_CUES, len(fit.cues) / choreo.MOST_CUES)
     try:
         flown = choreo.flown_of(fit.text(head, form).encode())
         room = flown.room()
@@ -139,13 +155,14 @@ def too_much(fit, head, form: int):
         choreo.judge_room(flown)
     except choreo.Refused as refusal:
         if refusal.status == FAULTY:
-            return FAULTY, "the import would be refused: %s" % refusal, int(refusal.outcome == "too-large")
-        return refusal.status, "%s would take %d bytes of %d, in %s" % (name, most, room, many(segments, "segment")), (
-            most / room)
+            return TooMuch(FAULTY, "the import would be refused: %s" % refusal, int(refusal.outcome == "too-large"))
+        return TooMuch(refusal.status, "%s would take %d bytes of %d, in %s" % (
+            name, most, room, many(segments, "segment")), most / room)
     return None
 
 
-def tolerance_for(paths, options, head, times, edges):
+def tolerance_for(paths: Paths, options: argparse.Namespace, head: list[str], times: float,
+                  edges: int) -> int | None:
     """A tolerance at which a show fits, or None: greater ones are tried, from the first on at which cubics may have so
     many times fewer pieces. No tolerance does without the edges of rests and corners."""
     for mm in STEPS if edges <= choreo.MOST_CUES else ():
@@ -155,21 +172,20 @@ def tolerance_for(paths, options, head, times, edges):
     return None
 
 
-def stop_for(paths, options, found, head, edges):
+def stop_for(paths: Paths, options: argparse.Namespace, found: TooMuch, head: list[str], edges: int) -> NoReturn:
     """Ends the tool for what is too much, with the tolerance at which the show would fit."""
-    status, words, times = found
-    if not times:
-        stop(words, status)
-    mm = tolerance_for(paths, options, head, times, edges)
-    return stop("%s; %s" % (words, "the show fits with --tolerance %d" % mm if mm else
-                            "no tolerance up to %d mm helps: cut the show into several" % STEPS[-1]), status)
+    if not found.times:
+        stop(found.words, found.status)
+    mm = tolerance_for(paths, options, head, found.times, edges)
+    stop("%s; %s" % (found.words, "the show fits with --tolerance %d" % mm if mm else
+                     "no tolerance up to %d mm helps: cut the show into several" % STEPS[-1]), found.status)
 
 
 # ---- words
 
-def numbers(*limits):
+def numbers(*limits: tuple[int, int]) -> Callable[[str], Any]:
     """A reader of whole numbers in one word."""
-    def read(word):
+    def read(word: str) -> Any:
         found = [int(it) if it.isdigit() and len(it) < 9 else -1 for it in word.replace(",", " ").split()]
         if len(found) != len(limits) or not all(low <= it <= high for it, (low, high) in zip(found, limits)):
             raise argparse.ArgumentTypeError("%r isn't %s" % (word, " and ".join("%d to %d" % it for it in limits)))
@@ -177,16 +193,16 @@ def numbers(*limits):
     return read
 
 
-def amount(most):
+def amount(most: float) -> Callable[[str], float]:
     """A reader of a number above 0."""
-    def read(word):
+    def read(word: str) -> float:
         if not foreign.NUMBER.fullmatch(word) or not 0 < float(word) <= most:
             raise argparse.ArgumentTypeError("%r isn't above 0 and at most %d" % (word, most))
         return float(word)
     return read
 
 
-def options_of(words: list[str]):
+def options_of(words: list[str]) -> argparse.Namespace:
     """The tool's words."""
     reader = parser(__doc__)
     reader.add_argument("--waypoints", action="store_true", help="the files are waypoints, joined by lines")
@@ -217,7 +233,7 @@ def options_of(words: list[str]):
     return options
 
 
-def is_show(files):
+def is_show(files: Sequence[str]) -> bool:
     """Whether the one file is a zip with a show.json, whatever its name."""
     if len(files) != 1 or files[0] == "-":
         return False
@@ -225,7 +241,7 @@ def is_show(files):
     return foreign.is_archive(data) and "show.json" in foreign.Archive(data).names()
 
 
-def paths_of(options):
+def paths_of(options: argparse.Namespace) -> Paths:
     """The paths in the files."""
     try:
         options.skyc = options.skyc or is_show(options.files)
@@ -240,20 +256,20 @@ def paths_of(options):
     return paths
 
 
-def fit_of(paths, options, tolerance):
+def fit_of(paths: Paths, options: argparse.Namespace, tolerance: float) -> fitting.Fit:
     """The cues for paths; those of a show that is written are no more than it may have, and one."""
     return fitting.Fit(paths, tolerance, options.yaw_tolerance, options.least, not options.loose,
                        MOST_JUDGED if options.judge else choreo.MOST_CUES)
 
 
-def say(*words):
+def say(*words: object) -> None:
     """A line for people, beside the show's text."""
     print(*words, file=sys.stderr)
 
 
-def say_cues(fit, bounds):
+def say_cues(fit: fitting.Fit, bounds: list[tuple[Fraction, Fraction]]) -> None:
     """Says what was made of the files, and what can't be flown."""
-    lengths = sorted(length for _, length, _ in fit.cues)
+    lengths = sorted(cue.milliseconds for cue in fit.cues)
     worst = max(range(len(bounds)), key=lambda k: bounds[k])
     say("%s, %.3f s, %s of %d to %d ms; at most %.2f mm from the file at any instant (%s), yaw %.2f degrees" % (
         many(len(bounds), "drone"), fit.end / 1000, many(len(lengths), "cue"), lengths[0], lengths[-1],
@@ -271,7 +287,7 @@ def say_cues(fit, bounds):
         say("the file jumps: %s by %.1f mm at %.3f s; its numbers may be rounded" % (name, jump / 1000, when / 1000))
 
 
-def say_left_out(options, paths):
+def say_left_out(options: argparse.Namespace, paths: Paths) -> None:
     """Says what of the files isn't in the show, and what their places may want."""
     for what, count in options.left_out.items():
         say("LEFT OUT: %s, of %s%s" % (what, many(count, "drone"), (
@@ -281,7 +297,8 @@ def say_left_out(options, paths):
             "a row name,x,y,z in metres for each file" % len(paths))
 
 
-def head_of(options, bound, turned, factor, large):
+def head_of(options: argparse.Namespace, bound: Fraction, turned: Fraction, factor: Fraction,
+            large: Axes) -> list[str]:
     """The first lines of the show: source, bound and factor, and the settings."""
     names = [os.path.basename(path) for path in options.files]
     source = "".join(it if 32 <= ord(it) < 127 else "?" for it in ", ".join(names[:3]))
@@ -304,7 +321,7 @@ def main(words: list[str]) -> int:
     head = [header(options.form), line_in(options.form, "memory", *options.memory)]
     found = None if options.judge else too_much(fit, head, options.form)
     if found:
-        return stop_for(paths, options, found, head, len(fit.edges) - 1)
+        stop_for(paths, options, found, head, len(fit.edges) - 1)
     if options.judge and len(fit.cues) > MOST_JUDGED:
         stop("more than %d cues: judge a part of the show, or take a greater --tolerance" % MOST_JUDGED, FAULTY)
     bounds = fit.bounds()

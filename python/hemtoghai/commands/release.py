@@ -19,6 +19,8 @@ Refused where the program or the library isn't the one of these sources, by the 
 wrote when they proved them, whatever the times of files; where the last line of a build is missing; and, without
 --changed, where files differ from the commit. Status 0: the files are written. 70: they aren't.
 """
+from __future__ import annotations
+
 import gzip
 import hashlib
 import io
@@ -27,12 +29,16 @@ import os
 import re
 import sys
 import tarfile
+from typing import Any, Dict, List, Tuple
 
 from hemtoghai import program
 from hemtoghai.companion import parser, stop
-from hemtoghai.launching import manual, wheels
-from hemtoghai.launching.built import git, launcher
+from hemtoghai.launching import manual, records, wheels
+from hemtoghai.launching.built import git
 
+Record = Dict[str, Any]  # of a build, as it is noted beside the program
+Contents = List[Tuple[str, bytes, int]]  # files as path, bytes and mode
+Links = List[Tuple[str, str]]  # each with what it leads to
 TOP = program.TOP
 SHIPPED = ["VERSION", "CHANGELOG.md", "show", "docs", "examples", "python", "tools", "library"]
 README = os.path.join("python", "hemtoghai", "launching", "release.md")  # of the release; it is its README.md
@@ -42,13 +48,13 @@ COPIES = ["include/hemtoghai.h"]  # of its files this is a copy of one of the re
 LINKS = ["lib/libhemtoghai.so", "lib/libhemtoghai.so.0"]
 
 
-def judged_record(show, changed):
+def judged_record(changed: bool) -> Record:
     """The record of the program's build, where it is good enough for a release."""
-    if os.path.exists(show.MANIFEST):
+    if os.path.exists(program.MANIFEST):
         stop("this is a release: another one is made in the repository")
-    if not show.is_current(show.crates_below(show.LAST)):
+    if not records.is_current(records.crates_below(records.LAST)):
         stop("the program isn't the one of these sources: ./show check FILE builds it")
-    record = show.read_record(show.PROGRAM + show.RECORD)
+    record = records.read_record(program.PROGRAM + program.RECORD)
     if not re.match("logic=proved ", record["rests_on"]):
         stop("the record of the build hasn't its last line: remove %s, and build it anew" % PROGRAM)
     if git("status", "--porcelain") and not changed:
@@ -56,33 +62,33 @@ def judged_record(show, changed):
     return record
 
 
-def is_library(show, record):
+def is_library(record: Record) -> bool:
     """Whether the library that has this manifest is the one of these sources."""
-    def differs(path, wanted):
+    def differs(path: str, wanted: str) -> bool:
         place = os.path.join(TOP, path)
-        return not os.path.isfile(place) or show.sha256(place) != wanted
+        return not os.path.isfile(place) or records.sha256(place) != wanted
     files = record.get("files", {})
     copies = {os.path.join("library", os.path.basename(path)): files[path] for path in files if path in COPIES}
-    return (len(copies) == len(COPIES) and record.get("version") == show.version()
-            and record.get("stamp") == show.stamp(show.crates_below("hemtoghai"))
+    return (len(copies) == len(COPIES) and record.get("version") == records.version()
+            and record.get("stamp") == records.stamp(records.crates_below("hemtoghai"))
             and not any(differs(os.path.join(LIBRARY, path), wanted) for path, wanted in files.items())
             and not any(differs(path, wanted) for path, wanted in copies.items()))
 
 
-def library_files(show):
+def library_files() -> list[str]:
     """The files of the library, where it is good enough for a release."""
-    record = show.read_record(os.path.join(TOP, LIBRARY, "MANIFEST.json"))
-    if not is_library(show, record):
+    record = records.read_record(os.path.join(TOP, LIBRARY, "MANIFEST.json"))
+    if not is_library(record):
         stop("the library isn't the one of these sources: ./show library builds it")
     if not re.match("logic=proved ", record.get("rests_on", "")):
         stop("the library's manifest hasn't the last line of its proof: ./show library builds it")
     return [os.path.join(LIBRARY, path) for path in (*record["files"], "MANIFEST.json")]
 
 
-def contents_of(show):
+def contents_of() -> Contents:
     """The files of a release as (path, bytes, mode): those of the commit, the program, the library, manual page and
     completion."""
-    found = [(PROGRAM, 0o755)] + [(path, 0o644) for path in library_files(show)]
+    found = [(PROGRAM, 0o755)] + [(path, 0o644) for path in library_files()]
     for line in git("ls-files", "-s", "-z", "--", *SHIPPED).split("\0"):
         parts = re.fullmatch(r"(100644|100755) [0-9a-f]+ 0\t([^\n]*)", line)
         if line and not parts:
@@ -94,30 +100,30 @@ def contents_of(show):
         with open(os.path.join(TOP, path), "rb") as file:
             out.append((path, file.read(), mode))
     with open(os.path.join(TOP, README), encoding="utf-8") as file:
-        out.append(("README.md", file.read().replace("@VERSION@", show.version()).encode(), 0o644))
-    out += [("share/show.1", manual.page(show.version()).encode(), 0o644),
+        out.append(("README.md", file.read().replace("@VERSION@", records.version()).encode(), 0o644))
+    out += [("share/show.1", manual.page(records.version()).encode(), 0o644),
             ("share/show.bash", manual.completion().encode(), 0o644)]
     return sorted(out)
 
 
-def links_of(contents):
+def links_of(contents: Contents) -> Links:
     """The links of the library as (path, what it leads to)."""
     shared, = (os.path.basename(path) for path, _, _ in contents if "/libhemtoghai.so." in path)
     return [(os.path.join(LIBRARY, path), shared) for path in LINKS]
 
 
-def manifest_of(show, record, contents, links, changed):
+def manifest_of(record: Record, contents: Contents, links: Links, changed: bool) -> str:
     """The text of the manifest. A link has the SHA-256 of the file that it leads to."""
     files = {path: hashlib.sha256(data).hexdigest() for path, data, _ in contents}
     for path, target in links:
         files[path] = files[os.path.join(os.path.dirname(path), target)]
     return json.dumps({
-        "version": show.version(), "commit": git("rev-parse", "HEAD"), "changed_since": changed,
+        "version": records.version(), "commit": git("rev-parse", "HEAD"), "changed_since": changed,
         **{name: record[name] for name in ("toolchain", "rests_on", "sha256", "stamp")},
         "files": dict(sorted(files.items()))}, indent=1) + "\n"
 
 
-def archive(name, contents, links, when):
+def archive(name: str, contents: Contents, links: Links, when: int) -> bytes:
     """The bytes of a .tar.gz of (path, bytes, mode) and links, the same for the same contents."""
     whole = io.BytesIO()
     with tarfile.open(fileobj=whole, mode="w", format=tarfile.USTAR_FORMAT) as tar:
@@ -132,22 +138,22 @@ def archive(name, contents, links, when):
     return gzip.compress(whole.getvalue(), mtime=0)
 
 
-def print_made(path, count, data):
+def print_made(path: str, count: int, data: bytes) -> None:
     """Says what a file is that was made."""
     print("%s: %d files, %d bytes, sha256 %s" % (path, count, len(data), hashlib.sha256(data).hexdigest()))
 
 
-def make_wheel(show, record, contents, changed, out):
+def make_wheel(record: Record, contents: Contents, changed: bool, out: str) -> None:
     """Makes the wheel, or says what is missing for it."""
     lacking = wheels.lacking()
     if lacking:
         return print("no wheel was made: %s has no %s (python3-setuptools and python3-wheel of Debian)" % (
             sys.executable, " and no ".join(lacking)))
     own = wheels.contents_of(contents, PROGRAM)
-    own.append(("MANIFEST.json", manifest_of(show, record, own, [], changed).encode(), 0o644))
+    own.append(("MANIFEST.json", manifest_of(record, own, [], changed).encode(), 0o644))
     with open(os.path.join(TOP, "pyproject.toml"), "rb") as file:
         project = file.read()
-    path = wheels.make(out, show.version() + ("+changed" if changed else ""), own, project,
+    path = wheels.make(out, records.version() + ("+changed" if changed else ""), own, project,
                        int(git("log", "-1", "--format=%ct")))
     with open(path, "rb") as file:
         return print_made(path, len(own), file.read())
@@ -158,14 +164,13 @@ def main(words: list[str]) -> int:
     reader.add_argument("--out", default=".", metavar="FOLDER", help="where the archive goes; without it here")
     reader.add_argument("--changed", action="store_true", help="release files that differ from the commit")
     options = reader.parse_args(words)
-    show = launcher()
-    record, changed = judged_record(show, options.changed), git("status", "--porcelain") != ""
-    if not re.fullmatch(r"\d+\.\d+\.\d+", show.version()):
+    record, changed = judged_record(options.changed), git("status", "--porcelain") != ""
+    if not re.fullmatch(r"\d+\.\d+\.\d+", records.version()):
         stop("VERSION isn't a version: three numbers with points between them")
-    contents = contents_of(show)
+    contents = contents_of()
     links = links_of(contents)
-    contents.append(("MANIFEST.json", manifest_of(show, record, contents, links, changed).encode(), 0o644))
-    name = "hemtoghai-%s%s-x86_64-linux" % (show.version(), "-changed" if changed else "")
+    contents.append(("MANIFEST.json", manifest_of(record, contents, links, changed).encode(), 0o644))
+    name = "hemtoghai-%s%s-x86_64-linux" % (records.version(), "-changed" if changed else "")
     data = archive(name, contents, links, int(git("log", "-1", "--format=%ct")))
     path = os.path.join(options.out, name + ".tar.gz")
     try:
@@ -174,6 +179,6 @@ def main(words: list[str]) -> int:
     except OSError as error:
         stop("%s: %s" % (path, error.strerror))
     print_made(path, len(contents) + len(links), data)
-    make_wheel(show, record, contents, changed, options.out)
+    make_wheel(record, contents, changed, options.out)
     print("program sha256 %s\ntoolchain %s\nproof: %s" % (record["sha256"], record["toolchain"], record["rests_on"]))
     return 0

@@ -12,37 +12,44 @@ The format is FROM MEMORY: NO PROGRAM of Skybrush ever read such a file. What an
 are its own bytes, and nothing that is promised of the plan's bytes holds of those. Status 0: written. 3, 4, 5: a show
 that is refused so. 2: wrong words. 70: a file can't be read or written, or isn't a plan.
 """
+from __future__ import annotations
+
 import io
 import json
 import zipfile
+from collections.abc import Sequence
 from fractions import Fraction
+from typing import Any, List
 
 from hemtoghai import program, texts
-from hemtoghai.companion import decoded, many, parser, plan_in, read_file, stop
+from hemtoghai.companion import decoded, many, parser, plan_in, read_file, stop, value
 from hemtoghai.geometry import paths
+from hemtoghai.language.choreo import Segment
 
+Row = List[Fraction]  # control values
 SETPOINTS = 16
 # Numbers are written in whole nanometres, nanoseconds and millionths of a degree, which doubles keep exactly.
 FINE = 10 ** 6
 
 
-def fine(v):
+def fine(v: Fraction) -> Fraction:
     """The nearest number that is written as it is: in parts of a millimetre, a millisecond or a tenth of a degree."""
     return Fraction(round(v * FINE), FINE)
 
 
-def written(v, scale):
+def written(v: Fraction, scale: int) -> float:
     """A fine number in a unit that is so many times as large."""
     return round(float(v / scale), 9)
 
 
-def cubic_of(row):
+def cubic_of(row: Row) -> Row:
     """A cubic that begins and ends as a curve of a higher degree does, with its speeds there."""
     share = Fraction(len(row) - 1, 3)
     return [row[0], row[0] + share * (row[1] - row[0]), row[-1] - share * (row[-1] - row[-2]), row[-1]]
 
 
-def cubics(rows, begin, end, enough):
+def cubics(rows: list[Row], begin: Fraction, end: Fraction,
+           enough: Fraction) -> tuple[list[tuple[Fraction, list[Row]]], Fraction]:
     """Cubics near to a curve, as (end, rows), and the square of how far they leave it at most."""
     degree = max(map(len, rows)) - 1
     rows = [paths.raised(row, degree) for row in rows]
@@ -50,14 +57,14 @@ def cubics(rows, begin, end, enough):
     gaps = [[a - b for a, b in zip(row, paths.raised(cubic, degree))] for row, cubic in zip(rows, near)]
     middle = fine((begin + end) / 2)
     if paths.farthest(gaps, 5, enough) <= enough or not begin < middle < end:
-        return [(end, near)], paths.farthest(gaps, 5, 0)
+        return [(end, near)], paths.farthest(gaps, 5, Fraction(0))
     sides = [paths.split(row, (middle - begin) / (end - begin)) for row in rows]
     first, off = cubics([side[0] for side in sides], begin, middle, enough)
     second, also = cubics([side[1] for side in sides], middle, end, enough)
     return first + second, max(off, also)
 
 
-def yaw_points(row, begin, end):
+def yaw_points(row: Row, begin: Fraction, end: Fraction) -> tuple[list[tuple[Fraction, Fraction]], Fraction]:
     """Setpoints of a segment's yaw in milliseconds and tenths of a degree, without the first, and the square of how far
     an even way between them is off at most."""
     count, off, out = SETPOINTS if len(row) > 2 else 1, Fraction(0), []
@@ -65,17 +72,19 @@ def yaw_points(row, begin, end):
     for k in range(1, count + 1):
         t = fine(begin + (end - begin) * k / count)
         v = (t - begin) / (end - begin)
-        b, own = fine(paths.value(row, v)), paths.raised(paths.part(row, u, v), 1)
+        b, own = fine(value(row, v)), paths.raised(paths.part(row, u, v), 1)
         gap = [p - q for p, q in zip(own, paths.raised([a, b], len(own) - 1))]
-        off, u, a = max(off, paths.farthest([gap], 5, 0)), v, b
+        off, u, a = max(off, paths.farthest([gap], 5, Fraction(0))), v, b
         out.append((t, b))
     return out, off
 
 
-def drone_of(name, start, segments, enough):
+def drone_of(name: str, start: Sequence[int], segments: list[Segment],
+             enough: Fraction) -> tuple[dict[str, Any], int, Fraction, Fraction]:
     """A drone of the show.json, its number of pieces, and the squares of how far it is off in millimetres and in tenths
     of a degree."""
-    points, yaws = [[0, [v / 1000 for v in start[:3]], []]], [[0, start[3] / 10]]
+    points: list[list[Any]] = [[0, [v / 1000 for v in start[:3]], []]]
+    yaws = [[0, start[3] / 10]]
     t, worst, turned = Fraction(0), Fraction(0), Fraction(0)
     for milliseconds, elements in segments:
         rows = [[Fraction(v) for v in row] for row in elements]
@@ -92,7 +101,7 @@ def drone_of(name, start, segments, enough):
     return {"type": "generic", "settings": settings}, len(points) - 1, worst, turned
 
 
-def drones_of(path):
+def drones_of(path: str) -> list[tuple[str, bytes, int]]:
     """The drones of a plan, or of a show, which the program compiles: names, bytes and numbers of segments."""
     text = read_file(path, texts.PLAN)
     if not text.startswith(b"plan 1"):
@@ -105,7 +114,7 @@ def drones_of(path):
     return plan_in(text, path)
 
 
-def amount(word):
+def amount(word: str) -> Fraction:
     """A number of millimetres from 0.001 on."""
     if not 0.001 <= float(word) <= 1000:
         raise ValueError
@@ -119,7 +128,8 @@ def main(words: list[str]) -> int:
     reader.add_argument("plan", metavar="PLAN|SHOW", help="what ./show compile wrote, or a show; - for standard input")
     reader.add_argument("out", metavar="OUT", help="the .skyc to write")
     options = reader.parse_args(words)
-    drones, count, worst, turned = [], 0, Fraction(0), Fraction(0)
+    drones: list[dict[str, Any]] = []
+    count, worst, turned = 0, Fraction(0), Fraction(0)
     for name, data, pieces in drones_of(options.plan):
         trajectory = decoded(data, pieces)
         if trajectory is None:

@@ -3,6 +3,8 @@
 The readers are WRITTEN FROM MEMORY of the formats, and were tried with files that were made from the same memory, never
 with one that another program wrote. What they don't know they refuse. All numbers are taken as they are written.
 """
+from __future__ import annotations
+
 import bisect
 import csv
 import io
@@ -13,12 +15,20 @@ import re
 import struct
 import zipfile
 import zlib
+from collections.abc import Iterator, Sequence
 from fractions import Fraction
 from math import comb
+from typing import List, Tuple, Type, TypeVar
 
 from hemtoghai import texts
 from hemtoghai.companion import stop
+from hemtoghai.geometry import paths
 from hemtoghai.geometry.paths import part, Path
+
+Kind = TypeVar("Kind")
+Row = List[Fraction]  # numbers of a line, control values, or a place
+Piece = paths.Piece[Fraction]
+Timed = Tuple[Fraction, Row]  # an instant in milliseconds, and a place with its yaw
 
 LARGEST = 1 << 24  # bytes of a file, or of all members of an archive that are read
 NUMBERS = 1000000  # of all files together
@@ -40,24 +50,24 @@ class Unreadable(Exception):
 class Counter:
     """Counts numbers, up to a limit."""
 
-    def __init__(self, most):
+    def __init__(self, most: int) -> None:
         self.most = self.left = most
 
-    def take(self, count=1):
+    def take(self, count: int = 1) -> None:
         """Counts so many more."""
         self.left -= count
         if self.left < 0:
             raise Unreadable("more than %d numbers" % self.most)
 
 
-def number(word):
+def number(word: str) -> Fraction:
     """A number as it is written."""
     if len(word) > 60 or not NUMBER.fullmatch(word):
         raise Unreadable("%.20r is no number" % word)
     return Fraction(word)
 
 
-def name_of(word, taken):
+def name_of(word: str, taken: set[str]) -> str:
     """A drone's name in a show, from another program's: unlike all in `taken`, to which it is added."""
     base = re.sub("[^a-z0-9_]", "_", word.lower()).strip("_") or "d"
     base = ("" if base[0].isalpha() else "d") + base + ("_" if base in ("form", "end") else "")
@@ -68,7 +78,7 @@ def name_of(word, taken):
     return name
 
 
-def checked(name, pieces):
+def checked(name: str, pieces: list[Piece]) -> Path[Fraction]:
     """A path of these pieces, or a refusal where no drone can be there or get there."""
     if pieces[0][0] < 0:
         raise Unreadable("%s begins before the time 0" % name)
@@ -90,10 +100,10 @@ def checked(name, pieces):
 
 # ---- Skybrush
 
-KINDS = {dict: "object", list: "list", str: "text", Fraction: "number"}
+KINDS: dict[object, str] = {dict: "object", list: "list", str: "text", Fraction: "number"}
 
 
-def field(node, key, kind, where, default=None):
+def field(node: object, key: str, kind: Type[Kind], where: str, default: Kind | None = None) -> Kind:
     """What an object has under a word."""
     found = node.get(key, default) if isinstance(node, dict) else None
     if found is None or not isinstance(found, kind):
@@ -102,7 +112,7 @@ def field(node, key, kind, where, default=None):
     return found
 
 
-def place_of(node, where):
+def place_of(node: object, where: str) -> Row:
     """A place in micrometres, from three metres."""
     if not (isinstance(node, list) and len(node) == 3 and all(isinstance(v, Fraction) for v in node)):
         raise Unreadable("%s: a place isn't three numbers" % where)
@@ -112,19 +122,20 @@ def place_of(node, where):
 class Archive:
     """A zip with JSON texts that refer to one another."""
 
-    def __init__(self, data):
-        self.texts, self.left = {}, min(LARGEST, PACKED * (SMALLEST + len(data)))
+    def __init__(self, data: bytes) -> None:
+        self.texts: dict[str, object] = {}
+        self.left = min(LARGEST, PACKED * (SMALLEST + len(data)))
         self.counter = Counter(min(NUMBERS, SMALLEST + len(data)))
         try:
             self.file = zipfile.ZipFile(io.BytesIO(data))
         except (ValueError, NotImplementedError, OverflowError, struct.error, zipfile.BadZipFile, OSError) as error:
             raise Unreadable("no zip: %s" % error)
 
-    def names(self):
+    def names(self) -> list[str]:
         """The names of the members, those of folders left out."""
         return [name for name in self.file.namelist() if not name.endswith("/")]
 
-    def data(self, where):
+    def data(self, where: str) -> bytes:
         """The bytes of a member."""
         try:
             about = self.file.getinfo(where)
@@ -140,12 +151,12 @@ class Archive:
                 zipfile.BadZipFile, OSError) as error:
             raise Unreadable("%.60s is damaged: %s" % (where, error or type(error).__name__))
 
-    def number(self, word):
+    def number(self, word: str) -> Fraction:
         """A number as it is written, one of not too many."""
         self.counter.take()
         return number(word)
 
-    def text(self, where):
+    def text(self, where: str) -> object:
         """The JSON text of a member, its numbers as they are written."""
         if where not in self.texts:
             try:
@@ -156,7 +167,7 @@ class Archive:
                 raise Unreadable("%.60s is damaged: %s" % (where, error or type(error).__name__))
         return self.texts[where]
 
-    def follow(self, node, base="show.json"):
+    def follow(self, node: object, base: str = "show.json") -> object:
         """What a node is, or refers to: in another member, or further on in the same one."""
         for _ in range(8):
             if not (isinstance(node, dict) and set(node) == {"$ref"}):
@@ -176,17 +187,20 @@ class Archive:
 LEFT_OUT = {"lights": "lights", "pyro": "pyrotechnics"}  # what a drone's settings may have, and no show has
 
 
-def read_skyc(path, left_out=None):
+def read_skyc(path: str, left_out: dict[str, int]) -> list[Path[Fraction]]:
     """The paths of a .skyc of Skybrush: a zip with show.json, version 1. `left_out` gets by what isn't read, in words,
     how many drones have it."""
     archive = Archive(limited(path))
     show = archive.text("show.json")
-    if field(show, "version", Fraction, "show.json") != 1:
-        raise Unreadable("show.json is of version %s, and 1 is known" % show["version"])
+    version = field(show, "version", Fraction, "show.json")
+    if version != 1:
+        raise Unreadable("show.json is of version %s, and 1 is known" % version)
     drones = field(archive.follow(field(show, "swarm", dict, "show.json")), "drones", list, "the swarm")
     if not drones:
         raise Unreadable("show.json has no drone")
-    words, taken, out = set(), set(), []
+    words: set[str] = set()
+    taken: set[str] = set()
+    out = []
     for k, drone in enumerate(drones, 1):
         settings = archive.follow(field(archive.follow(drone), "settings", dict, "drone %d" % k))
         word = field(settings, "name", str, "drone %d" % k, "drone %d" % k)
@@ -194,18 +208,19 @@ def read_skyc(path, left_out=None):
             raise Unreadable("two drones have the name %.40r" % word)
         words.add(word)
         out.append(skyc_path(archive, "drone %d, %.40r" % (k, word), settings, name_of(word, taken)))
-        for what in left_out_of(archive, settings) if left_out is not None else ():
+        for what in left_out_of(archive, settings):
             left_out[what] = left_out.get(what, 0) + 1
     return out
 
 
-def left_out_of(archive, settings):
+def left_out_of(archive: Archive, settings: object) -> Iterator[str]:
     """What a drone of a .skyc has that isn't read."""
+    known = settings if isinstance(settings, dict) else {}
     for key, words in LEFT_OUT.items():
-        node = archive.follow(settings.get(key))
+        node = archive.follow(known.get(key))
         if node and not (isinstance(node, dict) and not any(node.get(it) for it in node if it != "version")):
             yield words
-    yaw = archive.follow(settings.get("yawControl"))
+    yaw = archive.follow(known.get("yawControl"))
     if isinstance(yaw, dict) and yaw.get("autoYaw") not in (None, False):
         yield AUTOMATIC
 
@@ -213,24 +228,24 @@ def left_out_of(archive, settings):
 AUTOMATIC = "automatic yaw"
 
 
-def skyc_path(archive, where, settings, name):
+def skyc_path(archive: Archive, where: str, settings: object, name: str) -> Path[Fraction]:
     """The path of a drone of a .skyc."""
     trajectory = archive.follow(field(settings, "trajectory", dict, where))
-    if field(trajectory, "version", Fraction, where, Fraction(1)) != 1:
-        raise Unreadable("%s: a trajectory of version %s, and 1 is known" % (where, trajectory["version"]))
+    version = field(trajectory, "version", Fraction, where, Fraction(1))
+    if version != 1:
+        raise Unreadable("%s: a trajectory of version %s, and 1 is known" % (where, version))
     late = field(trajectory, "takeoffTime", Fraction, where, Fraction(0)) * 1000
     points = [point_of(point, where) for point in field(trajectory, "points", list, where)]
     if not points:
         raise Unreadable("%s: a trajectory without a point" % where)
-    pieces = []
+    pieces: list[Piece] = []
     for (begin, before, _), (end, after, inner) in zip(points, points[1:]):
         if end < begin or (end == begin and before != after):
             raise Unreadable("%s: the time goes back, or a place jumps, at %.3f s" % (where, begin / 1000))
         if end > begin:
             pieces.append((late + begin, late + end, [list(row) for row in zip(before, *inner, after)]))
     if not pieces:
-        begin = late + points[0][0]
-        pieces = [(begin, begin + 1, [[v] for v in points[0][1]])]
+        pieces = [stays(late + points[0][0], points[0][1])]
     yaw = archive.follow(field(settings, "yawControl", dict, where, {"setpoints": []}))
     setpoints = [setpoint_of(it, late, where) for it in field(yaw, "setpoints", list, where)]
     for (a, p), (b, q) in zip(setpoints, setpoints[1:]):
@@ -239,7 +254,12 @@ def skyc_path(archive, where, settings, name):
     return checked(name, with_yaw(pieces, setpoints or [(Fraction(0), Fraction(0))]))
 
 
-def point_of(point, where):
+def stays(begin: Fraction, place: Row) -> Piece:
+    """A piece of a path that stays in a place."""
+    return begin, begin + 1, [[v] for v in place]
+
+
+def point_of(point: object, where: str) -> tuple[Fraction, Row, list[Row]]:
     """A point of a trajectory: milliseconds, the place, and the points between it and the one before, none or two."""
     if not (isinstance(point, list) and len(point) in (2, 3) and isinstance(point[0], Fraction)):
         raise Unreadable("%s: a point isn't a time, a place and inner points" % where)
@@ -249,18 +269,18 @@ def point_of(point, where):
     return point[0] * 1000, place_of(point[1], where), [place_of(it, where) for it in inner]
 
 
-def setpoint_of(node, late, where):
+def setpoint_of(node: object, late: Fraction, where: str) -> tuple[Fraction, Fraction]:
     """A setpoint of yaw: milliseconds and tenths of a degree."""
     if not (isinstance(node, list) and len(node) == 2 and all(isinstance(v, Fraction) for v in node)):
         raise Unreadable("%s: a setpoint of yaw isn't a time and an angle" % where)
     return late + node[0] * 1000, node[1] * 10
 
 
-def with_yaw(pieces, setpoints):
+def with_yaw(pieces: list[Piece], setpoints: list[tuple[Fraction, Fraction]]) -> list[Piece]:
     """Pieces, cut where a yaw that goes evenly between setpoints has them, with that yaw."""
     times = [t for t, _ in setpoints]
 
-    def yaw(t):
+    def yaw(t: Fraction) -> Fraction:
         k = bisect.bisect_left(times, t)
         if k == 0 or k == len(times):
             return setpoints[min(k, len(times) - 1)][1]
@@ -278,7 +298,7 @@ def with_yaw(pieces, setpoints):
 
 # ---- CSV
 
-def limited(path):
+def limited(path: str) -> bytes:
     """The bytes of a file, if they aren't too many."""
     try:
         return texts.whole_of(path, LARGEST)
@@ -288,7 +308,7 @@ def limited(path):
         return stop("%s: %s" % (path, getattr(error, "strerror", None) or error))
 
 
-def separator_of(text):
+def separator_of(text: str) -> str:
     """What parts the cells of a text: a semicolon or a tab, where its first row has one outside of quotes, else a
     comma."""
     for line in text.splitlines():
@@ -298,13 +318,13 @@ def separator_of(text):
     return ","
 
 
-def with_point(cell):
+def with_point(cell: str) -> str:
     """A cell in which a decimal comma is a point."""
     whole, comma, rest = cell.partition(",")
     return whole + "." + rest if comma and NUMBER.fullmatch(whole + "." + rest) else cell
 
 
-def rows_of(data):
+def rows_of(data: bytes) -> tuple[list[tuple[int, list[str]]], list[str]]:
     """The rows of the bytes of a CSV file as (line, cells), and the words of its head, which is a first row without a
     number. Where semicolons or tabs part the cells, numbers may have a decimal comma."""
     try:
@@ -320,7 +340,7 @@ def rows_of(data):
     for _, row in rows:
         while not row[-1]:
             row.pop()
-    head = []
+    head: list[str] = []
     if rows and not any(NUMBER.fullmatch(cell) for cell in rows[0][1]):
         head = [cell.lower() for cell in rows.pop(0)[1]]
     if not rows:
@@ -328,7 +348,7 @@ def rows_of(data):
     return rows, head
 
 
-def numbers_of(line, cells):
+def numbers_of(line: int, cells: list[str]) -> Row:
     """The numbers of a row."""
     try:
         return [number(cell) for cell in cells]
@@ -336,10 +356,11 @@ def numbers_of(line, cells):
         raise Unreadable("line %d: %s" % (line, error))
 
 
-def read_polynomials(data, name, start):
+def read_polynomials(data: bytes, name: str, start: Row) -> Path[Fraction]:
     """The path in the bytes of a file of uav_trajectories: in each row a duration and eight coefficients an axis, in
     metres and radians."""
-    pieces, t = [], Fraction(0)
+    t = Fraction(0)
+    pieces: list[Piece] = []
     for line, cells in rows_of(data)[0]:
         row = numbers_of(line, cells)
         if len(row) != 33:
@@ -349,7 +370,8 @@ def read_polynomials(data, name, start):
         length, rows = row[0], []
         for axis in range(4):
             scaled = [c * length ** k for k, c in enumerate(row[1 + 8 * axis:9 + 8 * axis])]
-            points = [sum(Fraction(comb(j, k), comb(7, k)) * scaled[k] for k in range(j + 1)) for j in range(8)]
+            points = [sum((Fraction(comb(j, k), comb(7, k)) * scaled[k] for k in range(j + 1)), Fraction(0))
+                      for j in range(8)]
             rows.append([p * 1800 / PI for p in points] if axis == 3 else [(p + start[axis]) * 1000000 for p in points])
         pieces.append((t * 1000, (t + length) * 1000, [row[:1] if len(set(row)) == 1 else row for row in rows]))
         t += length
@@ -361,7 +383,7 @@ COLUMNS = {"t": "t", "time": "t", "time [s]": "t", "t [s]": "t", "time [msec]": 
            "drone": "drone", "name": "drone", "id": "drone"}
 
 
-def columns_of(head, first):
+def columns_of(head: list[str], first: list[str]) -> dict[str, int]:
     """Where a table of waypoints has what: by its head, or by its first row."""
     if not head:
         named = not NUMBER.fullmatch(first[0])
@@ -369,31 +391,32 @@ def columns_of(head, first):
         if len(words) != len(first):
             raise Unreadable("a row has %d cells, and t,x,y,z and maybe yaw are wanted" % len(first))
         return {word: k for k, word in enumerate(words)}
-    found = {}
+    found: dict[str, int] = {}
     for k, cell in enumerate(head):
         word = COLUMNS.get(cell)
         if word in found:
             raise Unreadable("two columns are called %s" % word)
         if word is None and re.match(r"(t|time|x|y|z|yaw)\b", cell):
             raise Unreadable("a column %.20r, whose unit isn't known" % cell)
-        found.update({word: k} if word else {})
+        if word:
+            found[word] = k
     if not {"x", "y", "z"} <= set(found) or ("t" in found) == ("ms" in found):
         raise Unreadable("the head has to name t, x, y and z")
     return found
 
 
-def read_waypoints(data, stem, smooth):
+def read_waypoints(data: bytes, stem: str, smooth: bool) -> dict[str, list[Piece]]:
     """The paths in the bytes of a file of waypoints by the names of their drones, as lists of pieces: t,x,y,z and maybe
     yaw in each row (seconds, metres, degrees; or Skybrush's CSV, with milliseconds and colours), and maybe a column of
     drones."""
     rows, head = rows_of(data)
     columns = columns_of(head, rows[0][1])
-    words, scale, points = [word for word in ("t", "ms", "x", "y", "z", "yaw") if word in columns], 1, {}
+    words, scale = [word for word in ("t", "ms", "x", "y", "z", "yaw") if word in columns], 1 if "ms" in columns else 1000
+    points: dict[str, list[Timed]] = {}
     for line, cells in rows:
         if len(cells) <= max(columns.values()) or (not head and len(cells) > len(columns)):
             raise Unreadable("line %d: %d cells, and %d are wanted" % (line, len(cells), len(columns)))
         row = numbers_of(line, [cells[columns[word]] for word in words])
-        scale = 1 if "ms" in columns else 1000
         own = points.setdefault(cells[columns["drone"]] if "drone" in columns else stem, [])
         yaw = row[4] * 10 if len(row) > 4 else Fraction(0)
         own.append((row[0] * scale, [v * 1000000 for v in row[1:4]] + [yaw]))
@@ -402,16 +425,16 @@ def read_waypoints(data, stem, smooth):
     return {word: joined(own, smooth) for word, own in points.items()}
 
 
-def joined(points, smooth):
+def joined(points: list[Timed], smooth: bool) -> list[Piece]:
     """Pieces through waypoints: lines, or a smooth spline."""
-    def slope(k):
+    def slope(k: int) -> Row:
         if k in (0, len(points) - 1):
             return [Fraction(0)] * 4
         (a, p), (b, q) = points[k - 1], points[k + 1]
         return [(y - x) / (b - a) for x, y in zip(p, q)]
     if len(points) == 1:
-        return [(points[0][0], points[0][0] + 1, [[v] for v in points[0][1]])]
-    pieces = []
+        return [stays(*points[0])]
+    pieces: list[Piece] = []
     for k, ((begin, p), (end, q)) in enumerate(zip(points, points[1:])):
         third = (end - begin) / 3
         rows = [[x, x + third * u, y - third * v, y] if smooth else [x, y]
@@ -420,9 +443,9 @@ def joined(points, smooth):
     return pieces
 
 
-def read_starts(path):
+def read_starts(path: str) -> dict[str, Row]:
     """Places by names, from name,x,y,z a row, in metres."""
-    out = {}
+    out: dict[str, Row] = {}
     for line, cells in rows_of(limited(path))[0]:
         if len(cells) != 4 or cells[0] in out:
             raise Unreadable("line %d: name,x,y,z are wanted, once for each drone" % line)
@@ -430,12 +453,12 @@ def read_starts(path):
     return out
 
 
-def is_archive(data):
+def is_archive(data: bytes) -> bool:
     """Whether bytes are those of a zip."""
     return data[:2] == b"PK"
 
 
-def members_of(path):
+def members_of(path: str) -> list[tuple[str, str, bytes]]:
     """The CSV files that a path leads to, as (where, stem, bytes): itself, or those of a zip."""
     data = limited(path)
     if not is_archive(data):
@@ -447,18 +470,19 @@ def members_of(path):
     return [("%s, %.60s" % (path, name), stem_of(name), archive.data(name)) for name in names]
 
 
-def stem_of(path):
+def stem_of(path: str) -> str:
     """A file's name without folders and ending."""
     return posixpath.splitext(posixpath.basename(path))[0]
 
 
-def has_waypoints(data):
+def has_waypoints(data: bytes) -> bool:
     """Whether a CSV file has a head that names t, x, y and z."""
     words = {COLUMNS.get(cell) for cell in rows_of(data)[1]}
     return {"x", "y", "z"} <= words and bool({"t", "ms"} & words)
 
 
-def one_csv(data, stem, waypoints, smooth, places):
+def one_csv(data: bytes, stem: str, waypoints: bool, smooth: bool,
+            places: dict[str, Row] | None) -> dict[str, list[Piece]]:
     """The paths in the bytes of a CSV file by the names of their drones, as lists of pieces."""
     if waypoints or has_waypoints(data):
         return read_waypoints(data, stem, smooth)
@@ -467,9 +491,12 @@ def one_csv(data, stem, waypoints, smooth, places):
     return {stem: read_polynomials(data, "", (places or {}).get(stem, [Fraction(0)] * 3)).pieces}
 
 
-def read_csv(files, waypoints, smooth=False, starts=None):
+def read_csv(files: Sequence[str], waypoints: bool, smooth: bool = False,
+             starts: str | None = None) -> list[Path[Fraction]]:
     """The paths of CSV files, or of zips of them: polynomials, a drone a file, or waypoints."""
-    taken, found, counter = set(), {}, Counter(NUMBERS)
+    taken: set[str] = set()
+    found: dict[str, Path[Fraction]] = {}
+    counter = Counter(NUMBERS)
     places = read_starts(starts) if starts else None
     for where, stem, data in (member for path in files for member in members_of(path)):
         try:
@@ -486,7 +513,7 @@ def read_csv(files, waypoints, smooth=False, starts=None):
     return list(found.values())
 
 
-def is_one_place(paths):
+def is_one_place(paths: list[Path[Fraction]]) -> bool:
     """Whether several paths all begin in one place, within a millimetre."""
     firsts = [[row[0] for row in path.pieces[0][2][:3]] for path in paths]
     return len(firsts) > 1 and all(max(column) - min(column) <= 1000 for column in zip(*firsts))
