@@ -734,5 +734,95 @@ class Unproved(Place):
             self.assertIn("show: cure: write whole numbers", told)
 
 
+class Proved(Place):
+    PROGRAM = "crates/show_cli/out/show_cli"
+
+    def setUp(self):
+        super().setUp()
+        self.show("check", "good")
+        self.calls()
+
+    def note(self, **more):
+        """Has the record of the program say more, or something else."""
+        with open(self.path(self.PROGRAM + ".built")) as file:
+            note = json.load(file)
+        self.file(self.PROGRAM + ".built", json.dumps({**note, **more}))
+
+    def refused(self, why, *words):
+        """Says that these words are refused with --proved, with 70 and this line; nothing is built and nothing runs."""
+        status, said, told = self.show("--proved", *(words or ("check", "good")))
+        self.assertEqual((status, said, told), (70, "", "show: %s\n" % why), words)
+        self.assertEqual(self.calls(), [])
+
+    def test_proved(self):
+        self.assertEqual(self.show("--proved", "check", "good"), (0, GOOD, ""))
+        self.assertEqual(self.show("--proved", "check", text="a\n"), (0, GOOD, ""))
+        self.assertEqual(self.show("--proved", "check", "bad")[:2], (3, "error 3 line 2 bad-number\n"))
+        self.assertEqual(self.show("--proved", "chek")[:2], (2, "error 2 usage\n"))
+        self.assertEqual(self.calls(), [])
+        done = subprocess.run([sys.executable, "-m", "hemtoghai", "--proved", "check", "good"], cwd=self.place,
+                              stdout=subprocess.PIPE, stderr=subprocess.PIPE, universal_newlines=True,
+                              env=self.settings(self.place, PYTHONPATH="python"))
+        self.assertEqual((done.returncode, done.stdout, done.stderr), (0, GOOD, ""))
+
+    def test_another_program(self):
+        self.file(self.PROGRAM, "#!/bin/sh\necho theirs\n", 0o755)
+        other = "the program isn't the one of show_cli.built: ./show check FILE builds it"
+        for words in (("check", "good"), ("check", "--json", "good"), ("why", "good"), ("judge", "a", "b", "c"),
+                      ("xyz",), ("help",)):
+            self.refused(other, *words)
+        done = subprocess.run([sys.executable, "-m", "hemtoghai", "--proved", "check", "good"], cwd=self.place,
+                              stdout=subprocess.PIPE, stderr=subprocess.PIPE, universal_newlines=True,
+                              env=self.settings(self.place, PYTHONPATH="python"))
+        self.assertEqual((done.returncode, done.stdout, done.stderr), (70, "", "show: %s\n" % other))
+        os.remove(self.path(self.PROGRAM))
+        self.refused("the program isn't built; ./show check FILE builds it")
+
+    def test_no_proof(self):
+        for line in ("", "logic=tried functions=3", 7, None):
+            self.note(rests_on=line)
+            self.refused("show_cli.built doesn't say that the program was proved")
+            self.assertEqual(self.show("check", "good"), (0, GOOD, ""))
+        os.remove(self.path(self.PROGRAM + ".built"))
+        self.refused("no record of how this program was built: nothing is known of its proof")
+        self.file(self.PROGRAM + ".built", "no record")
+        self.refused("the program isn't the one of show_cli.built: ./show check FILE builds it")
+
+    def test_other_sources(self):
+        self.file("crates/low/src/lib.rt", "fn f() {}\n")
+        self.refused("the program isn't the one of these sources: ./show check FILE builds it")
+
+    def test_other_options(self):
+        both = "--proved runs the proved program alone: it goes with neither --unproved nor --program"
+        self.refused(both, "--unproved", "check", "good")
+        for words in (("--program", "program"), ("--program=program",), ("--prog", "program"), ("--p=program",)):
+            self.refused(both, "picture", "good", *words)
+        self.assertEqual(self.show("--proved", "picture", "--pe", "7", "good")[0], 2)  # an option that isn't there
+
+    def test_help(self):
+        os.remove(self.path(self.PROGRAM))
+        for words in ((), ("--help",), ("check", "--help"), ("why", "-h")):
+            status, said, told = self.show("--proved", *words)
+            self.assertEqual((status, said, told), self.show(*words))
+            self.assertEqual((status, told), (0, ""))
+        self.assertIn("--proved", self.show("--help")[1])
+        # A file that is called like an option for help leads past no demand.
+        shutil.copy(self.path("good"), self.path("--help"))
+        self.assertEqual(self.show("--proved", "why", "--", "--help")[0], 3)
+
+    def test_later(self):
+        # What is exchanged after the first look isn't run, nor by a process that is started for it.
+        code = ("import sys; sys.path[:0] = ['python']\nfrom hemtoghai import program\n"
+                "from hemtoghai.launching import demand\nprint(demand.fault_of(['check']), program.words_of('why')[3:])\n"
+                "print(program.fault('program'))\nwith open(program.PROGRAM + program.RECORD, 'w') as file:\n"
+                "    file.write('{}')\nprint(program.fault())")
+        done = subprocess.run([sys.executable, "-c", code], cwd=self.place, stdout=subprocess.PIPE,
+                              universal_newlines=True)
+        first, second, third = done.stdout.splitlines()
+        self.assertEqual(first, "None ['--proved', 'why']")
+        self.assertIn("isn't the proved program, and --proved runs no other", second)
+        self.assertEqual(third, "the program isn't the one of show_cli.built: ./show check FILE builds it")
+
+
 if __name__ == "__main__":
     unittest.main()

@@ -317,6 +317,20 @@ class Release(unittest.TestCase):
             file.truncate(os.path.getsize(page) - 5)
         self.assertEqual(self.run_there("show", "--version")[1], out)
 
+    def test_proved(self):
+        path, words = os.path.join(self.top, "MANIFEST.json"), ("show", "--proved", "check", "examples/solo.choreo")
+        good = 0, "ok drones 1 cues 1 duration_ms 2000\n", ""
+        self.assertEqual(self.run_there(*words), good)
+        manifest = self.manifest()
+        for more, why in (({"rests_on": ""}, "MANIFEST.json doesn't say that the program was proved"),
+                          ({"sha256": "0" * 64}, "the program isn't the one of MANIFEST.json: unpack the release anew")):
+            with open(path, "w") as file:
+                json.dump({**manifest, **more}, file)
+            self.assertEqual(self.run_there(*words), (70, "", "show: %s\n" % why))
+        with open(path, "w") as file:
+            json.dump(manifest, file)
+        self.assertEqual(self.run_there(*words), good)
+
     def test_its_own_readme(self):
         with open(os.path.join(self.top, "README.md")) as file:
             text = file.read()
@@ -648,6 +662,7 @@ class Manual(unittest.TestCase):
     def test_completion(self):
         self.assertEqual(self.completed("./show", "")[:len(commands.FORMS)], list(commands.FORMS))
         for words, wanted in ((("sp",), ["speed"]), (("--un",), ["--unproved"]), (("--unproved", "dr"), ["drill"]),
+                              (("--pr",), ["--proved"]), (("--proved", "dr"), ["drill"]),
                               (("check", "--d"), ["--depth"]), (("check", "examples/so"), ["examples/solo.choreo"]),
                               (("check", "--depth", ""), list("012345678")),
                               (("explain", "--fine", ""), list("012345")),

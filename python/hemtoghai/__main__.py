@@ -40,6 +40,13 @@ def add_installed() -> None:
 
 def main(words: list[str]) -> int:
     """The status of a command, by its word and those after it."""
+    if words[:1] == ["--proved"]:
+        from hemtoghai.launching import demand
+        words = words[1:]
+        fault = demand.fault_of(words)
+        if fault:
+            streams.tell(program.NAME, fault)
+            return streams.NO_ANSWER
     if words[:1] and words[0] in WITH_JSON and "--json" in words:
         from hemtoghai import companion
         from hemtoghai.commands import as_json
@@ -60,7 +67,8 @@ def main(words: list[str]) -> int:
 def run() -> None:
     """Runs the command of this process's words, and ends the process with its status."""
     words = sys.argv[1:]
-    streams.run(lambda: main(words), words[0] if words[:1] and words[0] in COMMANDS else program.NAME)
+    command = "".join(words[1:2] if words[:1] == ["--proved"] else words[:1])
+    streams.run(lambda: main(words), command if command in COMMANDS else program.NAME)
 
 
 if __name__ == "__main__":

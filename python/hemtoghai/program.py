@@ -3,7 +3,7 @@
 The record beside it, or the manifest of a release, has the SHA-256 of the program that was proved. The bytes that were
 hashed are the ones that run: where the system has files in memory they are copied into one that nobody can change. A
 program that isn't the recorded one is run by no tool. One that a tool was told to take, by `--program`, is run as it
-is.
+is. Once a proof is demanded, by `--proved`, none runs but the recorded one, and that only where its record has a proof.
 """
 from __future__ import annotations
 
@@ -34,6 +34,7 @@ class Unusable(Exception):
 
 # By a program's path what its file and its record looked like, the file that runs, and the last line of its proof.
 _copies: dict[str, tuple[tuple[tuple[int, ...], ...], str, str | None]] = {}
+_demanded = [False]  # whether a proof is
 
 
 def looks(path: str) -> tuple[int, ...]:
@@ -122,11 +123,29 @@ def runs(path: str | None = None) -> str:
     if not os.path.isfile(path) or not os.access(path, os.X_OK):
         raise Unusable("the program isn't built; ./show check FILE builds it")
     if path != PROGRAM:
+        if _demanded[0]:
+            raise Unusable("%s isn't the proved program, and --proved runs no other" % path)
         return path
     fault = fault_of_machine(path)
     if fault:
         raise Unusable(fault)
-    return copy_of(path)[0]
+    file, proved = copy_of(path)
+    if _demanded[0] and proved is None:
+        record = record_path()
+        raise Unusable("%s doesn't say that the program was proved" % os.path.basename(record)
+                       if os.path.exists(record) else
+                       "no record of how this program was built: nothing is known of its proof")
+    return file
+
+
+def demand_proof() -> None:
+    """From now on no program runs but the proved one, also in processes that `words_of` starts."""
+    _demanded[0] = True
+
+
+def is_proof_demanded() -> bool:
+    """Whether no program runs but the proved one."""
+    return _demanded[0]
 
 
 def proof() -> str | None:
@@ -161,7 +180,7 @@ def copy_of(path: str) -> tuple[str, str | None]:
 
 def words_of(*words: str) -> list[str]:
     """What starts a command of this package in a process of its own, over the same files."""
-    return [sys.executable, "-IS", os.path.join(PACKAGE, "__main__.py"), *words]
+    return [sys.executable, "-IS", os.path.join(PACKAGE, "__main__.py"), *["--proved"] * _demanded[0], *words]
 
 
 def is_recorded(path: str | None = None) -> bool:

@@ -11,6 +11,7 @@ USAGE = """usage: ./show COMMAND [OPTIONS] [FILE]
        ./show verify SHOW CERTIFICATE
        ./show rehearse SHOW SCHEDULE
        ./show boxes SHOW REGIONS
+       ./show --proved COMMAND ..
        ./show --unproved COMMAND ..
        ./show COMMAND --help
        ./show --version
@@ -18,9 +19,9 @@ USAGE = """usage: ./show COMMAND [OPTIONS] [FILE]
 %s
 
 Options may stand before and after the files. Without a file, or with -, the input is standard input; where
-there are two parts a line %%%% is between them. --unproved runs the sources without a proof: in about a
-minute the first time, at once after that. --version says which build of the program this is: note it with
-each plan.
+there are two parts a line %%%% is between them. --proved builds nothing, and runs the program only where its
+record says that it was proved. --unproved runs the sources without a proof: in about a minute the first
+time, at once after that. --version says which build of the program this is: note it with each plan.
 
 %s
 

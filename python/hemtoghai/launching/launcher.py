@@ -68,6 +68,11 @@ def file_if_current(path: str) -> str | None:
 
 def file_for(unproved: bool) -> str | None:
     """The file that is to run, or None where there is only the sources' own try."""
+    if program.is_proof_demanded():
+        try:
+            return program.runs()
+        except program.Unusable as why:
+            stop(str(why))
     if os.path.exists(program.MANIFEST):
         if unproved:
             stop("a release has no sources to run")

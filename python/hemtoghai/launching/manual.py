@@ -7,13 +7,13 @@ from hemtoghai.launching import words as commands
 COMPLETION = """# Completion of ./show for Bash: . show.bash
 _show() {
   local word=${COMP_WORDS[COMP_CWORD]} command= at=1
-  [ "${COMP_WORDS[1]}" != --unproved ] || at=2
+  [[ ${COMP_WORDS[1]} != --@(proved|unproved) ]] || at=2
   [ "$COMP_CWORD" -le "$at" ] || command=${COMP_WORDS[at]}
   local options=
   case $command in
   '')
     options='%s --help --version'
-    [ "$at" = 2 ] || options+=' --unproved' ;;
+    [ "$at" = 2 ] || options+=' --proved --unproved' ;;
 %s
   esac
   case ${COMP_WORDS[COMP_CWORD-1]} in
@@ -59,7 +59,9 @@ def page(version: str) -> str:
            "show \\- compiles and judges shows of drones", ".SH SYNOPSIS"]
     for form in commands.FORMS.values():
         out += [".B ./show %s" % roff(form), ".br"]
-    out += [".B ./show \\-\\-unproved COMMAND ..", ".br", ".B ./show \\-\\-version", ".SH COMMANDS"]
+    for option in ("proved COMMAND ..", "unproved COMMAND ..", "version"):
+        out += [".B ./show \\-\\-" + option, ".br"]
+    out[-1] = ".SH COMMANDS"
     for form, what in commands.COMMANDS:
         second = commands.SECOND.get(form.split()[0])
         out += [".TP", ".B " + roff(form), roff(what[0].upper() + what[1:]) + "."]

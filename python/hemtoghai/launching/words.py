@@ -116,6 +116,15 @@ def fault_of_number(name: str, word: str | None) -> str | None:
     return "%s is %d to %d%s" % (name, low, high, "" if word is None else ", not %s" % word)
 
 
+def take_number(name: str, left: list[str], front: list[str]) -> str | None:
+    """Takes a number from the words that are left to the program's; what is wrong with it, or None."""
+    number = left.pop(0) if left else None
+    fault = fault_of_number(name, number)
+    if number is not None and not fault:
+        front.append(number)
+    return fault
+
+
 def split(words: list[str]) -> tuple[list[str], list[str], str | None]:
     """The program's words, the files, and what is wrong with the words or None. Options may stand anywhere, and as
     --depth=6; after -- all words are files."""
@@ -129,11 +138,9 @@ def split(words: list[str]) -> tuple[list[str], list[str], str | None]:
     seen: set[str] = set()
     name = number_of(command)
     if name:
-        number = left.pop(0) if left else None
-        fault = fault_of_number(name, number)
-        if fault or number is None:
+        fault = take_number(name, left, front)
+        if fault:
             return words, [], "%s N: %s" % (command, fault)
-        front.append(number)
     while left:
         word = left.pop(0)
         option, equals, given = word.partition("=")
@@ -151,9 +158,8 @@ def split(words: list[str]) -> tuple[list[str], list[str], str | None]:
         front.append(option)
         name = its[option]
         if name:
-            number = given if equals else left.pop(0) if left else None
-            fault = fault_of_number(name, number)
-            if fault or number is None:
+            left[:0] = [given] if equals else []
+            fault = take_number(name, left, front)
+            if fault:
                 return words, [], "%s %s: %s" % (option, name, fault)
-            front.append(number)
     return front, files, None
