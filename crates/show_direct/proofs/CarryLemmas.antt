@@ -1,9 +1,8 @@
 -- An exchange that is carried, from what its steps did.
-use Rattle.std.proofs.Common.{◌≡◌, ◌≢◌, ◌⊎◌, inl, inr, ℕ, ◌+◌, ◌<◌, ◌≤◌, Bool, true, false, List, [], ◌∷◌, ◌++◌, Contains, append_assoc, append-nil, length, length-append, Option, Some, None, refl, sym, ap, subst, ◌∙◌, arith}
+use Rattle.std.proofs.Common.{◌≡◌, inl, inr, ℕ, ◌+◌, ◌<◌, ◌≤◌, Bool, true, false, List, [], ◌∷◌, ◌++◌, Contains, append_assoc, append-nil, length, length-append, Option, Some, None, refl, sym, ap, subst, ◌∙◌, arith}
 use Rattle.std.proofs.lemmas.Grind.{common_steps}
 use Rattle.std.proofs.lemmas.List.{append_cancel_left, append_cancel_right}
-use Rattle.std.proofs.lemmas.List.Elements.{All-cons, All-contains, All-nil}
-use Rattle.std.specs.Io.KnownBytes.{Appends, Consumes}
+use Rattle.std.specs.Io.KnownBytes.{Appends}
 use Rattle.text_lines.specs.Marker.{part_of, rest_of}
 use Rattle.choreo_reader.specs.Grammar.{StandsFor}
 use Rattle.choreo_reader.specs.Laws.{ShowLaw}
@@ -22,14 +21,13 @@ use Rattle.show_judge.proofs.AnswerLemmas.{accepted_outcome, refused_outcome, re
 use Rattle.show_judge.proofs.RunLemmas.{refused_among, refused_judged}
 use Rattle.show_judge.proofs.TextLemmas.{stands_unrefused}
 use Rattle.show_judge.specs.Answers.{IsAccepted, IsRefusedBy, Wrote}
-use Rattle.show_judge.specs.Outcome.{IsOutcomeOf}
 use Rattle.show_judge.specs.Refused.{IsOfInput, show_refusal, text_refusal}
 use Rattle.show_judge.specs.Shows.{cut_of}
-use Rattle.show_judge.specs.Verb.{IsJudged, Outcome, Span, outcome}
+use Rattle.show_judge.specs.Verb.{Span, outcome}
 use Rattle.show_judge.specs.declared.judging.Accepted.{Accepted}
 use Rattle.show_direct.specs.declared.reading.Unread.{Unread}
 use Rattle.show_direct.specs.declared.reading.Unread.TheVariants as unread
-use Rattle.show_direct.specs.Exchanges.{Accepts, Exchange, TextBegun, TextEnds, TextIsPrompt, TextStops, text_exchange, text_verb, text_ways}
+use Rattle.show_direct.specs.Exchanges.{Accepts, Exchange, TextStops, text_exchange, text_verb, text_ways}
 use Rattle.show_direct.specs.Direct.{HasBegun}
 use Rattle.show_direct.specs.Steps.{AreMarked, Carries, EndsBy, IsCut, IsRead, IsUnread, direct_statuses}
 
@@ -110,11 +108,17 @@ carried_next show marker depth next bytes left ended met a m mid status is fed b
       one = c.one;
       six = λ six. (let it = c.six six in (it.0, cut it.0 it.1, it.2));
       seven = λ seven.
-          (let it = c.seven seven in
-          (it.0, (it.1.0, it.1.1, elim it.1.2 [
-            | inl gives ↦ inl (gives.0, accepted_outcome (text_verb depth next) depth (cut_of bytes) a gives.0 is gives.1, gives.2)
-            | inr broken ↦ inr (cut it.1.0 broken)
-          ])));
+          (let it = c.seven seven in (
+            it.0,
+            (
+              it.1.0,
+              it.1.1,
+              elim it.1.2 [
+                | inl gives ↦ inl (gives.0, accepted_outcome (text_verb depth next) depth (cut_of bytes) a gives.0 is gives.1, gives.2)
+                | inr broken ↦ inr (cut it.1.0 broken)
+              ],
+            ),
+          ));
       prompt = λ seven taken sent before split old new whole s others.
           (let halves = marker taken left whole in
           let same : is.s ≡ s = show.one (part_of taken) is.s s

@@ -1,5 +1,5 @@
 -- The laws of `direct`.
-use Rattle.std.proofs.Common.{◌≡◌, ℕ, List, Option, refl}
+use Rattle.std.proofs.Common.{ℕ, List, Option}
 use Rattle.std.specs.Io.KnownBytes.{Appends}
 use Rattle.text_lines.specs.Marker.{rest_of}
 use Rattle.choreo_reader.specs.Laws.{ShowLaw}
@@ -11,8 +11,8 @@ use Rattle.show_judge.specs.Shows.{cut_of}
 use Rattle.show_judge.specs.Verb.{Outcome}
 use Rattle.show_direct.specs.declared.options.Options.{Options}
 use Rattle.show_direct.specs.Flights.{fault_of, flight_of, routes_of}
-use Rattle.show_direct.specs.Exchanges.{IsExchange, text_verb}
-use Rattle.show_direct.specs.Direct.{DirectLaw, FliesWhole, direct_verb, down_exchange, flight_exchange, show_exchange, up_exchange}
+use Rattle.show_direct.specs.Exchanges.{IsExchange}
+use Rattle.show_direct.specs.Direct.{DirectLaw, FliesWhole, direct_verb, down_exchange, flight_exchange, show_exchange}
 use Rattle.show_direct.proofs.ExchangeLemmas.{flown_by, is_exchange_by, is_text_exchange, is_text_verb, led_on}
 use Rattle.show_direct.proofs.FlightLemmas.{are_flight, some_steps}
 

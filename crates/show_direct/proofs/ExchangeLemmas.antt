@@ -1,5 +1,5 @@
 -- The laws of exchanges, and of the commands that they are.
-use Rattle.std.proofs.Common.{◌≡◌, ◌==◌, inl, inr, ℕ, ◌≤◌, List, [], ◌++◌, length, Option, Some, None, refl, sym, ap, subst, ◌∙◌, arith}
+use Rattle.std.proofs.Common.{◌≡◌, ◌==◌, inl, inr, ℕ, List, [], ◌++◌, length, Option, Some, None, refl, sym, ap, subst, ◌∙◌, arith}
 use Rattle.std.proofs.lemmas.List.Elements.{All-nil}
 use Rattle.std.specs.Option.{option_map}
 use Rattle.text_lines.specs.Marker.{part_of, rest_of}
@@ -17,7 +17,7 @@ use Rattle.show_judge.proofs.VerbLemmas.{outcomes}
 use Rattle.show_judge.specs.Outcome.{IsOutcomeOf, IsVerb, OutcomeLaw, ShowGives, said}
 use Rattle.show_judge.specs.Refused.{show_refusal, text_refusal}
 use Rattle.show_judge.specs.Shows.{cut_of}
-use Rattle.show_judge.specs.Verb.{Outcome, Verb, outcome}
+use Rattle.show_judge.specs.Verb.{Outcome, outcome}
 use Rattle.show_direct.specs.declared.options.Options.{Options}
 use Rattle.show_direct.specs.Flights.{flight_of}
 use Rattle.show_direct.specs.Exchanges.{Accepts, Exchange, IsExchange, text_exchange, text_verb, text_ways}

@@ -1,5 +1,5 @@
 -- What three shows are as a flight.
-use Rattle.std.proofs.Common.{◌≡◌, ◌≤◌, ◌∷◌, [], ◌++◌, List, length, map, Option, Some, None, refl, sym, ◌∙◌, arith, length-append}
+use Rattle.std.proofs.Common.{◌≡◌, ◌≤◌, ◌∷◌, [], ◌++◌, length, map, None, refl, sym, ◌∙◌, arith, length-append}
 use Rattle.std.proofs.lemmas.List.{length-map}
 use Rattle.std.specs.List.{flat_map, range_with_len}
 use Rattle.choreo_show.specs.Plain.{PlainShow}
@@ -14,7 +14,7 @@ use Rattle.flight_steps.proofs.Judged.{flight-of}
 use Rattle.show_plan.proofs.Flight.{by_cue_counted}
 use Rattle.show_judge.specs.Shows.{names_of, trajectories_of}
 use Rattle.show_direct.specs.declared.options.Options.{Options}
-use Rattle.show_direct.specs.Flights.{AreFlight, fault_of, routes_of}
+use Rattle.show_direct.specs.Flights.{AreFlight, fault_of}
 
 -- a flight has steps: the start, and the last one
 pub some_steps : (w : Routes) → 1 ≤ length (steps_of w)

@@ -17,7 +17,7 @@ use Rattle.show_judge.specs.Verb.{Span, outcome}
 use Rattle.show_direct.specs.declared.options.Options.{Options}
 use Rattle.show_direct.specs.Flights.{fault_of, flight_of}
 use Rattle.show_direct.specs.Direct.{exchange_by, flight_exchange}
-use Rattle.show_direct.specs.Steps.{Carries, EndsFlight, FlightMade, IsCut, direct_statuses}
+use Rattle.show_direct.specs.Steps.{Carries, EndsFlight, FlightMade, direct_statuses}
 use Rattle.show_direct.proofs.CarryLemmas.{carried_memory, never_appended, never_front}
 use Rattle.show_direct.proofs.FlightLemmas.{are_flight}
 
@@ -61,11 +61,17 @@ flown o up show down bytes left ended m status none f = record {
       (let it = f.six six in
       (it.2.1, record { rose = it.0; unmet = it.1; taken = it.2.0; is = it.2.2; stops = it.2.3 }, it.2.4));
   seven = λ seven.
-      (let it = f.seven seven in
-      (it.0, (it.1.0, it.1.1, elim it.1.2 [
-        | inl gives ↦ inl (outcome gives.0 it.1.0, gives.1, refl)
-        | inr failed ↦ inr (record { rose = failed.0; unmet = failed.1; taken = failed.2.0; is = failed.2.1; stops = failed.2.2 })
-      ])));
+      (let it = f.seven seven in (
+        it.0,
+        (
+          it.1.0,
+          it.1.1,
+          elim it.1.2 [
+            | inl gives ↦ inl (outcome gives.0 it.1.0, gives.1, refl)
+            | inr failed ↦ inr (record { rose = failed.0; unmet = failed.1; taken = failed.2.0; is = failed.2.1; stops = failed.2.2 })
+          ],
+        ),
+      ));
   prompt = λ seven taken sent before split old new. f.prompt bytes left before taken sent refl refl split old new;
   ends = λ j. f.stops;
   begun = λ began. are_flight o up show down none;

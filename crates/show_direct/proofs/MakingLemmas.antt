@@ -1,5 +1,5 @@
 -- A flight that is made of three shows that fit.
-use Rattle.std.proofs.Common.{◌≡◌, ℕ, suc, ◌+◌, ◌*◌, ◌<◌, ◌≤◌, ℤ, not, List, [], ◌∷◌, length, map, Option, Some, None, Result, Ok, Err, refl, sym, ap, subst, ◌∙◌, arith}
+use Rattle.std.proofs.Common.{◌≡◌, ℕ, ◌*◌, ◌≤◌, ℤ, not, List, [], ◌∷◌, length, map, Option, Some, None, Result, Ok, Err, refl, sym, ap, subst, ◌∙◌, arith}
 use Rattle.std.proofs.lemmas.List.{length-map}
 use Rattle.std.proofs.lemmas.List.Elements.{All-cons, All-head, All-nil, All-tail, All-weaker}
 use Rattle.std.proofs.lemmas.List.Sums.{sum_by-cons}
@@ -20,7 +20,7 @@ use Rattle.flight_model.specs.declared.flights.Orders.{Orders}
 use Rattle.flight_model.specs.declared.flights.Orders.TheVariants.{Each, All as ToEach}
 use Rattle.flight_model.specs.declared.flights.Step.{Step}
 use Rattle.flight_model.specs.Legs.{Routes, lasts, steps_of}
-use Rattle.flight_director.specs.Held.{AreFew, IsCurve, IsHeld}
+use Rattle.flight_director.specs.Held.{AreFew, IsHeld}
 use Rattle.flight_steps.proofs.Judged.{fault-of}
 use Rattle.flight_steps.specs.declared.faults.FlightFault.{FlightFault}
 use Rattle.flight_steps.specs.declared.faults.StepsError.{StepsError}
@@ -33,7 +33,7 @@ use Rattle.flight_steps.specs.Faults.{StepsGive, first_other, flight_fault, othe
 use Rattle.flight_steps.specs.Sizes.{AreOrdersOf, IsStepOf}
 use Rattle.flight_steps.specs.Ways.{AreFitted, routes}
 use Rattle.show_plan.specs.declared.fitted.Fitted.{Fitted}
-use Rattle.show_plan.specs.Fitting.{IsFitted, IsSendable, IsValidFitted}
+use Rattle.show_plan.specs.Fitting.{IsFitted, IsValidFitted}
 use Rattle.show_plan.specs.Landing.{AreUploadable}
 use Rattle.show_judge.specs.Shows.{names_of, sent_of, trajectories_of}
 use Rattle.show_direct.specs.declared.options.Options.{Options}

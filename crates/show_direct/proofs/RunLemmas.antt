@@ -1,5 +1,5 @@
 -- What a run of `direct` is, from the exchange that was carried.
-use Rattle.std.proofs.Common.{◌≡◌, ◌⊎◌, inl, inr, ℕ, zero, suc, ◌+◌, ◌<◌, ◌≤◌, Bool, true, false, List, [], ◌++◌, length, Option, Some, None, IfSome, refl, sym, ap, subst, ◌∙◌, arith}
+use Rattle.std.proofs.Common.{◌≡◌, ◌⊎◌, inl, inr, ℕ, zero, suc, ◌+◌, ◌<◌, ◌≤◌, Bool, true, false, List, [], ◌++◌, length, Option, Some, None, refl, sym, ap, subst, ◌∙◌, arith}
 use Rattle.std.specs.Io.KnownBytes.{Appends}
 use Rattle.text_lines.specs.Marker.{part_of, rest_of}
 use Rattle.choreo_reader.specs.Laws.{ShowLaw}
@@ -88,11 +88,17 @@ runs_direct law o is bytes left m status taken c =
       six = λ six. ((c.six six).1.rose, refl);
       stopped = λ six. (let it = c.six six in (it.0, stopped o bytes left m it.0 it.1, it.2));
       seven = λ seven.
-          (let it = c.seven seven in
-          (it.0, (it.1.0, elim it.1.2 [
-            | inl gives ↦ inl (gives.0, as_direct o bytes gives.0 gives.1, gives.2)
-            | inr cut ↦ inr (cut.rose, stopped o bytes left m it.1.0 cut)
-          ], it.1.1)));
+          (let it = c.seven seven in (
+            it.0,
+            (
+              it.1.0,
+              elim it.1.2 [
+                | inl gives ↦ inl (gives.0, as_direct o bytes gives.0 gives.1, gives.2)
+                | inr cut ↦ inr (cut.rose, stopped o bytes left m it.1.0 cut)
+              ],
+              it.1.1,
+            ),
+          ));
       prompt = λ seven others sent carried.
           c.prompt seven others sent carried.old
           (of_some bytes (others ++ carried.later) carried.left ∙ ap (λ (xs : List ℕ). others ++ xs) (sym (of_some left carried.later carried.left_after)))

@@ -15,7 +15,7 @@ use Rattle.flight_link.specs.Orders.{SaysWhole}
 use Rattle.flight_link.specs.Sends.{ended}
 use Rattle.show_judge.specs.Headline.{FliesText}
 use Rattle.show_judge.specs.Outcome.{IsVerb}
-use Rattle.show_judge.specs.Verb.{Outcome, Verb, outcome}
+use Rattle.show_judge.specs.Verb.{Verb, outcome}
 use Rattle.show_direct.specs.declared.options.Options.{Options}
 use Rattle.show_direct.specs.Flights.{AreFlight, fault_of, flight_of}
 use Rattle.show_direct.specs.Exchanges.{Exchange, text_exchange, text_verb}

@@ -13,7 +13,7 @@ use Rattle.show_judge.specs.Outcome.{IsComplete, IsOutcomeOf}
 use Rattle.show_judge.specs.Refused.{show_refusal}
 use Rattle.show_judge.specs.Runs.{Carried}
 use Rattle.show_judge.specs.Shows.{cut_of}
-use Rattle.show_judge.specs.Verb.{FliesApart, IsJudged, IsSafeShow, Outcome, Run, Verb, the_input}
+use Rattle.show_judge.specs.Verb.{FliesApart, IsJudged, IsSafeShow, Outcome, Verb, the_input}
 
 -- ---- an exchange
 

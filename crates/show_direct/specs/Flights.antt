@@ -1,5 +1,5 @@
 -- What three shows are as a flight: their routes, the first cause why they are none, and the flight.
-use Rattle.std.specs.Prelude.{◌≡◌, ℕ, not, Option}
+use Rattle.std.specs.Prelude.{◌≡◌, not, Option}
 use Rattle.std.specs.Option.{option_or}
 use Rattle.choreo_show.specs.Plain.{PlainShow}
 use Rattle.flight_model.specs.declared.flights.Flight.{Flight}
