@@ -5,9 +5,9 @@ use Rattle.std.specs.Prelude.{bytes_eq, find, is_some}
 use Rattle.std.specs.Option.{option_map, option_and_then}
 use Rattle.std.proofs.lemmas.Slice.Eq.{bytes_eq-Decides}
 use Rattle.command_words.specs.declared.options.OptionName.{OptionName}
-use Rattle.command_words.specs.declared.options.OptionName.TheVariants.{Depth, Step, Start, Readback, Limit, Fine, Accel, Jump}
+use Rattle.command_words.specs.declared.options.OptionName.TheVariants.{Depth, Step, Start, Readback, Limit, Fine, Accel, Jump, Near, At, Silence, Floor, Descent, Then}
 use Rattle.command_words.specs.declared.options.Range.{Range}
-use Rattle.command_words.specs.Commands.{Given, word_of, range_of, named_by, flag_with, flag, valued_with, valued, number_from, before, options_of, SpellsWith, SpellsOption, SpellsOptions, WordsLaw}
+use Rattle.command_words.specs.Commands.{Given, word_of, range_of, named_by, flag_with, flag, valued_with, valued, value_of, before, options_of, SpellsWith, SpellsOption, SpellsOptions, WordsLaw}
 
 -- ---- one option before others
 
@@ -32,6 +32,12 @@ flag_word Limit = refl
 flag_word Fine = refl
 flag_word Accel = refl
 flag_word Jump = refl
+flag_word Near = refl
+flag_word At = refl
+flag_word Silence = refl
+flag_word Floor = refl
+flag_word Descent = refl
+flag_word Then = refl
 
 valued_word : (n : OptionName) (value : List ℕ) → valued (word_of n) value ≡ valued_with n value (range_of n)
 valued_word Depth value = refl
@@ -42,6 +48,12 @@ valued_word Limit value = refl
 valued_word Fine value = refl
 valued_word Accel value = refl
 valued_word Jump value = refl
+valued_word Near value = refl
+valued_word At value = refl
+valued_word Silence value = refl
+valued_word Floor value = refl
+valued_word Descent value = refl
+valued_word Then value = refl
 
 -- one option, spelled by its words, before others
 head : (g : Given) (front rest : List (List ℕ)) (r : Option Range) → range_of g.name ≡ r → SpellsWith g front r → options_of (front ++ rest) ≡ before (Some g) (options_of rest)
@@ -93,7 +105,7 @@ flag_found word (Some n) g is are = by (range_of n) refl
         let same : record { name = n; value = 1 } ≡ g = cc (ap (flag_with n) (sym e) ∙ flag_is) in
         subst (λ (x : Given). SpellsOption x (word ∷ [])) same
         (subst (λ (r : Option Range). SpellsWith (record { name = n; value = 1 }) (word ∷ []) r) (sym e)
-        (ap (λ (w : List ℕ). w ∷ []) (named_is word (Depth ∷ Step ∷ Start ∷ Readback ∷ Limit ∷ Fine ∷ Accel ∷ Jump ∷ []) n is), refl))
+        (ap (λ (w : List ℕ). w ∷ []) (named_is word (Depth ∷ Step ∷ Start ∷ Readback ∷ Limit ∷ Fine ∷ Accel ∷ Jump ∷ Near ∷ At ∷ Silence ∷ Floor ∷ Descent ∷ Then ∷ []) n is), refl))
     by (Some r) e = absurd (cc (ap (flag_with n) (sym e) ∙ flag_is))
 
 -- an option with its number that is read is spelled by the two words
@@ -106,9 +118,9 @@ valued_found word value (Some n) g is are = by (range_of n) refl
 
     by : (r : Option Range) → range_of n ≡ r → SpellsOption g (word ∷ value ∷ [])
     by None e = absurd (cc (ap (valued_with n value) (sym e) ∙ valued_is))
-    by (Some r) e = with_number (number_from r.least r.most value) refl
+    by (Some r) e = with_number (value_of n r value) refl
       where
-        with_number : (v : Option ℕ) → number_from r.least r.most value ≡ v → SpellsOption g (word ∷ value ∷ [])
+        with_number : (v : Option ℕ) → value_of n r value ≡ v → SpellsOption g (word ∷ value ∷ [])
         with_number None none =
             absurd (cc (ap (option_map (λ (k : ℕ). record { name = n; value = k })) (sym none) ∙ ap (valued_with n value) (sym e) ∙ valued_is))
         with_number (Some k) number_is =
@@ -116,7 +128,7 @@ valued_found word value (Some n) g is are = by (range_of n) refl
             cc (ap (option_map (λ (j : ℕ). record { name = n; value = j })) (sym number_is) ∙ ap (valued_with n value) (sym e) ∙ valued_is) in
             subst (λ (x : Given). SpellsOption x (word ∷ value ∷ [])) same
             (subst (λ (s : Option Range). SpellsWith (record { name = n; value = k }) (word ∷ value ∷ []) s) (sym e)
-            (value, ap (λ (w : List ℕ). w ∷ value ∷ []) (named_is word (Depth ∷ Step ∷ Start ∷ Readback ∷ Limit ∷ Fine ∷ Accel ∷ Jump ∷ []) n is), number_is))
+            (value, ap (λ (w : List ℕ). w ∷ value ∷ []) (named_is word (Depth ∷ Step ∷ Start ∷ Readback ∷ Limit ∷ Fine ∷ Accel ∷ Jump ∷ Near ∷ At ∷ Silence ∷ Floor ∷ Descent ∷ Then ∷ []) n is), number_is))
 
 -- words that are read begin with a flag or with an option and its number
 several_are : (word value : List ℕ) (words : List (List ℕ)) (one : Bool) (gs : List Given) →

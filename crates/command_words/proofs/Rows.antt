@@ -1,8 +1,9 @@
 -- Words and what they are.
 use Rattle.std.proofs.Common.{◌≡◌, [], ◌∷◌, Some, None, true, false, refl}
-use Rattle.std.specs.Prelude.{codes}
-use Rattle.command_words.specs.declared.command.Command.TheVariants.{Version, Play, Rehearse, Upload, Drill, Boxes, Speed, Explain, Dynamics}
+use Rattle.std.specs.Prelude.{codes, pos}
+use Rattle.command_words.specs.declared.command.Command.TheVariants.{Version, Play, Rehearse, Upload, Direct, Drill, Boxes, Speed, Explain, Dynamics}
 use Rattle.command_words.specs.Commands.{command_of}
+unfoldable use Rattle.command_words.specs.Commands.{value_of}
 
 record WordRows : Type 0 where
   either_order : command_of (codes "play" ∷ codes "--step" ∷ codes "500" ∷ codes "--depth" ∷ codes "3" ∷ []) ≡ Some (Play 3 500)
@@ -38,6 +39,14 @@ record WordRows : Type 0 where
   bounded_twice : command_of (codes "dynamics" ∷ codes "--accel" ∷ codes "1" ∷ codes "--accel" ∷ codes "1" ∷ []) ≡ None
   bound_of_another : command_of (codes "speed" ∷ codes "--jump" ∷ codes "300" ∷ []) ≡ None
   dynamics_limited : command_of (codes "dynamics" ∷ codes "--limit" ∷ codes "5" ∷ []) ≡ None
+  flown : command_of (codes "direct" ∷ []) ≡ Some (Direct 6 80 80 1000 (pos 0) 4000 true)
+  flown_on : command_of (codes "direct" ∷ codes "--then" ∷ codes "fly" ∷ codes "--near" ∷ codes "120" ∷ codes "--floor" ∷ codes "40" ∷ []) ≡ Some (Direct 6 120 80 1000 (pos 40) 4000 false)
+  flown_all : command_of (codes "direct" ∷ codes "--descent" ∷ codes "60000" ∷ codes "--at" ∷ codes "65535" ∷ codes "--silence" ∷ codes "1" ∷ codes "--depth" ∷ codes "8" ∷ codes "--then" ∷ codes "land" ∷ []) ≡ Some (Direct 8 80 65535 1 (pos 0) 60000 true)
+  flown_how : command_of (codes "direct" ∷ codes "--then" ∷ codes "stop" ∷ []) ≡ None
+  never_silent : command_of (codes "direct" ∷ codes "--silence" ∷ codes "0" ∷ []) ≡ None
+  too_high : command_of (codes "direct" ∷ codes "--floor" ∷ codes "32768" ∷ []) ≡ None
+  near_of_another : command_of (codes "upload" ∷ codes "--near" ∷ codes "80" ∷ []) ≡ None
 
 word_rows : WordRows
-word_rows = record { either_order = refl; start_first = refl; start_last = refl; twice = refl; swallowed = refl; taken_for_option = refl; no_value = refl; of_another = refl; zeros = refl; behind = refl; too_many = refl; too_great = refl; digits = refl; bare = refl; limited = refl; unlimited = refl; no_limit = refl; finest = refl; too_fine = refl; boxed = refl; boxes_limited = refl; version = refl; version_of_one = refl; nothing = refl; read_back = refl; read_back_last = refl; read_back_twice = refl; read_back_of_another = refl; unbounded = refl; bounded = refl; bounded_twice = refl; bound_of_another = refl; dynamics_limited = refl }
+unfolding value_of
+word_rows = record { either_order = refl; start_first = refl; start_last = refl; twice = refl; swallowed = refl; taken_for_option = refl; no_value = refl; of_another = refl; zeros = refl; behind = refl; too_many = refl; too_great = refl; digits = refl; bare = refl; limited = refl; unlimited = refl; no_limit = refl; finest = refl; too_fine = refl; boxed = refl; boxes_limited = refl; version = refl; version_of_one = refl; nothing = refl; read_back = refl; read_back_last = refl; read_back_twice = refl; read_back_of_another = refl; unbounded = refl; bounded = refl; bounded_twice = refl; bound_of_another = refl; dynamics_limited = refl; flown = refl; flown_on = refl; flown_all = refl; flown_how = refl; never_silent = refl; too_high = refl; near_of_another = refl }

@@ -1,13 +1,13 @@
 -- The words of the command line, and what they ask for (docs/COMMANDS.md, "Options").
-use Rattle.std.specs.Prelude.{◌≡◌, ◌↔◌, ℕ, ◌≤◌, Bool, ◌&&◌, not, List, [], ◌∷◌, ◌++◌, length, find, is_some, nat_le, bytes_eq, codes, slice_index_or, slice_set, Option, Some, None, IfSome, unwrap_or, if◌then◌else◌, ◌==◌}
+use Rattle.std.specs.Prelude.{◌≡◌, ◌↔◌, ℕ, ◌≤◌, ℤ, pos, replicate, Bool, ◌&&◌, not, List, [], ◌∷◌, ◌++◌, length, find, is_some, nat_le, bytes_eq, codes, slice_index_or, slice_set, Option, Some, None, IfSome, unwrap_or, if◌then◌else◌, ◌==◌}
 use Rattle.std.specs.Option.{option_map, option_and_then}
 use Rattle.std.specs.List.{list_any}
 use Rattle.fleet_math.specs.Limits.{most_depth, most_drones, most_fine}
 use Rattle.text_lines.specs.Numbers.{natural_of}
 use Rattle.command_words.specs.declared.command.Command.{Command}
-use Rattle.command_words.specs.declared.command.Command.TheVariants.{Help, Version, Check, Compile, Certify, Play, Report, Verify, Rehearse, Upload, Drill, Boxes, Speed, Explain, Dynamics}
+use Rattle.command_words.specs.declared.command.Command.TheVariants.{Help, Version, Check, Compile, Certify, Play, Report, Verify, Rehearse, Upload, Direct, Drill, Boxes, Speed, Explain, Dynamics}
 use Rattle.command_words.specs.declared.options.OptionName.{OptionName}
-use Rattle.command_words.specs.declared.options.OptionName.TheVariants.{Depth, Step, Start, Readback, Limit, Fine, Accel, Jump}
+use Rattle.command_words.specs.declared.options.OptionName.TheVariants.{Depth, Step, Start, Readback, Limit, Fine, Accel, Jump, Near, At, Silence, Floor, Descent, Then}
 use Rattle.command_words.specs.declared.options.Range.{Range}
 use Rattle.command_words.specs.declared.options.Options.{Options}
 
@@ -36,6 +36,29 @@ most_bound = 999999999
 abbrev pub default_fine : ℕ
 default_fine = 5
 
+-- how near a drone has to be to its pad, and to its position in the air, where no option says it; and the greatest such
+-- distance, in millimetres
+abbrev pub default_near : ℕ
+default_near = 80
+
+abbrev pub most_near : ℕ
+most_near = 65535
+
+-- after how long a drone is silent, and how long a landing takes, where no option says it; and the longest time, in
+-- milliseconds
+abbrev pub default_silence : ℕ
+default_silence = 1000
+
+abbrev pub default_descent : ℕ
+default_descent = 4000
+
+abbrev pub most_wait : ℕ
+most_wait = 60000
+
+-- the greatest height of the floor, in millimetres
+abbrev pub most_floor : ℕ
+most_floor = 32767
+
 -- the most digits of a number on the command line
 abbrev pub most_digits : ℕ
 most_digits = 9
@@ -60,6 +83,12 @@ word_of Limit = codes "--limit"
 word_of Fine = codes "--fine"
 word_of Accel = codes "--accel"
 word_of Jump = codes "--jump"
+word_of Near = codes "--near"
+word_of At = codes "--at"
+word_of Silence = codes "--silence"
+word_of Floor = codes "--floor"
+word_of Descent = codes "--descent"
+word_of Then = codes "--then"
 
 -- the numbers of which one follows it; a flag stands alone
 abbrev pub range_of : OptionName → Option Range
@@ -71,10 +100,25 @@ range_of Limit = Some (record { least = 1; most = most_limit })
 range_of Fine = Some (record { least = 0; most = most_fine })
 range_of Accel = Some (record { least = 0; most = most_bound })
 range_of Jump = Some (record { least = 0; most = most_bound })
+range_of Near = Some (record { least = 0; most = most_near })
+range_of At = Some (record { least = 0; most = most_near })
+range_of Silence = Some (record { least = 1; most = most_wait })
+range_of Floor = Some (record { least = 0; most = most_floor })
+range_of Descent = Some (record { least = 1; most = most_wait })
+range_of Then = Some (record { least = 0; most = 1 })
+
+-- what the show does where a drone is lost or astray: 0 where all land, 1 where it goes on
+abbrev pub then_of : List ℕ → Option ℕ
+then_of word = if bytes_eq word (codes "land") then Some 0 else (if bytes_eq word (codes "fly") then Some 1 else None)
+
+-- the number that a word is after an option
+unfoldable pub value_of : OptionName → Range → List ℕ → Option ℕ
+value_of Then r word = then_of word
+value_of name r word = number_from r.least r.most word
 
 -- the option that a word names
 abbrev pub named_by : List ℕ → Option OptionName
-named_by word = find (λ n. bytes_eq word (word_of n)) (Depth ∷ Step ∷ Start ∷ Readback ∷ Limit ∷ Fine ∷ Accel ∷ Jump ∷ [])
+named_by word = find (λ n. bytes_eq word (word_of n)) (Depth ∷ Step ∷ Start ∷ Readback ∷ Limit ∷ Fine ∷ Accel ∷ Jump ∷ Near ∷ At ∷ Silence ∷ Floor ∷ Descent ∷ Then ∷ [])
 
 -- An option that is given, with its number; a flag has 1.
 pub record Given : Type 0 where
@@ -92,7 +136,7 @@ flag word = option_and_then (λ (n : OptionName). flag_with n (range_of n)) (nam
 -- an option with the word of its number
 abbrev pub valued_with : OptionName → List ℕ → Option Range → Option Given
 valued_with name value None = None
-valued_with name value (Some r) = option_map (λ (n : ℕ). record { name = name; value = n }) (number_from r.least r.most value)
+valued_with name value (Some r) = option_map (λ (n : ℕ). record { name = name; value = n }) (value_of name r value)
 
 abbrev pub valued : List ℕ → List ℕ → Option Given
 valued word value = option_and_then (λ (n : OptionName). valued_with n value (range_of n)) (named_by word)
@@ -122,10 +166,16 @@ place_of Limit = 4
 place_of Fine = 5
 place_of Accel = 6
 place_of Jump = 7
+place_of Near = 8
+place_of At = 9
+place_of Silence = 10
+place_of Floor = 11
+place_of Descent = 12
+place_of Then = 13
 
 -- no option is given
 abbrev pub no_options : Options
-no_options = record { values = None ∷ None ∷ None ∷ None ∷ None ∷ None ∷ None ∷ None ∷ [] }
+no_options = record { values = replicate 14 None }
 
 -- the number of an option, if it is given
 abbrev pub given_in : Options → OptionName → Option ℕ
@@ -159,6 +209,26 @@ step_in o = unwrap_or (given_in o Step) default_step
 
 abbrev pub fine_in : Options → ℕ
 fine_in o = unwrap_or (given_in o Fine) default_fine
+
+-- what is given for a flight, or its defaults
+abbrev pub near_in : Options → ℕ
+near_in o = unwrap_or (given_in o Near) default_near
+
+abbrev pub at_in : Options → ℕ
+at_in o = unwrap_or (given_in o At) default_near
+
+abbrev pub silence_in : Options → ℕ
+silence_in o = unwrap_or (given_in o Silence) default_silence
+
+abbrev pub floor_in : Options → ℤ
+floor_in o = pos (unwrap_or (given_in o Floor) 0)
+
+abbrev pub descent_in : Options → ℕ
+descent_in o = unwrap_or (given_in o Descent) default_descent
+
+-- all land where a drone is lost or astray in the show
+abbrev pub lands : Options → Bool
+lands o = unwrap_or (given_in o Then) 0 == 0
 
 -- a flag is given
 abbrev pub has : Options → OptionName → Bool
@@ -196,12 +266,20 @@ study name words =
     else (if bytes_eq name (codes "dynamics") then option_map (λ (o : Options). Dynamics (depth_in o) (given_in o Accel) (given_in o Jump)) (options_for (Depth ∷ Accel ∷ Jump ∷ []) words)
     else None)))
 
+-- the command of this name that flies a show, with the words after it
+abbrev pub flying : List ℕ → List (List ℕ) → Option Command
+flying name words =
+    if bytes_eq name (codes "direct")
+    then option_map (λ (o : Options). Direct (depth_in o) (near_in o) (at_in o) (silence_in o) (floor_in o) (descent_in o) (lands o))
+    (options_for (Depth ∷ Near ∷ At ∷ Silence ∷ Floor ∷ Descent ∷ Then ∷ []) words)
+    else study name words
+
 -- the command of this name that takes packets to drones, with the words after it
 abbrev pub sending : List ℕ → List (List ℕ) → Option Command
 sending name words =
     if bytes_eq name (codes "rehearse") then with_flags Rehearse words
     else (if bytes_eq name (codes "upload") then with_flags Upload words
-    else study name words)
+    else flying name words)
 
 -- the command of this name, with the words after it
 abbrev pub named : List ℕ → List (List ℕ) → Option Command
@@ -234,6 +312,7 @@ IsCommand (Report depth) = Unit {0}
 IsCommand Verify = Unit {0}
 IsCommand (Rehearse depth start readback) = Unit {0}
 IsCommand (Upload depth start readback) = Unit {0}
+IsCommand (Direct depth near at_place silence floor descent then_land) = Unit {0}
 IsCommand (Drill drones depth) = (1 ≤ drones) × (drones ≤ most_drones)
 IsCommand (Boxes depth) = Unit {0}
 IsCommand (Speed depth limit) = IfSome limit (λ v. (1 ≤ v) × (v ≤ most_limit))
@@ -246,7 +325,7 @@ IsCommand (Dynamics depth accel jump) = IfSome accel (λ a. a ≤ most_bound) ×
 abbrev pub SpellsWith : Given → List (List ℕ) → Option Range → Type 0
 SpellsWith g words None = (words ≡ word_of g.name ∷ []) × (g.value ≡ 1)
 SpellsWith g words (Some r) =
-    (value : List ℕ) × (words ≡ word_of g.name ∷ value ∷ []) × (number_from r.least r.most value ≡ Some g.value)
+    (value : List ℕ) × (words ≡ word_of g.name ∷ value ∷ []) × (value_of g.name r value ≡ Some g.value)
 
 abbrev pub SpellsOption : Given → List (List ℕ) → Type 0
 SpellsOption g words = SpellsWith g words (range_of g.name)
@@ -266,6 +345,8 @@ abbrev pub help_text : List ℕ
 help_text =
     codes "help\ncheck [--depth D]\ncompile [--depth D]\ncertify [--depth D]\n"
     ++ codes "play [--depth D] [--step MS]\nreport [--depth D]\nverify\n"
-    ++ codes "rehearse [--depth D] [--start] [--readback]\nupload [--depth D] [--start] [--readback]\ndrill N [--depth D]\n"
+    ++ codes "rehearse [--depth D] [--start] [--readback]\nupload [--depth D] [--start] [--readback]\n"
+    ++ codes "direct [--depth D] [--near MM] [--at MM] [--silence MS] [--floor MM] [--descent MS] [--then land|fly]\n"
+    ++ codes "drill N [--depth D]\n"
     ++ codes "boxes [--depth D]\nspeed [--depth D] [--limit V]\nexplain [--depth D] [--fine E]\n"
     ++ codes "dynamics [--depth D] [--accel A] [--jump J]\nversion\n"

@@ -50,6 +50,19 @@ pub enum Command {
         start: bool,
         readback: bool,
     },
+    /// A flight of three shows, the way up, the show and the way down, through frames. `near` and `at_place` say how near
+    /// a drone has to be to its pad and to its position in the air, in millimetres. After `silence` milliseconds a drone
+    /// is silent. All land at the height `floor`, in `descent` milliseconds; where a drone is lost or astray in the show
+    /// only with `then_land`.
+    Direct {
+        depth: Depth,
+        near: u16,
+        at_place: u16,
+        silence: u32,
+        floor: i16,
+        descent: u32,
+        then_land: bool,
+    },
     /// The numbers of the drill's show of this many drones, 1 to 32.
     Drill {
         drones: u8,
@@ -131,6 +144,35 @@ fn study(name: &[u8], words: &[String]) -> Option<Command>
     None
 }
 
+// The command of this name that flies a show, with the words after it.
+fn flying(name: &[u8], words: &[String]) -> Option<Command>
+    ensures value { result ≡ commands.flying name.now (map string_bytes words.now) }
+    ensures command { IfSome result IsCommand }
+{
+    if name == b"direct".as_slice() {
+        let names = [
+            OptionName::Depth,
+            OptionName::Near,
+            OptionName::At,
+            OptionName::Silence,
+            OptionName::Floor,
+            OptionName::Descent,
+            OptionName::Then,
+        ];
+        let options = options_for(&names, words)?;
+        return Some(Command::Direct {
+            depth: options.depth(),
+            near: options.near(),
+            at_place: options.at_place(),
+            silence: options.silence(),
+            floor: options.floor(),
+            descent: options.descent(),
+            then_land: options.lands(),
+        });
+    }
+    study(name, words)
+}
+
 // The command of this name that takes packets to drones, with the words after it.
 fn sending(name: &[u8], words: &[String]) -> Option<Command>
     ensures value { result ≡ commands.sending name.now (map string_bytes words.now) }
@@ -153,7 +195,7 @@ fn sending(name: &[u8], words: &[String]) -> Option<Command>
             readback: options.has(OptionName::Readback),
         });
     }
-    study(name, words)
+    flying(name, words)
 }
 
 // The drill that the words after `drill` are: a number of drones, and then options.
@@ -233,6 +275,7 @@ pub fn help_text() -> &'static [u8]
       verify\n\
       rehearse [--depth D] [--start] [--readback]\n\
       upload [--depth D] [--start] [--readback]\n\
+      direct [--depth D] [--near MM] [--at MM] [--silence MS] [--floor MM] [--descent MS] [--then land|fly]\n\
       drill N [--depth D]\n\
       boxes [--depth D]\n\
       speed [--depth D] [--limit V]\n\

@@ -1,7 +1,7 @@
 //! The options that are given, each at most once and in any order.
-ghost use Rattle.std.specs.Prelude.{◌≡◌, ℕ, ◌≤◌, Bool, map, string_bytes, IfSome, IfOk, length, option_map, option_and_then, is_some, true};
+ghost use Rattle.std.specs.Prelude.{◌≡◌, ℕ, ◌≤◌, Bool, map, string_bytes, IfSome, IfOk, length, option_map, option_and_then, is_some, true, Some};
 ghost use Rattle.command_words.specs.Commands as commands;
-ghost use Rattle.command_words.specs.Commands.{depth_in, fine_in, given_in, has, most_limit, no_options, noted, options_for, place_of, range_of, step_in, takes, word_of};
+ghost use Rattle.command_words.specs.Commands.{at_in, depth_in, descent_in, fine_in, floor_in, given_in, has, lands, most_limit, near_in, no_options, noted, options_for, place_of, range_of, silence_in, step_in, takes, then_of, value_of, word_of};
 ghost use Rattle.command_words.specs.Steps.{AreInRange, IsInRange};
 
 use fleet_math::{Depth, Fine, MOST_DEPTH, MOST_FINE};
@@ -25,6 +25,24 @@ const MOST_BOUND: u32 = 999_999_999;
 // How finely a cue is listed where no option says it.
 const DEFAULT_FINE: u32 = 5;
 
+// How near a drone has to be to its pad, and to its position in the air, where no option says it, in millimetres.
+const DEFAULT_NEAR: u32 = 80;
+
+// The greatest such distance, in millimetres.
+const MOST_NEAR: u32 = 65_535;
+
+// After how long a drone is silent where no option says it, in milliseconds.
+const DEFAULT_SILENCE: u32 = 1_000;
+
+// How long a landing takes where no option says it, in milliseconds.
+const DEFAULT_DESCENT: u32 = 4_000;
+
+// The longest silence, and the longest landing, in milliseconds.
+const MOST_WAIT: u32 = 60_000;
+
+// The greatest height of the floor, in millimetres.
+const MOST_FLOOR: u32 = 32_767;
+
 // The most digits of a number on the command line.
 const MOST_DIGITS: usize = 9;
 
@@ -46,6 +64,12 @@ pub enum OptionName {
     Fine,
     Accel,
     Jump,
+    Near,
+    At,
+    Silence,
+    Floor,
+    Descent,
+    Then,
 }
 
 /// The number that a word is, from `least` to `most`: 1 to 9 decimal digits.
@@ -66,6 +90,20 @@ pub fn number_from(word: &[u8], least: u32, most: u32) -> Option<u32>
     }
 }
 
+// What a word says that the show does where a drone is lost or astray: 0 where all land, 1 where it goes on.
+fn then_from(word: &[u8]) -> Option<u32>
+    ensures value { result ≡ then_of word.now }
+    ensures to { IfSome result (λ n. n ≤ 1) }
+{
+    if word == b"land".as_slice() {
+        Some(0)
+    } else if word == b"fly".as_slice() {
+        Some(1)
+    } else {
+        None
+    }
+}
+
 impl OptionName {
     // Its word.
     fn word(self) -> &'static [u8]
@@ -80,6 +118,12 @@ impl OptionName {
             OptionName::Fine => b"--fine",
             OptionName::Accel => b"--accel",
             OptionName::Jump => b"--jump",
+            OptionName::Near => b"--near",
+            OptionName::At => b"--at",
+            OptionName::Silence => b"--silence",
+            OptionName::Floor => b"--floor",
+            OptionName::Descent => b"--descent",
+            OptionName::Then => b"--then",
         }
     }
 
@@ -94,6 +138,10 @@ impl OptionName {
             OptionName::Limit => (1, MOST_LIMIT),
             OptionName::Fine => (0, u32::from(MOST_FINE)),
             OptionName::Accel | OptionName::Jump => (0, MOST_BOUND),
+            OptionName::Near | OptionName::At => (0, MOST_NEAR),
+            OptionName::Silence | OptionName::Descent => (1, MOST_WAIT),
+            OptionName::Floor => (0, MOST_FLOOR),
+            OptionName::Then => (0, 1),
             OptionName::Start | OptionName::Readback => return None,
         };
         Some(Range { least, most })
@@ -102,7 +150,7 @@ impl OptionName {
     // Its place among the values.
     fn place(self) -> usize
         ensures value { result ≡ place_of self }
-        ensures few { result ≤ 7 }
+        ensures few { result ≤ 13 }
     {
         match self {
             OptionName::Depth => 0,
@@ -113,6 +161,39 @@ impl OptionName {
             OptionName::Fine => 5,
             OptionName::Accel => 6,
             OptionName::Jump => 7,
+            OptionName::Near => 8,
+            OptionName::At => 9,
+            OptionName::Silence => 10,
+            OptionName::Floor => 11,
+            OptionName::Descent => 12,
+            OptionName::Then => 13,
+        }
+    }
+
+    // The number that a word is after it, of these.
+    #[tactic(auto, unfolding(crate::specs::Commands::value_of))]
+    fn value(self, range: Range, word: &[u8]) -> Option<u32>
+        requires range { range_of self ≡ Some range }
+        requires most { range.most ≤ most_limit }
+        ensures value { result ≡ value_of self range word.now }
+        ensures from { IfSome result (λ n. range.least ≤ n) }
+        ensures to { IfSome result (λ n. n ≤ range.most) }
+    {
+        match self {
+            OptionName::Then => then_from(word),
+            OptionName::Depth
+            | OptionName::Step
+            | OptionName::Start
+            | OptionName::Readback
+            | OptionName::Limit
+            | OptionName::Fine
+            | OptionName::Accel
+            | OptionName::Jump
+            | OptionName::Near
+            | OptionName::At
+            | OptionName::Silence
+            | OptionName::Floor
+            | OptionName::Descent => number_from(word, range.least, range.most),
         }
     }
 }
@@ -130,6 +211,12 @@ fn named_by(word: &[u8]) -> Option<OptionName>
         OptionName::Fine,
         OptionName::Accel,
         OptionName::Jump,
+        OptionName::Near,
+        OptionName::At,
+        OptionName::Silence,
+        OptionName::Floor,
+        OptionName::Descent,
+        OptionName::Then,
     ];
     for name in names {
         if word == name.word() {
@@ -154,7 +241,7 @@ fn takes(names: &[OptionName], name: OptionName) -> bool
 /// The options that were given: the number of each, by its place. A flag has 1.
 #[derive(Clone, Copy)]
 pub struct Options {
-    pub values: [Option<u32>; 8],
+    pub values: [Option<u32>; 14],
 }
 
 impl Options {
@@ -163,7 +250,7 @@ impl Options {
         ensures value { result ≡ no_options }
         ensures range { AreInRange result }
     {
-        Options { values: [None; 8] }
+        Options { values: [None; 14] }
     }
 
     // The number of an option, if it is given.
@@ -243,6 +330,54 @@ impl Options {
         self.given(OptionName::Jump)
     }
 
+    /// How near a drone has to be to its pad, in millimetres; 80 where it isn't given.
+    pub fn near(self) -> u16
+        requires { AreInRange self }
+        ensures { result ≡ near_in self }
+    {
+        self.given(OptionName::Near).unwrap_or(DEFAULT_NEAR) as u16
+    }
+
+    /// How near a drone has to be to its position in the air, in millimetres; 80 where it isn't given.
+    pub fn at_place(self) -> u16
+        requires { AreInRange self }
+        ensures { result ≡ at_in self }
+    {
+        self.given(OptionName::At).unwrap_or(DEFAULT_NEAR) as u16
+    }
+
+    /// After how long a drone is silent, in milliseconds; 1,000 where it isn't given.
+    pub fn silence(self) -> u32
+        requires { AreInRange self }
+        ensures { result ≡ silence_in self }
+    {
+        self.given(OptionName::Silence).unwrap_or(DEFAULT_SILENCE)
+    }
+
+    /// The height of the floor, in millimetres; 0 where it isn't given.
+    pub fn floor(self) -> i16
+        requires { AreInRange self }
+        ensures { result ≡ floor_in self }
+    {
+        self.given(OptionName::Floor).unwrap_or(0) as i16
+    }
+
+    /// How long a landing takes, in milliseconds; 4,000 where it isn't given.
+    pub fn descent(self) -> u32
+        requires { AreInRange self }
+        ensures { result ≡ descent_in self }
+    {
+        self.given(OptionName::Descent).unwrap_or(DEFAULT_DESCENT)
+    }
+
+    /// Whether all land where a drone is lost or astray in the show; so where it isn't given.
+    pub fn lands(self) -> bool
+        requires { AreInRange self }
+        ensures { result ≡ lands self }
+    {
+        self.given(OptionName::Then).unwrap_or(0) == 0
+    }
+
     /// Whether a flag is given.
     pub fn has(self, flag: OptionName) -> bool
         requires { AreInRange self }
@@ -268,7 +403,7 @@ pub fn options_for(names: &[OptionName], words: &[String]) -> Option<Options>
             }
             Some(range) => {
                 let (value, after) = after.split_first()?;
-                let n = number_from(value.as_bytes(), range.least, range.most)?;
+                let n = name.value(range, value.as_bytes())?;
                 options = options.noted(names, name, n)?;
                 rest = after;
             }
