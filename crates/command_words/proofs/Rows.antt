@@ -41,7 +41,7 @@ record WordRows : Type 0 where
   dynamics_limited : command_of (codes "dynamics" ∷ codes "--limit" ∷ codes "5" ∷ []) ≡ None
   flown : command_of (codes "direct" ∷ []) ≡ Some (Direct 6 80 80 1000 (pos 0) 4000 true)
   flown_on : command_of (codes "direct" ∷ codes "--then" ∷ codes "fly" ∷ codes "--near" ∷ codes "120" ∷ codes "--floor" ∷ codes "40" ∷ []) ≡ Some (Direct 6 120 80 1000 (pos 40) 4000 false)
-  flown_all : command_of (codes "direct" ∷ codes "--descent" ∷ codes "60000" ∷ codes "--at" ∷ codes "65535" ∷ codes "--silence" ∷ codes "1" ∷ codes "--depth" ∷ codes "8" ∷ codes "--then" ∷ codes "land" ∷ []) ≡ Some (Direct 8 80 65535 1 (pos 0) 60000 true)
+  flown_all : command_of (codes "direct" ∷ codes "--descent" ∷ codes "60000" ∷ codes "--at" ∷ codes "32767" ∷ codes "--silence" ∷ codes "1" ∷ codes "--depth" ∷ codes "8" ∷ codes "--then" ∷ codes "land" ∷ []) ≡ Some (Direct 8 80 32767 1 (pos 0) 60000 true)
   flown_how : command_of (codes "direct" ∷ codes "--then" ∷ codes "stop" ∷ []) ≡ None
   never_silent : command_of (codes "direct" ∷ codes "--silence" ∷ codes "0" ∷ []) ≡ None
   too_high : command_of (codes "direct" ∷ codes "--floor" ∷ codes "32768" ∷ []) ≡ None

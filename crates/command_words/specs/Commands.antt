@@ -42,7 +42,7 @@ abbrev pub default_near : ℕ
 default_near = 80
 
 abbrev pub most_near : ℕ
-most_near = 65535
+most_near = 32767
 
 -- after how long a drone is silent, and how long a landing takes, where no option says it; and the longest time, in
 -- milliseconds

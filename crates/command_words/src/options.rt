@@ -29,7 +29,7 @@ const DEFAULT_FINE: u32 = 5;
 const DEFAULT_NEAR: u32 = 80;
 
 // The greatest such distance, in millimetres.
-const MOST_NEAR: u32 = 65_535;
+const MOST_NEAR: u32 = 32_767;
 
 // After how long a drone is silent where no option says it, in milliseconds.
 const DEFAULT_SILENCE: u32 = 1_000;
