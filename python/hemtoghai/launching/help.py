@@ -56,7 +56,7 @@ PURPOSES = {
 
 def help_text() -> str:
     """The text of the help."""
-    return (USAGE % ("\n".join("%-45s %s" % row for row in words.known("COMMANDS")),
+    return (USAGE % ("\n".join("%-44s  %s" % row for row in words.known("COMMANDS")),
                     "\n".join(textwrap.fill("%-13s %s. Without it: %s." % tuple(row), 108, subsequent_indent=" " * 14)
                               for row in words.known("OPTIONS")),
                     "\n".join("%-45s %s" % (word, PURPOSES[word]) for word in ordered()))).replace("./show", COMMAND)
@@ -74,5 +74,6 @@ def usage_of(command: str) -> str:
     files = "" if command in words.known("NO_INPUT") else " [SHOW]" if not second else " [SHOW [%s]]" % second.upper()
     lines = ["usage: %s %s%s" % (COMMAND, words.known("FORMS")[command], files), "", words.known("PURPOSES")[command]]
     numbers = [words.number_of(command), *words.options_of(command).values()]
-    lines += ["%s is %d to %d" % (name, *words.known("NUMBERS")[name]) for name in numbers if name]
+    lines += ["%s is %d to %d" % (name, *words.known("NUMBERS")[name])
+              for name in dict.fromkeys(numbers) if name and not words.choices_of(name)]
     return "\n".join(lines) + "\nMore: docs/COMMANDS.md#%s\n" % command

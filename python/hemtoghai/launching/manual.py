@@ -31,14 +31,16 @@ complete -o filenames -F _show show ./show
 
 def completion() -> str:
     """The text of the completion: commands, then each one's options, numbers where few are possible, and files."""
-    options, numbers = [], {}
+    options, numbers, few = [], {}, []
     for command in commands.FORMS:
         known = commands.options_of(command)
         options.append("  %s) options='%s' ;;" % (command, " ".join([*known, "--help"])))
         for option, number in known.items():
-            if number and commands.NUMBERS[number][1] < 10:
+            if number and commands.choices_of(number):
+                few.append("  %s) mapfile -t COMPREPLY < <(compgen -W '%s' -- \"$word\"); return ;;" % (
+                    option, " ".join(commands.choices_of(number))))
+            elif number and commands.NUMBERS[number][1] < 10:
                 numbers[option] = number
-    few = []
     for option, number in sorted(numbers.items()):
         low, high = commands.NUMBERS[number]
         few.append("  %s) mapfile -t COMPREPLY < <(compgen -W '%s' -- \"$word\"); return ;;" % (

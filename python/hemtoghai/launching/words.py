@@ -23,7 +23,8 @@ def table(document: str, head: str) -> list[list[str]]:
     for line in rest.split("\n") if found else ():
         if not line.startswith("|"):
             break
-        rows.append([cell.strip() for cell in line.strip("|").split("|")])
+        cells = line.replace("\\|", "\0").strip("|").split("|")
+        rows.append([cell.strip().replace("\0", "|") for cell in cells])
     if len(rows) < 2:
         raise ValueError("%s has no table %s" % (PAGE, head))
     return rows[1:]
@@ -95,6 +96,11 @@ def options_of(command: str) -> dict[str, str | None]:
     return {word[0]: word[1] if len(word) > 1 else None for word in words if word[0].startswith("--")}
 
 
+def choices_of(name: str) -> list[str]:
+    """The words of which an option takes one, by the name of its number; none where it takes a number."""
+    return name.split("|") if "|" in name else []
+
+
 def number_of(command: str) -> str | None:
     """The name of the number that follows the command itself, or None."""
     words = known("FORMS")[command].split()
@@ -109,7 +115,10 @@ def meant(word: str, choices: Iterable[str]) -> str:
 
 
 def fault_of_number(name: str, word: str | None) -> str | None:
-    """What is wrong with a number, or None."""
+    """What is wrong with a number, or with a word in its place, or None."""
+    if choices_of(name):
+        return None if word in choices_of(name) else "it is %s%s" % (
+            " or ".join(choices_of(name)), "" if word is None else ", not %s" % word)
     low, high = known("NUMBERS")[name]
     if word is not None and word.isascii() and word.isdigit() and len(word) < 10 and low <= int(word) <= high:
         return None
