@@ -7,3 +7,4 @@ pub mod CarryLemmas
 pub mod FlownLemmas
 pub mod MakingLemmas
 pub mod RunLemmas
+mod Rows

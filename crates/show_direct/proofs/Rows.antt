@@ -1,0 +1,78 @@
+-- Three shows by hand that are a flight, and beside them some that are none.
+use Rattle.std.proofs.Common.{◌≡◌, ℕ, ◌*◌, false, true, List, [], ◌∷◌, Option, Some, None, refl, arith}
+use Rattle.std.proofs.lemmas.List.Elements.{All-nil}
+use Rattle.std.specs.Prelude.{ℤ, codes, pos}
+use Rattle.choreo_lines.specs.declared.parts.Act.TheVariants as act
+use Rattle.choreo_lines.specs.declared.parts.Point.{Point}
+use Rattle.choreo_show.specs.Plain as plain
+use Rattle.choreo_show.specs.Plain.{PlainShow}
+use Rattle.choreo_show.specs.declared.show.ActLine.TheVariants as on
+unfoldable use Rattle.figure_expand.specs.Expanded.{expanded}
+unfoldable use Rattle.figure_expand.specs.Written.{end_of}
+use Rattle.flight_steps.specs.declared.faults.FlightFault.TheVariants as fault
+use Rattle.flight_steps.specs.declared.faults.Seam.TheVariants as seam
+use Rattle.flight_steps.specs.declared.faults.Way.TheVariants as way
+use Rattle.flight_frames.specs.Frames.{IsEvent}
+use Rattle.flight_link.specs.Flights.{FlightGives}
+unfoldable use Rattle.flight_link.specs.Sends.{ended, sent_over}
+use Rattle.show_judge.specs.Verb.{outcome}
+use Rattle.show_direct.specs.declared.options.Options.{Options}
+use Rattle.show_direct.specs.Direct.{exchange_by, flight_exchange}
+use Rattle.show_direct.specs.Flights.{fault_of, flight_of}
+
+-- so near to the pads
+abbrev within : ℕ → Options
+within near = record { near = near; at_place = 80; silence = 1000; floor = pos 0; descent = 4000; then_land = true; depth = 6 }
+
+-- a place on x and z, in metres
+abbrev place : ℕ → ℕ → Point
+place x z = record { x = pos (x * 1000000); y = pos 0; z = pos (z * 1000000); yaw = pos 0 }
+
+abbrev moves : List ℕ → List Point → plain.Body
+moves name [] = plain.Done
+moves name (p ∷ ps) = plain.Cue 4 2000 (on.One 5 (record { items = name }) (act.Move p) ∷ []) (moves name ps)
+
+-- a show of one drone that moves from place to place
+abbrev alone : List ℕ → Point → List Point → PlainShow
+alone name from ps = record {
+  settings = record { memory_id = 2; offset = 0; trajectory_id = 0; r = 120; h = 300; stray = 100; late = 0 };
+  drones = record { line = 3; name = record { items = name }; at = from } ∷ [];
+  formations = [];
+  figures = [];
+  body = moves name ps;
+}
+
+-- up a metre; a metre along x, and back; and down
+abbrev up : PlainShow
+up = alone (codes "a") (place 0 0) (place 0 1 ∷ [])
+
+abbrev there_and_back : List ℕ → PlainShow
+there_and_back name = alone name (place 0 1) (place 1 1 ∷ place 0 1 ∷ [])
+
+abbrev down : PlainShow
+down = alone (codes "a") (place 0 1) (place 0 0 ∷ [])
+
+record FaultRows : Type 0 where
+  none : fault_of (within 100) up (there_and_back (codes "a")) down ≡ None
+  other : fault_of (within 100) up (there_and_back (codes "b")) down ≡ Some (fault.OtherDrone way.Up 0)
+  apart : fault_of (within 100) up up down ≡ Some (fault.Gap seam.UpToShow 0)
+  below : fault_of (within 100) up (there_and_back (codes "a")) up ≡ Some (fault.Gap seam.ShowToDown 0)
+  slanted : fault_of (within 100) (alone (codes "a") (place 0 0) (place 1 0 ∷ place 0 1 ∷ [])) (there_and_back (codes "a")) down ≡ Some (fault.Slanted way.Up 0)
+  narrow : fault_of (within 101) up (there_and_back (codes "a")) down ≡ Some (fault.Narrow 101 100)
+  -- without any frame: the end frame of 8 after three shows that are a flight, and that of 19 after others
+  ended_early : (flight_exchange (within 100) up (there_and_back (codes "a")) down).gives [] (outcome 8 (0x45 ∷ 8 ∷ []))
+  no_flight : (flight_exchange (within 100) up up down).gives [] (outcome 19 (0x45 ∷ 19 ∷ []))
+
+early : FlightGives (flight_of (within 100) up (there_and_back (codes "a")) down) [] 8 (0x45 ∷ 8 ∷ [])
+unfolding ended sent_over expanded end_of
+early = record {
+  events = [];
+  rest = [];
+  takes = record { cut = refl; each = All-nil (IsEvent 1); few = omega arith; going = λ n under. absurd (omega (arith, under)) };
+  ends = refl;
+  sends = refl;
+}
+
+rows : FaultRows
+unfolding expanded end_of
+rows = record { none = refl; other = refl; apart = refl; below = refl; slanted = refl; narrow = refl; ended_early = early; no_flight = refl }
