@@ -478,7 +478,7 @@ class Page(unittest.TestCase):
         self.assertEqual(self.number(), ["x of c", "1.5", "m"])
         self.says("3 drones, 2 cues")
         for _ in range(3):
-            self.browser.run("document.execCommand('undo')")
+            self.browser.run("undo()")
         self.assertEqual(self.text(), GOOD)
         self.assertEqual(self.browser.faults(), [])
 
@@ -616,7 +616,7 @@ class Page(unittest.TestCase):
         self.assertAlmostEqual(length, 1000, delta=30)
         self.assertEqual(self.text(), GOOD.replace("2000", str(length)))
         self.says("1 cue, %.1f" % (length / 1000))
-        self.browser.run("document.execCommand('undo')")
+        self.browser.run("undo()")
         self.assertEqual(self.text(), GOOD)
         self.browser.drag((x, y), (x, y))
         self.assertEqual(self.text(), GOOD)

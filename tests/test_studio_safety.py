@@ -181,12 +181,13 @@ class Disk(unittest.TestCase):
 
 
 class Exchanged(unittest.TestCase):
-    """Proved is said of the bytes that run: a program that is exchanged isn't taken for the one of the record."""
+    """Proved is said of the bytes that run: a program that is exchanged isn't the one of its record, and isn't run. The
+    tools judge then: the show lasts 2,000 ms, of which this program says 5,000."""
 
     def setUp(self):
         self.folder = tempfile.TemporaryDirectory()
         self.addCleanup(self.folder.cleanup)
-        self.path = program_in(self.folder.name, QUICK % 2000)
+        self.path = program_in(self.folder.name, QUICK % 5000)
         self.studio = Running(GOOD, ("--program", self.path))
         self.addCleanup(self.studio.end)
 
@@ -196,13 +197,13 @@ class Exchanged(unittest.TestCase):
         return found["line"][-4:], found["proved"]
 
     def test_as_recorded(self):
-        self.assertEqual(self.verdict(), ("2000", True))
+        self.assertEqual(self.verdict(), ("5000", True))
 
     def test_written_over(self):
         self.verdict()
         with open(self.path, "w") as file:
             file.write(QUICK % 9000)
-        self.assertEqual(self.verdict(), ("9000", False))
+        self.assertEqual(self.verdict(), ("2000", False))
 
     def test_same_size_and_time(self):
         """Another file under the same name, with the size and the time of the first."""
@@ -213,25 +214,24 @@ class Exchanged(unittest.TestCase):
         os.chmod(self.path + ".new", 0o755)
         os.utime(self.path + ".new", ns=(times.st_atime_ns, times.st_mtime_ns))
         os.replace(self.path + ".new", self.path)
-        self.assertEqual(self.verdict(), ("9000", False))
+        self.assertEqual(self.verdict(), ("2000", False))
         program_in(self.folder.name, QUICK % 7000)  # and one with a record of its own
         self.assertEqual(self.verdict(), ("7000", True))
 
     def test_record_gone(self):
         self.verdict()
         os.remove(self.path + ".built")
-        self.assertEqual(self.verdict(), ("2000", False))
+        self.assertEqual(self.verdict(), ("5000", False))
 
     @unittest.skipUnless(hasattr(os, "memfd_create"), "no files in memory")
     def test_the_bytes_that_were_hashed(self):
         """What runs is what was hashed, also where the file is written between the two."""
         program = studio_program.Program(self.path)
-        self.addCleanup(program.close)
         state, path = program.now()
         with open(self.path, "w") as file:
             file.write(QUICK % 9000)
         said = subprocess.run([path], input=b"", stdout=subprocess.PIPE).stdout
-        self.assertEqual((state["proved"], said[-5:]), (True, b"2000\n"))
+        self.assertEqual((state["proved"], said[-5:]), (True, b"5000\n"))
         with self.assertRaises(OSError), open(path, "r+b", buffering=0) as file:
             file.write(b"x")  # nobody writes into it
         self.assertFalse(program.state()["proved"])

@@ -10,6 +10,8 @@ SHOW~. The page is served on 127.0.0.1 to anybody who has the address that is pr
 program isn't built, or nothing is known of its proof, the page says NOT PROVED. Status 0: ended. 2: wrong words. 70: no
 answer.
 """
+from __future__ import annotations
+
 import argparse
 import hashlib
 import json
@@ -17,9 +19,12 @@ import os
 import re
 import secrets
 import signal
+import subprocess
 import sys
 import threading
 import webbrowser
+from types import FrameType
+from typing import Any
 
 from hemtoghai import program
 from hemtoghai.companion import add_depth, parser, read_file, stop, tool_name
@@ -28,13 +33,15 @@ from hemtoghai.language.cures import cure_of, shown
 from hemtoghai.seeing.jobs import begin, end, Job
 from hemtoghai.seeing.sampling import regions_of
 from hemtoghai.seeing.showfile import MOST_TEXT, ShowFile, stamp_of, text_of
-from hemtoghai.seeing.studio_program import Program
+from hemtoghai.seeing.studio_program import answer, Answer, Program
 from hemtoghai.seeing.studio_server import Handler, Server
+from hemtoghai.seeing.studio_texts import digest_of, Texts
 from hemtoghai.seeing.studio_words import words_of_language
 
-PARTS = {"/*STYLE*/": "studio.css", "/*VIEW*/": "view.js", "/*TEXT*/": "studio_text.js",
-         "/*QUANTITIES*/": "studio_quantities.js", "/*EDIT*/": "studio_edit.js", "/*FOUND*/": "studio_found.js",
-         "/*MAIN*/": "studio.js"}
+PARTS = {"/*STYLE*/": "studio.css", "/*VIEW*/": "view.js", "/*LINES*/": "studio_lines.js",
+         "/*FIELD*/": "studio_field.js", "/*PAPER*/": "studio_paper.js", "/*FIND*/": "studio_find.js",
+         "/*TEXT*/": "studio_text.js", "/*QUANTITIES*/": "studio_quantities.js", "/*EDIT*/": "studio_edit.js",
+         "/*FOUND*/": "studio_found.js", "/*MAIN*/": "studio.js"}
 FOLDER = os.path.join(program.PACKAGE, "seeing")  # of the page's files
 MOST_JOBS = 8  # that run at a time, of all pages together
 MOST_PAGES = 64  # whose newest text is remembered
@@ -55,7 +62,7 @@ end
 """
 
 
-def ended(_number, _frame):
+def ended(_number: int, _frame: FrameType | None) -> None:
     """A signal ends the studio as Ctrl-C does."""
     raise KeyboardInterrupt
 
@@ -65,14 +72,16 @@ def ended(_number, _frame):
 class Studio:
     """What all requests share: the file, the program, the random word, and by page its newest text and its job."""
 
-    def __init__(self, options: argparse.Namespace):
+    def __init__(self, options: argparse.Namespace) -> None:
         self.file, self.watch = ShowFile(options.show), options.watch
         self.program, self.depth = Program(options.program), options.depth
         self.regions = [os.path.abspath(options.regions)] if options.regions else []
-        self.token, self.lock, self.pages = secrets.token_urlsafe(24), threading.Lock(), {}
-        self.slots, self.spare, self.ending = threading.Semaphore(MOST_JOBS), None, threading.Event()
+        self.token, self.lock, self.texts = secrets.token_urlsafe(24), threading.Lock(), Texts()
+        self.pages: dict[str, tuple[int, Job | None]] = {}
+        self.spare: subprocess.Popen[bytes] | None = None
+        self.slots, self.ending = threading.Semaphore(MOST_JOBS), threading.Event()
 
-    def newest(self, page: str, number: int):
+    def newest(self, page: str, number: int) -> Job | None:
         """A job for a page's text, whose older one is cancelled; None where a newer text came before."""
         with self.lock:
             last, old = self.pages.pop(page, (-1, None))
@@ -86,7 +95,7 @@ class Studio:
             other.cancel()
         return job
 
-    def worker(self, job: Job):
+    def worker(self, job: Job) -> subprocess.Popen[bytes]:
         """A process for what is shown beside the verdict; one is kept ready, since it takes a while to begin."""
         with self.lock:
             ready, self.spare = self.spare, None
@@ -94,7 +103,7 @@ class Studio:
             ready = self.new_worker()
         return job.adopt(ready)
 
-    def new_worker(self):
+    def new_worker(self) -> subprocess.Popen[bytes]:
         """A process that waits for a text."""
         return begin(program.words_of("studio_work", str(self.depth), *self.regions))
 
@@ -103,29 +112,32 @@ class Studio:
         if not self.ending.is_set():
             new = self.new_worker()
             with self.lock:
-                new, self.spare = self.spare, new
-            if new:
-                end(new)
+                old, self.spare = self.spare, new
+            if old:
+                end(old)
 
-    def head(self, **more) -> bytes:
+    def head(self, **more: object) -> bytes:
         """The first line that a worker is given, before the text."""
-        program = self.program.runs() if self.program.state()["program"] else None
-        return json.dumps({"program": program, **more}).encode() + b"\n"
+        state, path = self.program.now()
+        return json.dumps({"program": path if state["program"] else None, **more}).encode() + b"\n"
 
-    def words(self, command: str) -> list:
-        """The words of the program's command."""
-        return [self.program.runs(), command, "--depth", str(self.depth)]
+    def ask(self, job: Job, command: str, text: bytes) -> tuple[Answer | None, dict[str, Any]]:
+        """What the program answers, with what is known of the file that answered; None where it can't be run. Every
+        question to the program is one to this function, but for those of the worker."""
+        state, path = self.program.now()
+        if not state["program"]:
+            return None, state
+        return answer(job, [path, command, "--depth", str(self.depth)], text), state
 
     def close(self) -> None:
         """Ends all that runs."""
         self.ending.set()
         with self.lock:
             jobs, spare = [job for _, job in self.pages.values()], self.spare
-        for job in jobs:
+        for job in filter(None, jobs):
             job.cancel()
         if spare:
             end(spare)
-        self.program.close()
 
     def page(self, nonce: str) -> bytes:
         """The page, with what it has to know at first."""
@@ -138,16 +150,17 @@ class Studio:
         page = page.replace("./show ", program.COMMAND + " ")
         return page.replace("/*GIVEN*/", words).replace("NONCE", nonce).encode()
 
-    def text(self) -> dict:
+    def text(self) -> dict[str, object]:
         """The file as the page begins with it; OSError where it can't be read."""
         data = self.file.read()
         text, ends, mixed = text_of(TEMPLATE if data is None else data)
         return {"text": text, "ends": ends, "mixed": bool(mixed), "new": data is None, "stamp": stamp_of(data),
                 "key": hashlib.sha256(self.file.path.encode("utf-8", "surrogateescape")).hexdigest()[:16]}
 
-    def verdict(self, text: bytes, said: str, status: int, lasted: int) -> dict:
-        """What the page shows of an answer of `check`."""
-        found = {"stage": "verdict", "status": status, "line": said, "ms": lasted, **self.program.state()}
+    def verdict(self, text: bytes, said: str, status: int, lasted: int) -> dict[str, object]:
+        """What the page shows of an answer of `check`, with the SHA-256 of the text that was judged."""
+        found: dict[str, object] = {"stage": "verdict", "status": status, "line": said, "ms": lasted,
+                                    "digest": digest_of(text)}
         faulty = re.match(r"error (?:3|11) line (\d+)(?: ([a-z-]+))?", said)
         if faulty:
             number, word = int(faulty[1]), faulty[2]
@@ -160,30 +173,34 @@ class Studio:
 
 # ---- the words
 
-def port(word):
+def port(word: str) -> int:
     """A port."""
     if not re.fullmatch("[0-9]{1,5}", word) or not 1 <= int(word) <= 65535:
         raise argparse.ArgumentTypeError("a port is 1 to 65535, not %s" % word)
     return int(word)
 
 
-def usual_port(path):
+def usual_port(path: str) -> int:
     """The same port for the same file at each start, where it is free: by its port a browser knows which page may see
     the text that wasn't saved the last time."""
     return 20000 + int(stamp_of(os.path.realpath(path).encode("utf-8", "surrogateescape"))[:8], 16) % 12000
 
 
-def server_of(options):
+def server_of(options: argparse.Namespace) -> Server:
     """The server, on the port that is wanted, else on the usual one or one that is free."""
-    for number in [options.port] if options.port else [usual_port(options.show), 0]:
-        try:
-            return Server(("127.0.0.1", number), Handler)
-        except OSError as error:
-            fault = error
-    return stop("port %d: %s" % (number, fault.strerror))
+    wanted = options.port or usual_port(options.show)
+    try:
+        return Server(("127.0.0.1", wanted), Handler)
+    except OSError as error:
+        if options.port:
+            stop("port %d: %s" % (wanted, error.strerror))
+    try:
+        return Server(("127.0.0.1", 0), Handler)
+    except OSError as error:
+        return stop("no port is free: %s" % error.strerror)
 
 
-def look_at(path):
+def look_at(path: str) -> None:
     """Ends the tool where no show can stand there; says so where none does."""
     if path == "-" or os.path.isdir(path):
         stop("%s: the studio needs a file" % path)
@@ -199,7 +216,7 @@ def look_at(path):
         stop("%s: a show has at most %d bytes" % (path, choreo.LONGEST_TEXT))
 
 
-def read_words(words: list[str]):
+def read_words(words: list[str]) -> argparse.Namespace:
     """The options of the command line, looked at as far as the studio has to know before it begins."""
     reader = parser(__doc__)
     add_depth(reader)
@@ -216,22 +233,22 @@ def read_words(words: list[str]):
     return options
 
 
-def serve(server, open_browser):
+def serve(server: Server, studio: Studio, open_browser: bool) -> None:
     """Answers requests until the studio is ended."""
-    url = "http://127.0.0.1:%d/%s/" % (server.server_port, server.studio.token)
+    url = "http://127.0.0.1:%d/%s/" % (server.server_port, studio.token)
     print("%s: %s\n%s: Ctrl-C ends it" % (tool_name(), url, tool_name()), flush=True)
-    state = server.studio.program.state()
+    state = studio.program.state()
     if not state["proved"]:
         print("%s: NOT PROVED: %s" % (tool_name(), state["why"]), file=sys.stderr)
     if open_browser:
         threading.Thread(target=webbrowser.open, args=(url,), daemon=True).start()  # some browsers return when they end
     try:
-        server.studio.make_ready()
+        studio.make_ready()
         server.serve_forever(0.2)
     except KeyboardInterrupt:
         print()
     finally:
-        server.studio.close()
+        studio.close()
         server.server_close()
 
 
@@ -241,7 +258,7 @@ def main(words: list[str]) -> int:
     for number in (signal.SIGTERM, signal.SIGHUP):
         signal.signal(number, ended)
     server = server_of(options)
-    server.studio = Studio(options)
-    serve(server, not options.no_open)
+    studio = server.studio = Studio(options)
+    serve(server, studio, not options.no_open)
     print("%s: ended" % tool_name())
     return 0

@@ -51,8 +51,12 @@ function resize() {
 // The view in space and the editor get what is left beside the bar and the lists, which grow and shrink.
 const watcher = new ResizeObserver(entries => {
   for (const {target} of entries) {
-    if (target === byId("editor")) drawPaper();
-    else if (flight) drawSpace();
+    if (target !== byId("editor")) {
+      if (flight) drawSpace();
+    } else if (!given.watch) {
+      resizeField();
+      drawPaper();
+    }
   }
 });
 for (const id of ["room", "editor"]) watcher.observe(byId(id));
@@ -141,9 +145,8 @@ async function endStudio() {
 // ---- what is bound to what
 
 function bindText() {
-  field.addEventListener("input", onInput);
-  field.addEventListener("scroll", () => { drawPaper(); closeMenu(false); });
-  document.addEventListener("selectionchange", onCursor);
+  bindField();
+  bindFind();
   addEventListener("keydown", onKey);
   addEventListener("resize", resize);
   addEventListener("pagehide", keep);

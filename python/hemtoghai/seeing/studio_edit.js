@@ -47,7 +47,7 @@ function showNumber(force) {
   const input = byId("number-value");
   if (document.activeElement === input && !force) return;
   const line = cursorLine();
-  target = given.watch ? null : numberAt(line, field.selectionStart - offsetOf(line));
+  target = given.watch ? null : numberAt(line, selectionFrom() - offsetOf(line));
   byId("number").hidden = target === null;
   if (!target) return;
   byId("number").firstElementChild.textContent = target.named;
@@ -59,7 +59,7 @@ function showNumber(force) {
 function writeNumber(value) {
   if (!target || !Number.isFinite(value) || Math.abs(value) > MOST_SHOWN) return false;
   const input = byId("number-value"), text = value === target.value ? target.text : numberWord(target.unit, value);
-  if (field.value.slice(target.from, target.to) !== target.text) return false;
+  if (content.slice(target.from, target.to) !== target.text) return false;
   if (text !== target.text) {
     const focused = document.activeElement === input;
     writing = true;
@@ -83,11 +83,11 @@ function onNumberKey(event) {
   const step = {ArrowUp: 1, ArrowDown: -1}[event.key];
   if (event.key === "Escape") {
     event.preventDefault();
-    field.focus();
+    field.focus({preventScroll: true});
   } else if ((event.ctrlKey || event.metaKey) && event.key.toLowerCase() === "z") {
     event.preventDefault();  // of the text, whose number this is
-    field.focus();
-    document.execCommand(event.shiftKey ? "redo" : "undo");
+    field.focus({preventScroll: true});
+    if (event.shiftKey) redo(); else undo();
   } else if (event.key === "Enter") {
     event.preventDefault();
     onNumber();
@@ -109,12 +109,12 @@ function nextNumber() {
   for (let place = target.place + 1; place < words.length; place += 1) {
     const next = numberAt(target.line, words[place].at);
     if (!next) continue;
-    field.setSelectionRange(next.from, next.to);
+    select(next.from, next.to);
     showNumber(true);
     return selectNumber();
   }
-  field.setSelectionRange(target.to, target.to);
-  return field.focus();
+  select(target.to, target.to);
+  return field.focus({preventScroll: true});
 }
 
 // ---- the menu
@@ -128,7 +128,7 @@ const ACT_WORDS = {hold: "stay", line: "straight, at one speed", move: "straight
 // Something new is written in place of the cursor's line where that is empty, before it where the cursor is at its
 // beginning, else after it; and never before the first line with words, which says that this is a show.
 function chooseLine() {
-  const line = cursorLine(), column = field.selectionStart - offsetOf(line);
+  const line = cursorLine(), column = selectionFrom() - offsetOf(line);
   const header = lines.findIndex(text => text.replace(/#.*/, "").trim()) + 1;
   menuReplaces = line > header && !lines[line - 1].trim();
   menuLine = Math.max(header + 1, menuReplaces || column === 0 ? line : line + 1);
@@ -154,16 +154,18 @@ async function openMenu() {
 }
 // Puts the menu below the line of the cursor, or above it where there is more room.
 function placeMenu() {
-  const menu = byId("menu"), below = ABOVE + LINE * cursorLine() - field.scrollTop, high = field.clientHeight;
+  const line = cursorLine();
+  scrollToLines(line, line);
+  const menu = byId("menu"), below = ABOVE + LINE * line - viewTop, high = viewHeight;
   menu.style.left = `${LEFT + 12}px`;
   const above = below > high / 2;
   menu.style.top = above ? "auto" : `${Math.max(4, below + 2)}px`;
-  menu.style.bottom = above ? `${Math.max(4, field.offsetHeight - below + LINE + 2)}px` : "auto";
+  menu.style.bottom = above ? `${Math.max(4, byId("editor").clientHeight - below + LINE + 2)}px` : "auto";
   menu.style.maxHeight = `${Math.max(120, above ? below - LINE - 10 : high - below - 8)}px`;
 }
 function closeMenu(back) {
   byId("menu").hidden = true;
-  if (back) field.focus();
+  if (back) field.focus({preventScroll: true});
 }
 function menuButton(words, work) {
   const button = element("button", words, byId("menu"));
@@ -289,14 +291,14 @@ function freeName(front, names, from = 1) {
 function insert(words) {
   const isAfterLast = menuLine > lines.length;
   const block = words.split("\n").map(line => line && menuIndent + line).join("\n");
-  const from = isAfterLast ? field.value.length : offsetOf(menuLine);
+  const from = isAfterLast ? content.length : offsetOf(menuLine);
   if (isAfterLast) writeText(from, from, `\n${block}`);
   else if (!menuReplaces) writeText(from, from, `${block}\n`);
   else writeText(from, from + lines[menuLine - 1].length, menuLine === lines.length ? `${block}\n` : block);
   const last = menuLine + words.split("\n").length - 1, number = firstNumber(menuLine, last);
   const end = offsetOf(menuLine) + lines[menuLine - 1].length;
-  field.setSelectionRange(number ? number.from : end, number ? number.to : end);
   scrollToLines(menuLine, last);
+  select(number ? number.from : end, number ? number.to : end);
   showNumber(true);
   if (number) selectNumber();
 }
@@ -326,8 +328,8 @@ function stretchCue(cue, milliseconds) {
   if (!number || length === number.value) return;
   const value = numberWord("ms", length);
   writeText(number.from, number.to, value);
-  field.setSelectionRange(number.from, number.from + value.length);
   scrollToLines(line, line);
+  select(number.from, number.from + value.length);
   showNumber(true);
 }
 

@@ -1,6 +1,6 @@
 // What ./show studio finds: asking for it, the verdict in words, and what stands below the text.
 
-const PAUSE = 30, LONG = 200000;  // milliseconds without a key until the text is judged, twice that for one so long
+const PAUSE = 30;  // milliseconds without a key until the text is judged
 const HALF = 450;  // milliseconds without a key until a fault is shown of the line that is being typed
 const MOST_LISTED = 60;
 const page = [...crypto.getRandomValues(new Uint32Array(3))].join("-");
@@ -13,7 +13,7 @@ let flightVersion = 0, flightLines = 0;  // the version of the text whose flight
 
 function judgeSoon() {
   clearTimeout(waiting);
-  waiting = setTimeout(judge, content.length > LONG ? 2 * PAUSE : PAUSE);
+  waiting = setTimeout(judge, PAUSE);
 }
 async function judge() {
   clearTimeout(waiting);
@@ -22,10 +22,13 @@ async function judge() {
   asking = new AbortController();
   byId("verdict").classList.add("old");
   try {
-    const answer = await post("judge", {number: ++sent, page}, asking.signal);
+    const {signal} = asking, digest = digestOf(content), answer = await sendText(signal) || await sendText(signal);
     if (answer.status === 413) throw new Error("the text is larger than a show may be");
     if (!answer.ok) throw new Error(await answer.text());
-    await readStages(answer, stage => mine === version && take(stage), () => mine !== version);
+    await readStages(answer, async stage => {
+      if (stage.stage === "verdict") await judgedIs(stage.digest, digest);
+      return mine === version && take(stage);
+    }, () => mine !== version);
   } catch (error) {
     if (error.name === "AbortError" || mine !== version) return;
     console.error(error);
@@ -33,6 +36,24 @@ async function judge() {
   }
 }
 let sent = 0;  // how many texts were sent to be judged
+// Sends the text to be judged: the lines alone that changed, where the studio has an older one. Null where it hasn't.
+async function sendText(signal) {
+  const number = ++sent, mine = version, more = carried();
+  const answer = await fetch("judge", {method: "POST", signal, body: JSON.stringify({number, page, ...more})});
+  if (answer.status === 410 && "base" in more) {
+    known = null;
+    return null;
+  }
+  if (answer.ok && mine === version) [known, unsent] = [number, null];
+  return answer;
+}
+// A verdict is shown for the text alone that was judged, by its SHA-256.
+async function judgedIs(digest, mine) {
+  const wanted = await mine;
+  if (wanted === null || wanted === digest) return;
+  known = null;
+  throw new Error("another text was judged than this one; the next key sends it anew");
+}
 // Long work rests after some milliseconds, so that a key that came meanwhile is taken first.
 const SLICE = 8;
 function rest() {
@@ -45,16 +66,18 @@ function rest() {
 // Reads the lines of an answer, each as soon as it is there and the one before is done with.
 async function readStages(answer, work, isOver) {
   const reader = answer.body.pipeThrough(new TextDecoderStream()).getReader();
-  let begun = "";
+  let begun = [];  // the parts of a line whose end isn't there yet
   for (;;) {
-    const {done, value} = await reader.read();
-    if (done || isOver()) return;
-    const parts = (begun + value).split("\n");
-    begun = parts.pop();
-    for (const part of parts) {
-      await work(JSON.parse(part));
+    const {done: isDone, value} = await reader.read();
+    if (isDone || isOver()) return;
+    const parts = value.split("\n");
+    for (const part of parts.slice(0, -1)) {
+      const whole = begun.join("") + part;
+      begun = [];
+      await work(JSON.parse(whole));
       if (isOver()) return;
     }
+    begun.push(parts[parts.length - 1]);
   }
 }
 // Takes what is known of the newest text.

@@ -2,16 +2,22 @@
 
 A request is answered only where its Host is this machine's own name with the studio's port, where its Origin is that of
 the page, and where its path begins with the studio's random word. Bodies, texts, processes and times are bounded."""
+from __future__ import annotations
+
 import hmac
 import json
 import os
 import re
 import secrets
+import subprocess
 import sys
 import tempfile
 import threading
 import time
+from collections.abc import Callable, Mapping
+from functools import partial
 from http.server import BaseHTTPRequestHandler, ThreadingHTTPServer
+from typing import Any, Dict, TYPE_CHECKING
 from urllib.parse import urlsplit
 
 from hemtoghai import program
@@ -19,6 +25,13 @@ from hemtoghai.companion import tool_name
 from hemtoghai.language import choreo
 from hemtoghai.seeing.jobs import Cancelled, end, Job, LIMIT
 from hemtoghai.seeing.showfile import bytes_of, difference, MOST_TEXT, stamp_of, text_of
+from hemtoghai.seeing.studio_program import answer, Answer
+from hemtoghai.seeing.studio_texts import TooLarge, Unknown
+
+if TYPE_CHECKING:
+    from hemtoghai.commands.studio import Studio
+
+Asked = Dict[str, Any]  # the JSON of a request, whose text is in bytes
 
 MOST_BODY = 3 * choreo.LONGEST_TEXT  # in JSON a line feed takes two bytes
 MOST_LISTENERS = 32  # pages that are told when the file changes
@@ -32,18 +45,20 @@ class Handler(BaseHTTPRequestHandler):
     """One request."""
     protocol_version, server_version, sys_version = "HTTP/1.0", "studio", ""
     timeout = 60  # seconds that a page may be silent while it sends or reads
+    server: Server
 
-    def log_message(self, *_):
+    def log_message(self, *_: Any) -> None:
         """Says nothing of requests."""
 
     @property
-    def studio(self):
+    def studio(self) -> Studio:
         """What all requests share."""
+        assert self.server.studio is not None
         return self.server.studio
 
     # -- who asks
 
-    def refusal(self):
+    def refusal(self) -> int | None:
         """The status with which a request is refused, or None. The Host is looked at so that no name of another site
         can lead here; the Origin so that no page of another site can send; and the path begins with the token."""
         hosts = ["%s:%d" % (name, self.server.server_port) for name in ("127.0.0.1", "localhost")]
@@ -57,7 +72,7 @@ class Handler(BaseHTTPRequestHandler):
             return 403
         return None
 
-    def route(self, routes):
+    def route(self, routes: Mapping[str, Callable[[], object]]) -> None:
         """Answers by the last part of the path."""
         status = self.refusal()
         name = urlsplit(self.path).path.split("/", 2)[2:]
@@ -69,21 +84,21 @@ class Handler(BaseHTTPRequestHandler):
         except (BrokenPipeError, ConnectionResetError, TimeoutError):
             pass
 
-    def do_GET(self):
+    def do_GET(self) -> None:
         """Answers what is read."""
         self.route({"": self.get_page, "text": self.get_text, "events": self.get_events})
 
-    def do_POST(self):
+    def do_POST(self) -> None:
         """Answers what is judged, made or written."""
-        self.route({name: lambda work=work: self.with_body(work) for name, work in (
-            ("judge", self.judge), ("places", self.places), ("save", self.save), ("cure", self.cure),
-            ("deal", self.deal), ("fly", self.fly), ("end", self.end),
-            ("compile", lambda asked: self.download("compile", asked)),
-            ("certify", lambda asked: self.download("certify", asked)))})
+        works: dict[str, Callable[[Asked], None]] = {
+            "judge": self.judge, "places": self.places, "save": self.save, "cure": self.cure, "deal": self.deal,
+            "fly": self.fly, "end": self.end, "compile": lambda asked: self.download("compile", asked),
+            "certify": lambda asked: self.download("certify", asked)}
+        self.route({name: partial(self.with_body, work) for name, work in works.items()})
 
     # -- answers
 
-    def head(self, status, kind, *more):
+    def head(self, status: int, kind: str, *more: tuple[str, str]) -> None:
         """The head of an answer; no other site may show or read it."""
         self.send_response(status)
         for key, words in (("Content-Type", kind), ("Cache-Control", "no-store"), ("X-Content-Type-Options", "nosniff"),
@@ -92,17 +107,17 @@ class Handler(BaseHTTPRequestHandler):
             self.send_header(key, words)
         self.end_headers()
 
-    def send_words(self, status, words):
+    def send_words(self, status: int, words: str) -> None:
         """A line of plain text."""
         self.head(status, "text/plain; charset=utf-8")
         self.wfile.write(words.encode() + b"\n")
 
-    def send_data(self, data, status=200):
+    def send_data(self, data: Mapping[str, object], status: int = 200) -> None:
         """Data as JSON."""
         self.head(status, "application/json")
         self.wfile.write(json.dumps(data).encode())
 
-    def with_body(self, work):
+    def with_body(self, work: Callable[[Asked], None]) -> None:
         """Reads the body, and answers."""
         length = self.headers.get("Content-Length", "")
         if not re.fullmatch("[0-9]{1,9}", length):
@@ -119,7 +134,7 @@ class Handler(BaseHTTPRequestHandler):
             return self.send_words(413, "the text is too large")
         return work(asked)
 
-    def drain(self, length):
+    def drain(self, length: int) -> None:
         """Reads a body that is too large, so that its sender can read the answer; not one without end."""
         for _ in range(min(length, 8 * MOST_BODY) // 65536 + 1):
             if not self.rfile.read(min(65536, length)):
@@ -128,7 +143,7 @@ class Handler(BaseHTTPRequestHandler):
             if length <= 0:
                 break
 
-    def get_page(self):
+    def get_page(self) -> None:
         """The page; no script runs in it but its own."""
         nonce = secrets.token_urlsafe(16)
         policy = ("default-src 'none'; script-src 'nonce-%s'; style-src 'nonce-%s'; connect-src 'self'; img-src data: "
@@ -136,18 +151,18 @@ class Handler(BaseHTTPRequestHandler):
         self.head(200, "text/html; charset=utf-8", ("Content-Security-Policy", policy))
         self.wfile.write(self.studio.page(nonce))
 
-    def get_text(self):
+    def get_text(self) -> None:
         """The file's text."""
         try:
             self.send_data(self.studio.text())
         except OSError as error:
             self.send_data({"words": self.fault_of_file(error)}, 500)
 
-    def fault_of_file(self, error):
+    def fault_of_file(self, error: OSError) -> str:
         """What is wrong with the file, in words."""
         return "%s: %s" % (self.studio.file.name, error.strerror or error)
 
-    def get_events(self):
+    def get_events(self) -> None:
         """Says when the file changes, as long as the page listens."""
         if not self.server.listeners.acquire(blocking=False):
             return self.send_words(503, "too many pages listen")
@@ -158,9 +173,11 @@ class Handler(BaseHTTPRequestHandler):
             self.server.listeners.release()
         return None
 
-    def listen(self):
+    def listen(self) -> None:
         """Writes what is in the file now, and then each change, until the page is gone or the studio ends."""
-        known, seen, quiet = None, None, 0
+        known: str | None = None
+        seen: tuple[int, ...] | None = None
+        quiet = 0.0
         while not self.studio.ending.is_set():
             now = self.studio.file.look()
             if known is None or now != seen:
@@ -175,66 +192,85 @@ class Handler(BaseHTTPRequestHandler):
             self.studio.ending.wait(LOOK)
             quiet += LOOK
 
-    def read_quietly(self):
+    def read_quietly(self) -> bytes | None:
         """The file's bytes, or None where it can't be read now."""
         try:
             return self.studio.file.read()
         except OSError:
             return None
 
-    def put_event(self, data):
+    def put_event(self, data: bytes | None) -> None:
         """Writes what is now in the file: its stamp, and where the page follows it, its text."""
-        words = {"stamp": stamp_of(data), "there": data is not None}
+        words: dict[str, object] = {"stamp": stamp_of(data), "there": data is not None}
         if self.studio.watch and data is not None:
             words["text"] = text_of(data)[0]
         self.wfile.write(b"data: %s\n\n" % json.dumps(words).encode())
 
     # -- judging
 
-    def judge(self, asked):
+    def judge(self, asked: Asked) -> None:
         """Judges a text, in stages, each a line of JSON as soon as it is known."""
         number, page = asked.get("number"), asked.get("page")
         if not isinstance(number, int) or not isinstance(page, str) or len(page) > 64:
             return self.send_words(400, "which page, and which of its texts?")
+        try:
+            text = self.text_to_judge(asked, page, number)
+        except Unknown:
+            return self.send_data({"unknown": True}, 410)
+        except TooLarge:
+            return self.send_words(413, "the text is too large")
+        except (ValueError, TypeError):
+            return self.send_words(400, "these are no lines of that text")
         job = self.studio.newest(page, number)
         if job is None:
             return self.send_data({"stale": True}, 409)
         with self.studio.slots:
             try:
                 self.head(200, "application/x-ndjson")
-                self.stages(job, asked["text"])
+                self.stages(job, text)
             except Cancelled:
                 self.put({"stage": "stale"})
             finally:
                 job.cancel()
         return None
 
-    def put(self, stage):
+    def text_to_judge(self, asked: Asked, page: str, number: int) -> bytes:
+        """The text that a page sends: the whole, or the lines that changed since the one of the number `base`."""
+        if "base" not in asked:
+            return self.studio.texts.keep(page, number, asked["text"])
+        base, line, gone, put = [asked.get(word) for word in ("base", "line", "gone", "put")]
+        if not isinstance(put, list) or not all(isinstance(it, int) for it in (base, line, gone)) or gone < 0:
+            raise ValueError
+        return self.studio.texts.changed(page, number, base, line, gone, put)
+
+    def put(self, stage: Mapping[str, object]) -> None:
         """Writes a stage."""
         self.wfile.write(json.dumps(stage, separators=(",", ":")).encode() + b"\n")
         self.wfile.flush()
 
-    def stages(self, job, text):
+    def stages(self, job: Job, text: bytes) -> None:
         """The verdict, and then what the worker finds."""
-        studio, answer = self.studio, None
-        if studio.program.state()["program"]:
-            before = time.monotonic()
-            status, said, told = job.answer(studio.words("check"), text)
-            lasted = round(1000 * (time.monotonic() - before))
-            said = said.decode(errors="replace").strip()
+        studio, told = self.studio, None
+        before = time.monotonic()
+        answered, state = studio.ask(job, "check", text)
+        if answered:
+            lasted, status = round(1000 * (time.monotonic() - before)), answered.status
+            said = answered.said.decode(errors="replace").strip()
             if status is None or status < 0:
-                return self.put({"stage": "none", "words": told.decode() or "the program was ended by a signal"})
-            self.put({**studio.verdict(text, said, status, lasted), "judge": "check"})
+                why = answered.told.decode(errors="replace")
+                return self.put({"stage": "none", "words": why or "the program was ended by a signal"})
+            self.put({**studio.verdict(text, said, status, lasted), **state, "judge": "check"})
             if status not in (0, 4, 5):
                 return None
-            answer = [status, said]
+            told = [status, said]
         if job.over.wait(SETTLE):
             raise Cancelled
-        return self.from_worker(job, studio.head(want="flight", answer=answer) + text, text)
+        return self.from_worker(job, studio.head(want="flight", answer=told) + text, text)
 
-    def from_worker(self, job, given, text):
+    def from_worker(self, job: Job, given: bytes, text: bytes) -> None:
         """Passes on what the worker writes."""
         worker, before = self.studio.worker(job), time.monotonic()
+        assert worker.stdout is not None and worker.stderr is not None
         watch = threading.Timer(LIMIT, end, [worker])
         watch.start()
         try:
@@ -252,15 +288,15 @@ class Handler(BaseHTTPRequestHandler):
         if job.cancelled:
             raise Cancelled
 
-    def of_worker(self, line, text, before):
+    def of_worker(self, line: bytes, text: bytes, before: float) -> bytes:
         """A line of the worker as the page gets it: a verdict of the tools has its cure, and proves nothing."""
         if not line.startswith(b'{"stage":"verdict"'):
             return line
         told, lasted = json.loads(line), round(1000 * (time.monotonic() - before))
-        return json.dumps({**self.studio.verdict(text, told["line"], told["status"], lasted), "judge": "tools",
-                           "proved": False}).encode() + b"\n"
+        return json.dumps({**self.studio.verdict(text, told["line"], told["status"], lasted),
+                           **self.studio.program.state(), "judge": "tools", "proved": False}).encode() + b"\n"
 
-    def places(self, asked):
+    def places(self, asked: Asked) -> None:
         """Where each drone is at a line of the text, for what the page's menu writes there."""
         line = asked.get("line")
         if not isinstance(line, int) or not 1 <= line <= MOST_TEXT:
@@ -276,7 +312,7 @@ class Handler(BaseHTTPRequestHandler):
 
     # -- the buttons
 
-    def save(self, asked):
+    def save(self, asked: Asked) -> None:
         """Writes the file, unless another one is there than the page read."""
         if self.studio.watch:
             return self.send_words(403, "the file is only watched")
@@ -293,19 +329,20 @@ class Handler(BaseHTTPRequestHandler):
             return self.send_data({"stamp": other}, 409)
         return self.send_data({"stamp": stamp_of(data)})
 
-    def made(self, words, text, *more):
+    def made(self, words: list[str], text: bytes, *more: str) -> Answer:
         """What a tool wrote: its status and both outputs."""
+        options = more or ("--depth", str(self.studio.depth))
         with self.studio.slots:
-            return Job().answer([*program.words_of(*words), *(more or ("--depth", str(self.studio.depth))), "-"], text)
+            return answer(Job(), [*program.words_of(*words), *options, "-"], text)
 
-    def offer(self, status, old, new, said, more=""):
+    def offer(self, status: int | None, old: bytes, new: bytes, said: str, more: str = "") -> None:
         """Sends a new text, if there is one, with what changed."""
         before, after = (text.decode("utf-8", "surrogateescape") for text in (old, new))
         changed = new not in (b"", old)
         self.send_data({"status": status, "text": after, "said": said, "more": more, "changed": changed,
                         "diff": difference(before, after) if changed else []})
 
-    def cure(self, asked):
+    def cure(self, asked: Asked) -> None:
         """What ./show why --cured writes."""
         with tempfile.TemporaryDirectory() as folder:
             out, new = os.path.join(folder, "cured"), b""
@@ -317,43 +354,42 @@ class Handler(BaseHTTPRequestHandler):
         short = [line for line in lines if re.match("cured in|the show lasts|nothing that helps|the new text: ", line)]
         self.offer(status, asked["text"], new, "\n".join(short), "\n".join(line for line in lines if line not in short))
 
-    def deal(self, asked):
+    def deal(self, asked: Asked) -> None:
         """What ./show deal writes."""
         status, new, told = self.made(["deal"], asked["text"])
         self.offer(status, asked["text"], new, told.decode(errors="replace").strip().replace("deal: ", ""))
 
-    def fly(self, asked):
+    def fly(self, asked: Asked) -> None:
         """What ./show fly writes of a flight with simulated drones."""
-        said = b""
-        if self.studio.program.state()["program"]:
-            said = Job().answer(self.studio.words("check"), asked["text"])[1]
-        found = re.search(rb"duration_ms (\d+)", said)
+        answered, _ = self.studio.ask(Job(), "check", asked["text"])
+        found = re.search(rb"duration_ms (\d+)", answered.said if answered else b"")
         speed = min(FASTER, max(1, int(found[1]) // (1000 * FLIGHT))) if found else 20
         status, said, told = self.made(["fly"], asked["text"], "--simulate", "--yes", "--sim", "speed=%d" % speed)
         words = (said + told).decode(errors="replace").strip()
         self.offer(status, asked["text"], b"", "%s\nstatus %s, %d times faster than real time" % (words, status, speed))
 
-    def download(self, command, asked):
+    def download(self, command: str, asked: Asked) -> None:
         """The plan or the certificate, or the line by which the show is refused."""
-        state = self.studio.program.state()
-        if not state["program"]:
-            return self.send_data({"words": state["why"]}, 409)
         with self.studio.slots:
-            status, said, told = Job().answer(self.studio.words(command), asked["text"])
-        if status:
-            return self.send_data({"words": (said or told).decode(errors="replace").strip() or "no answer"}, 409)
+            answered, state = self.studio.ask(Job(), command, asked["text"])
+        if not answered:
+            return self.send_data({"words": state["why"]}, 409)
+        if answered.status:
+            words = (answered.said or answered.told).decode(errors="replace").strip()
+            return self.send_data({"words": words or "no answer"}, 409)
         self.head(200, "application/octet-stream")
-        self.wfile.write(said)
+        self.wfile.write(answered.said)
         return None
 
-    def end(self, _):
+    def end(self, _: Asked) -> None:
         """Ends the studio."""
         self.send_data({"ended": True})
         threading.Thread(target=self.server.shutdown, daemon=True).start()
 
 
-def feed(worker, given):
+def feed(worker: subprocess.Popen[bytes], given: bytes) -> None:
     """Gives a worker its text; one that is ended meanwhile takes none."""
+    assert worker.stdin is not None
     try:
         worker.stdin.write(given)
         worker.stdin.close()
@@ -365,10 +401,11 @@ class Server(ThreadingHTTPServer):
     """The server; requests that still run don't keep it from ending."""
     daemon_threads, allow_reuse_address, request_queue_size = True, True, 128
 
-    def __init__(self, *words):
-        super().__init__(*words)
+    def __init__(self, address: tuple[str, int], handler: type[Handler]) -> None:
+        super().__init__(address, handler)
         self.listeners = threading.Semaphore(MOST_LISTENERS)
+        self.studio: Studio | None = None  # before it serves
 
-    def handle_error(self, request, client_address):
+    def handle_error(self, request: object, client_address: object) -> None:
         """Says in a line what went wrong with a request."""
         print("%s: a request failed: %r" % (tool_name(), sys.exc_info()[1]), file=sys.stderr)

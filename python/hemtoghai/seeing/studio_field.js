@@ -1,0 +1,276 @@
+// The field in which the text of ./show studio is written. A browser lays a field out anew at each key, which takes longer
+// than a key may where the text is long. So the field holds a window of lines around those that can be seen, at their own
+// place in a sheet that is as high as the whole text. Selection, clipboard, undo and search are of the whole text.
+
+const LINE = 20, ABOVE = 8, LEFT = 58;  // pixels: the height of a line, and the room above and beside the first letter
+const WHOLE = 300, AROUND = 90, MARGIN = 30;  // lines: of a text that is held as a whole, of a window, and left at its ends
+const field = byId("text"), scroller = byId("scroller"), sheet = byId("sheet");
+let held = [0, 1];  // the lines that the field has, by number from 0: the first, and that after the last
+let heldText = "";
+let anchor = 0, head = 0;  // the selection: the end that stays, and the one that moves
+let placed = [0, 0];  // both as they were put into the field
+let viewTop = 0, viewHeight = 600;  // what is seen of the sheet; to ask the browser each time would cost a layout
+let composing = false;
+const within = (offset, low, high) => Math.max(low, Math.min(high, offset));
+
+// ---- the window
+
+const linesInView = () => [Math.floor((viewTop - ABOVE) / LINE), Math.ceil((viewTop + viewHeight - ABOVE) / LINE)]
+  .map(line => within(line, 0, lines.length));
+// Whether the window reaches so many lines beyond these, or to the end of the text.
+const reaches = (first, last, lines_) => (held[0] === 0 || held[0] <= first - lines_) &&
+  (held[1] >= lines.length || held[1] >= last + lines_);
+// Holds other lines, where those of the view aren't well inside of the window.
+function holdView() {
+  const [first, last] = linesInView();
+  if (composing || reaches(first, last, MARGIN)) return;
+  hold(...windowAt(first, last));
+}
+function windowAt(first, last) {
+  if (lines.length <= WHOLE) return [0, lines.length];
+  return [Math.max(0, first - AROUND), Math.min(lines.length, last + AROUND)];
+}
+const heldFrom = () => starts[held[0]];
+const heldTo = () => held[1] < lines.length ? starts[held[1]] - 1 : content.length;
+function hold(first, last) {
+  held = [first, Math.max(first + 1, last)];
+  heldText = content.slice(heldFrom(), heldTo());
+  if (field.value !== heldText) field.value = heldText;
+  placeField();
+  placeSelection();
+}
+let laidOut = "";  // as it was put last: a style that is written again costs a layout
+function placeField() {
+  const [first, last] = held, high = 2 * ABOVE + LINE * (last - first), isLast = last >= lines.length;
+  // Below the last line there is no text, but a click there is one into the field.
+  const wanted = [first, isLast ? Math.max(high, viewHeight - LINE * first) : high, lines.length, widest];
+  if (laidOut === `${wanted}`) return;
+  laidOut = `${wanted}`;
+  sheet.style.height = `${2 * ABOVE + LINE * lines.length}px`;
+  sheet.style.width = `max(100%, calc(${LEFT + 24}px + ${widest}ch))`;
+  field.style.top = `${LINE * first}px`;
+  field.style.height = `${wanted[1]}px`;
+}
+function resizeField() {
+  [viewTop, viewHeight] = [scroller.scrollTop, scroller.clientHeight];
+  placeField();
+  holdView();
+}
+function onScroll() {
+  viewTop = scroller.scrollTop;
+  holdView();
+  drawPaper();
+}
+
+// ---- the selection
+
+const isHeld = offset => heldFrom() <= offset && offset <= heldTo();
+// Puts the selection into the field as far as its lines are there. A cursor that is elsewhere isn't shown.
+function placeSelection() {
+  placed = [anchor, head].map(offset => within(offset, heldFrom(), heldTo()) - heldFrom());
+  const [a, b] = placed;
+  if (field.selectionStart !== Math.min(a, b) || field.selectionEnd !== Math.max(a, b) || a !== b) {
+    field.setSelectionRange(Math.min(a, b), Math.max(a, b), a > b ? "backward" : "forward");
+  }
+  byId("editor").classList.toggle("away", !isHeld(head));
+}
+// Takes the selection of the field. An end that is beyond the window stays, as long as the field's own end does.
+function readSelection() {
+  const {selectionStart: from, selectionEnd: to, selectionDirection} = field;
+  const [a, b] = selectionDirection === "backward" ? [to, from] : [from, to];
+  if (Math.min(...placed) === from && Math.max(...placed) === to) return;
+  const all = from === 0 && to === heldText.length && heldText.length < content.length;
+  if (all) {  // what a menu of the browser selects as all is all that the field has
+    [anchor, head] = [0, content.length];
+  } else {
+    if (isHeld(anchor) || a !== placed[0]) anchor = heldFrom() + a;
+    head = heldFrom() + b;
+  }
+  placed = [a, b];
+  byId("editor").classList.toggle("away", !isHeld(head));
+}
+const selectionFrom = () => Math.min(anchor, head), selectionTo = () => Math.max(anchor, head);
+function cursorLine() {
+  readSelection();
+  return lineAt(selectionFrom()) + 1;
+}
+// Selects a part of the text, whose end is the cursor.
+function select(from, to) {
+  [anchor, head] = [from, to];
+  placeSelection();
+  onCursor();
+}
+// Lets the cursor's line be seen, and be well inside of the window.
+function showCursor() {
+  const line = lineAt(head);
+  if (!isHeld(head) || !reaches(line, line + 1, MARGIN)) scrollToLines(line + 1, line + 1);
+}
+function scrollToLines(first, last) {
+  const top = ABOVE + LINE * (first - 1), bottom = ABOVE + LINE * last;
+  if (top < viewTop || bottom > viewTop + viewHeight) {
+    scroller.scrollTop = Math.max(0, top - Math.max(LINE, (viewHeight - (bottom - top)) / 3));
+    viewTop = scroller.scrollTop;
+  }
+  scroller.scrollLeft = 0;
+  holdView();
+  drawPaper();
+}
+// Shows lines of the text, and selects them from the first to the last where that is wanted.
+function showLines(first, last, isSelected) {
+  if (given.watch) return;
+  const from = offsetOf(first), to = isSelected ? offsetOf(last) + (lines[last - 1] || "").length : from;
+  scrollToLines(first, last);
+  field.focus({preventScroll: true});
+  select(from, to);
+}
+
+// ---- changes
+
+// Changes the text, notes how to undo it, and puts the cursor after what was written.
+function edit(from, to, words, isTyped) {
+  const gone = content.slice(from, to);
+  if (gone !== words) noteStep({from, gone, put: words, selection: [anchor, head], at: performance.now()}, isTyped);
+  const more = change(from, to, words);
+  anchor = head = from + words.length;
+  return more;
+}
+// The field has other words than it had: what differs is put into the text.
+function onInput() {
+  const now_ = field.value, most = Math.min(now_.length, heldText.length);
+  if (now_ === heldText) return;
+  let from = 0, end = 0;
+  while (from < most && now_[from] === heldText[from]) from += 1;
+  while (end < most - from && now_[now_.length - 1 - end] === heldText[heldText.length - 1 - end]) end += 1;
+  const begin = heldFrom() + from;
+  held[1] += edit(begin, begin + heldText.length - end - from, now_.slice(from, now_.length - end), true);
+  heldText = now_;
+  placed = [-1, -1];
+  readSelection();
+  placeField();
+  if (!composing && held[1] - held[0] > 2 * WHOLE) hold(...windowAt(...linesInView()));
+  afterChange();
+}
+// Writes words in place of a part of the text; it can be undone.
+function writeText(from, to, words) {
+  edit(from, to, words.replace(/\r\n?/g, "\n"), false);
+  field.focus({preventScroll: true});
+  afterWriting();
+}
+function afterWriting() {
+  hold(...windowAt(...linesInView()));
+  const line = lineAt(head) + 1;
+  scrollToLines(line, line);
+  afterChange();
+  onCursor();
+}
+const writeOver = words => writeText(selectionFrom(), selectionTo(), words);
+// Puts another text in; what is the same at both ends stays.
+function replaceText(text) {
+  const old = content, most = Math.min(old.length, text.length);
+  let from = 0, end = 0;
+  while (from < most && old[from] === text[from]) from += 1;
+  while (end < most - from && old[old.length - 1 - end] === text[text.length - 1 - end]) end += 1;
+  if (old !== text) writeText(from, old.length - end, text.slice(from, text.length - end));
+}
+function takeStep(step) {
+  if (!step) return;
+  change(step.from, step.to, step.words);
+  [anchor, head] = step.selection;
+  afterWriting();
+}
+const undo = () => takeStep(stepBack()), redo = () => takeStep(stepForth());
+
+// ---- keys and the clipboard
+
+// Moves the cursor; what is selected grows where that is wanted.
+function goTo(offset, grows) {
+  head = offset;
+  if (!grows) anchor = head;
+  const line = lineAt(head) + 1;
+  scrollToLines(line, line);
+  placeSelection();
+  onCursor();
+}
+function goPage(down, grows) {
+  const line = lineAt(head), column = head - starts[line], by = Math.max(1, Math.floor(viewHeight / LINE) - 2);
+  const to = within(line + (down ? by : -by), 0, lines.length - 1);
+  scroller.scrollTop += (to - line) * LINE;
+  viewTop = scroller.scrollTop;
+  holdView();
+  goTo(starts[to] + Math.min(column, lines[to].length), grows);
+}
+const isMac = navigator.platform.startsWith("Mac");
+// What a key does to the whole text, or null where the field does it.
+function workOfKey(event) {
+  const {key, shiftKey} = event, command = event.ctrlKey || event.metaKey, low = key.toLowerCase();
+  if (event.altKey) return null;
+  if (command && low === "z") return shiftKey ? redo : undo;
+  if (command && low === "y" && !isMac) return redo;
+  if (command && low === "a") return () => { [anchor, head] = [0, content.length]; placeSelection(); onCursor(); };
+  if (command && (key === "Home" || isMac && key === "ArrowUp")) return () => goTo(0, shiftKey);
+  if (command && (key === "End" || isMac && key === "ArrowDown")) return () => goTo(content.length, shiftKey);
+  if (key === "PageUp" || key === "PageDown") return command ? null : () => goPage(key === "PageDown", shiftKey);
+  // Tab with Shift goes back, so that the field can be left by keys.
+  if (key === "Tab" && !command && !shiftKey) return () => writeOver("  ");
+  return null;
+}
+const ARROWS = ["ArrowLeft", "ArrowRight", "ArrowUp", "ArrowDown", "Home", "End"];
+const QUIET = ["Shift", "Control", "Alt", "Meta", "CapsLock", "Escape", "F1", "F3", "F5", "F11", "F12"];
+function onFieldKey(event) {
+  readSelection();
+  const work = workOfKey(event);
+  if (work) {
+    event.preventDefault();
+    return work();
+  }
+  if (QUIET.includes(event.key) || (event.ctrlKey || event.metaKey) && /^[a-z]$/i.test(event.key)) return null;
+  // A selection that is longer than the window ends at the key's side of it.
+  if (ARROWS.includes(event.key) && !event.shiftKey && anchor !== head && !(isHeld(anchor) && isHeld(head))) {
+    event.preventDefault();
+    return goTo(["ArrowLeft", "ArrowUp", "Home"].includes(event.key) ? selectionFrom() : selectionTo(), false);
+  }
+  return showCursor();
+}
+// What the field would do to a selection that it doesn't hold as a whole is done to the whole text.
+function onBeforeInput(event) {
+  if (event.inputType === "historyUndo" || event.inputType === "historyRedo") {
+    event.preventDefault();
+    return event.inputType === "historyUndo" ? undo() : redo();
+  }
+  readSelection();
+  if (isHeld(anchor) && isHeld(head) || !event.cancelable) return null;
+  event.preventDefault();
+  const isLine = ["insertLineBreak", "insertParagraph"].includes(event.inputType);
+  const given_ = event.data ?? (event.dataTransfer ? event.dataTransfer.getData("text/plain") : "");
+  return writeOver(isLine ? "\n" : event.inputType.startsWith("insert") ? given_ : "");
+}
+function onCopy(event) {
+  readSelection();
+  if (isHeld(anchor) && isHeld(head)) return;
+  event.preventDefault();
+  event.clipboardData.setData("text/plain", content.slice(selectionFrom(), selectionTo()));
+  if (event.type === "cut") writeOver("");
+}
+function onPaste(event) {
+  event.preventDefault();
+  readSelection();
+  writeOver(event.clipboardData.getData("text/plain"));
+}
+function bindField() {
+  field.addEventListener("input", onInput);
+  field.addEventListener("keydown", onFieldKey);
+  field.addEventListener("beforeinput", onBeforeInput);
+  for (const kind of ["copy", "cut"]) field.addEventListener(kind, onCopy);
+  field.addEventListener("paste", onPaste);
+  field.addEventListener("dragstart", event => { if (!isHeld(anchor) || !isHeld(head)) event.preventDefault(); });
+  field.addEventListener("compositionstart", () => {
+    readSelection();
+    if (!isHeld(anchor) || !isHeld(head)) writeOver("");
+    composing = true;
+  });
+  field.addEventListener("compositionend", () => { composing = false; holdView(); });
+  // The sheet scrolls, and never the field in it.
+  field.addEventListener("scroll", () => { if (field.scrollTop || field.scrollLeft) field.scrollTo(0, 0); });
+  scroller.addEventListener("scroll", () => { onScroll(); closeMenu(false); });
+  document.addEventListener("selectionchange", () => { if (document.activeElement === field) readSelection(); onCursor(); });
+}

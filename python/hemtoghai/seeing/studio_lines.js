@@ -1,0 +1,152 @@
+// The text of ./show studio: its lines, what changes them, undo, and which lines a request has to carry. A change costs
+// as much as the lines that it changes, and a look at the number of each line after it.
+
+let content = "", lines = [""], starts = [0];  // the text, its lines, and where in the text each begins
+let textForm = null;  // the form of the language that the text names: 1, 2, or null where it names none
+let version = 0;  // of the text: each change makes a new one, and a result of an older one isn't shown
+let formLines = 0;  // how many lines begin with `form`
+let widths = [0], widest = 0;  // by line the most columns that it takes, and the greatest of them
+const isFormLine = text => /^[ \t]*form[ \t]/.test(text);
+const wordsIn = text => text.replace(/#.*/, "").trim();
+// Columns that a line takes at most: a tab up to four, a letter of another script up to three.
+function columnsOf(text) {
+  const shown = text.replace(/\t/g, "    ");
+  return /^[\x20-\x7e]*$/.test(shown) ? shown.length : 3 * shown.length;
+}
+
+// Takes another text.
+function setContent(text) {
+  content = text;
+  lines = text.split("\n");
+  widths = lines.map(columnsOf);
+  widest = greatestOf(widths);
+  formLines = lines.filter(isFormLine).length;
+  starts = new Array(lines.length);
+  moveStarts(0);
+  readForm();
+  [unsent, known] = [null, null];
+}
+// Not by Math.max, which takes so many arguments at most.
+const greatestOf = numbers => numbers.reduce((most, number) => number > most ? number : most, 0);
+function moveStarts(from) {
+  let begin = from ? starts[from - 1] + lines[from - 1].length + 1 : 0;
+  for (let k = from; k < lines.length; k += 1) {
+    starts[k] = begin;
+    begin += lines[k].length + 1;
+  }
+}
+let formLine = 0;  // which line says it, by number from 0
+function readForm() {
+  const found = lines.findIndex(wordsIn);
+  formLine = found < 0 ? lines.length - 1 : found;
+  textForm = {"choreo 1": 1, "choreo 2": 2}[wordsIn(lines[formLine]).split(/\s+/).join(" ")] || null;
+}
+// The line, by number from 0, in which an offset is: the last one that begins at it or before.
+function lineAt(offset) {
+  let low = 0, high = starts.length - 1;
+  while (low < high) {
+    const middle = (low + high + 1) >> 1;
+    if (starts[middle] <= offset) low = middle; else high = middle - 1;
+  }
+  return low;
+}
+const offsetOf = line => line <= starts.length ? starts[line - 1] : content.length;
+// Writes words in place of a part of the text; says how many lines there are more than before.
+function change(from, to, words) {
+  const first = lineAt(from), last = lineAt(to), gone = last + 1 - first, old = lines.slice(first, last + 1);
+  const put = (old[0].slice(0, from - starts[first]) + words + old[gone - 1].slice(to - starts[last])).split("\n");
+  content = content.slice(0, from) + words + content.slice(to);
+  exchangeLines(first, old, put);
+  moveStarts(first);
+  if (first <= formLine) readForm();
+  else formLine = Math.min(formLine, lines.length - 1);
+  noteUnsent(first, gone, put.length);
+  return put.length - gone;
+}
+function exchangeLines(first, old, put) {
+  const columns = put.map(columnsOf), gone = old.length, after = first + gone;
+  const wasWidest = widths.slice(first, after).includes(widest);
+  formLines += put.filter(isFormLine).length - old.filter(isFormLine).length;
+  if (gone === put.length && gone < 100) {
+    for (let k = 0; k < gone; k += 1) [lines[first + k], widths[first + k]] = [put[k], columns[k]];
+  } else {
+    lines = lines.slice(0, first).concat(put, lines.slice(after));
+    widths = widths.slice(0, first).concat(columns, widths.slice(after));
+    starts.length = lines.length;
+  }
+  widest = wasWidest ? greatestOf(widths) : Math.max(widest, greatestOf(columns));
+}
+
+// ---- what a request has to carry
+
+// The number of a text that the studio has; and the lines that changed since then as one run: the first, how many there
+// were, how many there are.
+let known = null, unsent = null;
+function noteUnsent(first, gone, put) {
+  const run = unsent || {first, gone: 0, put: 0}, from = Math.min(run.first, first);
+  // Lines between the run and this change, and those of the change that aren't in the run, are the same in both.
+  const more = Math.max(0, first + gone - (run.first + run.put)) + run.first - from;
+  unsent = {first: from, gone: run.gone + more, put: run.put + more + put - gone};
+}
+// What a request carries: all of the text, or the lines that changed since the one that the studio has.
+function carried() {
+  const run = unsent || {first: 0, gone: 0, put: 0};
+  if (known === null || run.put > lines.length / 2) return {text: content};
+  return {base: known, line: run.first + 1, gone: run.gone, put: lines.slice(run.first, run.first + run.put)};
+}
+// The SHA-256 of a text in UTF-8, in hexadecimal digits; null where the browser has none for this page.
+async function digestOf(text) {
+  if (!globalThis.crypto || !crypto.subtle) return null;
+  const bytes = new Uint8Array(await crypto.subtle.digest("SHA-256", new TextEncoder().encode(text)));
+  return [...bytes].map(byte => byte.toString(16).padStart(2, "0")).join("");
+}
+
+// ---- undo
+
+// A step has where it began, what it took, what it put there, and the selection before it.
+let done = [], undone = [], keptLetters = 0;
+const TOGETHER = 1000, MOST_STEPS = 5000, MOST_LETTERS = 1 << 25;  // milliseconds; of all steps
+const lettersOf = step => step.gone.length + step.put.length + 64;
+// Notes a change for undo. What is typed without a pause at one place is one step.
+function noteStep(step, typedNow) {
+  undone = [];
+  const last = done[done.length - 1];
+  if (typedNow && last && last.typed && step.at - last.at < TOGETHER && joinStep(last, step)) return;
+  done.push({...step, typed: typedNow});
+  keptLetters += lettersOf(step);
+  while (done.length > MOST_STEPS || keptLetters > MOST_LETTERS && done.length > 1) {
+    keptLetters -= lettersOf(done.shift());
+  }
+}
+// Puts a step into the one before, where it changes what that one put, or what is just before or after it.
+function joinStep(last, step) {
+  const from = step.from - last.from, to = from + step.gone.length, before = lettersOf(last);
+  if (from >= 0 && to <= last.put.length) {
+    last.put = last.put.slice(0, from) + step.put + last.put.slice(to);
+  } else if (!last.put && !step.put && to === 0) {
+    [last.from, last.gone] = [step.from, step.gone + last.gone];
+  } else if (!last.put && !step.put && from === 0) {
+    last.gone += step.gone;
+  } else {
+    return false;
+  }
+  last.at = step.at;
+  keptLetters += lettersOf(last) - before;
+  return true;
+}
+// What undoes the last step, or does it again, as the part to change and the selection then; null where nothing is left.
+function stepBack() {
+  const step = done.pop();
+  if (!step) return null;
+  undone.push(step);
+  keptLetters -= lettersOf(step);
+  return {from: step.from, to: step.from + step.put.length, words: step.gone, selection: step.selection};
+}
+function stepForth() {
+  const step = undone.pop();
+  if (!step) return null;
+  done.push({...step, typed: false});
+  keptLetters += lettersOf(step);
+  const end = step.from + step.put.length;
+  return {from: step.from, to: step.from + step.gone.length, words: step.put, selection: [end, end]};
+}
