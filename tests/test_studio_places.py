@@ -123,12 +123,11 @@ class Marks(unittest.TestCase):
         """Blocked places are written as they are found, and all are counted; the largest show is no exception."""
         text = "choreo 1\n" + "".join("drone d%d 0 0 1000000 0\n" % k for k in range(6)) + "cue 100\nend\n"
         flown, out = choreo.flown_of(text.encode()), io.StringIO()
-        studio_work.know_forms(flown)
         before = studio_work.MARK_TIME, studio_work.MOST_MARKS, studio_work.MOST_MEASURED
         studio_work.MARK_TIME, studio_work.MOST_MARKS, studio_work.MOST_MEASURED = 0, 4, 7
         try:
             with contextlib.redirect_stdout(out):
-                studio_work.put_marks(flown, 6)
+                studio_work.put_marks(flown, studio_work.forms_of(flown), 6)
         finally:
             studio_work.MARK_TIME, studio_work.MOST_MARKS, studio_work.MOST_MEASURED = before
         rows = [json.loads(line) for line in out.getvalue().splitlines()]

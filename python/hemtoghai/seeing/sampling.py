@@ -1,8 +1,12 @@
 """Where drones are at samples of time, which pairs come nearest there, where two are blocked, and regions: the data of
 a page. For ./show picture and ./show studio. It looks at single instants and proves nothing."""
+from __future__ import annotations
+
 import os
 import subprocess
+from collections.abc import Iterable
 from itertools import combinations
+from typing import Any, Dict, List, Tuple
 
 from hemtoghai.companion import begins, cue_words, no_program, place, read_file, seconds, stop, value
 from hemtoghai.geometry import separation
@@ -11,19 +15,22 @@ from hemtoghai.language import choreo
 
 MOST_PLACES = 48000  # of all drones together, so that a page has about a megabyte
 MOST_PAIRS = 12
+Sample = Tuple[float, float, float, float]  # x, y and z in millimetres, and yaw in degrees
+Mark = Dict[str, Any]  # a place in which two drones are blocked, as mark_of says it
+Region = List[Any]  # its kind, and its limits in millimetres: x, y and z from, and x, y and z to
 
 
-def step_of(flown: choreo.Flown, wanted, most_places: int = MOST_PLACES) -> int:
+def step_of(flown: choreo.Flown, wanted: int | None, most_places: int = MOST_PLACES) -> int:
     """The milliseconds from one sample to the next: as wanted, or so that the page stays small."""
     if wanted:
         return wanted
     most = min(2000, most_places // len(flown.names))
     least = -(-flown.milliseconds // most)
-    return min(60000, next((step for step in (10, 20, 25, 50, 100, 200, 250, 500) if step >= least),
-                           -(-least // 1000) * 1000))
+    few = [step for step in (10, 20, 25, 50, 100, 200, 250, 500) if step >= least]
+    return min(60000, few[0] if few else -(-least // 1000) * 1000)
 
 
-def ask(program: str, words: list, text: bytes):
+def ask(program: str, words: list[str], text: bytes) -> tuple[int, str] | None:
     """The status and output of the program, or None where it can't be run."""
     if no_program(program):
         return None
@@ -33,9 +40,10 @@ def ask(program: str, words: list, text: bytes):
 
 # ---- positions
 
-def played(rows: list, names: list) -> tuple:
+def played(rows: list[str], names: list[str]) -> tuple[list[int], list[list[Sample]]]:
     """The instants and, for each, the drones' places in millimetres and yaws in degrees, by the rows of `play`."""
-    times, places = [], []
+    times: list[int] = []
+    places: list[list[Sample]] = []
     for k, row in enumerate(rows):
         instant, name, x, y, z, yaw = row.split(" ")
         if name != names[k % len(names)]:
@@ -47,25 +55,29 @@ def played(rows: list, names: list) -> tuple:
     return times, places
 
 
-def worked_out(flown: choreo.Flown, step: int, also=()) -> tuple:
+def worked_out(flown: choreo.Flown, step: int, also: Iterable[int] = ()) -> tuple[list[int], list[list[Sample]]]:
     """The same, by the tool: at each step, at the end, and at further instants."""
     times = sorted({*range(0, flown.milliseconds, step), flown.milliseconds, *also})
-    edges, places, cue = begins(flown), [], 0
+    places: list[list[Sample]] = []
+    edges, cue = begins(flown), 0
     for instant in times:
         while edges[cue + 1] < instant:
             cue += 1
         u = (instant - edges[cue]) / flown.cues[cue].milliseconds
-        places.append([(*place(flown, k, cue, u), value(flown.by_cue[k][cue][1][3], u) / 10)
-                       for k in range(len(flown.names))])
+        places.append([])
+        for k in range(len(flown.names)):
+            x, y, z = place(flown, k, cue, u)
+            places[-1].append((x, y, z, value(flown.by_cue[k][cue][1][3], u) / 10))
     return times, places
 
 
-def shares(flown: choreo.Flown, places: list) -> tuple:
+def shares(flown: choreo.Flown, places: list[list[Sample]]) -> tuple[list[list[float]], list[list[float]]]:
     """At each sample the nearest pair as (share, first, second), and of each pair the sample at which it is nearest."""
     r, h = flown.show.settings["ellipsoid"]
-    nearest, pairs = [], {}
+    nearest: list[list[float]] = []
+    pairs: dict[tuple[int, int], tuple[float, int]] = {}
     for k, row in enumerate(places):
-        best = None
+        best: tuple[float, int, int] | None = None
         for (i, a), (j, b) in combinations(enumerate(row), 2):
             squared = ((a[0] - b[0]) ** 2 + (a[1] - b[1]) ** 2) / (4 * r * r) + (a[2] - b[2]) ** 2 / (4 * h * h)
             squared = round(squared, 9)  # so that of equal ones the first counts
@@ -81,7 +93,7 @@ def shares(flown: choreo.Flown, places: list) -> tuple:
 
 # ---- what is refused
 
-def mark_of(flown: choreo.Flown, deep: int, i: int, j: int, cue: int, index: int) -> dict:
+def mark_of(flown: choreo.Flown, deep: int, i: int, j: int, cue: int, index: int) -> Mark:
     """A place in which two drones are blocked: from, to, both drones, cue, the nearest instant, all in milliseconds,
     how near they are there, whether they touch, the cause where it is the show's `stray` or `late`, and words."""
     r, h = flown.show.settings["ellipsoid"]
@@ -98,20 +110,20 @@ def mark_of(flown: choreo.Flown, deep: int, i: int, j: int, cue: int, index: int
             "touch": near.touch, "cause": cause, "named": False}
 
 
-def blocked_marks(flown: choreo.Flown, deep: int) -> list:
+def blocked_marks(flown: choreo.Flown, deep: int) -> list[Mark]:
     """The places in which two drones are blocked, that first in which they come nearest; `named` is the one that
     `check` names."""
     marks = [mark_of(flown, deep, *found) for found in separation.blocked_places(flown, deep)]
     for mark in marks[:1]:
         mark["named"] = True
-    return sorted(marks, key=lambda mark: mark["share"])
+    return sorted(marks, key=lambda mark: float(mark["share"]))
 
 
 # ---- regions
 
-def regions_of(path: str) -> list:
+def regions_of(path: str) -> list[Region]:
     """The regions of a file as (kind, six numbers): docs/COMMANDS.md, boxes."""
-    out = []
+    out: list[Region] = []
     for number, line in enumerate(read_file(path).decode(errors="replace").split("\n"), 1):
         words = line.split()
         try:

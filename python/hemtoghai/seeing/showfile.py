@@ -1,5 +1,7 @@
 """The one file that the studio reads and writes: as a whole, with a backup, and only over what was read; its bytes as
 the text of a page; and how two texts differ."""
+from __future__ import annotations
+
 import contextlib
 import difflib
 import hashlib
@@ -8,6 +10,8 @@ import re
 import shutil
 import tempfile
 import threading
+from collections.abc import Iterator
+from typing import BinaryIO
 
 from hemtoghai.language import choreo
 
@@ -15,7 +19,7 @@ MOST_TEXT = choreo.LONGEST_TEXT + 4096  # a little more than a show may have, so
 MOST_DIFF = 30000  # lines that are compared
 
 
-def stamp_of(data) -> str:
+def stamp_of(data: bytes | None) -> str:
     """What a file's bytes are known by; that of a file that isn't there is empty."""
     return "" if data is None else hashlib.sha256(data).hexdigest()
 
@@ -23,10 +27,10 @@ def stamp_of(data) -> str:
 class ShowFile:
     """The one file that is read and written."""
 
-    def __init__(self, path):
+    def __init__(self, path: str) -> None:
         self.name, self.path, self.lock = os.path.basename(path), os.path.realpath(path), threading.Lock()
 
-    def look(self) -> tuple:
+    def look(self) -> tuple[int, ...]:
         """What tells whether the file changed, without reading it."""
         try:
             found = os.stat(self.path)
@@ -34,7 +38,7 @@ class ShowFile:
             return ()
         return found.st_ino, found.st_size, found.st_mtime_ns
 
-    def read(self):
+    def read(self) -> bytes | None:
         """The file's bytes, or None where it isn't there."""
         try:
             with open(self.path, "rb") as file:
@@ -42,7 +46,7 @@ class ShowFile:
         except FileNotFoundError:
             return None
 
-    def save(self, data: bytes, stamp):
+    def save(self, data: bytes, stamp: str | None) -> str | None:
         """Writes the file at once as a whole, and keeps what was there as `SHOW~`; the stamp of what is there instead
         where that isn't what the page read, or None."""
         with self.lock:
@@ -52,7 +56,7 @@ class ShowFile:
             self.replace(data, old)
             return None
 
-    def replace(self, data: bytes, old) -> None:
+    def replace(self, data: bytes, old: bytes | None) -> None:
         """Writes a file beside it, and gives it the name; what was there gets another name in the same way."""
         with self.beside() as (path, file):
             file.write(data)
@@ -70,7 +74,7 @@ class ShowFile:
             os.replace(path, self.path)
 
     @contextlib.contextmanager
-    def beside(self):
+    def beside(self) -> Iterator[tuple[str, BinaryIO]]:
         """A new file in the same folder, with its path; it is gone where it got no other name."""
         number, path = tempfile.mkstemp(prefix=".%s." % self.name[:80], dir=os.path.dirname(self.path))
         try:
@@ -81,14 +85,14 @@ class ShowFile:
                 os.unlink(path)
 
 
-def text_of(data: bytes) -> tuple:
+def text_of(data: bytes) -> tuple[str, str, bool]:
     """A file's bytes as the page has them: with line feeds alone, and what they were."""
     text = data.decode("utf-8", "surrogateescape")
     pairs, alone = text.count("\r\n"), text.count("\n")
     ends = "\r\n" if pairs and pairs == alone else "\n"
     plain = text.replace("\r\n", "\n")
     # In the page a carriage return would be a line of its own; in the language it is a blank.
-    return plain.replace("\r", " "), ends, "\r" in plain or (pairs and ends == "\n")
+    return plain.replace("\r", " "), ends, "\r" in plain or pairs > 0 and ends == "\n"
 
 
 def bytes_of(text: str) -> bytes:
@@ -96,11 +100,11 @@ def bytes_of(text: str) -> bytes:
     return text.encode("utf-8", "surrogateescape")
 
 
-def difference(old: str, new: str) -> list:
+def difference(old: str, new: str) -> list[list[str]]:
     """Two texts as lines with a mark each: + new, - old, a blank for both, @ for a gap."""
-    old, new = old.split("\n"), new.split("\n")
-    if len(old) + len(new) > MOST_DIFF:
-        return [["@", "%d lines before, %d lines now: too many to show what changed" % (len(old), len(new))]]
-    rows = list(difflib.unified_diff(old, new, lineterm="", n=2))[2:]
+    before, after = old.split("\n"), new.split("\n")
+    if len(before) + len(after) > MOST_DIFF:
+        return [["@", "%d lines before, %d lines now: too many to show what changed" % (len(before), len(after))]]
+    rows = list(difflib.unified_diff(before, after, lineterm="", n=2))[2:]
     return [["@", re.sub(r"@@ -(\d+).* \+(\d+).*", r"line \2", row)] if row.startswith("@@") else [row[:1], row[1:]]
             for row in rows]

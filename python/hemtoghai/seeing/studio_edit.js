@@ -59,7 +59,7 @@ function showNumber(force) {
 function writeNumber(value) {
   if (!target || !Number.isFinite(value) || Math.abs(value) > MOST_SHOWN) return false;
   const input = byId("number-value"), text = value === target.value ? target.text : numberWord(target.unit, value);
-  if (content.slice(target.from, target.to) !== target.text) return false;
+  if (textBetween(target.from, target.to) !== target.text) return false;
   if (text !== target.text) {
     const focused = document.activeElement === input;
     writing = true;
@@ -291,7 +291,7 @@ function freeName(front, names, from = 1) {
 function insert(words) {
   const isAfterLast = menuLine > lines.length;
   const block = words.split("\n").map(line => line && menuIndent + line).join("\n");
-  const from = isAfterLast ? content.length : offsetOf(menuLine);
+  const from = isAfterLast ? textLength() : offsetOf(menuLine);
   if (isAfterLast) writeText(from, from, `\n${block}`);
   else if (!menuReplaces) writeText(from, from, `${block}\n`);
   else writeText(from, from + lines[menuLine - 1].length, menuLine === lines.length ? `${block}\n` : block);

@@ -31,10 +31,10 @@ function windowAt(first, last) {
   return [Math.max(0, first - AROUND), Math.min(lines.length, last + AROUND)];
 }
 const heldFrom = () => starts[held[0]];
-const heldTo = () => held[1] < lines.length ? starts[held[1]] - 1 : content.length;
+const heldTo = () => held[1] < lines.length ? starts[held[1]] - 1 : textLength();
 function hold(first, last) {
   held = [first, Math.max(first + 1, last)];
-  heldText = content.slice(heldFrom(), heldTo());
+  heldText = lines.slice(...held).join("\n");
   if (field.value !== heldText) field.value = heldText;
   placeField();
   placeSelection();
@@ -79,9 +79,9 @@ function readSelection() {
   const {selectionStart: from, selectionEnd: to, selectionDirection} = field;
   const [a, b] = selectionDirection === "backward" ? [to, from] : [from, to];
   if (Math.min(...placed) === from && Math.max(...placed) === to) return;
-  const all = from === 0 && to === heldText.length && heldText.length < content.length;
+  const all = from === 0 && to === heldText.length && heldText.length < textLength();
   if (all) {  // what a menu of the browser selects as all is all that the field has
-    [anchor, head] = [0, content.length];
+    [anchor, head] = [0, textLength()];
   } else {
     if (isHeld(anchor) || a !== placed[0]) anchor = heldFrom() + a;
     head = heldFrom() + b;
@@ -128,7 +128,7 @@ function showLines(first, last, isSelected) {
 
 // Changes the text, notes how to undo it, and puts the cursor after what was written.
 function edit(from, to, words, isTyped) {
-  const gone = content.slice(from, to);
+  const gone = textBetween(from, to);
   if (gone !== words) noteStep({from, gone, put: words, selection: [anchor, head], at: performance.now()}, isTyped);
   const more = change(from, to, words);
   anchor = head = from + words.length;
@@ -166,7 +166,7 @@ function afterWriting() {
 const writeOver = words => writeText(selectionFrom(), selectionTo(), words);
 // Puts another text in; what is the same at both ends stays.
 function replaceText(text) {
-  const old = content, most = Math.min(old.length, text.length);
+  const old = wholeText(), most = Math.min(old.length, text.length);
   let from = 0, end = 0;
   while (from < most && old[from] === text[from]) from += 1;
   while (end < most - from && old[old.length - 1 - end] === text[text.length - 1 - end]) end += 1;
@@ -206,9 +206,9 @@ function workOfKey(event) {
   if (event.altKey) return null;
   if (command && low === "z") return shiftKey ? redo : undo;
   if (command && low === "y" && !isMac) return redo;
-  if (command && low === "a") return () => { [anchor, head] = [0, content.length]; placeSelection(); onCursor(); };
+  if (command && low === "a") return () => select(0, textLength());
   if (command && (key === "Home" || isMac && key === "ArrowUp")) return () => goTo(0, shiftKey);
-  if (command && (key === "End" || isMac && key === "ArrowDown")) return () => goTo(content.length, shiftKey);
+  if (command && (key === "End" || isMac && key === "ArrowDown")) return () => goTo(textLength(), shiftKey);
   if (key === "PageUp" || key === "PageDown") return command ? null : () => goPage(key === "PageDown", shiftKey);
   // Tab with Shift goes back, so that the field can be left by keys.
   if (key === "Tab" && !command && !shiftKey) return () => writeOver("  ");
@@ -248,7 +248,7 @@ function onCopy(event) {
   readSelection();
   if (isHeld(anchor) && isHeld(head)) return;
   event.preventDefault();
-  event.clipboardData.setData("text/plain", content.slice(selectionFrom(), selectionTo()));
+  event.clipboardData.setData("text/plain", textBetween(selectionFrom(), selectionTo()));
   if (event.type === "cut") writeOver("");
 }
 function onPaste(event) {

@@ -10,7 +10,7 @@ function findAll() {
   const wanted = findWords(), pattern = new RegExp(wanted.replace(/[.*+?^${}()|[\]\\]/g, "\\$&"), "gi");
   [hits, hitLength, hitsVersion, shownHit] = [[], wanted.length, version, -1];
   if (!wanted) return;
-  for (const it of content.matchAll(pattern)) {
+  for (const it of wholeText().matchAll(pattern)) {
     hits.push(it.index);
     if (hits.length >= MOST_HITS) return;
   }
@@ -65,7 +65,7 @@ function onFindWords() {
 function openFind() {
   if (given.watch) return;
   readSelection();
-  const chosenWords = content.slice(selectionFrom(), selectionTo());
+  const chosenWords = textBetween(selectionFrom(), selectionTo());
   if (chosenWords && !chosenWords.includes("\n")) byId("find-words").value = chosenWords;
   findOrigin = selectionFrom();
   byId("find").hidden = false;

@@ -22,11 +22,11 @@ async function judge() {
   asking = new AbortController();
   byId("verdict").classList.add("old");
   try {
-    const {signal} = asking, digest = digestOf(content), answer = await sendText(signal) || await sendText(signal);
+    const {signal} = asking, answer = await sendText(signal) || await sendText(signal);
     if (answer.status === 413) throw new Error("the text is larger than a show may be");
     if (!answer.ok) throw new Error(await answer.text());
     await readStages(answer, async stage => {
-      if (stage.stage === "verdict") await judgedIs(stage.digest, digest);
+      if (stage.stage === "verdict") await checkJudged(stage.digest);
       return mine === version && take(stage);
     }, () => mine !== version);
   } catch (error) {
@@ -44,15 +44,29 @@ async function sendText(signal) {
     known = null;
     return null;
   }
-  if (answer.ok && mine === version) [known, unsent] = [number, null];
+  if (answer.ok && mine === version) [known, runs.judged] = [number, null];
   return answer;
 }
-// A verdict is shown for the text alone that was judged, by its SHA-256.
-async function judgedIs(digest, mine) {
-  const wanted = await mine;
-  if (wanted === null || wanted === digest) return;
+const CHECK = 1500;  // milliseconds without a key until a long text is compared with the one that was judged
+let checking = null;
+// A verdict is shown for the text alone that was judged, by its SHA-256. Of a long one that takes some milliseconds, so it
+// waits until nobody types; till then its length and its lines are known to be the same.
+async function checkJudged(digest) {
+  clearTimeout(checking);
+  if (textLength() <= LONG) return compareJudged(digest);
+  const mine = version;
+  checking = setTimeout(() => compareJudged(digest).catch(error => {
+    if (mine !== version) return;
+    take({stage: "none", words: error.message});
+    judge();
+  }), CHECK);
+  return null;
+}
+async function compareJudged(digest) {
+  const mine = version, own = await digestOf(wholeText());
+  if (own === null || own === digest || mine !== version) return;
   known = null;
-  throw new Error("another text was judged than this one; the next key sends it anew");
+  throw new Error("another text was judged than this one");
 }
 // Long work rests after some milliseconds, so that a key that came meanwhile is taken first.
 const SLICE = 8;

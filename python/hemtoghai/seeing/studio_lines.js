@@ -1,7 +1,8 @@
 // The text of ./show studio: its lines, what changes them, undo, and which lines a request has to carry. A change costs
 // as much as the lines that it changes, and a look at the number of each line after it.
 
-let content = "", lines = [""], starts = [0];  // the text, its lines, and where in the text each begins
+let lines = [""], starts = [0];  // the lines, and where in the text each begins
+let whole = "";  // the text in one piece, or null while nobody has asked for it since it was changed
 let textForm = null;  // the form of the language that the text names: 1, 2, or null where it names none
 let version = 0;  // of the text: each change makes a new one, and a result of an older one isn't shown
 let formLines = 0;  // how many lines begin with `form`
@@ -16,7 +17,7 @@ function columnsOf(text) {
 
 // Takes another text.
 function setContent(text) {
-  content = text;
+  whole = text;
   lines = text.split("\n");
   widths = lines.map(columnsOf);
   widest = greatestOf(widths);
@@ -24,7 +25,15 @@ function setContent(text) {
   starts = new Array(lines.length);
   moveStarts(0);
   readForm();
-  [unsent, known] = [null, null];
+  [runs.judged, runs.kept, known, keptAs] = [null, null, null, null];
+}
+const wholeText = () => whole ?? (whole = lines.join("\n"));
+const textLength = () => starts[starts.length - 1] + lines[lines.length - 1].length;
+// A part of the text, for which the whole isn't put together.
+function textBetween(from, to) {
+  if (whole !== null) return whole.slice(from, to);
+  const first = lineAt(from), begin = starts[first];
+  return lines.slice(first, lineAt(to) + 1).join("\n").slice(from - begin, to - begin);
 }
 // Not by Math.max, which takes so many arguments at most.
 const greatestOf = numbers => numbers.reduce((most, number) => number > most ? number : most, 0);
@@ -50,17 +59,17 @@ function lineAt(offset) {
   }
   return low;
 }
-const offsetOf = line => line <= starts.length ? starts[line - 1] : content.length;
+const offsetOf = line => line <= starts.length ? starts[line - 1] : textLength();
 // Writes words in place of a part of the text; says how many lines there are more than before.
 function change(from, to, words) {
   const first = lineAt(from), last = lineAt(to), gone = last + 1 - first, old = lines.slice(first, last + 1);
   const put = (old[0].slice(0, from - starts[first]) + words + old[gone - 1].slice(to - starts[last])).split("\n");
-  content = content.slice(0, from) + words + content.slice(to);
+  whole = null;
   exchangeLines(first, old, put);
   moveStarts(first);
   if (first <= formLine) readForm();
   else formLine = Math.min(formLine, lines.length - 1);
-  noteUnsent(first, gone, put.length);
+  noteRun(first, gone, put.length);
   return put.length - gone;
 }
 function exchangeLines(first, old, put) {
@@ -77,22 +86,28 @@ function exchangeLines(first, old, put) {
   widest = wasWidest ? greatestOf(widths) : Math.max(widest, greatestOf(columns));
 }
 
-// ---- what a request has to carry
+// ---- what changed since the text was sent or kept
 
-// The number of a text that the studio has; and the lines that changed since then as one run: the first, how many there
-// were, how many there are.
-let known = null, unsent = null;
-function noteUnsent(first, gone, put) {
-  const run = unsent || {first, gone: 0, put: 0}, from = Math.min(run.first, first);
-  // Lines between the run and this change, and those of the change that aren't in the run, are the same in both.
-  const more = Math.max(0, first + gone - (run.first + run.put)) + run.first - from;
-  unsent = {first: from, gone: run.gone + more, put: run.put + more + put - gone};
+// The lines that changed since then, as one run: the first, how many there were, how many there are.
+const runs = {judged: null, kept: null};
+let known = null, keptAs = null;  // of the text that the studio has its number, of the one that the browser keeps its name
+function noteRun(first, gone, put) {
+  for (const name in runs) {
+    const run = runs[name] || {first, gone: 0, put: 0}, from = Math.min(run.first, first);
+    // Lines between the run and this change, and those of the change that aren't in the run, are the same in both.
+    const more = Math.max(0, first + gone - (run.first + run.put)) + run.first - from;
+    runs[name] = {first: from, gone: run.gone + more, put: run.put + more + put - gone};
+  }
 }
-// What a request carries: all of the text, or the lines that changed since the one that the studio has.
+// The lines that stand in place of others since then.
+function changedLines(name) {
+  const run = runs[name] || {first: 0, gone: 0, put: 0};
+  return {line: run.first + 1, gone: run.gone, put: lines.slice(run.first, run.first + run.put)};
+}
+// What a request carries: all of the text, or the lines that changed since the one that the studio has; and its length.
 function carried() {
-  const run = unsent || {first: 0, gone: 0, put: 0};
-  if (known === null || run.put > lines.length / 2) return {text: content};
-  return {base: known, line: run.first + 1, gone: run.gone, put: lines.slice(run.first, run.first + run.put)};
+  const isShort = known !== null && (runs.judged === null || runs.judged.put <= lines.length / 2);
+  return {length: textLength(), ...isShort ? {base: known, ...changedLines("judged")} : {text: wholeText()}};
 }
 // The SHA-256 of a text in UTF-8, in hexadecimal digits; null where the browser has none for this page.
 async function digestOf(text) {

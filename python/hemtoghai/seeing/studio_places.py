@@ -1,9 +1,15 @@
 """What stands around a line of a show's text, and where each drone is there: for the menu of ./show studio, which writes
 new drones, cues and acts with these numbers. The text may be half written: then what stands before the line is
 taken."""
+from __future__ import annotations
+
+from collections.abc import Iterator
+from typing import Dict, List
+
 from hemtoghai.language import choreo
 from hemtoghai.language.lines import header, line_in
 
+Places = Dict[str, List[int]]  # by drone x, y and z in micrometres, and yaw in tenths of a degree
 START = [0, 0, 1000000, 0]  # of a role whose place in its figure isn't known: a metre above the origin
 DECLARED = ("drone", "formation", "figure", *choreo.SETTINGS)
 
@@ -17,14 +23,14 @@ def word_of(line: bytes) -> str:
 class Block:
     """A block that is open at a line: the number of the line that opens it, and its kind."""
 
-    def __init__(self, number, kind):
+    def __init__(self, number: int, kind: str) -> None:
         self.number, self.kind = number, kind
 
 
-def steps(lines: list):
+def steps(lines: list[bytes]) -> Iterator[tuple[int, str, list[Block]]]:
     """For each line its number, its first word, and the blocks that are open before it, in a list that changes with the
     next line. In a cue and in a formation nothing opens a block: a drone may have any name."""
-    opened = []
+    opened: list[Block] = []
     for number, line in enumerate(lines, 1):
         word = word_of(line)
         yield number, word, opened
@@ -34,12 +40,12 @@ def steps(lines: list):
             opened.append(Block(number, word))
 
 
-def last_lines(text: bytes) -> dict:
+def last_lines(text: bytes) -> dict[int, int]:
     """By the line that opens a block the line that closes it."""
     return {opened[-1].number: number for number, word, opened in steps(text.split(b"\n")) if word == "end" and opened}
 
 
-def around(lines: list, line: int) -> list:
+def around(lines: list[bytes], line: int) -> list[Block]:
     """The blocks that are open before a line, those outside first."""
     for number, _, opened in steps([*lines, b""]):
         if number == min(line, len(lines) + 1):
@@ -47,7 +53,7 @@ def around(lines: list, line: int) -> list:
     return []
 
 
-def later_declarations(lines: list, line: int) -> list:
+def later_declarations(lines: list[bytes], line: int) -> list[bytes]:
     """The lines at top after a line that declare drones, formations, figures and settings, with what is in them."""
     out = []
     for number, word, opened in steps(lines):
@@ -58,7 +64,7 @@ def later_declarations(lines: list, line: int) -> list:
     return out
 
 
-def before(lines: list, line: int, opened: list) -> list:
+def before(lines: list[bytes], line: int, opened: list[Block]) -> list[bytes]:
     """The lines that are flown before a line: a repeat that is open there is flown once so far, and a cue that is open
     there isn't flown yet."""
     end = opened[-1].number if opened and opened[-1].kind in ("cue", "formation") else line
@@ -66,11 +72,12 @@ def before(lines: list, line: int, opened: list) -> list:
     return [b"" if number in repeats else it for number, it in enumerate(lines[:end - 1], 1)]
 
 
-def read(lines: list):
+def read(lines: list[bytes]) -> choreo.Flown | None:
     """What the drones of these lines fly, with a pause at the end so that there is a cue; None where they are
     faulty."""
     pause_of_text = line_in(choreo.form_of(b"\n".join(lines)), "cue", 1).encode()
-    for pause in ([pause_of_text, b"end"], []):
+    pauses: list[list[bytes]] = [[pause_of_text, b"end"], []]
+    for pause in pauses:
         try:
             return choreo.flown_of(b"\n".join([*lines, *pause, b""]))
         except choreo.Refused:
@@ -78,7 +85,7 @@ def read(lines: list):
     return None
 
 
-def ends_of(flown) -> dict:
+def ends_of(flown: choreo.Flown) -> Places:
     """By drone where it is at the end of a show, in micrometres and tenths of a degree."""
     places = {name: list(start) for name, start in zip(flown.names, flown.starts)}
     for cue in flown.cues:
@@ -87,20 +94,21 @@ def ends_of(flown) -> dict:
     return places
 
 
-def starts_of(lines: list, form: int) -> dict:
+def starts_of(lines: list[bytes], form: int) -> Places:
     """By drone where its line puts it, of a text in a form of the language that can't be read as a whole."""
-    found = {}
+    found: Places = {}
     for line in lines:
         words = line.partition(b"#")[0].decode("ascii", "replace").split()
         if len(words) == 6 and words[0] == "drone" and choreo.is_name(words[1]):
             slots = choreo.LINES["drone"][1:]
             numbers = [choreo.number_of(slot, word, form) for slot, word in zip(slots, words[2:])]
-            if all(number is not None and abs(number) < 10 ** 9 for number in numbers):
-                found.setdefault(words[1], numbers)
+            known = [number for number in numbers if number is not None and abs(number) < 10 ** 9]
+            if len(known) == len(numbers):
+                found.setdefault(words[1], known)
     return dict(list(found.items())[:choreo.MOST_DRONES])
 
 
-def in_figure(lines: list, line: int, opened: list, form: int) -> dict:
+def in_figure(lines: list[bytes], line: int, opened: list[Block], form: int) -> Places:
     """By role where it is at a line of a figure, in the figure's own frame: the figure is flown by drones of its roles'
     names, each of which begins where its first line puts it, else a metre above the origin."""
     figure = opened[0]
@@ -113,7 +121,7 @@ def in_figure(lines: list, line: int, opened: list, form: int) -> dict:
     return ends_of(flown) if flown else {role: list(START) for role in roles}
 
 
-def words_in(lines: list, block: Block):
+def words_in(lines: list[bytes], block: Block) -> Iterator[list[str]]:
     """The words of each line of an open cue or formation, as far as such lines follow one another."""
     for line in lines[block.number:]:
         words = line.partition(b"#")[0].decode(errors="replace").split()
@@ -125,13 +133,13 @@ def words_in(lines: list, block: Block):
             yield words
 
 
-def acted(lines: list, block: Block) -> list:
+def acted(lines: list[bytes], block: Block) -> list[str]:
     """Who has a line in an open cue or formation."""
     return [words[1] if block.kind == "formation" else words[0]
             for words in words_in(lines, block) if words[0] != "form"]
 
 
-def names_declared(lines: list, kind: str) -> list:
+def names_declared(lines: list[bytes], kind: str) -> list[str]:
     """The names after a word at top."""
     out = []
     for number, word, opened in steps(lines):
@@ -141,9 +149,10 @@ def names_declared(lines: list, kind: str) -> list:
     return out
 
 
-def formed(lines: list, block: Block) -> list:
+def formed(lines: list[bytes], block: Block) -> list[str]:
     """The drones that get their acts from the `form` lines of an open cue."""
-    names, out = {words[1] for words in words_in(lines, block) if words[0] == "form"}, []
+    out: list[str] = []
+    names = {words[1] for words in words_in(lines, block) if words[0] == "form"}
     for number, word, opened in steps(lines):
         words = lines[number - 1].decode(errors="replace").split()
         if word == "at" and opened and opened[-1].kind == "formation" and len(words) > 1:
@@ -152,7 +161,7 @@ def formed(lines: list, block: Block) -> list:
     return out
 
 
-def places_at(text: bytes, line: int) -> dict:
+def places_at(text: bytes, line: int) -> dict[str, object]:
     """What stands around a line, and where each drone is: the kind of the innermost block, the drones or roles with
     their places in micrometres and tenths of a degree, who has a line in that block, the names of formations and
     figures, and whether the places could be computed or are the starts."""

@@ -238,10 +238,11 @@ class Handler(BaseHTTPRequestHandler):
         """The text that a page sends: the whole, or the lines that changed since the one of the number `base`."""
         if "base" not in asked:
             return self.studio.texts.keep(page, number, asked["text"])
-        base, line, gone, put = [asked.get(word) for word in ("base", "line", "gone", "put")]
-        if not isinstance(put, list) or not all(isinstance(it, int) for it in (base, line, gone)) or gone < 0:
+        put, numbers = asked.get("put"), [asked.get(word) for word in ("base", "line", "gone", "length")]
+        base, line, gone, length = [number if isinstance(number, int) else -1 for number in numbers]
+        if not isinstance(put, list) or min(base, line, gone, length) < 0:
             raise ValueError
-        return self.studio.texts.changed(page, number, base, line, gone, put)
+        return self.studio.texts.changed(page, number, base, line, gone, put, length)
 
     def put(self, stage: Mapping[str, object]) -> None:
         """Writes a stage."""

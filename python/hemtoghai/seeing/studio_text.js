@@ -1,10 +1,10 @@
-// The text of ./show studio: what follows a change, keeping it in the browser and in the file, and what the page says.
+// The text of ./show studio: what follows a change, saving it in the file, and what the page says.
 
-const KEEP = 300, LONG = 200000;  // milliseconds until the browser keeps what was typed; letters of a long text
+const LONG = 200000;  // letters of a long text
 let saves = 0;  // texts that were saved from here
 let file = null;  // the text as it was read or saved: text, stamp, ends, key
 let marked = new Map(), markedLines = 1;  // by line the mark that it has, and how many lines there were then
-let keeping = null, typed = 0;  // the wait until it is kept, and the instant of the last key
+let typed = 0;  // the instant of the last key
 let saving = false, saveAgain = false;
 const savedStamps = new Set();  // of what was saved from here: that the file has it isn't another program's change
 
@@ -52,35 +52,10 @@ function onKey(event) {
   }
 }
 
-// ---- keeping it
+// ---- saving it
 
-// While somebody types without a pause it is kept as well, at most once in this time; a long text takes longer to keep.
-function keepSoon() {
-  if (keeping === null) keeping = setTimeout(keep, content.length > LONG ? 5 * KEEP : KEEP);
-}
-// The text that isn't saved is kept by the browser, too; where it has no room that fails, and nothing else does.
-function keep() {
-  clearTimeout(keeping);
-  keeping = null;
-  if (given.watch || !file) return;
-  try {
-    if (content === file.text) localStorage.removeItem(file.key);
-    else localStorage.setItem(file.key, JSON.stringify({text: content, at: Date.now()}));
-  } catch (error) { /* no room */ }
-}
-function kept() {
-  try {
-    const stored = JSON.parse(localStorage.getItem(file.key));
-    return stored && typeof stored.text === "string" ? stored : null;
-  } catch (error) {
-    return null;
-  }
-}
-function onOtherTab(event) {
-  if (!file || event.key !== file.key || event.newValue === null) return;
-  tell("This show is open in another tab, too. The browser keeps the text of the tab in which you typed last.");
-}
-const dirty = () => !given.watch && file !== null && (content !== file.text || file.new);
+const isAsFile = () => textLength() === file.text.length && wholeText() === file.text;
+const dirty = () => !given.watch && file !== null && (!isAsFile() || file.new);
 function showState() {
   const words = given.watch ? "follows the file" : !file ? "" : file.new ? "not written yet" :
     dirty() ? "changed, not saved" : "saved";
@@ -104,7 +79,7 @@ function tell(words, ...choices) {
   if (words && !choices.length) element("button", "OK", told).onclick = () => tell("");
 }
 function post(path, more, signal) {
-  return fetch(path, {method: "POST", signal, body: JSON.stringify({text: content, ...more})});
+  return fetch(path, {method: "POST", signal, body: JSON.stringify({text: wholeText(), ...more})});
 }
 // Saves one text after the other: while one is on its way the next waits, since it has to know the stamp of the first.
 async function save(force) {
@@ -122,7 +97,7 @@ async function save(force) {
   }
 }
 async function saveOnce(force) {
-  const text = content;
+  const text = wholeText();
   try {
     const answer = await post("save", {stamp: file.stamp, ends: file.ends, force, text});
     const said = await answer.json();

@@ -4,6 +4,7 @@ from __future__ import annotations
 import hashlib
 import re
 import threading
+from typing import Any
 
 from hemtoghai.seeing.showfile import bytes_of, MOST_TEXT
 
@@ -29,6 +30,13 @@ def digest_of(text: bytes) -> str:
     return hashlib.sha256(text).hexdigest()
 
 
+def length_of(text: bytes) -> int:
+    """The letters of a text as the page counts them, in units of UTF-16."""
+    if text.isascii():
+        return len(text)
+    return len(text.decode("utf-8", "surrogateescape").encode("utf-16-le", "surrogatepass")) // 2
+
+
 class Texts:
     """By page its newest texts by number, each as its lines."""
 
@@ -43,19 +51,23 @@ class Texts:
         self._keep(page, number, number, text.split(b"\n"))
         return text
 
-    def changed(self, page: str, number: int, base: int, line: int, gone: int, put: list[str]) -> bytes:
+    def changed(self, page: str, number: int, base: int, line: int, gone: int, put: list[Any], length: int) -> bytes:
         """Keeps, and gives back, the text of the number `base` with the lines `put` in place of as many as `gone` from
-        `line` on. Raises Unknown where it isn't there, TooLarge, and ValueError for what are no lines of it."""
+        `line` on. Raises Unknown where it isn't there or the new text hasn't the page's length, TooLarge, and ValueError
+        for what are no lines of it."""
         with self.lock:
             old = self.pages.get(page, {}).get(base)
         if old is None:
             raise Unknown
-        if not 1 <= line <= line + gone <= len(old) + 1 or any("\n" in words for words in put):
+        if not 1 <= line <= line + gone <= len(old) + 1 or any(
+                not isinstance(words, str) or "\n" in words for words in put):
             raise ValueError
         lines = [*old[:line - 1], *map(bytes_of, put), *old[line - 1 + gone:]]
         text = b"\n".join(lines)
         if not lines or len(text) > MOST_TEXT:
             raise TooLarge if lines else ValueError
+        if length_of(text) != length:
+            raise Unknown
         self._keep(page, number, base, lines)
         return text
 

@@ -11,21 +11,26 @@ show that is refused for nearness, `lines`, `notes`, `regions` where there is a 
 show that is refused for nearness, several times until all are found, `margin` of one that is accepted. It is trusted
 for nothing: only what the program says is proved.
 """
+from __future__ import annotations
+
 import json
 import os
 import re
 import sys
 import time
-from typing import Optional
+from collections.abc import Iterator
+from typing import Any, Dict
 
 from hemtoghai.companion import ask_dynamics, begins, cue_words, no_program
 from hemtoghai.geometry import separation
 from hemtoghai.language import choreo
-from hemtoghai.seeing.sampling import ask, boxes_said, mark_of, played, regions_of, step_of, worked_out
+from hemtoghai.seeing.sampling import (ask, boxes_said, Mark, mark_of, played, Region, regions_of, Sample, step_of,
+                                       worked_out)
 from hemtoghai.seeing.studio_places import last_lines, places_at
 from hemtoghai.writing.flyable import below, MOST as FASTEST, motion, NoAnswer, small
 from hemtoghai.writing.margins import greatest, MOST, with_setting
 
+Forms = Dict[int, Dict[str, int]]  # by `form` line and drone the `at` line of its formation
 MOST_PLACES = 32000  # of all drones together: the page has to keep up with typing
 MOST_MARKS = 200  # that are listed; the others are counted
 MOST_MEASURED = 2000  # of which it is computed how near they are
@@ -33,7 +38,7 @@ MARK_TIME = 1.0  # seconds from one list of blocked places to the next, while mo
 QUIET = 0.6  # seconds before the margins are looked for, which take many checks
 
 
-def put(stage: str, **more) -> None:
+def put(stage: str, **more: object) -> None:
     """Writes a stage."""
     sys.stdout.write(json.dumps({"stage": stage, **more}, separators=(",", ":")) + "\n")
     sys.stdout.flush()
@@ -41,7 +46,7 @@ def put(stage: str, **more) -> None:
 
 # ---- the verdict, without the program
 
-def refusal_of(text: bytes, deep: int) -> tuple:
+def refusal_of(text: bytes, deep: int) -> tuple[int, str]:
     """The status and the words by which the tools refuse a text, or those of an accepted one."""
     try:
         flown = choreo.flown_of(text)
@@ -52,7 +57,7 @@ def refusal_of(text: bytes, deep: int) -> tuple:
     return 0, "ok drones %d cues %d duration_ms %d" % (len(flown.names), len(flown.cues), flown.milliseconds)
 
 
-def judged(text: bytes, deep: int) -> tuple:
+def judged(text: bytes, deep: int) -> tuple[int, str]:
     """The same; a marker line is refused as the program does."""
     show, second, markers = choreo.parts_of(text)
     answer = refusal_of(show, deep)
@@ -61,27 +66,28 @@ def judged(text: bytes, deep: int) -> tuple:
 
 # ---- lines of the text
 
-def know_forms(flown: choreo.Flown) -> None:
-    """Notes for each `form` line by drone the `at` line of its formation."""
-    flown.forms = {line.number: {place.values[0]: place.number for place in flown.show.formations[line.values[0]].body}
-                   for line in choreo.inside(flown.show.top) if line.kind == "form"
-                   and line.values[0] in flown.show.formations}
+def forms_of(flown: choreo.Flown) -> Forms:
+    """For each `form` line by drone the `at` line of its formation."""
+    formations = flown.show.formations
+    return {line.number: {place.values[0]: place.number for place in formations[line.values[0]].body}
+            for line in choreo.inside(flown.show.top) if line.kind == "form" and line.values[0] in formations}
 
 
-def lines_of_pair(flown: choreo.Flown, pair: list, cue: choreo.Cue) -> list:
+def lines_of_pair(flown: choreo.Flown, forms: Forms, pair: list[int], cue: choreo.Cue) -> list[int]:
     """The lines by which two drones fly a cue: their acts, or the `form` line and their places."""
-    out = set()
+    out: set[int] = set()
     for k in pair:
         name = flown.names[k]
         if name in cue.acts:
             number = cue.acts[name][0]
-            out |= {number, flown.forms.get(number, {}).get(name, number)}
+            out |= {number, forms.get(number, {}).get(name, number)}
     return sorted(out or {cue.number})
 
 
-def formed_lines(flown: choreo.Flown, text: bytes) -> list:
+def formed_lines(flown: choreo.Flown, text: bytes) -> list[list[list[int]]]:
     """For each cue the lines that stand for it elsewhere: of performs, repeats and formations, as (first, last)."""
-    closing, bodies = last_lines(text), {}
+    bodies: dict[int, list[list[int]]] = {}
+    closing = last_lines(text)
     cues = {line.number: line for line in choreo.inside(flown.show.top) if line.kind == "cue"}
     for number, line in cues.items():
         forms = [flown.show.formations[inner.values[0]].number for inner in line.body if inner.kind == "form"]
@@ -93,25 +99,26 @@ def formed_lines(flown: choreo.Flown, text: bytes) -> list:
     return out
 
 
-def drone_lines(flown: choreo.Flown) -> dict:
+def drone_lines(flown: choreo.Flown, forms: Forms) -> dict[str, object]:
     """For each drone its `drone` line, and by cue the line of its act there, of a formation that of its place; 0 where
     it has none."""
     acts = []
     for name in flown.names:
         numbers = [cue.acts[name][0] if name in cue.acts else 0 for cue in flown.cues]
-        acts.append([flown.forms.get(number, {}).get(name, number) for number in numbers])
+        acts.append([forms.get(number, {}).get(name, number) for number in numbers])
     return {"drones": [line.number for line in flown.show.drones], "acts": acts}
 
 
 # ---- stages
 
-def rows_of_play(text: bytes, program: str, deep: int, step: int):
+def rows_of_play(text: bytes, program: str | None, deep: int, step: int) -> list[str] | None:
     """The rows of the program's `play`, or None where it isn't there."""
     answer = ask(program, ["play", "--depth", str(deep), "--step", str(step)], text) if program else None
     return answer[1].splitlines() if answer and answer[0] == 0 else None
 
 
-def flight_of(flown: choreo.Flown, text: bytes, step: int, rows: list, mark: dict, regions: list) -> dict:
+def flight_of(flown: choreo.Flown, text: bytes, step: int, rows: list[str] | None, mark: Mark | None,
+              regions: list[Region]) -> dict[str, object]:
     """What the page draws, by rows of `play` or, where there are none, by the tools, a sample each so many
     milliseconds."""
     source = "tool"
@@ -120,7 +127,7 @@ def flight_of(flown: choreo.Flown, text: bytes, step: int, rows: list, mark: dic
     else:
         times, places = worked_out(flown, step, {round(mark["nearest"])} if mark else ())
     (r, h), (stray,), (late,) = [flown.show.settings[word] for word in ("ellipsoid", "stray", "late")]
-    columns = list(zip(*places))
+    columns: list[tuple[Sample, ...]] = list(zip(*places))
     return {
         "source": source, "step": step, "r": r, "h": h, "stray": stray, "late": late, "regions": regions,
         "names": flown.names, "times": times, "end": flown.milliseconds,
@@ -131,39 +138,40 @@ def flight_of(flown: choreo.Flown, text: bytes, step: int, rows: list, mark: dic
     }
 
 
-def first_mark(flown: choreo.Flown, said: str, deep: int) -> dict:
+def first_mark(flown: choreo.Flown, forms: Forms, said: str, deep: int) -> Mark:
     """The place that `check` names."""
     words = said.split()
     i, j = flown.names.index(words[3]), flown.names.index(words[4])
     cue = int(words[6]) - 1
-    return with_lines(flown, {**mark_of(flown, deep, i, j, cue, int(words[8])), "named": True})
+    return with_lines(flown, forms, {**mark_of(flown, deep, i, j, cue, int(words[8])), "named": True})
 
 
-def with_lines(flown: choreo.Flown, mark: dict) -> dict:
+def with_lines(flown: choreo.Flown, forms: Forms, mark: Mark) -> Mark:
     """A mark with the lines of both drones."""
-    return {**mark, "lines": lines_of_pair(flown, mark["pair"], flown.cues[mark["cue"]])}
+    return {**mark, "lines": lines_of_pair(flown, forms, mark["pair"], flown.cues[mark["cue"]])}
 
 
-def put_marks(flown: choreo.Flown, deep: int) -> None:
+def put_marks(flown: choreo.Flown, forms: Forms, deep: int) -> None:
     """Writes all blocked places, those first in which two come nearest; the list so far at times while it looks."""
-    marks, many, told = [], 0, time.monotonic()
+    marks: list[Mark] = []
+    many, told = 0, time.monotonic()
     for found in separation.blocked_places(flown, deep):
         many += 1
         if many <= MOST_MEASURED:
             marks.append({**mark_of(flown, deep, *found), "named": many == 1})
         if time.monotonic() - told > MARK_TIME:
-            put_marks_so_far(flown, marks, many, False)
+            put_marks_so_far(flown, forms, marks, many, False)
             told = time.monotonic()
-    put_marks_so_far(flown, marks, many, True)
+    put_marks_so_far(flown, forms, marks, many, True)
 
 
-def put_marks_so_far(flown: choreo.Flown, marks: list, many: int, are_all: bool) -> None:
+def put_marks_so_far(flown: choreo.Flown, forms: Forms, marks: list[Mark], many: int, are_all: bool) -> None:
     """Writes the blocked places that are known."""
-    marks.sort(key=lambda mark: mark["share"])
-    put("marks", marks=[with_lines(flown, mark) for mark in marks[:MOST_MARKS]], many=many, all=are_all)
+    marks.sort(key=lambda mark: float(mark["share"]))
+    put("marks", marks=[with_lines(flown, forms, mark) for mark in marks[:MOST_MARKS]], many=many, all=are_all)
 
 
-def explained(flown: choreo.Flown, text: bytes, program: str, deep: int):
+def explained(flown: choreo.Flown, text: bytes, program: str | None, deep: int) -> dict[str, object] | None:
     """What the program's `explain` says of a show that is refused for nearness: the two whose ellipsoids share a point
     at an instant, with their cue and the instant in milliseconds, which is proved where the program is; or at how many
     instants none do. None where the program can't be asked."""
@@ -179,14 +187,14 @@ def explained(flown: choreo.Flown, text: bytes, program: str, deep: int):
     return {"pair": None, "instants": int(looked[1])} if looked else None
 
 
-def speeds_of(text: bytes, program: str) -> dict:
+def speeds_of(text: bytes, program: str | None) -> dict[str, list[float]]:
     """Bounds on speed by drone, in m/s, by the program's `speed`; none where it isn't there."""
     answer = ask(program, ["speed"], text) if program else None
     rows = [line.split() for line in answer[1].splitlines()] if answer and answer[0] == 0 else []
     return {row[1]: [int(word) / 1e6 for word in row[2:5]] for row in rows if row[:1] == ["speed"]}
 
 
-def motion_of(flown: choreo.Flown, text: bytes, program: str) -> Optional[str]:
+def motion_of(flown: choreo.Flown, text: bytes, program: str | None) -> str | None:
     """What `dynamics` refuses of the show; None where it refuses nothing, or doesn't judge a show that doesn't fit."""
     try:
         return motion(program, flown, text) if program else None
@@ -194,21 +202,21 @@ def motion_of(flown: choreo.Flown, text: bytes, program: str) -> Optional[str]:
         return None
 
 
-def faults_of(flown, text, program):
+def faults_of(flown: choreo.Flown, text: bytes, program: str | None) -> Iterator[dict[str, object]]:
     """What no drone flies, as ./show says it: by line, cue and words, each None where there is none."""
     found = [motion_of(flown, text, program), below(flown), small(flown)]
     for words in filter(None, found):
         where = re.fullmatch(r"line (\d+), (?:cue (\d+)|the end): (.*)", words)
-        line, cue, rest = where.groups() if where else (None, None, words)
+        line, cue, rest = (where[1], where[2], where[3]) if where else (None, None, words)
         yield {"line": line and int(line), "cue": cue and int(cue) - 1, "words": rest.replace("m/s^2", "m/s²")}
 
 
-def notes_of(flown: choreo.Flown, text: bytes, program: str) -> dict:
+def notes_of(flown: choreo.Flown, text: bytes, program: str | None) -> dict[str, object]:
     """Memory, speeds, accelerations, jumps, and what no drone flies."""
     motions, speeds, room = ask_dynamics(text, program or os.devnull), speeds_of(text, program), flown.room()
     drones = []
     for name, data, segments in zip(flown.names, flown.data(), flown.sent):
-        forces, jumps, _ = motions[name] if motions else ([None], [None], [])
+        forces, jumps, _ = motions[name] if motions else ([], [], [])
         drones.append({"name": name, "bytes": len(data), "left": room - len(data), "segments": len(segments),
                        "speed": max(speeds[name]) if name in speeds else None,
                        "force": max(forces) if motions else None,
@@ -218,15 +226,15 @@ def notes_of(flown: choreo.Flown, text: bytes, program: str) -> dict:
             "most": {"force": FASTEST["accel"] / 1000, "jump": FASTEST["jump"] / 1000}}
 
 
-def margin_of(text: bytes, program: str, deep: int, name: str):
+def margin_of(text: bytes, program: str | None, deep: int, name: str) -> Any:
     """The greatest number of a setting with which the show is accepted."""
-    def judge(changed, depth):
+    def judge(changed: bytes, depth: int) -> tuple[int, str]:
         answer = ask(program, ["check", "--depth", str(depth)], changed) if program else None
         return (answer[0], answer[1].strip()) if answer else judged(changed, depth)
     return greatest(deep, MOST + 1, lambda k: with_setting(text, name, k), judge)[0]
 
 
-def put_flight(text, deep, program, answer, path):
+def put_flight(text: bytes, deep: int, program: str | None, answer: list[Any] | None, path: str | None) -> None:
     """Writes all that is known of a text, given what `check` said of it, or null."""
     status, said = answer or judged(text, deep)
     if answer is None:
@@ -234,19 +242,19 @@ def put_flight(text, deep, program, answer, path):
     if status not in (0, 4, 5):
         return
     flown = choreo.flown_of(choreo.parts_of(text)[0])
-    know_forms(flown)
-    first = first_mark(flown, said, deep) if status == 5 else None
+    forms = forms_of(flown)
+    first = first_mark(flown, forms, said, deep) if status == 5 else None
     step = step_of(flown, None, MOST_PLACES)
     rows = rows_of_play(text, program, deep, step) if status == 0 else None
     put("flight", flight=flight_of(flown, text, step, rows, first, regions_of(path) if path else []))
     if status == 5:
         put("explained", touch=explained(flown, text, program, deep))
-    put("lines", **drone_lines(flown))
+    put("lines", **drone_lines(flown, forms))
     put("notes", **notes_of(flown, text, program))
     if path:
         put("regions", line=boxes_said(program, text, path, deep) if program else "")
     if status == 5:
-        put_marks(flown, deep)
+        put_marks(flown, forms, deep)
     if status == 0 and len(flown.names) > 1:
         time.sleep(QUIET)
         for name in ("stray", "late"):
