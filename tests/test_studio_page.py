@@ -125,7 +125,9 @@ class Browser:
 
 
 @unittest.skipUnless(CHROMIUM and DRIVER, "no Chromium with chromedriver")
-class Page(unittest.TestCase):
+class Led(unittest.TestCase):
+    """A page that is led, and what is asked of it; without a test."""
+
     @classmethod
     def setUpClass(cls):
         try:
@@ -177,7 +179,7 @@ class Page(unittest.TestCase):
 
     def text(self):
         """The text of the page."""
-        return self.browser.run("return document.getElementById('text').value")
+        return self.browser.run("return wholeText()")
 
     def at(self):
         """The slider's milliseconds."""
@@ -186,9 +188,8 @@ class Page(unittest.TestCase):
     def put_cursor(self, words):
         """Puts the cursor behind these words, and waits until the page says in which line it is."""
         line = self.browser.run(
-            "const it = document.getElementById('text'), [words] = arguments; it.focus();"
-            "const at = it.value.indexOf(words) + words.length; it.setSelectionRange(at, at);"
-            "return it.value.slice(0, at).split('\\n').length", words)
+            "const [words] = arguments, at = wholeText().indexOf(words) + words.length, line = lineAt(at) + 1;"
+            "showLines(line, line, false); select(at, at); return line", words)
         self.wait(lambda: re.match(r"line %d\b" % line, self.words("where")), "the cursor isn't in line %d" % line)
 
     def press(self, words):
@@ -202,6 +203,9 @@ class Page(unittest.TestCase):
         return self.browser.run("const it = document.getElementById('number'); return it.hidden ? null :"
                                 "[it.firstElementChild.innerText, it.querySelector('input').value, it.lastElementChild.innerText]")
 
+
+
+class Page(Led):
     def test_write_a_show(self):
         """A show is typed, refused, looked at, mended and saved."""
         studio = self.open("choreo 1\n")
