@@ -56,22 +56,32 @@ def depth(word: str) -> int:
     return int(word)
 
 
-def read_file(path: str, most: int = texts.LOG) -> bytes:
-    """The bytes of a file that has at most so many; `-` is standard input."""
+def read_front(path: str, most: int) -> bytes:
+    """The first bytes of a file, to one more than it may have; `-` is standard input."""
     try:
-        return texts.whole_of(path, most)
-    except texts.TooLong as fault:
-        return stop("%s: %s" % (path, fault))
+        return texts.front_of(path, most + 1)
     except (OSError, ValueError) as error:
         return stop("%s: %s" % (path, getattr(error, "strerror", None) or error))
+
+
+def read_file(path: str, most: int = texts.LOG) -> bytes:
+    """The bytes of a file that has at most so many."""
+    data = read_front(path, most)
+    return data if len(data) <= most else stop("%s: more than %d bytes" % (path, most))
 
 
 def read_show(path: str) -> bytes:
     """The bytes of a show's text, to one more than it may have."""
+    return read_front(path, choreo.LONGEST_TEXT)
+
+
+def write_file(path: str, data: bytes) -> None:
+    """Writes a file."""
     try:
-        return texts.front_of(path, choreo.LONGEST_TEXT + 1)
-    except (OSError, ValueError) as error:
-        return stop("%s: %s" % (path, getattr(error, "strerror", None) or error))
+        with open(path, "wb") as file:
+            file.write(data)
+    except OSError as error:
+        stop("%s: %s" % (path, error.strerror))
 
 
 def flown_of(path: str) -> tuple[bytes, Flown]:

@@ -41,14 +41,6 @@ def front_of(path: str, most: int) -> bytes:
         return from_stream(file, most)
 
 
-def whole_of(path: str, most: int) -> bytes:
-    """The bytes of a file that has at most so many; raises TooLong where there are more, and OSError."""
-    data = front_of(path, most + 1)
-    if len(data) > most:
-        raise TooLong("more than %d bytes" % most)
-    return data
-
-
 def is_plain(number: int) -> bool:
     """Whether an open file is one whose bytes stay: it can be read again."""
     return stat.S_ISREG(os.fstat(number).st_mode)

@@ -22,7 +22,6 @@ from typing import Any
 
 from hemtoghai import companion, judging, texts
 from hemtoghai.commands import summary, why
-from hemtoghai.geometry import separation
 from hemtoghai.language import choreo
 from hemtoghai.launching import helping, launcher, words as commands
 from hemtoghai.program import Unusable
@@ -120,10 +119,7 @@ def drone_data(flown: choreo.Flown, drone: int, motions: dict[str, dict[str, Any
 
 def pair_data(flown: choreo.Flown, i: int, j: int) -> dict[str, Any]:
     """Where two drones come nearest."""
-    axes = flown.show.settings["ellipsoid"]
-    share, cue, u = min((near.share, cue, near.at) for cue, near in (
-        (cue, separation.Nearest(separation.difference(flown.by_cue[i][cue][1], flown.by_cue[j][cue][1]), *axes))
-        for cue in range(len(flown.cues))))
+    share, _, _, cue, u = summary.nearest_of(flown, i, j)
     first, second = (companion.place(flown, k, cue, u) for k in (i, j))
     return {"first": flown.names[i], "second": flown.names[j], "share": share, "cue": cue + 1,
             "at_ms": companion.begins(flown)[cue] + flown.cues[cue].milliseconds * u,

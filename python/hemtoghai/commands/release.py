@@ -32,7 +32,7 @@ import tarfile
 from typing import Any, Dict, List, Tuple
 
 from hemtoghai import program
-from hemtoghai.companion import parser, stop
+from hemtoghai.companion import parser, stop, write_file
 from hemtoghai.launching import manual, records, wheels
 from hemtoghai.launching.built import git
 
@@ -173,11 +173,7 @@ def main(words: list[str]) -> int:
     name = "hemtoghai-%s%s-x86_64-linux" % (records.version(), "-changed" if changed else "")
     data = archive(name, contents, links, int(git("log", "-1", "--format=%ct")))
     path = os.path.join(options.out, name + ".tar.gz")
-    try:
-        with open(path, "wb") as file:
-            file.write(data)
-    except OSError as error:
-        stop("%s: %s" % (path, error.strerror))
+    write_file(path, data)
     print_made(path, len(contents) + len(links), data)
     make_wheel(record, contents, changed, options.out)
     print("program sha256 %s\ntoolchain %s\nproof: %s" % (record["sha256"], record["toolchain"], record["rests_on"]))

@@ -9,6 +9,7 @@ set. The status is 0, or that of a faulty show. 70: no answer.
 from __future__ import annotations
 
 from collections.abc import Iterable, Sequence
+from itertools import combinations
 from math import hypot, inf
 
 from hemtoghai.companion import (add_depth, ask_check, ask_dynamics, begins, flown_of, many, missing, Motion,
@@ -84,20 +85,23 @@ def print_cues(flown: Flown) -> None:
             k + 1, seconds(times[k]), seconds(times[k + 1]), cue.number, "; ".join(words) or "all hold"))
 
 
+def nearest_of(flown: Flown, i: int, j: int) -> tuple[float, int, int, int, float]:
+    """Where two drones come nearest, measured by their ellipsoids: their share of the distance at which these touch, the
+    two, the cue and the fraction of it."""
+    (r, h), best = flown.show.settings["ellipsoid"], (inf, i, j, 0, 0.0)
+    for cue in range(len(flown.cues)):
+        first, second = flown.by_cue[i][cue][1], flown.by_cue[j][cue][1]
+        gap = [max(0, min(b) - max(a), min(a) - max(b)) for a, b in zip(first[:3], second[:3])]
+        if hypot(gap[0] / r, gap[1] / r, gap[2] / h) / 2 < best[0]:
+            near = separation.Nearest(separation.difference(first, second), r, h)
+            best = (near.share, i, j, cue, near.at) if near.share < best[0] else best
+    return best
+
+
 def print_nearest(flown: Flown, most: int) -> None:
-    """Prints the pairs that come nearest, measured by their ellipsoids."""
-    r, h = flown.show.settings["ellipsoid"]
-    rows, times = [], begins(flown)
-    for i in range(len(flown.names)):
-        for j in range(i + 1, len(flown.names)):
-            best = inf, i, j, 0, 0.0
-            for cue in range(len(flown.cues)):
-                first, second = flown.by_cue[i][cue][1], flown.by_cue[j][cue][1]
-                gap = [max(0, min(b) - max(a), min(a) - max(b)) for a, b in zip(first[:3], second[:3])]
-                if hypot(gap[0] / r, gap[1] / r, gap[2] / h) / 2 < best[0]:
-                    near = separation.Nearest(separation.difference(first, second), r, h)
-                    best = (near.share, i, j, cue, near.at) if near.share < best[0] else best
-            rows.append(best)
+    """Prints the pairs that come nearest."""
+    times = begins(flown)
+    rows = [nearest_of(flown, i, j) for i, j in combinations(range(len(flown.names)), 2)]
     for share, i, j, cue, u in sorted(rows)[:most]:
         at, other = place(flown, i, cue, u), place(flown, j, cue, u)
         words = "%s and %s: %.0f %% of the distance at which their ellipsoids touch, %.0f mm to the side and %.0f " \

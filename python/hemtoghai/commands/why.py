@@ -11,7 +11,7 @@ from dataclasses import dataclass
 from math import hypot
 
 from hemtoghai.companion import (add_depth, ask_check, begins, cue_words, flown_of, many, missing, parser, place,
-                                 seconds, stop)
+                                 seconds, stop, write_file)
 from hemtoghai.geometry import separation
 from hemtoghai.geometry.causes import cause_of, is_clear, reach_with, ruler_of
 from hemtoghai.language import choreo
@@ -306,11 +306,7 @@ def write_cured(path: str, text: bytes, deep: int) -> None:
         print("the show lasts %s, before %s" % (seconds(after), seconds(before)))
     if left:
         print("nothing that helps could be written for " + left)
-    try:
-        with open(path, "wb") as file:
-            file.write(new)
-    except OSError as error:
-        stop("%s: %s" % (path, error.strerror))
+    write_file(path, new)
     answer = ask_check(new, deep)
     print("%s: %s" % (path, answer[1] if answer else "nothing is blocked" if not left else "still blocked"))
 

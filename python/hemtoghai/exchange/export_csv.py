@@ -16,10 +16,9 @@ from fractions import Fraction
 from math import comb
 
 from hemtoghai.companion import decoded, many, parser, plan_of, stop
+from hemtoghai.geometry.paths import PI
 from hemtoghai.language.choreo import Row, Segment
 
-# A radian's tenths of a degree: pi to forty places.
-PI = Fraction(31415926535897932384626433832795028841972, 10 ** 40)
 # A segment is uploaded as 132 bytes, its duration and 32 coefficients as floats, into 4,096 bytes.
 MOST_PIECES = 31
 SCALES = [Fraction(1, 1000)] * 3 + [PI / 1800]

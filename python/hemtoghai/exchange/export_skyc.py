@@ -22,7 +22,7 @@ from fractions import Fraction
 from typing import Any, List
 
 from hemtoghai import program, texts
-from hemtoghai.companion import decoded, many, parser, plan_in, read_file, stop, value
+from hemtoghai.companion import decoded, many, parser, plan_in, read_file, stop, value, write_file
 from hemtoghai.geometry import paths
 from hemtoghai.language.choreo import Segment
 
@@ -141,11 +141,7 @@ def main(words: list[str]) -> int:
     packed = io.BytesIO()
     with zipfile.ZipFile(packed, "w") as archive:
         archive.writestr(zipfile.ZipInfo("show.json"), json.dumps(show), zipfile.ZIP_DEFLATED)
-    try:
-        with open(options.out, "wb") as file:
-            file.write(packed.getvalue())
-    except OSError as error:
-        stop("%s: %s" % (options.out, error.strerror))
+    write_file(options.out, packed.getvalue())
     print("%s: %s, %s; at any instant at most %.3f mm and %.2f degrees from the plan" % (
         options.out, many(len(drones), "drone"), many(count, "piece"), paths.root_up(worst, 1000),
         paths.root_up(turned / 100)))

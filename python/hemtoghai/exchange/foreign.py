@@ -9,7 +9,6 @@ import bisect
 import csv
 import io
 import json
-import os
 import posixpath
 import re
 import struct
@@ -20,10 +19,9 @@ from fractions import Fraction
 from math import comb
 from typing import List, Tuple, Type, TypeVar
 
-from hemtoghai import texts
-from hemtoghai.companion import stop
+from hemtoghai.companion import read_front
 from hemtoghai.geometry import paths
-from hemtoghai.geometry.paths import part, Path
+from hemtoghai.geometry.paths import part, Path, PI
 
 Kind = TypeVar("Kind")
 Row = List[Fraction]  # numbers of a line, control values, or a place
@@ -39,8 +37,6 @@ JUMP = 100000  # micrometres that a path may jump on an axis: the polynomials of
 LONGEST = 36000000  # milliseconds of a show
 SHORTEST = Fraction(1, 1000)  # milliseconds of a piece
 FARTHEST, TURNED = 32767000, 32767  # micrometres and tenths of a degree that a trajectory's numbers hold
-# A radian's tenths of a degree: pi to forty places.
-PI = Fraction(31415926535897932384626433832795028841972, 10 ** 40)
 
 
 class Unreadable(Exception):
@@ -300,12 +296,10 @@ def with_yaw(pieces: list[Piece], setpoints: list[tuple[Fraction, Fraction]]) ->
 
 def limited(path: str) -> bytes:
     """The bytes of a file, if they aren't too many."""
-    try:
-        return texts.whole_of(path, LARGEST)
-    except texts.TooLong as fault:
-        raise Unreadable(str(fault))
-    except (OSError, ValueError) as error:
-        return stop("%s: %s" % (path, getattr(error, "strerror", None) or error))
+    data = read_front(path, LARGEST)
+    if len(data) > LARGEST:
+        raise Unreadable("more than %d bytes" % LARGEST)
+    return data
 
 
 def separator_of(text: str) -> str:

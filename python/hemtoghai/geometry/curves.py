@@ -57,14 +57,15 @@ class Curve:
         return best
 
 
-def greatest_jump(segments: Sequence[Segment]) -> tuple[float, float]:
-    """A drone's greatest jump of speed in metres a second, and when it is in seconds; before and after it rests."""
-    last, t, best = [0.0] * 3, 0, (0.0, 0.0)
-    for milliseconds, elements in segments:
-        first, end = ([(len(row) - 1) * (row[k + 1] - row[k]) / milliseconds if len(row) > 1 else 0.0
-                       for row in elements[:3]] for k in (0, -2))
-        best, last, t = max(best, (dist(first, last), t / 1000)), end, t + milliseconds
-    return max(best, (dist(last, [0.0] * 3), t / 1000))
+def halves(row: Sequence[int]) -> tuple[list[int], list[int]]:
+    """The control values of both halves of a curve, each times 2 to its degree: whole numbers stay whole."""
+    left: list[int] = []
+    right: list[int] = []
+    for k in reversed(range(len(row))):
+        left.append(row[0] << k)
+        right.append(row[-1] << k)
+        row = [a + b for a, b in zip(row, row[1:])]
+    return left, right[::-1]
 
 
 def powers(row: Sequence[float]) -> list[float]:

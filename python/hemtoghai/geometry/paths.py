@@ -6,17 +6,19 @@ said of it; `in_doubles` gives the same path in doubles, for a search whose find
 from __future__ import annotations
 
 import bisect
-from collections.abc import Callable, Iterator, Sequence
+from collections.abc import Callable, Iterator
 from fractions import Fraction
 from math import ceil, isqrt, lcm
 from typing import Generic, List, Tuple
 
 from hemtoghai.companion import Number, value
+from hemtoghai.geometry.curves import halves
 
 Row = List[Number]  # the control values of a curve on an axis
 Piece = Tuple[Number, Number, List[Row[Number]]]  # its begin, its end, and its rows on x, y, z and yaw
 Farthest = Callable[[List[Row[Number]], int, Number], Number]  # as `farthest`
 MANY, SAMPLE = 20, 250  # from so many lines on of at most so many milliseconds each they are samples
+PI = Fraction(31415926535897932384626433832795028841972, 10 ** 40)  # to forty places
 FINE = 1024  # fractions are judged in whole numbers of a 1,024th of their common denominator
 
 
@@ -77,16 +79,6 @@ def raised(row: Row[Number], degree: int) -> Row[Number]:
         n = len(row)
         row = [row[0]] + [(k * row[k - 1] + (n - k) * row[k]) / n for k in range(1, n)] + [row[-1]]
     return row
-
-
-def halves(row: Sequence[int]) -> tuple[list[int], list[int]]:
-    """The control values of both halves of a curve, each times 2 to its degree: whole numbers stay whole."""
-    left, right, n = [], [], len(row) - 1
-    for k in range(n + 1):
-        left.append(row[0] << (n - k))
-        right.append(row[-1] << (n - k))
-        row = [a + b for a, b in zip(row, row[1:])]
-    return left, right[::-1]
 
 
 def farthest(rows: list[Row[Fraction]], splits: int, enough: Fraction) -> Fraction:

@@ -12,6 +12,7 @@ from itertools import combinations
 from math import comb, gcd, isqrt, lcm
 from typing import List, Optional, Tuple
 
+from hemtoghai.geometry.curves import halves
 from hemtoghai.language.choreo import Flown, flown_of, judge_room, LONGEST_CERTIFICATE, Refused, Row
 
 Direction = Tuple[int, int, int]
@@ -45,18 +46,6 @@ def raised(b: Row) -> Row:
 def difference(first: list[Row], second: list[Row]) -> Part:
     """Where the second drone is from the first in a cue: on x, y and z eight control values, times 5,040."""
     return [[v - u for u, v in zip(raised(a), raised(b))] for a, b in zip(first[:3], second[:3])]
-
-
-def halves(b: Row) -> tuple[Row, Row]:
-    """Both halves of a curve with eight control values, each times 2^7."""
-    row = list(b)
-    left: Row = []
-    right: Row = []
-    for k in range(8):
-        left.append(row[0] << (7 - k))
-        right.append(row[-1] << (7 - k))
-        row = [u + v for u, v in zip(row, row[1:])]
-    return left, right[::-1]
 
 
 def cut(part: Part) -> tuple[Part, Part]:
@@ -326,14 +315,7 @@ class Nearest:
             # What is least in this part is at least its least control value, and this part has the least of all.
             if depth == 24 or min(curve) * 4097 << (14 * self.depth) >= self.squared * 4096 << (14 * depth):
                 break
-            row = curve
-            left: Row = []
-            right: Row = []
-            for k in range(15):
-                left.append(row[0] << (14 - k))
-                right.append(row[-1] << (14 - k))
-                row = [u + v for u, v in zip(row, row[1:])]
-            for half, at in ((left, 2 * index), (right[::-1], 2 * index + 1)):
+            for at, half in enumerate(halves(curve), 2 * index):
                 heapq.heappush(heap, (min(half) / 2 ** (14 * (depth + 1)), depth + 1, at, half))
         self.needed = needed << (14 * self.depth)
         self.at = self.index / 2 ** self.depth

@@ -4,7 +4,7 @@ from __future__ import annotations
 
 from collections.abc import Callable, Iterator, Sequence
 from dataclasses import dataclass
-from typing import List, Tuple
+from typing import List
 
 from hemtoghai.language import choreo
 from hemtoghai.language.lines import line_in
