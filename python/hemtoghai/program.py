@@ -21,6 +21,7 @@ TOP = PACKAGE if IS_INSTALLED else os.path.dirname(os.path.dirname(PACKAGE))
 NAME = "hemtoghai" if IS_INSTALLED else "show"  # of the command, in its messages
 COMMAND = "hemtoghai" if IS_INSTALLED else "./show"  # as somebody types it
 PROGRAM = os.path.join(TOP, "crates", "show_cli", "out", "show_cli")
+UNPROVED = PROGRAM + ".unproved"  # the program as --unproved built it
 RECORD = ".built"  # stands after a program's name: what is known of its build, and the stamp of its sources
 MANIFEST = os.path.join(TOP, "MANIFEST.json")  # the same, where this is a release: then nothing is built
 MOST_BYTES = 1 << 28  # of a program, 256 MiB

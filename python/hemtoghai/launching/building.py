@@ -13,13 +13,12 @@ import sys
 import tempfile
 import time
 from collections.abc import Callable, Iterable
-from typing import Any, Dict, IO, List, NoReturn
+from typing import Any, Dict, IO, List
 
-from hemtoghai.launching.records import (CRATES, crates_below, is_current, LAST, sha256, sources, stamp, UNPROVED,
-                                         write_record)
+from hemtoghai.launching.launcher import say, stop
+from hemtoghai.launching.records import CRATES, crates_below, is_current, LAST, sha256, sources, stamp, write_record
 from hemtoghai.launching.running import end_if_told, joined, Noted
-from hemtoghai.program import PROGRAM, RECORD, TOP
-from hemtoghai.streams import NO_ANSWER, tell
+from hemtoghai.program import PROGRAM, RECORD, TOP, UNPROVED
 from hemtoghai.texts import CERTIFICATE, SHOW
 
 LIBRARY = os.path.join("out", "rlib")  # what rt makes of a proved crate
@@ -29,22 +28,11 @@ USAGE = ["no", "such", "command"], b"error 2 usage\n"  # words that every build 
 Crates = Dict[str, List[str]]  # each with the ones right below it
 
 
-def say(text: str) -> None:
-    """Says a line of the launcher's own."""
-    tell("show", text)
-
-
 def complain(text: str) -> None:
     """Hands on what another program said of a failure."""
     with contextlib.suppress(OSError):
         sys.stderr.write(text)
         sys.stderr.flush()
-
-
-def stop(text: str) -> NoReturn:
-    """Ends the launcher without an answer of the program."""
-    say(text)
-    sys.exit(NO_ANSWER)
 
 
 # ---- other programs

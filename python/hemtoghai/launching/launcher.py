@@ -32,11 +32,6 @@ def stop(text: str) -> NoReturn:
 
 # ---- which program runs
 
-def unproved_path() -> str:
-    """Where the program is that --unproved built."""
-    return program.PROGRAM + ".unproved"
-
-
 def file_of_release() -> str:
     """The file that runs in a release: the program of its manifest, and no other."""
     from hemtoghai import machine
@@ -79,7 +74,7 @@ def file_for(unproved: bool) -> str | None:
         return file_of_release()
     if unproved:
         say("nothing is proved in this run")
-        return file_if_current(unproved_path())
+        return file_if_current(program.UNPROVED)
     found = file_if_current(program.PROGRAM)
     if found is None:
         from hemtoghai.launching import building
@@ -134,7 +129,7 @@ def answer(found: str | None, words: list[str], files: list[str]) -> int:
     if found is None:
         from hemtoghai.launching import building
         status = building.try_sources(words, number, files)
-        found = file_if_current(unproved_path())
+        found = file_if_current(program.UNPROVED)
     elif number is None:
         status = running.fed(found, words, running.joined(files))
     else:

@@ -18,7 +18,6 @@ from hemtoghai.program import MANIFEST, PROGRAM, RECORD, TOP
 
 CRATES = os.path.join(TOP, "crates")
 LAST = "show_cli"
-UNPROVED = PROGRAM + ".unproved"  # the program as --unproved built it
 VERSION = os.path.join(TOP, "VERSION")
 LEFT_OUT = "out", "must-fail"
 
