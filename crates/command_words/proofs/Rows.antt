@@ -1,6 +1,6 @@
 -- Words and what they are.
 use Rattle.std.proofs.Common.{◌≡◌, [], ◌∷◌, Some, None, true, false, refl}
-use Rattle.std.specs.Prelude.{codes, pos}
+use Rattle.std.specs.Prelude.{codes}
 use Rattle.command_words.specs.declared.command.Command.TheVariants.{Version, Play, Rehearse, Upload, Direct, Drill, Boxes, Speed, Explain, Dynamics}
 use Rattle.command_words.specs.Commands.{command_of}
 unfoldable use Rattle.command_words.specs.Commands.{value_of}
@@ -39,9 +39,9 @@ record WordRows : Type 0 where
   bounded_twice : command_of (codes "dynamics" ∷ codes "--accel" ∷ codes "1" ∷ codes "--accel" ∷ codes "1" ∷ []) ≡ None
   bound_of_another : command_of (codes "speed" ∷ codes "--jump" ∷ codes "300" ∷ []) ≡ None
   dynamics_limited : command_of (codes "dynamics" ∷ codes "--limit" ∷ codes "5" ∷ []) ≡ None
-  flown : command_of (codes "direct" ∷ []) ≡ Some (Direct 6 80 80 1000 (pos 0) 4000 true)
-  flown_on : command_of (codes "direct" ∷ codes "--then" ∷ codes "fly" ∷ codes "--near" ∷ codes "120" ∷ codes "--floor" ∷ codes "40" ∷ []) ≡ Some (Direct 6 120 80 1000 (pos 40) 4000 false)
-  flown_all : command_of (codes "direct" ∷ codes "--descent" ∷ codes "60000" ∷ codes "--at" ∷ codes "32767" ∷ codes "--silence" ∷ codes "1" ∷ codes "--depth" ∷ codes "8" ∷ codes "--then" ∷ codes "land" ∷ []) ≡ Some (Direct 8 80 32767 1 (pos 0) 60000 true)
+  flown : command_of (codes "direct" ∷ []) ≡ Some (Direct 6 80 80 1000 0 4000 true)
+  flown_on : command_of (codes "direct" ∷ codes "--then" ∷ codes "fly" ∷ codes "--near" ∷ codes "120" ∷ codes "--floor" ∷ codes "40" ∷ []) ≡ Some (Direct 6 120 80 1000 40 4000 false)
+  flown_all : command_of (codes "direct" ∷ codes "--descent" ∷ codes "60000" ∷ codes "--at" ∷ codes "32767" ∷ codes "--silence" ∷ codes "1" ∷ codes "--depth" ∷ codes "8" ∷ codes "--then" ∷ codes "land" ∷ []) ≡ Some (Direct 8 80 32767 1 0 60000 true)
   flown_how : command_of (codes "direct" ∷ codes "--then" ∷ codes "stop" ∷ []) ≡ None
   never_silent : command_of (codes "direct" ∷ codes "--silence" ∷ codes "0" ∷ []) ≡ None
   too_high : command_of (codes "direct" ∷ codes "--floor" ∷ codes "32768" ∷ []) ≡ None

@@ -1,5 +1,5 @@
 -- The words of the command line, and what they ask for (docs/COMMANDS.md, "Options").
-use Rattle.std.specs.Prelude.{◌≡◌, ◌↔◌, ℕ, ◌≤◌, ℤ, pos, replicate, Bool, ◌&&◌, not, List, [], ◌∷◌, ◌++◌, length, find, is_some, nat_le, bytes_eq, codes, slice_index_or, slice_set, Option, Some, None, IfSome, unwrap_or, if◌then◌else◌, ◌==◌}
+use Rattle.std.specs.Prelude.{◌≡◌, ◌↔◌, ℕ, ◌≤◌, replicate, Bool, ◌&&◌, not, List, [], ◌∷◌, ◌++◌, length, find, is_some, nat_le, bytes_eq, codes, slice_index_or, slice_set, Option, Some, None, IfSome, unwrap_or, if◌then◌else◌, ◌==◌}
 use Rattle.std.specs.Option.{option_map, option_and_then}
 use Rattle.std.specs.List.{list_any}
 use Rattle.fleet_math.specs.Limits.{most_depth, most_drones, most_fine}
@@ -220,8 +220,8 @@ at_in o = unwrap_or (given_in o At) default_near
 abbrev pub silence_in : Options → ℕ
 silence_in o = unwrap_or (given_in o Silence) default_silence
 
-abbrev pub floor_in : Options → ℤ
-floor_in o = pos (unwrap_or (given_in o Floor) 0)
+abbrev pub floor_in : Options → ℕ
+floor_in o = unwrap_or (given_in o Floor) 0
 
 abbrev pub descent_in : Options → ℕ
 descent_in o = unwrap_or (given_in o Descent) default_descent
@@ -312,7 +312,7 @@ IsCommand (Report depth) = Unit {0}
 IsCommand Verify = Unit {0}
 IsCommand (Rehearse depth start readback) = Unit {0}
 IsCommand (Upload depth start readback) = Unit {0}
-IsCommand (Direct depth near at_place silence floor descent then_land) = Unit {0}
+IsCommand (Direct depth near at_place silence floor descent then_land) = floor ≤ most_floor
 IsCommand (Drill drones depth) = (1 ≤ drones) × (drones ≤ most_drones)
 IsCommand (Boxes depth) = Unit {0}
 IsCommand (Speed depth limit) = IfSome limit (λ v. (1 ≤ v) × (v ≤ most_limit))

@@ -50,16 +50,16 @@ pub enum Command {
         start: bool,
         readback: bool,
     },
-    /// A flight of three shows, the way up, the show and the way down, through frames. `near` and `at_place` say how near
-    /// a drone has to be to its pad and to its position in the air, in millimetres. After `silence` milliseconds a drone
-    /// is silent. All land at the height `floor`, in `descent` milliseconds; where a drone is lost or astray in the show
-    /// only with `then_land`.
+    /// A flight of three shows, the way up, the show and the way down, through frames. `near` and `at_place` say how
+    /// near a drone has to be to its pad and to its position in the air, in millimetres. After `silence` milliseconds
+    /// a drone is silent. All land at the height `floor`, 0 to 32,767, in `descent` milliseconds; where a drone is lost
+    /// or astray in the show only with `then_land`.
     Direct {
         depth: Depth,
         near: u16,
         at_place: u16,
         silence: u32,
-        floor: i16,
+        floor: u16,
         descent: u32,
         then_land: bool,
     },

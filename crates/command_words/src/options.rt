@@ -355,11 +355,12 @@ impl Options {
     }
 
     /// The height of the floor, in millimetres; 0 where it isn't given.
-    pub fn floor(self) -> i16
+    pub fn floor(self) -> u16
         requires { AreInRange self }
-        ensures { result ≡ floor_in self }
+        ensures value { result ≡ floor_in self }
+        ensures to { result ≤ 32767 }
     {
-        self.given(OptionName::Floor).unwrap_or(0) as i16
+        self.given(OptionName::Floor).unwrap_or(0) as u16
     }
 
     /// How long a landing takes, in milliseconds; 4,000 where it isn't given.

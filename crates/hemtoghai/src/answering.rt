@@ -36,7 +36,7 @@ pub fn answer_of(alloc: Global, words: &Vec<String>, input: &[u8]) -> Result<Ans
     ensures read { IfOk result (λ a. a.status ≢ 6) }
     ensures write { IfOk result (λ a. a.status ≢ 7) }
     ensures given { IfOk result (λ a. a.status ≢ 17) }
-    ensures known { IfOk result (λ a. a.status ≤ 18) }
+    ensures known { IfOk result (λ a. a.status ≤ 20) }
 {
     let mut source = SliceSource::make(input);
     let mut sink = WholeSink::make(alloc);

@@ -98,9 +98,9 @@ pub extern "C" fn hemtoghai_run(
     // 1 is out of memory, and 17 where a word isn't UTF-8; then nothing is answered.
     ensures memory { result ≡ 1 → (size.new ≡ 0) × (output.new ≡ output.old) }
     ensures no_words { result ≡ 17 → (All IsUtf8 (words_in words.now) → ⊥) × (size.new ≡ 0) × (output.new ≡ output.old) }
-    // No read fails, and there is no status above 18.
+    // No read fails, and there is no status above 20.
     ensures read { result ≢ 6 }
-    ensures known { result ≤ 18 }
+    ensures known { result ≤ 20 }
 {
     *size = 0;
     let list = match words_of(alloc, words) {

@@ -30,6 +30,8 @@ fn main(rt: HostRuntime) -> ExitCode {
 }
 
 #[cfg(test)]
+mod direct_tests;
+#[cfg(test)]
 mod failing_tests;
 #[cfg(test)]
 mod readback_tests;

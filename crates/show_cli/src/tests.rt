@@ -109,7 +109,9 @@ pub fn is_met(
 
 pub const HELP: &[u8] = b"help\ncheck [--depth D]\ncompile [--depth D]\ncertify [--depth D]\n\
 play [--depth D] [--step MS]\nreport [--depth D]\nverify\nrehearse [--depth D] [--start] [--readback]\n\
-upload [--depth D] [--start] [--readback]\ndrill N [--depth D]\n\
+upload [--depth D] [--start] [--readback]\n\
+direct [--depth D] [--near MM] [--at MM] [--silence MS] [--floor MM] [--descent MS] [--then land|fly]\n\
+drill N [--depth D]\n\
 boxes [--depth D]\nspeed [--depth D] [--limit V]\nexplain [--depth D] [--fine E]\n\
 dynamics [--depth D] [--accel A] [--jump J]\nversion\n";
 

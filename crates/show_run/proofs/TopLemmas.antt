@@ -1,12 +1,14 @@
 -- A run of the program, from that of its command.
-use Rattle.std.proofs.Common.{◌≡◌, ◌⊎◌, inl, inr, ℕ, ◌≤◌, Contains, Option, Some, None, refl, subst, arith}
+use Rattle.std.proofs.Common.{◌≡◌, ◌⊎◌, inl, inr, ℕ, ◌≤◌, Bool, Contains, Option, Some, None, ap, refl, subst, arith}
 use Rattle.std.proofs.lemmas.List.Elements.{All-contains, All-from_recursion}
 use Rattle.fleet_io.specs.Causes.{Rose}
 use Rattle.command_words.specs.declared.command.Command.{Command}
+use Rattle.command_words.specs.declared.command.Command.TheVariants.{Direct}
+use Rattle.show_direct.specs.declared.options.Options.{Options}
 use Rattle.show_judge.specs.Runs.{Behaves, Does}
 use Rattle.show_judge.specs.Verb.{Run, Span}
 use Rattle.show_judge.proofs.RunLemmas.{statuses}
-use Rattle.show_run.specs.Verbs.{verb_of}
+use Rattle.show_run.specs.Verbs.{options_of, verb_of}
 
 -- a count that never rises doesn't rise
 pub never_rose : Rose 0 0 → ⊥
@@ -30,20 +32,20 @@ pub never_seven : (words : Option Command) (r : Run) (status : ℕ) → (words �
 never_seven None r status usage runs quiet seven = quiet (usage refl seven)
 never_seven (Some c) r status usage runs quiet seven = quiet ((runs c refl).runs.seven seven).0
 
--- no status is above 18
-pub known_small : (n : ℕ) → Contains statuses n → n ≤ 18
-known_small n among = All-contains (λ (k : ℕ). k ≤ 18) statuses n (All-from_recursion (λ (k : ℕ). k ≤ 18) statuses
-    (omega arith, (omega arith, (omega arith, (omega arith, (omega arith, (omega arith, (omega arith, (omega arith, (omega arith, (omega arith, (omega arith, (omega arith, (omega arith, (omega arith, (omega arith, (omega arith, (omega arith, tt)))))))))))))))))) among
+-- no status is above 20
+pub known_small : (n : ℕ) → Contains statuses n → n ≤ 20
+known_small n among = All-contains (λ (k : ℕ). k ≤ 20) statuses n (All-from_recursion (λ (k : ℕ). k ≤ 20) statuses
+    (omega arith, (omega arith, (omega arith, (omega arith, (omega arith, (omega arith, (omega arith, (omega arith, (omega arith, (omega arith, (omega arith, (omega arith, (omega arith, (omega arith, (omega arith, (omega arith, (omega arith, (omega arith, (omega arith, tt)))))))))))))))))))) among
 
 -- no status of a command is 2
 pub never_two : (n : ℕ) → Contains statuses n → n ≡ 2 → ⊥
 never_two n among = All-contains (λ (k : ℕ). k ≡ 2 → ⊥) statuses n (All-from_recursion (λ (k : ℕ). k ≡ 2 → ⊥) statuses
-    ((λ e. omega (arith, e)), ((λ e. omega (arith, e)), ((λ e. omega (arith, e)), ((λ e. omega (arith, e)), ((λ e. omega (arith, e)), ((λ e. omega (arith, e)), ((λ e. omega (arith, e)), ((λ e. omega (arith, e)), ((λ e. omega (arith, e)), ((λ e. omega (arith, e)), ((λ e. omega (arith, e)), ((λ e. omega (arith, e)), ((λ e. omega (arith, e)), ((λ e. omega (arith, e)), ((λ e. omega (arith, e)), ((λ e. omega (arith, e)), ((λ e. omega (arith, e)), tt)))))))))))))))))) among
+    ((λ e. omega (arith, e)), ((λ e. omega (arith, e)), ((λ e. omega (arith, e)), ((λ e. omega (arith, e)), ((λ e. omega (arith, e)), ((λ e. omega (arith, e)), ((λ e. omega (arith, e)), ((λ e. omega (arith, e)), ((λ e. omega (arith, e)), ((λ e. omega (arith, e)), ((λ e. omega (arith, e)), ((λ e. omega (arith, e)), ((λ e. omega (arith, e)), ((λ e. omega (arith, e)), ((λ e. omega (arith, e)), ((λ e. omega (arith, e)), ((λ e. omega (arith, e)), ((λ e. omega (arith, e)), ((λ e. omega (arith, e)), tt)))))))))))))))))))) among
 
 -- and none is 17
 pub never_seventeen : (n : ℕ) → Contains statuses n → n ≡ 17 → ⊥
 never_seventeen n among = All-contains (λ (k : ℕ). k ≡ 17 → ⊥) statuses n (All-from_recursion (λ (k : ℕ). k ≡ 17 → ⊥) statuses
-    ((λ e. omega (arith, e)), ((λ e. omega (arith, e)), ((λ e. omega (arith, e)), ((λ e. omega (arith, e)), ((λ e. omega (arith, e)), ((λ e. omega (arith, e)), ((λ e. omega (arith, e)), ((λ e. omega (arith, e)), ((λ e. omega (arith, e)), ((λ e. omega (arith, e)), ((λ e. omega (arith, e)), ((λ e. omega (arith, e)), ((λ e. omega (arith, e)), ((λ e. omega (arith, e)), ((λ e. omega (arith, e)), ((λ e. omega (arith, e)), ((λ e. omega (arith, e)), tt)))))))))))))))))) among
+    ((λ e. omega (arith, e)), ((λ e. omega (arith, e)), ((λ e. omega (arith, e)), ((λ e. omega (arith, e)), ((λ e. omega (arith, e)), ((λ e. omega (arith, e)), ((λ e. omega (arith, e)), ((λ e. omega (arith, e)), ((λ e. omega (arith, e)), ((λ e. omega (arith, e)), ((λ e. omega (arith, e)), ((λ e. omega (arith, e)), ((λ e. omega (arith, e)), ((λ e. omega (arith, e)), ((λ e. omega (arith, e)), ((λ e. omega (arith, e)), ((λ e. omega (arith, e)), ((λ e. omega (arith, e)), ((λ e. omega (arith, e)), tt)))))))))))))))))))) among
 
 -- a run of a command is one of the same command by another name
 pub behaves_as : (c d : Command) (r : Run) (status : ℕ) → c ≡ d → Behaves (verb_of c) r status → Behaves (verb_of d) r status
@@ -51,6 +53,16 @@ behaves_as c d r status same behaves = subst (λ (e : Command). Behaves (verb_of
 
 pub does_as : (c d : Command) (m : Span) (status : ℕ) → c ≡ d → Does (verb_of c) m status → Does (verb_of d) m status
 does_as c d m status same does = subst (λ (e : Command). Does (verb_of e) m status) same does
+
+-- what a flight is allowed by its command; of another command nothing
+abbrev pub options_in : Command → Options → Options
+options_in (Direct depth near at_place silence floor descent then_land) o = options_of depth near at_place silence floor descent then_land
+options_in c o = o
+
+-- what holds of a flight by its command holds of it by its numbers
+pub flight_as : (P : Options → Type 0) (c : Command) (o : Options) (depth near at_place silence floor descent : ℕ) (then_land : Bool) → c ≡ Direct depth near at_place silence floor descent then_land → P (options_in c o) →
+    P (options_of depth near at_place silence floor descent then_land)
+flight_as P c o depth near at_place silence floor descent then_land same holds = subst P (ap (λ (d : Command). options_in d o) same) holds
 
 -- words are one command
 pub one_command : (words : Option Command) (c d : Command) → words ≡ Some c → words ≡ Some d → c ≡ d

@@ -1,9 +1,10 @@
 -- Each command keeps the laws of a command, and what status 0 of it says.
 use Rattle.command_words.specs.Commands.{help_text}
 use Rattle.command_words.specs.declared.command.Command.{Command}
-use Rattle.command_words.specs.declared.command.Command.TheVariants.{Help, Version, Check, Compile, Certify, Play, Report, Verify, Rehearse, Upload, Drill, Boxes, Speed, Explain, Dynamics}
+use Rattle.command_words.specs.declared.command.Command.TheVariants.{Help, Version, Check, Compile, Certify, Play, Report, Verify, Rehearse, Upload, Direct, Drill, Boxes, Speed, Explain, Dynamics}
 use Rattle.drill_show.specs.Drill.{drill_text}
 use Rattle.report_text.specs.Report.{report_text}
+use Rattle.show_direct.specs.Direct.{DirectLaw}
 use Rattle.show_judge.specs.Outcome.{IsVerb}
 use Rattle.show_judge.proofs.DriverLemmas.{show_verb}
 use Rattle.show_judge.proofs.UnreadLemmas.{nothing_verb, own_verb}
@@ -19,21 +20,22 @@ use Rattle.show_studies.proofs.StudyLaws.{dynamics_laws, explain_laws, speed_law
 use Rattle.show_uploads.specs.Rehearse.{RehearseLaw}
 use Rattle.show_uploads.specs.Upload.{UploadingLaw}
 use Rattle.show_verify.specs.Verify.{VerifyLaw}
-use Rattle.show_run.specs.Verbs.{verb_of}
+use Rattle.show_run.specs.Verbs.{options_of, verb_of}
 
-pub laws : VerifyLaw → RehearseLaw → UploadingLaw → BoxesLaw → (c : Command) → IsVerb (verb_of c)
-laws verify rehearse uploading boxes Help = nothing_verb help_text
-laws verify rehearse uploading boxes Version = nothing_verb version_line
-laws verify rehearse uploading boxes (Check depth) = show_verb depth check_text
-laws verify rehearse uploading boxes (Compile depth) = show_verb depth plan_of
-laws verify rehearse uploading boxes (Certify depth) = certify_laws depth
-laws verify rehearse uploading boxes (Play depth step) = show_verb depth (rows step)
-laws verify rehearse uploading boxes (Report depth) = show_verb depth (λ s. report_text (report_of s depth))
-laws verify rehearse uploading boxes Verify = verify
-laws verify rehearse uploading boxes (Rehearse depth start readback) = rehearse depth start readback
-laws verify rehearse uploading boxes (Upload depth start readback) = uploading depth start readback
-laws verify rehearse uploading boxes (Drill drones depth) = own_verb depth (drill_text drones) (λ s. drill_of (report_of s depth))
-laws verify rehearse uploading boxes (Boxes depth) = boxes depth
-laws verify rehearse uploading boxes (Speed depth limit) = speed_laws depth limit
-laws verify rehearse uploading boxes (Explain depth fine) = explain_laws depth fine
-laws verify rehearse uploading boxes (Dynamics depth accel jump) = dynamics_laws depth accel jump
+pub laws : VerifyLaw → RehearseLaw → UploadingLaw → DirectLaw → BoxesLaw → (c : Command) → IsVerb (verb_of c)
+laws verify rehearse uploading direct boxes Help = nothing_verb help_text
+laws verify rehearse uploading direct boxes Version = nothing_verb version_line
+laws verify rehearse uploading direct boxes (Check depth) = show_verb depth check_text
+laws verify rehearse uploading direct boxes (Compile depth) = show_verb depth plan_of
+laws verify rehearse uploading direct boxes (Certify depth) = certify_laws depth
+laws verify rehearse uploading direct boxes (Play depth step) = show_verb depth (rows step)
+laws verify rehearse uploading direct boxes (Report depth) = show_verb depth (λ s. report_text (report_of s depth))
+laws verify rehearse uploading direct boxes Verify = verify
+laws verify rehearse uploading direct boxes (Rehearse depth start readback) = rehearse depth start readback
+laws verify rehearse uploading direct boxes (Upload depth start readback) = uploading depth start readback
+laws verify rehearse uploading direct boxes (Direct depth near at_place silence floor descent then_land) = direct.up (options_of depth near at_place silence floor descent then_land)
+laws verify rehearse uploading direct boxes (Drill drones depth) = own_verb depth (drill_text drones) (λ s. drill_of (report_of s depth))
+laws verify rehearse uploading direct boxes (Boxes depth) = boxes depth
+laws verify rehearse uploading direct boxes (Speed depth limit) = speed_laws depth limit
+laws verify rehearse uploading direct boxes (Explain depth fine) = explain_laws depth fine
+laws verify rehearse uploading direct boxes (Dynamics depth accel jump) = dynamics_laws depth accel jump

@@ -18,19 +18,46 @@ ghost use Rattle.show_studies.specs.Boxes.{StaysInRegions};
 ghost use Rattle.show_studies.specs.Dynamics.{KeepsDynamics};
 ghost use Rattle.show_studies.specs.Explained.{TellsTouches};
 ghost use Rattle.show_studies.specs.Speeds.{KeepsSpeeds};
+ghost use Rattle.show_direct.specs.Direct.{FliesWhole, FlyAsOne, HasBegun as FlightBegun};
 ghost use Rattle.show_uploads.specs.Upload.{HasBegun};
-ghost use Rattle.show_run.specs.Verbs.{IsCalled, command_in, judges_apart, verb_of};
+ghost use Rattle.show_run.specs.Verbs.{IsCalled, command_in, judges_apart, options_of, verb_of};
 
 use choreo_reader::show_law;
 use command_words::{Command, command_of, help_text};
 use fleet_io::{Sink, Source, SureSink, SureSource};
+use fleet_math::Depth;
 use refusals::Refusal;
+use show_direct::{Options, direct, direct_law};
 use show_judge::refuse;
 use show_looks::{certify, check, compile, drill, help, play, report, version};
 use show_studies::{boxes, boxes_law, dynamics, explain, speed};
 use show_uploads::{rehearse, rehearse_law, upload, uploading_law};
 use show_verify::{verify, verify_law};
 use std::alloc::Global;
+
+// What a flight is allowed.
+fn options_of(
+    depth: Depth,
+    near: u16,
+    at_place: u16,
+    silence: u32,
+    floor: u16,
+    descent: u32,
+    then_land: bool,
+) -> Options
+    requires { floor ≤ 32767 }
+    ensures { result ≡ options_of depth near at_place silence floor descent then_land }
+{
+    Options {
+        near,
+        at_place,
+        silence,
+        floor: floor as i16,
+        descent,
+        then_land,
+        depth,
+    }
+}
 
 // Runs a command, each by its function.
 fn run_command<S: Source, K: Sink>(
@@ -42,6 +69,8 @@ fn run_command<S: Source, K: Sink>(
     requires { IsCommand command }
     ensures behaves { Does (verb_of command) (during S.told K.written K.faults source.old source.new sink.old sink.new) result }
     ensures begun { (depth : ℕ) (start readback : Bool) (input : List ℕ) → command ≡ Command.Upload depth start readback → (S.told source.new).given ≡ (S.told source.old).given ++ input → HasBegun (K.written sink.old) (K.written sink.new) → UploadsText (part_of input) }
+    ensures flight { (depth near at_place silence floor descent : ℕ) (then_land : Bool) (input : List ℕ) → command ≡ Command.Direct depth near at_place silence floor descent then_land → (S.told source.new).given ≡ (S.told source.old).given ++ input
+        → FlightBegun (K.written sink.old) (K.written sink.new) ⊎ (result ≡ 0) → FlyAsOne (options_of depth near at_place silence floor descent then_land) input }
 {
     match command {
         Command::Help => help(help_text(), source, sink),
@@ -62,6 +91,20 @@ fn run_command<S: Source, K: Sink>(
             start,
             readback,
         } => upload(alloc, depth, start, readback, source, sink),
+        Command::Direct {
+            depth,
+            near,
+            at_place,
+            silence,
+            floor,
+            descent,
+            then_land,
+        } => {
+            let options = options_of(
+                depth, near, at_place, silence, floor, descent, then_land,
+            );
+            direct(alloc, &options, source, sink)
+        }
         Command::Drill { drones, depth } => drill(alloc, drones, depth, source, sink),
         Command::Boxes { depth } => boxes(alloc, depth, source, sink),
         Command::Speed { depth, limit } => speed(alloc, depth, limit, source, sink),
@@ -83,6 +126,7 @@ fn run_command<S: Source, K: Sink>(
 /// - `six`, `seven`: 6 comes only after a read of standard input failed, and 7 only after a write to standard output failed.
 /// - `to_end`: at 0 of a command that reads all of its input, the last read met the end: what was read is the whole input.
 /// - `flies`, `uploads`: at 0 the bytes that were read are a show's text, and its drones keep apart, whoever uploads it.
+/// - `flown`, `flight`: at 0 of `direct` the bytes that were read begin with three texts of one flight, which was flown.
 /// - `begun`: once a byte of a packet went out, the bytes that were read have such a text, whatever the status.
 /// - `headline`: at 0 standard output took the plan of the bytes that were read.
 /// - `regions`, `speeds`, `touches`, `motions`: at 0 what standard output took is true of the flight of the bytes that were
@@ -112,7 +156,7 @@ pub fn run<S: Source, K: Sink>(
     // 6 comes only where the source's count of faults rose, and 7 only where the sink's did.
     ensures six { result ≡ 6 → Rose (S.told source.old).faults (S.told source.new).faults }
     ensures seven { result ≡ 7 → Rose (K.faults sink.old) (K.faults sink.new) }
-    // 0 of a command that reads its input to the end, as all that read do but `upload`: the source has met its end.
+    // 0 of a command that reads its input to the end, as all that read do but `upload` and `direct`: the source has met its end.
     ensures to_end { (c : Command) → command_in words.now.items ≡ Some c → IsTrue (reads_all (verb_of c)) → result ≡ 0 → IsTrue (S.told source.new).ended }
 
     // A show gives a command one outcome; an input gives it one, and no other; and one that lacks nothing gives status
@@ -134,6 +178,17 @@ pub fn run<S: Source, K: Sink>(
     ensures begun { (depth : ℕ) (start readback : Bool) (input : List ℕ) → command_in words.now.items ≡ Some (Command.Upload depth start readback) → (S.told source.new).given ≡ (S.told source.old).given ++ input
         → HasBegun (K.written sink.old) (K.written sink.new) → UploadsText (part_of input) }
 
+    // 0 of `direct`: the input is three texts and frames. The texts stand for shows that are a flight, and each drone was
+    // told all its orders, and nothing else.
+    ensures flown { (depth near at_place silence floor descent : ℕ) (then_land : Bool) (input : List ℕ) → command_in words.now.items ≡ Some (Command.Direct depth near at_place silence floor descent then_land)
+        → (S.told source.new).given ≡ (S.told source.old).given ++ input → result ≡ 0
+        → FliesWhole (options_of depth near at_place silence floor descent then_land) input (K.written sink.old) (K.written sink.new) }
+    // Then, and whatever the status once a byte was written that begins no end frame: at every instant of each of the
+    // three what drones are sent keeps near to what the show says, and any two drones keep apart.
+    ensures flight { (depth near at_place silence floor descent : ℕ) (then_land : Bool) (input : List ℕ) → command_in words.now.items ≡ Some (Command.Direct depth near at_place silence floor descent then_land)
+        → (S.told source.new).given ≡ (S.told source.old).given ++ input → FlightBegun (K.written sink.old) (K.written sink.new) ⊎ (result ≡ 0)
+        → FlyAsOne (options_of depth near at_place silence floor descent then_land) input }
+
     // 0 of `compile`: the input stands for a show, and its plan was written. Of the trajectories of this plan each
     // upload goes right, as `uploads` says: once it is done, or once each drone accepted its packets, whoever sent
     // them, each drone carries one curve and flies no other, near to the show and apart from every other drone, at
@@ -151,8 +206,8 @@ pub fn run<S: Source, K: Sink>(
     ensures motions { (depth : ℕ) (accel jump : Option ℕ) (input : List ℕ) → command_in words.now.items ≡ Some (Command.Dynamics depth accel jump) → (S.told source.new).given ≡ (S.told source.old).given ++ input → result ≡ 0
         → KeepsDynamics depth accel jump input (K.written sink.old) (K.written sink.new) }
 
-    // There is no status above 18; 17 is that of words that the system doesn't give.
-    ensures known { result ≤ 18 }
+    // There is no status above 20; 17 is that of words that the system doesn't give.
+    ensures known { result ≤ 20 }
     ensures given { result ≢ 17 }
     ensures gives { Gives (S.told source.old) (S.told source.new) }
     ensures sink_later { K.faults sink.old ≤ K.faults sink.new }
@@ -161,6 +216,7 @@ pub fn run<S: Source, K: Sink>(
     verify_law();
     rehearse_law();
     uploading_law();
+    direct_law();
     boxes_law();
     match command_of(words) {
         Some(command) => run_command(alloc, command, source, sink),

@@ -269,7 +269,7 @@ fn words_that_are_no_command(rt: HostRuntime) -> Result<(), Fail> {
 
 #[test]
 fn the_forms_of_the_commands(rt: HostRuntime) {
-    let lines: [&[u8]; 15] = [
+    let lines: [&[u8]; 16] = [
         b"help",
         b"check [--depth D]",
         b"compile [--depth D]",
@@ -279,6 +279,7 @@ fn the_forms_of_the_commands(rt: HostRuntime) {
         b"verify",
         b"rehearse [--depth D] [--start] [--readback]",
         b"upload [--depth D] [--start] [--readback]",
+        b"direct [--depth D] [--near MM] [--at MM] [--silence MS] [--floor MM] [--descent MS] [--then land|fly]",
         b"drill N [--depth D]",
         b"boxes [--depth D]",
         b"speed [--depth D] [--limit V]",

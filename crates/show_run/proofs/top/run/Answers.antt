@@ -1,6 +1,6 @@
 use Rattle.std.proofs.Common.{Some, ap, sym, ◌∙◌}
 use Rattle.fleet_io.proofs.ToldLemmas.{IsInput-now, comes}
-use Rattle.command_words.specs.declared.command.Command.TheVariants.{Boxes, Compile, Drill, Dynamics, Explain, Speed, Upload}
+use Rattle.command_words.specs.declared.command.Command.TheVariants.{Boxes, Compile, Direct, Drill, Dynamics, Explain, Speed, Upload}
 use Rattle.drill_show.specs.Drill.{drill_text}
 use Rattle.show_judge.proofs.HeadlineLemmas.{behaves_left, flies_own, read_to_end}
 use Rattle.show_judge.proofs.VerbLemmas.{outcomes}
@@ -21,16 +21,16 @@ returns-in-Some-clause-behaves g c = λ d is.
     does_as c.in-Some.command d _ _ (one_command _ c.in-Some.command d (sym c.command_of.ensures.value ∙ c.in-Some.is) is) c.run_command.ensures.behaves
 
 pub returns-in-Some-clause-law : goal.returns-in-Some-clause-law
-returns-in-Some-clause-law g c = laws c.verify_law.ensures c.rehearse_law.ensures c.uploading_law.ensures c.boxes_law.ensures
+returns-in-Some-clause-law g c = laws c.verify_law.ensures c.rehearse_law.ensures c.uploading_law.ensures c.direct_law.ensures c.boxes_law.ensures
 
 pub returns-in-None-clause-law : goal.returns-in-None-clause-law
-returns-in-None-clause-law g c = laws c.verify_law.ensures c.rehearse_law.ensures c.uploading_law.ensures c.boxes_law.ensures
+returns-in-None-clause-law g c = laws c.verify_law.ensures c.rehearse_law.ensures c.uploading_law.ensures c.direct_law.ensures c.boxes_law.ensures
 
 pub returns-in-Some-clause-outcomes : goal.returns-in-Some-clause-outcomes
-returns-in-Some-clause-outcomes g c = λ d. outcomes c.show_law.ensures (verb_of d) (laws c.verify_law.ensures c.rehearse_law.ensures c.uploading_law.ensures c.boxes_law.ensures d)
+returns-in-Some-clause-outcomes g c = λ d. outcomes c.show_law.ensures (verb_of d) (laws c.verify_law.ensures c.rehearse_law.ensures c.uploading_law.ensures c.direct_law.ensures c.boxes_law.ensures d)
 
 pub returns-in-None-clause-outcomes : goal.returns-in-None-clause-outcomes
-returns-in-None-clause-outcomes g c = λ d. outcomes c.show_law.ensures (verb_of d) (laws c.verify_law.ensures c.rehearse_law.ensures c.uploading_law.ensures c.boxes_law.ensures d)
+returns-in-None-clause-outcomes g c = λ d. outcomes c.show_law.ensures (verb_of d) (laws c.verify_law.ensures c.rehearse_law.ensures c.uploading_law.ensures c.direct_law.ensures c.boxes_law.ensures d)
 
 pub returns-in-Some-clause-flies : goal.returns-in-Some-clause-flies
 returns-in-Some-clause-flies g c = λ name input called judges left done.
@@ -43,6 +43,17 @@ returns-in-Some-clause-uploads g c = λ name input called judges left done.
 pub returns-in-Some-clause-begun : goal.returns-in-Some-clause-begun
 returns-in-Some-clause-begun g c = λ depth start readback input is left begun.
     c.run_command.ensures.begun depth start readback input (one_command _ c.in-Some.command (Upload depth start readback) (sym c.command_of.ensures.value ∙ c.in-Some.is) is) left begun
+
+pub returns-in-Some-clause-flight : goal.returns-in-Some-clause-flight
+returns-in-Some-clause-flight g c = λ depth near at_place silence floor descent then_land input is left began.
+    c.run_command.ensures.flight depth near at_place silence floor descent then_land input
+    (one_command _ c.in-Some.command (Direct depth near at_place silence floor descent then_land) (sym c.command_of.ensures.value ∙ c.in-Some.is) is) left began
+
+pub returns-in-Some-clause-flown : goal.returns-in-Some-clause-flown
+returns-in-Some-clause-flown g c = λ depth near at_place silence floor descent then_land input is left done.
+    let behaves = behaves_as c.in-Some.command (Direct depth near at_place silence floor descent then_land) _ _
+    (one_command _ c.in-Some.command (Direct depth near at_place silence floor descent then_land) (sym c.command_of.ensures.value ∙ c.in-Some.is) is) (c.run_command.ensures.behaves.behaves (g.S.Source.told c.run_command.new.source).given (IsInput-now (g.S.Source.told c.run_command.new.source))) in
+    rw (comes (g.S.Source.told c.args.source.now) (g.S.Source.told c.run_command.new.source).given input left) at (behaves.headline done)
 
 pub returns-in-Some-clause-drilled : goal.returns-in-Some-clause-drilled
 returns-in-Some-clause-drilled g c = λ drones depth is done.
