@@ -46,8 +46,10 @@ sample_below d xs ys x b is =
     by_cond (Reads (sample_in d ys)) (length xs == 10) _ _ (Ok x)
     (λ t h. by_cond (Reads (sample_in d ys)) (nat_le d (slice_index xs 0)) _ _ (Ok x) (λ u g. absurd (cc))
     (λ u g. by_cond (Reads (sample_in d ys)) (nat_lt 15 (slice_index xs 9)) _ _ (Ok x) (λ v k. absurd (cc))
-    (λ v k. (Seen (slice_index ys 0) (seen_of ys),
-        rw (ap (λ (n : ℕ). n == 10) b.size ∙ t, not_above d (slice_index ys 0) (slice_index xs 0) (b.each 0) u, not_more (slice_index ys 9) (slice_index xs 9) (b.each 9) v) refl)) g) h)
+    (λ v k. (
+      Seen (slice_index ys 0) (seen_of ys),
+      rw (ap (λ (n : ℕ). n == 10) b.size ∙ t, not_above d (slice_index ys 0) (slice_index xs 0) (b.each 0) u, not_more (slice_index ys 9) (slice_index xs 9) (b.each 9) v) refl,
+    )) g) h)
     (λ t h. absurd (cc)) is
 
 -- the signals are numbered from 0 on
@@ -173,10 +175,10 @@ pub size_past : FrameLaw → (d count size : ℕ) (bytes : List ℕ) → length 
 size_past law d count size bytes len some few begun is =
     let less : count ≡ (count - 1) + 1 = omega (arith, some) in
     let whole : take count bytes ≡ take (count - 1) bytes ++ get_or bytes (count - 1) 0 ∷ [] =
-        ap (λ (n : ℕ). take n bytes) less ∙ take_more bytes (count - 1) 0 (omega (arith, len, some, few)) in
+    ap (λ (n : ℕ). take n bytes) less ∙ take_more bytes (count - 1) 0 (omega (arith, len, some, few)) in
     let first = head_front count bytes some (omega (arith, len, few)) in
     let more = size_more law d (get_or bytes (count - 1) 0) size (take (count - 1) bytes) begun
-        (ap (λ (l : List ℕ). length_of (slice_index l 0)) (sym whole) ∙ ap length_of (sym first) ∙ is) in
+    (ap (λ (l : List ℕ). length_of (slice_index l 0)) (sym whole) ∙ ap length_of (sym first) ∙ is) in
     omega (arith, more, length-take-le (count - 1) bytes (omega (arith, len, few)), some)
 
 pub judged_err : FrameLaw → (d count size : ℕ) (bytes : List ℕ) (why : FrameFault) → length bytes ≡ 11 → 1 ≤ count → count ≤ 11 → bytes ≡ take count bytes ++ replicate (11 - count) 0 →
@@ -212,8 +214,8 @@ put_byte bytes count byte below is =
     let less : 11 - count ≡ suc (11 - (count + 1)) = omega (arith, below) in
     let parts : bytes ≡ take count bytes ++ 0 ∷ replicate (11 - (count + 1)) 0 = is ∙ ap (λ (n : ℕ). take count bytes ++ replicate n 0) less in
     let set_is : slice_set bytes count byte ≡ take count bytes ++ byte ∷ replicate (11 - (count + 1)) 0 =
-        ap (λ (l : List ℕ). slice_set l count byte) parts
-        ∙ ap (λ (n : ℕ). slice_set (take count bytes ++ 0 ∷ replicate (11 - (count + 1)) 0) n byte) (sym front)
-        ∙ set-append_seam (take count bytes) 0 (replicate (11 - (count + 1)) 0) byte in
+    ap (λ (l : List ℕ). slice_set l count byte) parts
+    ∙ ap (λ (n : ℕ). slice_set (take count bytes ++ 0 ∷ replicate (11 - (count + 1)) 0) n byte) (sym front)
+    ∙ set-append_seam (take count bytes) 0 (replicate (11 - (count + 1)) 0) byte in
     let more : take (count + 1) (slice_set bytes count byte) ≡ take count bytes ++ byte ∷ [] = take_more_set bytes count byte (omega (arith, len, front, zero_count (11 - count), below)) in
     set_is ∙ sym (ap (λ (l : List ℕ). l ++ replicate (11 - (count + 1)) 0) more ∙ append_assoc (take count bytes) (byte ∷ []) (replicate (11 - (count + 1)) 0))

@@ -94,7 +94,7 @@ none_begun d = record { event = Said signal.Go; more = 4 ∷ 0 ∷ []; formed = 
 pub begun : FrameLaw → (d : ℕ) (bytes : List ℕ) → IsBegun d bytes → BeginsNoEvent d bytes
 begun law d bytes b y later formed is =
     let cut : event_bytes b.event ≡ event_bytes y ++ (later ++ b.more) =
-        b.cut ∙ ap (λ (l : List ℕ). l ++ b.more) is ∙ append_assoc (event_bytes y) later b.more in
+    b.cut ∙ ap (λ (l : List ℕ). l ++ b.more) is ∙ append_assoc (event_bytes y) later b.more in
     let size = same_size law y (length (event_bytes b.event)) (later ++ b.more) (event_bytes b.event) cut (law.lasts b.event) in
     omega (arith, size, b.some, length-append (event_bytes y) (later ++ b.more), length-append later b.more, ap (λ (l : List ℕ). length l) cut)
 

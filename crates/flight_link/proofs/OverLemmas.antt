@@ -92,9 +92,9 @@ agrees-all f s [] n = inl (refl, n)
 agrees-all f s (x ∷ xs) n = elim (agrees-event f s x n) [
   | inl p ↦ rw (end-append (says f s x) (sent f (happens f s x) xs), p.0) (agrees-all f (happens f s x) xs p.1)
   | inr p ↦ inr (
-      (λ e. some_first (end_in (says f s x)) (end_in (sent f (happens f s x) xs)) p.0 (sym (end-append (says f s x) (sent f (happens f s x) xs)) ∙ e)),
-      stays-all f (happens f s x) xs p.1,
-    )
+    (λ e. some_first (end_in (says f s x)) (end_in (sent f (happens f s x) xs)) p.0 (sym (end-append (says f s x) (sent f (happens f s x) xs)) ∙ e)),
+    stays-all f (happens f s x) xs p.1,
+  )
 ]
 
 pub over : (f : Flight) (events : List Event) → (ended f events ≡ None → ⊥) ↔ ((after f (start f) events).phase ≡ Ended)

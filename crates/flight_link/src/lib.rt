@@ -14,6 +14,8 @@ mod exchange;
 mod input;
 mod law;
 mod output;
+#[cfg(test)]
+mod tests;
 
 pub use exchange::{NOT_FLOWN, direct};
 pub use law::{flight_link_law, orders_law};

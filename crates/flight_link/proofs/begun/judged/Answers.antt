@@ -16,5 +16,5 @@ pub returns-in-Ok-2 : goal.returns-in-Ok-2
 returns-in-Ok-2 c = (
   c.in-Ok.ensures.only.0,
   judged_whole c.frame_law.ensures c.args.drones c.args.count c.in-Some.size c.args.bytes.now c.in-Ok.field-0 c.requires.whole c.requires.some c.requires.few c.requires.begun
-  (sym c.event_length.ensures ∙ c.in-Some.is) c.if-count-size.false c.in-Ok.ensures.only.1,
+      (sym c.event_length.ensures ∙ c.in-Some.is) c.if-count-size.false c.in-Ok.ensures.only.1,
 )
