@@ -3,13 +3,15 @@ use crate::tests::{CROSSING, is_met};
 use std::test::Fail;
 
 // A metre up, a metre along x and back, and a metre down, each a text that a marker line ends.
-const TEXTS: &[u8] = b"choreo 1\nstray 100\ndrone solo 0 0 0 0\ncue 2000\nsolo move 0 0 1000000 0\nend\n%%\n\
+const TEXTS: &[u8] =
+    b"choreo 1\nstray 100\ndrone solo 0 0 0 0\ncue 2000\nsolo move 0 0 1000000 0\nend\n%%\n\
 choreo 1\nstray 100\ndrone solo 0 0 1000000 0\ncue 2000\nsolo move 1000000 0 1000000 0\nend\n\
 cue 2000\nsolo move 0 0 1000000 0\nend\n%%\n\
 choreo 1\ndrone solo 0 0 1000000 0\ncue 2000\nsolo move 0 0 0 0\nend\n%%\n";
 
 // The same way up, and as the show the way up once more, which doesn't begin where that ended.
-const APART: &[u8] = b"choreo 1\nstray 100\ndrone solo 0 0 0 0\ncue 2000\nsolo move 0 0 1000000 0\nend\n%%\n\
+const APART: &[u8] =
+    b"choreo 1\nstray 100\ndrone solo 0 0 0 0\ncue 2000\nsolo move 0 0 1000000 0\nend\n%%\n\
 choreo 1\nstray 100\ndrone solo 0 0 0 0\ncue 2000\nsolo move 0 0 1000000 0\nend\n%%\n\
 choreo 1\ndrone solo 0 0 1000000 0\ncue 2000\nsolo move 0 0 0 0\nend\n%%\n";
 
@@ -19,7 +21,8 @@ const SECOND_FAULTY: &[u8] =
 
 // Go, with the drone ready on its pad; armed, it rises in two seconds. Settled, and go: the show, with a sample on its
 // curve each second. It lands, disarms, and is seen so.
-const EVENTS: &[u8] = b"\x02\x00\x00\x00\x00\x00\x00\x00\x00\x00\x01\x04\x00\x02\x00\x00\x00\x00\x00\x00\x00\x00\x00\x03\
+const EVENTS: &[u8] =
+    b"\x02\x00\x00\x00\x00\x00\x00\x00\x00\x00\x01\x04\x00\x02\x00\x00\x00\x00\x00\x00\x00\x00\x00\x03\
 \x01\xE8\x03\x02\x00\x00\x00\x00\x00\x00\x00\xF4\x01\x02\x01\xE8\x03\x02\x00\x00\x00\x00\x00\x00\x00\xE8\x03\x02\x01\xE8\x03\x04\x00\
 \x01\xE8\x03\x02\x00\x00\x00\xF4\x01\x00\x00\xE8\x03\x02\x01\xE8\x03\x02\x00\x00\x00\xE8\x03\x00\x00\xE8\x03\x02\
 \x01\xE8\x03\x02\x00\x00\x00\xF4\x01\x00\x00\xE8\x03\x02\x01\xE8\x03\x02\x00\x00\x00\x00\x00\x00\x00\xE8\x03\x02\x01\xE8\x03\
@@ -64,7 +67,25 @@ fn flights(rt: HostRuntime) -> Result<(), Fail> {
 // Drones that may stand farther from their pads than they may stray aren't flown.
 #[test]
 fn a_flight_of_a_wide_start(rt: HostRuntime) -> Result<(), Fail> {
-    assert!(rt; is_met(rt.alloc(), &["direct", "--near", "101"], TEXTS, EVENTS, 19, b"\x45\x13")?);
-    assert!(rt; is_met(rt.alloc(), &["direct", "--near", "100"], TEXTS, EVENTS, 0, FLOWN)?);
+    assert!(rt;
+        is_met(
+            rt.alloc(),
+            &["direct", "--near", "101"],
+            TEXTS,
+            EVENTS,
+            19,
+            b"\x45\x13"
+        )?
+    );
+    assert!(rt;
+        is_met(
+            rt.alloc(),
+            &["direct", "--near", "100"],
+            TEXTS,
+            EVENTS,
+            0,
+            FLOWN
+        )?
+    );
     Ok(())
 }

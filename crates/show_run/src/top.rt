@@ -100,9 +100,7 @@ fn run_command<S: Source, K: Sink>(
             descent,
             then_land,
         } => {
-            let options = options_of(
-                depth, near, at_place, silence, floor, descent, then_land,
-            );
+            let options = options_of(depth, near, at_place, silence, floor, descent, then_land);
             direct(alloc, &options, source, sink)
         }
         Command::Drill { drones, depth } => drill(alloc, drones, depth, source, sink),
