@@ -36,7 +36,7 @@
  *   - dynamics: within each segment the speed of a curve along x, y or z changes by at most the drone's bound in
  *     `output` times the time. No jump of speed between two segments, at the beginning or at the end is greater than
  *     the one there, and neither is above its limit (motions).
- * - 0 of help and version says nothing of a show.
+ * - 0 of help and version says nothing of a show. What 0 of direct says is proved of the program alone (`run`).
  * - An input has one answer: two calls with the same words, in UTF-8, and the same input, neither of which ends with 1,
  *   differ in nothing but where a room is too small. An input without a fault gets 0, unless that is 1 or 7. A status
  *   other than 0, 1, 7 and 17 is that of the program's first cause, and `output` has its line, or of upload its end
@@ -45,7 +45,7 @@
  *   status all `*size` bytes of the answer are in `output`, and the bytes after them stay as they were (no_room, whole,
  *   behaves, usage).
  * - 17 only where a word isn't UTF-8. At 1 and 17 `*size` is 0 and `output` is as it was (memory, no_words).
- * - There is no status 6, and none above 18 (read, known).
+ * - There is no status 6, and none above 20 (read, known).
  * - The call returns, and touches no memory of yours but `output` and `*size`.
  *
  * What is not proved: that memory ran out where the status is 1; how long a call takes; what stands under "Stack" and
@@ -86,7 +86,7 @@ enum hemtoghai_status {
     HEMTOGHAI_TOO_MUCH = 4,         /* a drone's trajectory doesn't fit its memory */
     HEMTOGHAI_BLOCKED = 5,          /* two drones may come too near: the answer names them and the part of the cue */
     HEMTOGHAI_NO_ROOM = 7,          /* the answer has more bytes than `output`: its status is not known */
-    HEMTOGHAI_ENDED = 8,            /* the schedule or the frames ended before the upload did */
+    HEMTOGHAI_ENDED = 8,            /* the schedule or the frames ended before the upload or the flight did */
     HEMTOGHAI_GAVE_UP = 9,          /* no drone acknowledged a packet in time */
     HEMTOGHAI_REFUSED = 10,         /* a drone refused a packet */
     HEMTOGHAI_FAULTY = 11,          /* the second text, or a frame, is faulty or too large */
@@ -96,7 +96,9 @@ enum hemtoghai_status {
     HEMTOGHAI_ENTERS = 15,          /* a drone may enter a region */
     HEMTOGHAI_TOO_FAST = 16,        /* a drone may be faster than the limit */
     HEMTOGHAI_NO_WORDS = 17,        /* a word isn't UTF-8: `*size` is 0, and `output` is as it was */
-    HEMTOGHAI_TOO_ABRUPT = 18       /* an acceleration or a jump of speed may be above the limit */
+    HEMTOGHAI_TOO_ABRUPT = 18,      /* an acceleration or a jump of speed may be above the limit */
+    HEMTOGHAI_NO_FLIGHT = 19,       /* a way up, a show and a way down are no flight */
+    HEMTOGHAI_NOT_FLOWN = 20        /* the flight wasn't flown whole, or a drone was off its curve or silent */
 };
 
 /* Answers a command, and returns the status.
@@ -104,7 +106,8 @@ enum hemtoghai_status {
  * words, words_length    the command with its options, as "compile --depth 4". Every byte from 0 to 32 separates
  *                        words, so a zero byte at the end may be counted or not.
  * input, input_length    what the command reads: a show; for `verify`, `rehearse`, `boxes` and `upload` then a marker
- *                        line "%%" and the second part. `help`, `version` and `drill` read nothing.
+ *                        line "%%" and the second part; for `direct` three shows, a marker line after each, and
+ *                        frames. `help`, `version` and `drill` read nothing.
  * output, output_length  where the answer goes, without a zero byte at its end. It may be uninitialised.
  * size                   gets the bytes of the answer, also where `output` has room for fewer.
  *
