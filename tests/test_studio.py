@@ -263,6 +263,66 @@ class Judging(Case):
         self.assertIn("a goes below z 0", faults[1]["words"])
 
 
+class Changed(Case):
+    """A page sends the lines alone that changed since a text that it sent before."""
+
+    def judged(self, number, **more):
+        """The status of an answer, and of its verdict the line of the fault and the SHA-256 of what was judged."""
+        status, _, body = self.studio.ask("POST", "judge", {"page": "p", "number": number, **more})
+        rows = [json.loads(line) for line in body.splitlines()] if status == 200 else [{}]
+        return status, rows[0].get("fault", {}).get("line"), rows[0].get("digest")
+
+    def wanted(self, text, line):
+        """What is said of a text with a fault in a line."""
+        return 200, line, hashlib.sha256(text.encode()).hexdigest()
+
+    def test_lines(self):
+        """Lines in the place of others, of none, and none in the place of others; of the text that is named, though
+        others came after it; counted in units of UTF-16."""
+        first = "choreo 1\nx 1\n# \u00e4 \U0001F600\n"
+        self.assertEqual(self.judged(1, text=first), self.wanted(first, 2))
+        second, third = first.replace("x 1", "# x\n# y\nz"), first.replace("x 1", "# x\n# y\nv\nz")
+        self.assertEqual(self.judged(2, base=1, line=2, gone=1, put=["# x", "# y", "z"], length=len(second) + 1),
+                         self.wanted(second, 4))
+        said = self.judged(3, base=2, line=4, gone=0, put=["v"], length=len(third) + 1)
+        self.assertEqual(said, self.wanted(third, 4))
+        third = "choreo 1\nx 1\nx\n"
+        self.assertEqual(self.judged(4, base=1, line=3, gone=1, put=["x"], length=len(third)), self.wanted(third, 2))
+        self.assertEqual(self.judged(5, base=4, line=1, gone=2, put=[], length=2), self.wanted("x\n", 1))
+        self.assertEqual(self.judged(6, base=5, line=2, gone=1, put=["x"], length=3), self.wanted("x\nx", 1))
+
+    def test_bytes(self):
+        """A byte that is no UTF-8 is one letter of the page, and U+FFFD in the SHA-256."""
+        text = "choreo 1\n# \udcff\nx\n"
+        self.assertEqual(self.judged(1, text=text), self.wanted(text.replace("\udcff", "\ufffd"), 3))
+        new = text.replace("x", "# \udcfe\ny")
+        self.assertEqual(self.judged(2, base=1, line=3, gone=1, put=["# \udcfe", "y"], length=len(new)),
+                         self.wanted(new.replace("\udcff", "\ufffd").replace("\udcfe", "\ufffd"), 4))
+
+    def test_unknown(self):
+        """The page is told where the text that it names isn't there, or where the new one has another length."""
+        self.assertEqual(self.judged(1, text="x")[0], 200)
+        for base, length in ((7, 1), (0, 1), (1, 2), (1, 0)):
+            said = self.judged(9, base=base, line=1, gone=1, put=["y"], length=length)
+            self.assertEqual(said[0], 410, (base, length))
+        self.assertEqual(self.judged(9, base=1, line=1, gone=1, put=["y"], length=1)[:2], (200, 1))
+        for number in range(10, 15):  # the page named 9 last, and of the newer ones three are kept
+            self.assertEqual(self.judged(number, base=9, line=1, gone=1, put=["z"], length=1)[0], 200)
+        for base, status in ((1, 410), (10, 410), (13, 200)):
+            self.assertEqual(self.judged(base + 20, base=base, line=1, gone=1, put=["z"], length=1)[0], status, base)
+
+    def test_no_lines(self):
+        self.assertEqual(self.judged(1, text="choreo 1\nx")[0], 200)
+        good = {"base": 1, "line": 1, "gone": 1, "put": ["y"], "length": 3}
+        for word, values in (("line", (0, -1, 4, "1", None)), ("gone", (-1, 3, "1", None)), ("length", (None, -1, "3")),
+                             ("put", ("y", None, ["y\n"], [1], [None], ["\ud800"])), ("base", (None, "1"))):
+            for value in values:
+                self.assertEqual(self.judged(9, **{**good, word: value})[0], 400, (word, value))
+        self.assertEqual(self.judged(9, **good)[0], 200)
+        self.assertEqual(self.judged(10, base=9, line=1, gone=2, put=[], length=0)[0], 400)  # a text has a line
+        self.assertEqual(self.judged(11, base=9, line=1, gone=1, put=["y" * 1060000], length=1060002)[0], 413)
+
+
 class Newer(unittest.TestCase):
     """A newer text of a page ends what is done for the older one."""
 

@@ -1,5 +1,5 @@
-"""./show studio in Chromium with a long text, of which the field holds a window of lines: typing, selection, the clipboard,
-undo, finding and jumps are of the whole text, and no letter is lost. Without Chromium the tests are skipped."""
+"""./show studio in Chromium with a long text, of which the field holds a window of lines: typing, selection, the
+clipboard, undo, finding and jumps are of the whole text, and no letter is lost. Without Chromium these are skipped."""
 import os
 import random
 import sys
@@ -22,8 +22,8 @@ DRAWN = """const [number] = arguments, row = [...document.querySelectorAll('#pap
   if (!row) return null;
   const box = row.getBoundingClientRect(), own = document.getElementById('text').getBoundingClientRect();
   const sees = document.getElementById('scroller').getBoundingClientRect();
-  const words = [...row.querySelector('.words').childNodes].filter(it => it.className !== 'say').map(it => it.textContent);
-  return [words.join(''), Math.round(box.top - own.top - 8 - 20 * (number - 1 - held[0])),
+  const parts = [...row.querySelector('.words').childNodes].filter(it => it.className !== 'say');
+  return [parts.map(it => it.textContent).join(''), Math.round(box.top - own.top - 8 - 20 * (number - 1 - held[0])),
           box.top >= sees.top - 1 && box.bottom <= sees.bottom + 1];"""
 
 
@@ -80,7 +80,7 @@ class Window(page.Led):
         self.is_drawn(number)
 
     def test_typing(self):
-        """Keys at the begin, in the middle and at the end: each is in the text where the cursor was, and on the screen."""
+        """Keys at the begin, in the middle and at the end: each is in the text at the cursor, and on the screen."""
         self.begin()
         text = TEXT
         for before, number in (("choreo 1", 1), ("# note 1400 of", 1404), ("b hold", 3008)):
@@ -173,8 +173,8 @@ class Window(page.Led):
         self.assertEqual(self.browser.faults(), [])
 
     def test_thousand_lines(self):
-        """A thousand lines are selected from a click to a click with Shift, copied, pasted in the middle, and undone; what
-        is judged then is this text."""
+        """A thousand lines are selected from a click to a click with Shift, copied, pasted in the middle, and undone;
+        what is judged then is this text."""
         self.begin()
         self.scroll(1600)
         self.click(1602)
@@ -247,7 +247,7 @@ class Window(page.Led):
         self.assertEqual(self.browser.faults(), [])
 
     def test_undo(self):
-        """What is typed without a pause is one step, what is typed at another place is another; undo shows where it was."""
+        """What is typed without a pause is a step, what is typed at another place is another; undo shows where."""
         self.begin()
         self.put_cursor("# note 10 of")
         self.browser.type("abc")
@@ -263,7 +263,8 @@ class Window(page.Led):
         self.keys(CONTROL + "z")  # nothing is left
         self.assertEqual(self.text(), TEXT)
         self.keys(CONTROL + SHIFT + "z", CONTROL + "y", CONTROL + "y")
-        self.assertEqual(self.text(), TEXT.replace("# note 10 of", "# note 10 ofabc").replace("note 2500 of", "note 2500 ofde"))
+        wanted = TEXT.replace("# note 10 of", "# note 10 ofabc").replace("note 2500 of", "note 2500 ofde")
+        self.assertEqual(self.text(), wanted)
 
     def test_lines_are_sent(self):
         """A request has the lines alone that changed, and a verdict of another text isn't shown."""
@@ -303,11 +304,11 @@ class Window(page.Led):
         self.browser.run("localStorage.clear()")
 
     def test_model(self):
-        """A thousand random changes: lines, offsets, forms, what a request carries, and undo are those of a plain text."""
+        """A thousand random changes: lines, offsets, forms, what a request has, and undo are those of a plain text."""
         self.begin()
         rolled = random.Random(5)
-        changes = [[rolled.random(), rolled.random() ** 4, rolled.choice(["", "x", "\n", "form f move\n", "\n\n# ä 漢 😀\n"])]
-                   for _ in range(1000)]
+        put = ["", "x", "\n", "form f move\n", "\n\n# ä 漢 😀\n"]
+        changes = [[rolled.random(), rolled.random() ** 4, rolled.choice(put)] for _ in range(1000)]
         said = self.browser.run("""
             const [changes, begin] = arguments, out = [];
             setContent(begin); hold(...windowAt(...linesInView()));

@@ -1,9 +1,10 @@
-// The field in which the text of ./show studio is written. A browser lays a field out anew at each key, which takes longer
-// than a key may where the text is long. So the field holds a window of lines around those that can be seen, at their own
-// place in a sheet that is as high as the whole text. Selection, clipboard, undo and search are of the whole text.
+// The field in which the text of ./show studio is written. A browser lays a field out anew at each key, which takes
+// longer than a key may where the text is long. So the field holds a window of lines around those that can be seen, at
+// their own place in a sheet that is as high as the whole text. Selection, clipboard and undo are of the whole text.
 
 const LINE = 20, ABOVE = 8, LEFT = 58;  // pixels: the height of a line, and the room above and beside the first letter
-const WHOLE = 300, AROUND = 90, MARGIN = 30;  // lines: of a text that is held as a whole, of a window, and left at its ends
+// Lines of a text that is held as a whole, of a window at either side of the view, and left at its ends.
+const WHOLE = 300, AROUND = 90, MARGIN = 30;
 const field = byId("text"), scroller = byId("scroller"), sheet = byId("sheet");
 let held = [0, 1];  // the lines that the field has, by number from 0: the first, and that after the last
 let heldText = "";
@@ -17,13 +18,13 @@ const within = (offset, low, high) => Math.max(low, Math.min(high, offset));
 
 const linesInView = () => [Math.floor((viewTop - ABOVE) / LINE), Math.ceil((viewTop + viewHeight - ABOVE) / LINE)]
   .map(line => within(line, 0, lines.length));
-// Whether the window reaches so many lines beyond these, or to the end of the text.
-const reaches = (first, last, lines_) => (held[0] === 0 || held[0] <= first - lines_) &&
-  (held[1] >= lines.length || held[1] >= last + lines_);
+// Whether the window reaches well beyond these lines, or to the end of the text.
+const reaches = (first, last) => (held[0] === 0 || held[0] <= first - MARGIN) &&
+  (held[1] >= lines.length || held[1] >= last + MARGIN);
 // Holds other lines, where those of the view aren't well inside of the window.
 function holdView() {
   const [first, last] = linesInView();
-  if (composing || reaches(first, last, MARGIN)) return;
+  if (composing || reaches(first, last)) return;
   hold(...windowAt(first, last));
 }
 function windowAt(first, last) {
@@ -103,7 +104,7 @@ function select(from, to) {
 // Lets the cursor's line be seen, and be well inside of the window.
 function showCursor() {
   const line = lineAt(head);
-  if (!isHeld(head) || !reaches(line, line + 1, MARGIN)) scrollToLines(line + 1, line + 1);
+  if (!isHeld(head) || !reaches(line, line + 1)) scrollToLines(line + 1, line + 1);
 }
 function scrollToLines(first, last) {
   const top = ABOVE + LINE * (first - 1), bottom = ABOVE + LINE * last;
@@ -272,5 +273,5 @@ function bindField() {
   // The sheet scrolls, and never the field in it.
   field.addEventListener("scroll", () => { if (field.scrollTop || field.scrollLeft) field.scrollTo(0, 0); });
   scroller.addEventListener("scroll", () => { onScroll(); closeMenu(false); });
-  document.addEventListener("selectionchange", () => { if (document.activeElement === field) readSelection(); onCursor(); });
+  document.addEventListener("selectionchange", onCursor);
 }

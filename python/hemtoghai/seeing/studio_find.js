@@ -1,6 +1,7 @@
 // Finding words in the text of ./show studio: of the whole text, of which the field of the browser has a part.
 
-const MOST_HITS = 100000, FIND_PAUSE = 150;  // places that are counted; milliseconds without a key until they are found anew
+const MOST_HITS = 100000;  // places that are counted
+const FIND_PAUSE = 150;  // milliseconds without a key until they are found anew
 let hits = [], hitLength = 0;  // where in the text each place begins, and how many letters it has
 let shownHit = -1, hitsVersion = -1, finding = null, findOrigin = 0;
 const findWords = () => byId("find").hidden ? "" : byId("find-words").value;

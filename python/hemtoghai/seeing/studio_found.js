@@ -49,8 +49,8 @@ async function sendText(signal) {
 }
 const CHECK = 1500;  // milliseconds without a key until a long text is compared with the one that was judged
 let checking = null;
-// A verdict is shown for the text alone that was judged, by its SHA-256. Of a long one that takes some milliseconds, so it
-// waits until nobody types; till then its length and its lines are known to be the same.
+// A verdict is shown for the text alone that was judged, by its SHA-256. Of a long one that takes some milliseconds, so
+// it waits until nobody types; till then its length and its lines are known to be the same.
 async function checkJudged(digest) {
   clearTimeout(checking);
   if (textLength() <= LONG) return compareJudged(digest);

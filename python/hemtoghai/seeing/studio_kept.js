@@ -1,4 +1,4 @@
-// What isn't saved in ./show studio is kept by the browser, too: there is a text after the tab was closed. A long one is
+// What isn't saved in ./show studio is kept by the browser, so that it is there after the tab was closed. A long text is
 // kept once as a whole, and then the lines that changed since: to write a megabyte at each pause would hold up keys.
 
 const KEEP = 300;  // milliseconds until what was typed is kept
@@ -45,8 +45,8 @@ function kept() {
     const stored = JSON.parse(localStorage.getItem(file.key)), more = JSON.parse(localStorage.getItem(keptRun()));
     if (!stored || typeof stored.text !== "string") return null;
     if (!more || more.name !== stored.name) return stored;
-    const old = stored.text.split("\n"), before = old.slice(0, more.line - 1), after = old.slice(more.line - 1 + more.gone);
-    return {text: [...before, ...more.put, ...after].join("\n"), at: more.at};
+    const old = stored.text.split("\n"), from = more.line - 1;
+    return {text: [...old.slice(0, from), ...more.put, ...old.slice(from + more.gone)].join("\n"), at: more.at};
   } catch (error) {
     return null;
   }

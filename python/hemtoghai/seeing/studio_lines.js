@@ -90,7 +90,7 @@ function exchangeLines(first, old, put) {
 
 // The lines that changed since then, as one run: the first, how many there were, how many there are.
 const runs = {judged: null, kept: null};
-let known = null, keptAs = null;  // of the text that the studio has its number, of the one that the browser keeps its name
+let known = null, keptAs = null;  // the number of a text that the studio has, the name of one that the browser keeps
 function noteRun(first, gone, put) {
   for (const name in runs) {
     const run = runs[name] || {first, gone: 0, put: 0}, from = Math.min(run.first, first);
@@ -149,7 +149,7 @@ function joinStep(last, step) {
   keptLetters += lettersOf(last) - before;
   return true;
 }
-// What undoes the last step, or does it again, as the part to change and the selection then; null where nothing is left.
+// What undoes the last step, or does it again: the part to change, and the selection then. Null where nothing is left.
 function stepBack() {
   const step = done.pop();
   if (!step) return null;

@@ -28,8 +28,8 @@ function drawPaper() {
 const isPlaying = (k, playing) => playing !== null && playing[0] <= k + 1 && k + 1 <= playing[1];
 // All that a row is made of, in one word.
 function howRow(k, playing) {
-  const mark = marked.get(k + 1);
-  return [mark ? mark.kind : "", mark && mark.say || "", isPlaying(k, playing), textForm, hitsOf(k), lines[k]].join("|");
+  const {kind = "", say = ""} = marked.get(k + 1) || {};
+  return [kind, say, isPlaying(k, playing), textForm, hitsOf(k), lines[k]].join("|");
 }
 function paperRow(k, playing) {
   const row = document.createElement("div"), mark = marked.get(k + 1);
@@ -47,7 +47,8 @@ function paperRow(k, playing) {
 }
 // A line in parts, each with the class of its colour or nothing.
 function coloured(line) {
-  const front = line.slice(0, TINTED), hash = front.indexOf("#"), code = hash < 0 ? front : front.slice(0, hash), out = [];
+  const front = line.slice(0, TINTED), hash = front.indexOf("#"), out = [];
+  const code = hash < 0 ? front : front.slice(0, hash);
   for (const part of code.split(/([^\s]+)/)) {
     if (part) out.push([part, WORDS.has(part) ? "k" : NUMBERS[textForm || 1].test(part) ? "n" : ""]);
   }

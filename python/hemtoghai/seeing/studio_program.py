@@ -52,8 +52,8 @@ class Program:
 
 
 def answer(job: Job, words: list[str], text: bytes) -> Answer:
-    """What a program says of a text, in a process that ends with its job; raises Cancelled where that was cancelled. The
-    text is a file, and no pipe: a long one isn't handed over piece by piece."""
+    """What a program says of a text, in a process that ends with its job; raises Cancelled where that was cancelled.
+    The text is a file, and no pipe: a long one isn't handed over piece by piece."""
     if job.cancelled:
         raise Cancelled
     with tempfile.TemporaryFile() as source:

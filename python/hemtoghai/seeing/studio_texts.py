@@ -53,8 +53,8 @@ class Texts:
 
     def changed(self, page: str, number: int, base: int, line: int, gone: int, put: list[Any], length: int) -> bytes:
         """Keeps, and gives back, the text of the number `base` with the lines `put` in place of as many as `gone` from
-        `line` on. Raises Unknown where it isn't there or the new text hasn't the page's length, TooLarge, and ValueError
-        for what are no lines of it."""
+        `line` on. Raises Unknown where it isn't there or the new text hasn't the page's length, TooLarge, and
+        ValueError for what are no lines of it."""
         with self.lock:
             old = self.pages.get(page, {}).get(base)
         if old is None:
