@@ -130,6 +130,54 @@ class Window(page.Led):
         self.wait(lambda: self.words("where").startswith("line 105"), "the cursor isn't one line lower")
         self.is_drawn(105)
 
+    def test_drag(self):
+        """A selection by the mouse goes on while the text scrolls below it, past the ends of the window."""
+        self.begin()
+        self.scroll(100)
+        mouse = lambda kind, y: self.browser.ask("POST", "/goog/cdp/execute", {
+            "cmd": "Input.dispatchMouseEvent", "params": {"type": kind, "x": x, "y": y, "button": "left", "buttons": 1,
+                                                          "clickCount": 1}})
+        x, top = self.browser.run("const box = scroller.getBoundingClientRect(); return [box.left + 59, box.top]")
+        mouse("mousePressed", top + 8 + 20 * 4)  # line 101 is the one below the line at the top
+        for number in range(200, 1700, 100):
+            self.browser.run("document.getElementById('scroller').scrollTop = 20 * (arguments[0] - 2)", number)
+            self.is_drawn(number)
+            mouse("mouseMoved", top + 30 + 20 * (number // 100 % 3))
+        mouse("mouseMoved", top + 8 + 20 * 4)
+        mouse("mouseReleased", top + 8 + 20 * 4)
+        lines = TEXT.split("\n")
+        begin, last = (self.browser.run("readSelection(); return lineAt(%s)" % it) for it in ("anchor", "head"))
+        self.assertEqual(last - begin, 1500)
+        self.assertEqual(self.selected()[0], "\n".join(lines[begin:last]) + "\n")
+        self.assertLess(self.holds(), 300)
+        self.keys(BACK)
+        self.assertEqual(self.text(), "\n".join(lines[:begin] + lines[last:]))
+
+    def test_composition(self):
+        """Letters that are put together from several keys are one step, also over a selection beyond the window."""
+        self.begin()
+        compose = lambda name, **more: self.browser.ask("POST", "/goog/cdp/execute", {"cmd": "Input." + name,
+                                                                                      "params": more})
+        self.put_cursor("# note 1600 of")
+        for part in ("k", "か", "かn", "かな"):
+            compose("imeSetComposition", text=part, selectionStart=len(part), selectionEnd=len(part))
+        compose("insertText", text="かな")
+        self.assertEqual(self.text(), TEXT.replace("# note 1600 of", "# note 1600 ofかな"))
+        self.keys(CONTROL + "z")
+        self.assertEqual(self.text(), TEXT)
+
+    def test_menu(self):
+        """The menu opens at the cursor, also where something else is in view."""
+        self.begin()
+        self.put_cursor("# note 1600 of")
+        self.scroll(100)
+        self.browser.click("#insert")
+        self.press("cue of 3 s without")
+        after = "# note 1600 of a long text\n"
+        self.wait(lambda: self.text() == TEXT.replace(after, after + "\ncue 3000\nend\n"), "nothing was written")
+        self.is_drawn(1609)
+        self.assertEqual(self.number(), ["length of cue", "3", "s"])
+
     def test_pages(self):
         """Ends and pages by keys, with Shift as well."""
         self.begin()

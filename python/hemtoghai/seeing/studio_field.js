@@ -12,6 +12,7 @@ let anchor = 0, head = 0;  // the selection: the end that stays, and the one tha
 let placed = [0, 0];  // both as they were put into the field
 let viewTop = 0, viewHeight = 600;  // what is seen of the sheet; to ask the browser each time would cost a layout
 let composing = false;
+let drag = 0;  // 0, 1 while the mouse is pressed in the field, 2 once the selection has changed since
 const within = (offset, low, high) => Math.max(low, Math.min(high, offset));
 
 // ---- the window
@@ -58,7 +59,9 @@ function resizeField() {
   holdView();
 }
 function onScroll() {
+  const isOwn = scroller.scrollTop === viewTop;  // the page scrolled, and knows where it is
   viewTop = scroller.scrollTop;
+  if (!isOwn) closeMenu(false);
   holdView();
   drawPaper();
 }
@@ -81,14 +84,14 @@ function readSelection() {
   const [a, b] = selectionDirection === "backward" ? [to, from] : [from, to];
   if (Math.min(...placed) === from && Math.max(...placed) === to) return;
   const all = from === 0 && to === heldText.length && heldText.length < textLength();
-  if (all) {  // what a menu of the browser selects as all is all that the field has
-    [anchor, head] = [0, textLength()];
-  } else {
-    if (isHeld(anchor) || a !== placed[0]) anchor = heldFrom() + a;
-    head = heldFrom() + b;
-  }
+  const stays = !isHeld(anchor) && (a === placed[0] || drag === 2), moved = a !== placed[0];
+  if (!stays) anchor = heldFrom() + a;
+  head = heldFrom() + b;
+  if (all) [anchor, head] = [0, textLength()];  // what a menu of the browser selects as all is all that the field has
+  if (drag) drag = 2;
   placed = [a, b];
   byId("editor").classList.toggle("away", !isHeld(head));
+  if (stays && moved) placeSelection();
 }
 const selectionFrom = () => Math.min(anchor, head), selectionTo = () => Math.max(anchor, head);
 function cursorLine() {
@@ -239,7 +242,8 @@ function onBeforeInput(event) {
     return event.inputType === "historyUndo" ? undo() : redo();
   }
   readSelection();
-  if (isHeld(anchor) && isHeld(head) || !event.cancelable) return null;
+  // What is dropped goes where it is dropped, and takes nothing away.
+  if (isHeld(anchor) && isHeld(head) || !event.cancelable || event.inputType === "insertFromDrop") return null;
   event.preventDefault();
   const isLine = ["insertLineBreak", "insertParagraph"].includes(event.inputType);
   const given_ = event.data ?? (event.dataTransfer ? event.dataTransfer.getData("text/plain") : "");
@@ -270,8 +274,10 @@ function bindField() {
     composing = true;
   });
   field.addEventListener("compositionend", () => { composing = false; holdView(); });
+  field.addEventListener("pointerdown", () => { drag = 1; });
+  for (const kind of ["pointerup", "pointercancel"]) addEventListener(kind, () => { readSelection(); drag = 0; });
   // The sheet scrolls, and never the field in it.
   field.addEventListener("scroll", () => { if (field.scrollTop || field.scrollLeft) field.scrollTo(0, 0); });
-  scroller.addEventListener("scroll", () => { onScroll(); closeMenu(false); });
+  scroller.addEventListener("scroll", onScroll);
   document.addEventListener("selectionchange", onCursor);
 }
