@@ -338,7 +338,7 @@ class Window(page.Led):
         """Of a text of more than 200,000 letters the browser keeps the lines that changed, and has all of it again."""
         text = TEXT + "# %s\n" % ("more " * 20) * 2500
         self.begin(text)
-        for before in ("# note 2 of", "# note 2900 of", "choreo 1"):
+        for before in ("# note 2 of", "# note 2900 of", "# note 2800 of"):  # far apart all would be kept anew
             self.put_cursor(before)
             self.browser.type(" # typed\n# and typed")
             text = text.replace(before, before + " # typed\n# and typed")
