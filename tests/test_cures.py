@@ -5,6 +5,7 @@ import io
 import os
 import random
 import sys
+import time
 import unittest
 
 import common  # by which the package is found
@@ -47,6 +48,21 @@ class Range(unittest.TestCase):
         """Where no number is found, and of other faults, it is the row of the table."""
         self.assertEqual(cures.cure_of("range", b"a b c"), cures.row_of("range"))
         self.assertEqual(cures.cure_of("bad-count", b"stray 2000"), cures.row_of("bad-count"))
+
+
+class Shown(unittest.TestCase):
+    """A line as it can be printed."""
+
+    def test_places(self):
+        for line, text, place in ((b"a\tb", "a b", None), (b"a\x01", "a\\x01", 1), (b"\xc3#", "\\xC3#", 0),
+                                  (b"a # \xc3", "a # \\xC3", None), (b"", "", None)):
+            self.assertEqual(cures.shown(line), (text, place))
+
+    def test_long(self):
+        # A line of 800,000 bytes took half a minute where each byte looked for a comment in all bytes before it.
+        begun = time.process_time()
+        self.assertEqual(cures.shown(b"1," * 400000), ("1," * 400000, None))
+        self.assertLess(time.process_time() - begun, 5)
 
 
 class Units(unittest.TestCase):

@@ -245,12 +245,14 @@ def cure_of(word: str, line: bytes, form: int = 1) -> Row | None:
 
 def shown(line: bytes) -> tuple[str, int | None]:
     """A line of a text as it can be printed, and the place of its first byte that may not stand there, or None."""
-    text, place = "", None
+    comment = line.find(b"#")
+    text: list[str] = []
+    place = None
     for at, byte in enumerate(line):
-        if place is None and b"#" not in line[:at] and byte not in (9, 13) and not 32 <= byte <= 126:
+        if place is None and (comment < 0 or at <= comment) and byte not in (9, 13) and not 32 <= byte <= 126:
             place = at
-        text += chr(byte) if 32 <= byte <= 126 else " " if byte in (9, 13) else "\\x%02X" % byte
-    return text, place
+        text.append(chr(byte) if 32 <= byte <= 126 else " " if byte in (9, 13) else "\\x%02X" % byte)
+    return "".join(text), place
 
 
 def print_cure(who: str, number: int, word: str, text: bytes) -> None:
