@@ -34,24 +34,6 @@ pub fn number(word: &[u8], low: i64, high: i64) -> Result<i64, LineKind>
     judged(text_lines::number_in(word, low, high))
 }
 
-/// The length, time or angle that a word is in a text of this form, in a range of what its place counts.
-pub fn quantity(
-    form: Form,
-    counts: Counts,
-    word: &[u8],
-    low: i64,
-    high: i64,
-) -> Result<i64, LineKind>
-    requires low { neg_ℤ (pos LARGE) <ℤ low }
-    requires high { high <ℤ pos LARGE }
-    ensures { result ≡ spec.quantity_in form counts low high word.now }
-{
-    match form {
-        Form::Whole => number(word, low, high),
-        Form::Units => judged(quantity_in(counts, word, low, high)),
-    }
-}
-
 /// The name of these bytes, which are at most 16.
 pub fn name_kept(word: &[u8]) -> Name
     requires { length word.now ≤ 16 }
@@ -122,16 +104,23 @@ fn ccw(word: &[u8]) -> Result<bool, LineKind>
 pub fn value(form: Form, want: Want, word: &[u8]) -> Result<Value, LineKind>
     ensures { result ≡ spec.value_in form want word.now }
 {
-    match want {
-        Want::Name => Ok(Value::Name(name(word)?)),
-        Want::Mirror => Ok(Value::Mirror(mirror(word)?)),
-        Want::Manner => Ok(Value::Smooth(smooth(word)?)),
-        Want::Sense => Ok(Value::Ccw(ccw(word)?)),
-        Want::Number { low, high } => { Ok(Value::Number(number(word, low as i64, high as i64)?)) }
-        Want::Quantity { counts, low, high } => {
-            Ok(Value::Number(quantity(form, counts, word, low as i64, high as i64)?))
-        }
-    }
+    // One call of `number`: so it is compiled into the loop over a line's words.
+    let (unit, low, high) = match want {
+        Want::Name => return Ok(Value::Name(name(word)?)),
+        Want::Mirror => return Ok(Value::Mirror(mirror(word)?)),
+        Want::Manner => return Ok(Value::Smooth(smooth(word)?)),
+        Want::Sense => return Ok(Value::Ccw(ccw(word)?)),
+        Want::Number { low, high } => (None, low, high),
+        Want::Quantity { counts, low, high } => match form {
+            Form::Whole => (None, low, high),
+            Form::Units => (Some(counts), low, high),
+        },
+    };
+    let read = match unit {
+        None => number(word, low as i64, high as i64)?,
+        Some(counts) => judged(quantity_in(counts, word, low as i64, high as i64))?,
+    };
+    Ok(Value::Number(read))
 }
 
 /// The word at a place.
