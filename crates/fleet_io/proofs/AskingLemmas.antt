@@ -1,5 +1,5 @@
 -- How a reader of parts asked its source, step by step.
-use Rattle.fleet_io.proofs.Prelude.{common_steps, ◌≡◌, ℕ, ◌<◌, ◌≤◌, true, false, List, [], ◌∷◌, ◌++◌, length, drop, refl, sym, ap, ◌∙◌, append_assoc, append-nil, inl, inr, ◌⊎◌, arith, Asked, Told, Took, without_last, has_whole_marker, buffer_bytes, Runs}
+use Rattle.fleet_io.proofs.Prelude.{◌≡◌, ℕ, ◌<◌, ◌≤◌, true, false, List, [], ◌∷◌, ◌++◌, length, drop, refl, sym, ap, ◌∙◌, append_assoc, append-nil, inl, inr, ◌⊎◌, arith, Asked, Told, Took, without_last, has_whole_marker, buffer_bytes, Runs}
 use Rattle.fleet_io.proofs.ToldLemmas.{unread}
 use Rattle.fleet_io.proofs.MarkLemmas.{Gathers}
 

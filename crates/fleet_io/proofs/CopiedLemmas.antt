@@ -1,5 +1,5 @@
 -- What a source in memory gives, and what a sink in memory keeps.
-use Rattle.fleet_io.proofs.Prelude.{common_steps, ◌≡◌, eqb, eqb-true, true, refl, Some, Ok, Err, IsTrue, Told, Reads, ◌∷◌, ℕ, ◌+◌, ◌-◌, ◌<◌, ◌≤◌, min, List, [], ◌++◌, length, take, drop, sym, ap, ◌∙◌, arith, take-append-add, take_at, take_min, take-append-drop, append-nil, drop-drop, drop_all, length-drop, length-take, length-append}
+use Rattle.fleet_io.proofs.Prelude.{common_steps, ◌≡◌, eqb, eqb-true, true, refl, Some, Ok, IsTrue, Told, Reads, ◌∷◌, ℕ, ◌+◌, ◌-◌, ◌<◌, ◌≤◌, min, List, [], ◌++◌, length, take, drop, sym, ap, ◌∙◌, arith, take-append-add, take_at, take_min, take-append-drop, drop-drop, drop_all, length-drop, length-take, length-append}
 
 -- the bytes that are copied are a prefix of what is left, and none only at the end
 pub gives : (bytes from buf to : List ℕ) (at cut n : ℕ) → from ≡ drop at bytes → 1 ≤ cut → n ≡ min (min (length from) cut) (length buf) → to ≡ take n from ++ drop n buf

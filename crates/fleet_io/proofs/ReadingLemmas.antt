@@ -1,5 +1,5 @@
 -- How much a reader of parts takes from its source.
-use Rattle.fleet_io.proofs.Prelude.{common_steps, ◌≡◌, ℕ, ◌+◌, ◌≤◌, Bool, true, false, List, ◌++◌, length, length-append, Option, Some, None, refl, sym, ap, ◌∙◌, inl, inr, ◌⊎◌, arith, drop, IfSome, prepend_known, rest_of, has_whole_marker, TakesFewAfter, TookMarked, Told, Took, MayGive, to_come}
+use Rattle.fleet_io.proofs.Prelude.{◌≡◌, ℕ, ◌+◌, ◌≤◌, Bool, true, false, List, ◌++◌, length, length-append, Option, Some, None, refl, sym, ap, ◌∙◌, inl, inr, ◌⊎◌, arith, drop, IfSome, prepend_known, rest_of, has_whole_marker, TakesFewAfter, TookMarked, Told, Took, MayGive, to_come}
 use Rattle.fleet_io.proofs.ToldLemmas.{consumed}
 use Rattle.fleet_io.proofs.MarkerLaws.{whole_marker-front}
 

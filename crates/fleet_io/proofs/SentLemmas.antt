@@ -1,5 +1,5 @@
 -- What has gone out of a list of bytes.
-use Rattle.fleet_io.proofs.Prelude.{◌≡◌, ℕ, List, [], ◌++◌, take, drop, Option, Some, None, sym, ap, ◌∙◌, append_assoc, Appends, take-append-drop, append-nil}
+use Rattle.fleet_io.proofs.Prelude.{◌≡◌, ℕ, List, ◌++◌, take, drop, Option, Some, None, sym, ap, ◌∙◌, append_assoc, Appends, take-append-drop}
 
 -- these bytes less the rest went out
 abbrev pub HasSent : Option (List ℕ) → Option (List ℕ) → List ℕ → List ℕ → Type 0
