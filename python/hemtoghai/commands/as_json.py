@@ -94,7 +94,8 @@ def by_why(words: list[str]) -> int:
     """Says of a refused show who is blocked, where, when, and what helps."""
     reader = companion.parser(__doc__)
     companion.add_depth(reader)
-    reader.add_argument("--most", type=int, default=20, metavar="N", help="what helps in N places, without it 20")
+    reader.add_argument("--most", type=int, default=20, metavar="N",
+                        help="remedies for at most N places, without it 20")
     reader.add_argument("show", metavar="SHOW", help="a file with a show, or - for standard input")
     options = reader.parse_args(words)
     text, flown = companion.flown_of(options.show)

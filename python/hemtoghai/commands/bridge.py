@@ -3,16 +3,16 @@
     ./show bridge [OPTIONS] SHOW
 
 The link is a simulated one, with simulated drones that keep 4,096 bytes each; --loss and the other rates spoil it. At
-the end it says how the upload ended and what each drone's memory holds. --radio DRONES is for real drones, over
-Bitcraze's library, by flying/crazyradio.py. THAT WAS NEVER TRIED with the library, a radio or a drone: try one drone
-first, without propellers. --link FILE takes the class `Link` of a Python file. Nothing here is proved; what the program
-sends and when, and what that leaves in drones as docs/RADIO.md models them, is.
+the end `bridge` reports how the upload ended and the content of each drone's memory. --radio DRONES is for real drones,
+over Bitcraze's library, by flying/crazyradio.py. THAT WAS NEVER TRIED with the library, a radio or a drone: try one
+drone first, without propellers. --link FILE takes the class `Link` of a Python file. Nothing in `bridge` is proved. The
+packets of the program and their order are proved, and so are the memories that they leave in drones as docs/RADIO.md
+models them.
 
-Once a second standard error says how many packets each drone has acknowledged. Where the upload isn't done, a line
-says which drone, which packet and which address it is about. The status is that of the upload, as docs/RADIO.md says:
-0 done; 3 to 5 the show is refused; 6 a read failed; 8 stopped before its end, by Ctrl-C or since a drone went silent;
-9 given up; 10 refused by a drone; 11 a faulty frame; 13 too many frames; 14 a memory holds something else. 70: no
-answer.
+Once a second a line on standard error says how many packets each drone has acknowledged. If the upload isn't done, a
+line names the drone, the packet and the address. The status is that of the upload, as docs/RADIO.md says: 0 done; 3 to
+5 the show is refused; 6 a read failed; 8 stopped before its end, by Ctrl-C or since a drone went silent; 9 given up; 10
+refused by a drone; 11 a faulty frame; 13 too many frames; 14 a memory holds something else. 70: no answer.
 """
 import importlib.util
 import os
@@ -110,25 +110,26 @@ def options_of(words: list[str]):
     add_depth(reader)
     reader.add_argument("--start", action="store_true", help="start the drones once all have all their bytes")
     reader.add_argument("--readback", action="store_true",
-                       help="have the program read memories back, before any start; with --radio and --link it does")
-    reader.add_argument("--no-readback", action="store_true", help="with --radio or --link: don't")
+                       help="read memories back before any start; the default with --radio and --link")
+    reader.add_argument("--no-readback", action="store_true", help="with --radio or --link: read no memory back")
     reader.add_argument("--loss", type=share, default=0.0, metavar="P", help="percent of packets lost, each way")
     reader.add_argument("--again", type=share, default=0.0, metavar="P", help="percent of packets repeated by the link")
     reader.add_argument("--late", type=share, default=0.0, metavar="P",
-                       help="percent of packets that take up to twenty times --delay longer, and so are overtaken")
+                       help="percent of packets that take up to twenty times --delay longer and are overtaken")
     reader.add_argument("--delay", type=positive, default=2.0, metavar="MS",
-                       help="milliseconds, and up to twice as many, that a packet is under way; without it 2")
+                       help="milliseconds that a packet is under way at least; at most twice as many; without it 2")
     reader.add_argument("--rate", type=positive, default=1000.0, metavar="N", help="packets a second; without it 1000")
     reader.add_argument("--seed", type=int, default=1, metavar="N", help="chooses the packets that are spoilt")
     reader.add_argument("--tick", type=positive, metavar="MS",
-                       help="milliseconds in which an answer comes; without it what the link says")
+                       help="milliseconds in which an answer comes; without it the link's own")
     reader.add_argument("--id", type=byte, metavar="ID", help="the id of the drones' memory; without it the show's")
     reader.add_argument("--memory", metavar="FOLDER", help="write each drone's memory to FOLDER/NAME.memory")
-    reader.add_argument("--link", metavar="FILE", help="a Python file whose class Link is taken for the simulated link")
-    reader.add_argument("--radio", metavar="DRONES", help="a text with a line `NAME URI` for each drone: real drones")
+    reader.add_argument("--link", metavar="FILE", help="a Python file whose class Link replaces the simulated link")
+    reader.add_argument("--radio", metavar="DRONES", help="real drones: a text with a line `NAME URI` for each")
     reader.add_argument("--repeat-starts", action="store_true",
                        help="with --radio: send starts again until they are answered; a drone begins anew at each")
-    reader.add_argument("--program", default=program.PROGRAM, metavar="FILE", help="without it that of ./show")
+    reader.add_argument("--program", default=program.PROGRAM, metavar="FILE",
+                        help="the program to run; without it that of ./show")
     reader.add_argument("show", metavar="SHOW", help="a file with a show, or - for standard input")
     options = reader.parse_args(words)
     if options.again == 100:

@@ -3,11 +3,11 @@
     ./show convert [--to 1|2] SHOW > NEW
 
 The header changes, and each number that is a length, a time or an angle; every other byte stays, with comments, blanks
-and the order of lines. Nothing is rounded: both texts are of the same show. Without --to the text comes in the form in
-which it isn't; in its own form it comes as it is. docs/LANGUAGE.md, Quantities, has both forms.
+and the order of lines. Nothing is rounded: both texts are of the same show. Without --to the text is written in the
+other form. With --to and its own form it is written unchanged. docs/LANGUAGE.md, Quantities, has both forms.
 
 The new text goes to standard output. Status 0: it was written. 2: wrong words. 3: the show is faulty, and nothing is
-written. 70: no answer, as where the new text would be longer than a show may be.
+written. 70: no answer, for example if the new text would be longer than a show may be.
 """
 from __future__ import annotations
 

@@ -1,14 +1,14 @@
 """Deals the places of formations anew to their drones, by the least sum of squared ways, and writes the show's text.
 
-At each `form` line each place of the formation goes to the drone for which the sum of all squared ways from where the
-drones then are is least; ways dealt so seldom cross. In a repeat the sum is that of all turns. Where several ways to
-deal have the least sum, as many drones as can keep the places that they have. A formation that is formed differently
-later on is written once more for that, as NAME_2. Acts and performs up to the next formation go with their places: in
-their lines the names of the drones change. Other lines stay. A `form` line at which each drone would get the place
-where it already is stays as it is written, since nobody would move.
+At each `form` line the places of the formation are assigned to the drones so that the sum of all squared ways from the
+drones' present places is least; such ways seldom cross. In a repeat the sum is that of all turns. Among several
+assignments with the least sum `deal` takes one in which the most drones keep their places. A formation that is formed
+differently later on is written once more for that, as NAME_2. Acts and performs up to the next formation go with their
+places: in their lines the names of the drones change. Other lines stay. A `form` line at which each drone would get the
+place that it already has stays as it is written, since no drone would move.
 
-The new text goes to standard output, what was done and what `check` says of it to standard error. The status is that of
-`check`; 71 where a `form` line stays since nobody would move. 70: no answer.
+The new text goes to standard output, the list of changes and the answer of `check` to standard error. The status is
+that of `check`, or 71 if a `form` line stays since no drone would move. 70: no answer.
 """
 from __future__ import annotations
 
@@ -149,7 +149,7 @@ def main(words: list[str]) -> int:
     reader = parser(__doc__)
     add_depth(reader)
     reader.add_argument("--keep", action="append", default=[], metavar="NAME",
-                       help="a formation whose places stay as they are; as often as wanted")
+                       help="a formation whose places stay as they are; may be given several times")
     reader.add_argument("show", metavar="SHOW", help="a file with a show, or - for standard input")
     options = reader.parse_args(words)
     text, flown = flown_of(options.show)

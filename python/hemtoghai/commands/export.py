@@ -1,10 +1,10 @@
-"""Writes what the drones of a plan fly as files of other programs.
+"""Writes the trajectories of a plan as files of other programs.
 
     ./show export csv PLAN FOLDER                            Crazyswarm2 and uav_trajectories: NAME.csv a drone
     ./show export skyc [--tolerance MM] PLAN|SHOW OUT.skyc   Skybrush
 
-Each format says more: ./show export csv --help. Status 0: written. 2: wrong words. 3, 4, 5: a show that is refused so.
-70: a file can't be read or written, or isn't a plan.
+Each format says more: ./show export csv --help. Status 0: written. 2: wrong words. 3, 4, 5: the show is refused with
+this status. 70: a file can't be read or written, or isn't a plan.
 """
 from __future__ import annotations
 
@@ -22,6 +22,6 @@ def main(words: list[str]) -> int:
         set_tool("export skyc")
         return export_skyc.main(words[1:])
     reader = parser(__doc__)
-    reader.add_argument("format", choices=("csv", "skyc"), help="which program reads it")
+    reader.add_argument("format", choices=("csv", "skyc"), help="the program that reads the files")
     reader.parse_args(words)
     return 2

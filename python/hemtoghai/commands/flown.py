@@ -3,23 +3,23 @@
     ./show flown [--stray R] [--late L] [--gap G] SHOW LOG.csv
 
 NEVER TRIED with a log of real drones, only with those of `./show fly --simulate`. Each row of the log has
-`time,drone,x,y,z`: seconds since the start, the drone's name, metres; a first row with these names may bring them in
-another order, among others. A column `stamp`, the drone's own milliseconds, is used for the time where it is there, as
-`fly` writes it, since packets are late by chance and a drone's clock isn't. Rows before the start and after the end
-are left out.
+`time,drone,x,y,z`: seconds since the start, the drone's name, metres; a first row with these names may have them in
+another order, and more columns. If there is a column `stamp` with the drone's own milliseconds, as `fly` writes it, it
+is used for the time, since packets are late by chance and a drone's clock isn't. Rows before the start and after the
+end are left out.
 
-R and L are the show's `stray` and `late` lines, unless they are given. The question: at each sample, was the drone
-within R mm of a place of its curve that it should have had at most L / 2 ms earlier or later, all drones by one
+Without the options R and L are those of the show's lines `stray` and `late`. The question: at each sample, was the
+drone within R mm of a place of its curve that it should have had at most L / 2 ms earlier or later, all drones by one
 clock? Then any two of them were near to their curves at instants at most L ms apart, which is the premise under which
-the show keeps its drones apart. The clock is set so that as few samples as can be are outside. A drone's best start
-is the one with which the greatest of its distances is least: `late ms` is how much later than the log's zero it is,
-and `-` where it doesn't matter. THIS LOOKS AT SAMPLES: between two of them nothing is known, places are those that
-drones estimate of themselves, and the time is that of the log.
+the show keeps its drones apart. The clock is set so that the fewest samples are outside. A drone's best start is the
+one with which the greatest of its distances is least: `late ms` is how much later than the log's zero it is, and `-`
+where it doesn't matter. THIS LOOKS AT SAMPLES: between two of them nothing is known, places are those that drones
+estimate of themselves, and the time is that of the log.
 
-`KEPT` is said of a log that covers the show: each drone has at least 5 samples, and none is more than G ms, 1000
-without the option, after the one before, the begin of the show and its end counted as samples. Of any other log it is
-`NOT KEPT` or `NOT KNOWN`. A number that isn't finite makes a log none. Status 0: kept. 1: not kept or not known. 70: no
-answer.
+The verdict is `KEPT` only for a log that covers the show: each drone has at least 5 samples, and none is more than G
+ms, 1000 without the option, after the one before, the begin of the show and its end counted as samples. For any other
+log it is `NOT KEPT` or `NOT KNOWN`. A log with a number that isn't finite is refused. Status 0: kept. 1: not kept or
+not known. 70: no answer.
 """
 import argparse
 import csv
@@ -205,11 +205,11 @@ def options_of(words: list[str]) -> argparse.Namespace:
     """The tool's words."""
     reader = parser(__doc__)
     reader.add_argument("--stray", type=finite.option(0, 100000), metavar="R",
-                       help="millimetres from the curve; as the show has it")
+                       help="millimetres from the curve; without it the show's")
     reader.add_argument("--late", type=finite.option(0, 100000), metavar="L",
-                       help="milliseconds between drones; as the show has it")
+                       help="milliseconds between drones; without it the show's")
     reader.add_argument("--gap", type=finite.option(1, 100000), default=GAP, metavar="G",
-                       help="milliseconds without a sample at most; %d" % GAP)
+                       help="the longest gap between samples in milliseconds; without it %d" % GAP)
     reader.add_argument("show", metavar="SHOW", help="a file with a show, or - for standard input")
     reader.add_argument("log", metavar="LOG", help="the flight's log, a CSV file")
     return reader.parse_args(words)

@@ -9,13 +9,14 @@
 NEVER TRIED with a file that another program wrote: the readers are from memory of the formats.
 
 All drones are cut at common instants. Between two of them each flies a curve with the file's place and velocity at
-both, a line, or holds. E is how far that is from the file at most, at every instant: worked out in exact fractions,
-with the program's rounding to whole millimetres. The ellipsoid of the show is the wanted one times 1 + E / (the smaller
-half axis). So status 0 of `check` says of the file's own curves that the wanted ellipsoids keep apart, if this tool
-reads the file as its own program flies it.
+both, a line, or holds. E is a bound on the distance between these curves and the file's, at every instant: it is
+computed in exact fractions, with the program's rounding to whole millimetres. The ellipsoid of the show is the wanted
+one times 1 + E / (the smaller half axis). So status 0 of `check` means that the wanted ellipsoids around the file's own
+curves keep apart, if this tool reads the file as its own program flies it.
 
-Status 0: written, and within the tolerance. 1: written, but farther. 2: wrong words. 3: a faulty file, or too many
-drones or cues, or too far away. 4: no room in a drone's memory. With --judge that of `check`. 70: no answer.
+Status 0: written, and within the tolerance. 1: written, but farther from the file than the tolerance. 2: wrong words.
+3: a faulty file, too many drones or cues, or a place that is too far away. 4: no room in a drone's memory. With --judge
+the status is that of `check`. 70: no answer.
 """
 from __future__ import annotations
 
@@ -208,19 +209,21 @@ def options_of(words: list[str]) -> argparse.Namespace:
     reader.add_argument("--waypoints", action="store_true", help="the files are waypoints, joined by lines")
     reader.add_argument("--smooth", action="store_true", help="the files are waypoints, joined by a smooth spline")
     reader.add_argument("--tolerance", type=amount(1000), default=10.0, metavar="MM",
-                       help="how far what is flown may leave the file; 10")
-    reader.add_argument("--yaw-tolerance", type=amount(360), default=3.0, metavar="DEGREES", help="the same of yaw; 3")
+                       help="the greatest deviation from the file; without it 10")
+    reader.add_argument("--yaw-tolerance", type=amount(360), default=3.0, metavar="DEGREES",
+                        help="the same for yaw; without it 3")
     reader.add_argument("--least", type=numbers((1, 65535)), default=50, metavar="MS",
-                       help="no cue is shorter, but for the two before a rest or the end; 50")
+                       help="the shortest cue, except for the two before a rest or the end; without it 50")
     reader.add_argument("--loose", action="store_true",
                        help="fewer cues: drones at rest may stray within the tolerance, too")
     reader.add_argument("--ellipsoid", type=numbers((1, 2000), (1, 2000)), default=(120, 300), metavar="'R H'",
-                       help="the half axes that are wanted around the file's own curves, in mm; '120 300'")
+                       help="the wanted half axes around the file's own curves, in mm; without it '120 300'")
     reader.add_argument("--memory", type=numbers((0, 255), (0, 4095)), default=(2, 0), metavar="'ID OFFSET'",
-                       help="the show's line; '2 0'")
+                       help="the show's line `memory`; without it '2 0'")
     reader.add_argument("--form", type=int, choices=sorted(choreo.FORMS.values()), default=NEWEST,
-                        help="of the language: 2, with units, or 1, in whole numbers; 2")
-    reader.add_argument("--starts", metavar="FILE", help="name,x,y,z a row (metres), added to polynomials")
+                        help="the form of the language: 2, with units, or 1, in whole numbers; without it 2")
+    reader.add_argument("--starts", metavar="FILE",
+                        help="a CSV file with name,x,y,z a row (metres), added to polynomials")
     reader.add_argument("--judge", action="store_true", help="write no show: judge the file's own curves")
     add_depth(reader, "of --judge: 0 to 8, without it 6")
     reader.add_argument("files", nargs="+", metavar="FILE", help="one .skyc, or CSV files")

@@ -6,11 +6,11 @@
 It reads the plan, as docs/TRAJECTORY.md and docs/RADIO.md have its bytes and packets, the show's lines `drone`,
 `ellipsoid` (120 300 without one), `stray` and `late` (0 without them), and the certificate of either version, as
 docs/SEPARATION.md has it; nothing else. The plan has to be whole: it ends with `end`, its packets bring the bytes that
-are judged, and its drones are those of the show, in its order and at its places.
-The plan joins holds, so where all drones hold a stretch of time may be one cue or several: any way to cut it for which
-every tree is right will do, since each of them shows that all drones are apart at every instant. Status 0: the
-certificate is right. 12: it isn't, and the first tree that can't be right is named. 11: it is no certificate. 70: a
-file can't be read or is no plan of this show.
+are judged, and its drones are those of the show, in its order and at its places. The plan joins holds, so a stretch of
+time in which all drones hold may be one cue or several: `judge` accepts any way to cut it for which every tree is
+right, since each of them shows that all drones are apart at every instant. Status 0: the certificate is right. 12: it
+isn't, and the first tree that can't be right is named. 11: it is no certificate. 70: a file can't be read or is no plan
+of this show.
 """
 from __future__ import annotations
 

@@ -3,15 +3,17 @@ land.
 
     ./show legs [OPTIONS] SHOW [PADS]
 
-PADS is a text with a line `NAME X Y Z` for each drone, in micrometres: where it stands. Without it each drone stands
-straight below its first place, at height 0. Each leg is written as a show, up.choreo and down.choreo: of commands that
-the firmware flies from rest to rest, as the act `move` has it. `check` judges them, with the show's ellipsoid, with
-30 mm more of `stray` and a `late` of at least 300 ms: commands go out drone by drone. What `check` refuses as a whole
-is judged stage by stage: then each stage begins when the one before has ended, and so does `fly`. Two that both stand
-on their pads aren't judged with each other there: their pads have to be 150 mm apart.
+PADS is a text with a line `NAME X Y Z` for each drone, the place of its pad in micrometres. Without it each drone
+stands straight below its first place, at height 0. The way up and the way down are written as shows, up.choreo and
+down.choreo, made of commands that the firmware flies from rest to rest, as the act `move`. `check` judges them, with
+the show's ellipsoid, with 30 mm more of `stray` and a `late` of at least 300 ms: commands go out drone by drone. A way
+that `check` refuses as a whole is judged stage by stage: then each stage begins when the one before has ended, and
+`fly` flies it so. Two drones that both stand on their pads aren't judged with each other there: their pads have to be
+150 mm apart.
 
-The last lines say at which instants of the show all may land straight down, by `check` as well: where a drone that
-brakes at 5 m/s^2, 0.1 s after it should, is carried on, and between half of `late` earlier and later.
+The last lines list the instants of the show at which all may land straight down, by `check` as well. It is asked about
+the places to which a drone drifts if it brakes at 5 m/s^2, 0.1 s after it should, from half of `late` earlier to half
+of it later.
 
 Status 0: both legs are accepted. 2: wrong words. 3 to 5: the show is refused. 16: there is no way up or down. 70: no
 answer. NO DRONE EVER FLEW A LEG: take-off, go-to and landing are from memory of the firmware.
@@ -42,9 +44,10 @@ def write(leg, path, name, show, top):
 
 def main(words: list[str]) -> int:
     reader = parser(__doc__)
-    reader.add_argument("--out", metavar="FOLDER", default=".", help="where the two shows are written; here without it")
+    reader.add_argument("--out", metavar="FOLDER", default=".", help="the folder of the two shows; without it this one")
     reader.add_argument("--below", action="store_true", help="land below the last places, and not on the pads")
-    reader.add_argument("--ceiling", type=int, metavar="MM", help="nobody is lifted higher than this on the ways")
+    reader.add_argument("--ceiling", type=int, metavar="MM",
+                        help="the greatest height to which a drone is lifted on the ways")
     reader.add_argument("--dry", action="store_true", help="write no files")
     reader.add_argument("show", metavar="SHOW", help="a file with a show, or - for standard input")
     reader.add_argument("pads", metavar="PADS", nargs="?", help="a text with a line `NAME X Y Z` for each drone")

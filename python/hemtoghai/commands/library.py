@@ -1,15 +1,16 @@
-"""Makes the library: the proved judge for programs in C and in what calls C.
+"""Makes the library: the proved judge for programs in C and in languages that call C.
 
     ./show library [--kept] [--out FOLDER]
 
-FOLDER, without it library/out, has then include/hemtoghai.h, lib/libhemtoghai.a, lib/libhemtoghai.so with its two
-other names, lib/pkgconfig/hemtoghai.pc, and MANIFEST.json: version, commit, toolchain, the SHA-256 of each file, of the
-sources and of the program's, and the last line of the proof of crates/hemtoghai, which names what it rests on.
-`import hemtoghai` takes the library of library/out where the program is of the same sources. Both libraries show the names hemtoghai_run and hemtoghai_version, and no other. It takes the toolchain and a C compiler (the
-one that CC names, or cc) with ld, ar, nm, objcopy and size. Where `rt ci` has proved these crates on this machine, the
-crate itself is all that is proved once more; else `rt lib` proves first what isn't proved, or with --kept nothing is
-made. The library runs on x86-64 with the instructions of x86-64-v2. Status 0: the library is written. 70: it isn't.
-75: with --kept, `rt ci` has kept too little on this machine.
+FOLDER (library/out without the option) then has include/hemtoghai.h, lib/libhemtoghai.a, lib/libhemtoghai.so with its
+two other names, lib/pkgconfig/hemtoghai.pc, and MANIFEST.json: version, commit, toolchain, the SHA-256 of each file, of
+the sources and of the program's, and the last line of the proof of crates/hemtoghai, which lists everything on which it
+rests. `import hemtoghai` takes the library of library/out if the program is of the same sources. Both libraries export
+the names hemtoghai_run and hemtoghai_version, and no other. The command needs the toolchain and a C compiler (the one
+that CC names, or cc) with ld, ar, nm, objcopy and size. If `rt ci` has proved these crates on this machine, only the
+crate itself is proved once more. Else `rt lib` first proves the missing ones, or with --kept nothing is made. The
+library runs on x86-64 with the instructions of x86-64-v2. Status 0: the library is written. 70: it isn't. 75: with
+--kept, `rt ci` has kept too little on this machine.
 """
 from __future__ import annotations
 
@@ -199,8 +200,10 @@ def stamps() -> dict[str, str]:
 def main(words: list[str]) -> int:
     """Makes the library; the status."""
     reader = parser(__doc__)
-    reader.add_argument("--out", default=os.path.join(SOURCES, "out"), metavar="FOLDER", help="where the library goes")
-    reader.add_argument("--kept", action="store_true", help="only over what rt ci has proved and kept on this machine")
+    reader.add_argument("--out", default=os.path.join(SOURCES, "out"), metavar="FOLDER",
+                        help="the folder of the library; without it library/out")
+    reader.add_argument("--kept", action="store_true",
+                        help="only over crates that rt ci has proved and kept on this machine")
     given = reader.parse_args(words)
     out = os.path.abspath(given.out)
     if os.path.exists(program.MANIFEST):

@@ -5,10 +5,10 @@
 
 It has a view in space that turns with the mouse, also from above and from the sides, with paths, names, ellipsoids and
 regions; the heights, the nearest pair over time as a share of what the ellipsoids need, and a slider that moves the
-drones. Positions of an accepted show are those that the program's `play` writes; those of a show refused for nearness
-or room are worked out by the tool, and what is refused is marked, the pair that comes nearest first. With --svg it is
-one drawing, of positions that the tool works out. The page looks at single instants and proves nothing. Status 0: the
-page is written, also of a show that is refused with 4 or 5; 3: the show is faulty. 70: no answer.
+drones. Positions of an accepted show are those that the program's `play` writes; the tool computes those of a show that
+is refused for nearness or room, and marks the refused places, the pair that comes nearest first. With --svg it is one
+drawing, with positions that the tool computes. The page looks at single instants and proves nothing. Status 0: the page
+is written, even for a show that is refused with 4 or 5; 3: the show is faulty. 70: no answer.
 """
 from __future__ import annotations
 
@@ -95,10 +95,11 @@ def main(words: list[str]) -> int:
     reader = parser(__doc__)
     add_depth(reader)
     reader.add_argument("--step", type=step, metavar="MS",
-                       help="milliseconds from one sample to the next, 1 to 60000; without it what suits the show")
+                       help="milliseconds from one sample to the next, 1 to 60000; without it by the show's length")
     reader.add_argument("--regions", metavar="FILE", help="boxes and volumes to draw: the regions of `boxes`")
     reader.add_argument("--svg", action="store_true", help="one drawing in place of a page")
-    reader.add_argument("--program", default=program.PROGRAM, metavar="FILE", help="without it that of ./show")
+    reader.add_argument("--program", default=program.PROGRAM, metavar="FILE",
+                        help="the program to ask; without it that of ./show")
     reader.add_argument("show", metavar="SHOW", help="a file with a show, or - for standard input")
     options = reader.parse_args(words)
     text, flown = flown_of(options.show)

@@ -3,21 +3,21 @@ a wheel with the program and the companions.
 
     ./show release [--out FOLDER] [--changed]
 
-hemtoghai-VERSION-x86_64-linux.tar.gz runs without the toolchain, with Python 3.9 or later, on x86-64 with glibc 2.34
-or later. VERSION is what the file VERSION says. The library is in library/out, as ./show library makes it, with its own
-manifest. MANIFEST.json says which build it is: version, commit, toolchain, the SHA-256 of each file, and the last line
-of the build, which names what the proof rests on. ./show of a release runs no other program than the one of the
-manifest, and ./show --version prints the manifest, each file that differs from it, and each that was added. README.md
-is the one of a release, launching/release.md. There are no crates in it: whoever wants to read what is proved takes the
-commit.
+hemtoghai-VERSION-x86_64-linux.tar.gz runs without the toolchain, with Python 3.9 or later, on x86-64 with glibc 2.34 or
+later. VERSION is the content of the file VERSION. The library is in library/out, as ./show library makes it, with its
+own manifest. MANIFEST.json identifies the build: version, commit, toolchain, the SHA-256 of each file, and the last
+line of the build, which lists everything on which the proof rests. ./show of a release runs no other program than the
+one of the manifest, and ./show --version prints the manifest, each file that differs from it, and each that was added.
+README.md is the one of a release, launching/release.md. There are no crates in it: to read the definitions and proofs,
+take the commit.
 
 hemtoghai-VERSION-py3-none-manylinux_2_34_x86_64.whl is what pip installs: `import hemtoghai` and the command hemtoghai,
-with a manifest of its own. It is made by setuptools, without a network; where setuptools or wheel isn't installed it
-isn't made, and a line says so. The same commit, program and library make the same bytes of both.
+with a manifest of its own. Setuptools makes it, without a network; if setuptools or wheel isn't installed no wheel is
+made, and a line says so. The same commit, program and library make the same bytes of both.
 
-Refused where the program or the library isn't the one of these sources, by the stamps that ./show and ./show library
-wrote when they proved them, whatever the times of files; where the last line of a build is missing; and, without
---changed, where files differ from the commit. Status 0: the files are written. 70: they aren't.
+`release` refuses a program or a library that isn't the one of these sources, by the stamps that ./show and ./show
+library wrote when they proved them, whatever the times of files. It refuses a build without its last line, and, without
+--changed, files that differ from the commit. Status 0: the files are written. 70: they aren't.
 """
 from __future__ import annotations
 
@@ -161,7 +161,7 @@ def make_wheel(record: Record, contents: Contents, changed: bool, out: str) -> N
 
 def main(words: list[str]) -> int:
     reader = parser(__doc__)
-    reader.add_argument("--out", default=".", metavar="FOLDER", help="where the archive goes; without it here")
+    reader.add_argument("--out", default=".", metavar="FOLDER", help="the folder of the archive; without it this one")
     reader.add_argument("--changed", action="store_true", help="release files that differ from the commit")
     options = reader.parse_args(words)
     record, changed = judged_record(options.changed), git("status", "--porcelain") != ""

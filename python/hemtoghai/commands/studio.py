@@ -5,9 +5,9 @@
 
 The page has the text at the left and the flight at the right. At each pause of typing `check` judges the text: whether
 any two drones ever come too close, at every instant. With --watch you keep your own editor, and the page follows the
-file. A show that isn't there begins as a template, and only Save writes it. Save keeps the file that was there as
-SHOW~. The page is served on 127.0.0.1 to anybody who has the address that is printed; Ctrl-C ends the studio. Where the
-program isn't built, or nothing is known of its proof, the page says NOT PROVED. Status 0: ended. 2: wrong words. 70: no
+file. A show that doesn't exist yet begins as a template, and only Save writes it. Save keeps the previous file as
+SHOW~. The page is served on 127.0.0.1 to anybody who has the address that is printed; Ctrl-C ends the studio. If the
+program isn't built, or no record has its proof, the page says NOT PROVED. Status 0: ended. 2: wrong words. 70: no
 answer.
 """
 from __future__ import annotations
@@ -221,10 +221,12 @@ def read_words(words: list[str]) -> argparse.Namespace:
     reader = parser(__doc__)
     add_depth(reader)
     reader.add_argument("--watch", action="store_true", help="no editor: the page follows the file")
-    reader.add_argument("--port", type=port, metavar="N", help="without it the one that this file has each time")
+    reader.add_argument("--port", type=port, metavar="N",
+                        help="the port; without it one that is the same each time for this file")
     reader.add_argument("--no-open", action="store_true", help="open no browser")
-    reader.add_argument("--regions", metavar="FILE", help="a room and what stands in it: the regions of `boxes`")
-    reader.add_argument("--program", default=program.PROGRAM, metavar="FILE", help="without it that of ./show")
+    reader.add_argument("--regions", metavar="FILE", help="a room and the obstacles in it: the regions of `boxes`")
+    reader.add_argument("--program", default=program.PROGRAM, metavar="FILE",
+                        help="the program to ask; without it that of ./show")
     reader.add_argument("show", metavar="SHOW", help="a file with a show, or the name of a new one")
     options = reader.parse_args(words)
     look_at(options.show)

@@ -2,9 +2,9 @@
 down, settings.
 
 Bounds on acceleration and jumps of speed are those of the program's `dynamics`, on x, y and z; without the program
-there are none. Speeds are looked at in 32 places a cue, from the curves as they are sent, and prove nothing. With --margin the
-ellipsoid, the stray and the lateness are each grown as far as `check` still accepts the show, the other two as they are
-set. The status is 0, or that of a faulty show. 70: no answer.
+there are none. Speeds are sampled at 32 instants of each cue, from the curves that are sent, and prove nothing. With
+--margin the ellipsoid, the stray and the lateness are each increased as far as `check` accepts the show, with the other
+two as they are set. The status is 0, or that of a faulty show. 70: no answer.
 """
 from __future__ import annotations
 
@@ -165,7 +165,8 @@ def main(words: list[str]) -> int:
     add_depth(reader, "for --margin, as for check: 0 to 8, without it 6")
     reader.add_argument("--margin", action="store_true", help="how far ellipsoid, stray and lateness can grow")
     reader.add_argument("--pairs", type=int, default=6, metavar="N", help="the N nearest pairs, without it 6")
-    reader.add_argument("--cues", action="store_true", help="the cue sheet: when each cue is, its line, who does what")
+    reader.add_argument("--cues", action="store_true",
+                        help="the cue sheet: the time of each cue, its line, and the drones that move")
     reader.add_argument("--program", metavar="PATH", help="the program to ask, if not the one that is built here")
     reader.add_argument("show", metavar="SHOW", help="a file with a show, or - for standard input")
     options = reader.parse_args(words)

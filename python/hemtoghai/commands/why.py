@@ -1,8 +1,8 @@
-"""Says where and when drones of a show come too close, or why a show has no room, and what to change.
+"""Says where and when drones of a show come too close, or why a show has no room, and lists changes that help.
 
-It computes the flight by itself and proves nothing; where the program is built, `check` is asked and its answer stands
-first. With --cured it writes the show with what helps, place by place, and of several cures the one that makes the show
-least longer. The status is that of the show: 0 where nothing is wrong, 5 or 4 where it is refused so. 70: no answer.
+It computes the flight by itself and proves nothing; if the program is built, the first line is the answer of `check`.
+With --cured it writes the show with remedies, place by place, and takes among several the one that adds the least time.
+The status is that of the show: 0 if it is accepted, 5 or 4 if it is refused. 70: no answer.
 """
 from __future__ import annotations
 
@@ -315,7 +315,7 @@ def main(words: list[str]) -> int:
     reader = parser(__doc__)
     add_depth(reader)
     reader.add_argument("--most", type=int, default=20, metavar="N", help="show at most N places, without it 20")
-    reader.add_argument("--cured", metavar="FILE", help="write the show with what helps")
+    reader.add_argument("--cured", metavar="FILE", help="write the show with remedies to FILE")
     reader.add_argument("show", metavar="SHOW", help="a file with a show, or - for standard input")
     options = reader.parse_args(words)
     text, flown = flown_of(options.show)

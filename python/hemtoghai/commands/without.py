@@ -2,14 +2,14 @@
 
     ./show without [--depth D] SHOW NAME .. > NEW
 
-For the day on which a drone stays in its box. The lines of these drones, their places in formations and their acts
-go; all other lines stay byte for byte. A formation that is left without a place goes, with the `form` lines that name
-it. A figure loses the roles that these drones have in every perform of it. Where performs of it differ in that, each
-that needs it gets a figure of its own, under a new name. A perform of which all drones are gone stays as a pause of
-the same length, so that no later cue comes earlier.
+For the day on which a drone stays in its box. The lines of these drones, their places in formations and their acts go;
+all other lines stay byte for byte. A formation that is left without a place goes, with the `form` lines that name it. A
+figure loses the roles that these drones have in every perform of it. If performs of it lose different roles, each that
+needs it gets a figure of its own, under a new name. A perform that has lost all its drones stays as a pause of the same
+length, so that no later cue comes earlier.
 
-What `check` says of the new show is written to standard error, and the status is that of `check`. 2: wrong words, as
-where no drone would be left. 3: the show is faulty. 70: no answer.
+The answer of `check` to the new show goes to standard error, and the status is that of `check`. 2: wrong words, for
+example if no drone would be left. 3: the show is faulty. 70: no answer.
 """
 from __future__ import annotations
 

@@ -18,10 +18,10 @@ USAGE = """usage: ./show COMMAND [OPTIONS] [FILE]
 
 %s
 
-Options may stand before and after the files. Without a file, or with -, the input is standard input; where
-there are two parts a line %%%% is between them. --proved builds nothing, and runs the program only where its
-record says that it was proved. --unproved runs the sources without a proof: in about a minute the first
-time, at once after that. --version says which build of the program this is: note it with each plan.
+Options may stand before and after the files. Without a file, or with -, the input is standard input; if there
+are two parts a line %%%% is between them. --proved builds nothing, and runs the program only if its record says
+that it was proved. --unproved runs the sources without a proof: in about a minute the first time, at once
+after that. --version identifies the build of the program: note it with each plan.
 
 %s
 
@@ -35,7 +35,7 @@ docs/TOOLS.md.
 # The words that aren't the program's own, as a user meets them, and the purpose of each.
 PURPOSES = {
     "studio": "write a show in the browser, with the proof while you type",
-    "why": "where and when drones come too close, and what helps",
+    "why": "where and when drones come too close, and remedies",
     "summary": "room, speeds, jumps of speed, nearest pairs, settings",
     "picture": "the flight as one page for any browser",
     "deal": "the show with formations dealt so that ways are short",
@@ -46,7 +46,7 @@ PURPOSES = {
     "judge": "a second opinion on a certificate",
     "legs": "the ways up from the pads and down again, judged",
     "fly": "a flight, simulated or with drones",
-    "flown": "whether a flight's log kept to what the proof assumes",
+    "flown": "whether the drones of a flight's log stayed within the premises of the proof",
     "bridge": "the upload alone, over a link",
     "library": "the judge as a library for C, C++ and Rust",
     "manual": "the manual page, and completion for Bash",
