@@ -49,7 +49,13 @@ const ENDS: [Row; 10] = [
     (TEXTS, b"\x09", 11, b"\x45\x0B"),
     // A drone that isn't there.
     (TEXTS, b"\x03\x01\x00", 11, b"\x45\x0B"),
-    (APART, EVENTS, 19, b"\x45\x13"),
+    // The gap of drone 0 between its way up and the show.
+    (
+        APART,
+        EVENTS,
+        19,
+        b"\x05\x01\x00\x00\x00\x00\x45\x13",
+    ),
     (b"choreo 3\n%%\n", EVENTS, 3, b"\x45\x03"),
     (SECOND_FAULTY, EVENTS, 3, b"\x45\x03"),
     (b"", b"", 3, b"\x45\x03"),
@@ -74,7 +80,7 @@ fn a_flight_of_a_wide_start(rt: HostRuntime) -> Result<(), Fail> {
             TEXTS,
             EVENTS,
             19,
-            b"\x45\x13"
+            b"\x05\x05\x00\x00\x00\x00\x45\x13"
         )?
     );
     assert!(rt;

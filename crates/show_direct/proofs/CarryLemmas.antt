@@ -1,5 +1,5 @@
 -- An exchange that is carried, from what its steps did.
-use Rattle.std.proofs.Common.{◌≡◌, inl, inr, ℕ, ◌+◌, ◌<◌, ◌≤◌, Bool, true, false, List, [], ◌∷◌, ◌++◌, Contains, append_assoc, append-nil, length, length-append, Option, Some, None, refl, sym, ap, subst, ◌∙◌, arith}
+use Rattle.std.proofs.Common.{◌≡◌, ◌⊎◌, inl, inr, ℕ, ◌+◌, ◌<◌, ◌≤◌, Bool, true, false, List, [], ◌∷◌, ◌++◌, Contains, append_assoc, append-nil, length, length-append, Option, Some, None, refl, sym, ap, subst, ◌∙◌, arith}
 use Rattle.std.proofs.lemmas.Grind.{common_steps}
 use Rattle.std.proofs.lemmas.List.{append_cancel_left, append_cancel_right}
 use Rattle.std.specs.Io.KnownBytes.{Appends}
@@ -29,26 +29,37 @@ use Rattle.show_direct.specs.declared.reading.Unread.{Unread}
 use Rattle.show_direct.specs.declared.reading.Unread.TheVariants as unread
 use Rattle.show_direct.specs.Exchanges.{Accepts, Exchange, TextStops, text_exchange, text_verb, text_ways}
 use Rattle.show_direct.specs.Direct.{HasBegun}
+use Rattle.show_direct.specs.Frames.{no_flight_byte}
 use Rattle.show_direct.specs.Steps.{AreMarked, Carries, EndsBy, IsCut, IsRead, IsUnread, direct_statuses}
 
 -- ---- what was written
 
--- a byte that begins no end frame isn't the first of one
-pub never_front : (status : ℕ) (old new : Option (List ℕ)) → AppendsFront old new (end_frame status) → HasBegun old new → ⊥
-never_front status old new (sent, rest, e, appends) (before, later, byte, is, is_new, other) =
+-- a byte that begins neither an end frame nor the frame of a cause isn't the first of one
+pub never_front : (first : ℕ) (others : List ℕ) (old new : Option (List ℕ)) → (first ≡ end_byte) ⊎ (first ≡ no_flight_byte) → AppendsFront old new (first ∷ others) → HasBegun old new → ⊥
+never_front first others old new ends (sent, rest, e, appends) (before, later, byte, is, is_new, no_end, no_cause) =
     let grown : before ++ byte ∷ later ≡ before ++ sent = rw (is, is_new) at appends in
     let same : byte ∷ later ≡ sent = append_cancel_left before (byte ∷ later) sent grown in
-    let whole : end_byte ∷ status ∷ [] ≡ byte ∷ (later ++ rest) = e ∙ ap (λ (xs : List ℕ). xs ++ rest) (sym same) in
-    let first : byte ≡ end_byte = cc in
-    other first
+    let whole : first ∷ others ≡ byte ∷ (later ++ rest) = e ∙ ap (λ (xs : List ℕ). xs ++ rest) (sym same) in
+    let begins : byte ≡ first = cc in
+    elim ends [
+      | inl ending ↦ no_end (begins ∙ ending)
+      | inr cause ↦ no_cause (begins ∙ cause)
+    ]
 
-pub never_appended : (status : ℕ) (old new : Option (List ℕ)) → Appends old new (end_frame status) → HasBegun old new → ⊥
-never_appended status old new appends begun =
-    never_front status old new (end_frame status, [], sym (append-nil (end_frame status)), appends) begun
+pub never_appended : (first : ℕ) (others : List ℕ) (old new : Option (List ℕ)) → (first ≡ end_byte) ⊎ (first ≡ no_flight_byte) → Appends old new (first ∷ others) → HasBegun old new → ⊥
+never_appended first others old new ends appends begun =
+    never_front first others old new ends (first ∷ others, [], sym (append-nil (first ∷ others)), appends) begun
+
+-- nor the first of an end frame alone
+never_end_front : (status : ℕ) (old new : Option (List ℕ)) → AppendsFront old new (end_frame status) → HasBegun old new → ⊥
+never_end_front status old new front begun = never_front end_byte (status ∷ []) old new (inl refl) front begun
+
+never_end : (status : ℕ) (old new : Option (List ℕ)) → Appends old new (end_frame status) → HasBegun old new → ⊥
+never_end status old new appends begun = never_appended end_byte (status ∷ []) old new (inl refl) appends begun
 
 -- nor is anything where nothing was written
 never_same : (old new : Option (List ℕ)) → new ≡ old → HasBegun old new → ⊥
-never_same old new same (before, later, byte, is, is_new, other) =
+never_same old new same (before, later, byte, is, is_new, no_end, no_cause) =
     let both : Some before ≡ Some (before ++ byte ∷ later) = sym is ∙ sym same ∙ is_new in
     let grown : before ≡ before ++ byte ∷ later = cc in
     omega (arith, ap (λ (xs : List ℕ). length xs) grown, length-append before (byte ∷ later))
@@ -169,7 +180,7 @@ carried_refusal show marker depth next bytes left ended m r status is of_input f
       prompt = λ seven. absurd (judged.2 (sym e ∙ seven));
       ends = λ j. record { accepted = λ s accepts. absurd (refused_none show depth bytes r is s accepts); refused = λ none. few };
       begun = elim [
-        | inl began ↦ absurd (never_appended (status_of r) m.written m.written_after appends began)
+        | inl began ↦ absurd (never_end (status_of r) m.written m.written_after appends began)
         | inr done ↦ absurd (refused_some r (sym e ∙ done))
       ];
       known = subst (Contains direct_statuses) (sym e) (refused_among r of_input);
@@ -187,7 +198,7 @@ carried_refusal show marker depth next bytes left ended m r status is of_input f
       (accepts_as depth taken bytes s (sym (ap (λ (xs : List ℕ). part_of xs) split ∙ (marker taken left whole).0)) accepts));
   ends = λ j. absurd (j.2 e);
   begun = elim [
-    | inl began ↦ absurd (never_front (status_of r) m.written m.written_after front began)
+    | inl began ↦ absurd (never_end_front (status_of r) m.written m.written_after front began)
     | inr done ↦ absurd (omega (arith, done, e))
   ];
   known = subst (Contains direct_statuses) (sym e) (6, omega arith, refl);
@@ -216,7 +227,7 @@ carried_failed depth next bytes left taken ended m status unmet rose is none lat
         prompt = λ seven. absurd (omega (arith, seven, e));
         ends = λ j. absurd (j.1 e);
         begun = elim [
-          | inl began ↦ absurd (never_appended 6 m.written m.written_after appends began)
+          | inl began ↦ absurd (never_end 6 m.written m.written_after appends began)
           | inr done ↦ absurd (omega (arith, done, e))
         ];
         known = subst (Contains direct_statuses) (sym e) (5, omega arith, refl);
@@ -234,7 +245,7 @@ carried_failed depth next bytes left taken ended m status unmet rose is none lat
             cc);
         ends = λ j. absurd (j.2 e);
         begun = elim [
-          | inl began ↦ absurd (never_front 6 m.written m.written_after front began)
+          | inl began ↦ absurd (never_end_front 6 m.written m.written_after front began)
           | inr done ↦ absurd (omega (arith, done, e))
         ];
         known = subst (Contains direct_statuses) (sym e) (6, omega arith, refl);

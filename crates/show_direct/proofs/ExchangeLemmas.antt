@@ -20,6 +20,7 @@ use Rattle.show_judge.specs.Shows.{cut_of}
 use Rattle.show_judge.specs.Verb.{Outcome, outcome}
 use Rattle.show_direct.specs.declared.options.Options.{Options}
 use Rattle.show_direct.specs.Flights.{flight_of}
+use Rattle.show_direct.specs.Frames.{no_flight_bytes}
 use Rattle.show_direct.specs.Exchanges.{Accepts, Exchange, IsExchange, text_exchange, text_verb, text_ways}
 use Rattle.show_direct.specs.Direct.{exchange_by}
 
@@ -97,7 +98,7 @@ is_exchange_by law o up show down None = record {
 }
 is_exchange_by law o up show down (Some fault) = record {
   one = λ bytes p q first second. first ∙ sym second;
-  some = λ bytes. (outcome 19 (end_frame 19), refl);
+  some = λ bytes. (outcome 19 (no_flight_bytes fault), refl);
   done = λ bytes p gives succeeds. absurd succeeds;
 }
 

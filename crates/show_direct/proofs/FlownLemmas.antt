@@ -1,14 +1,14 @@
 -- Three shows are flown, or are no flight.
-use Rattle.std.proofs.Common.{◌≡◌, ◌≢◌, ◌⊎◌, inl, inr, ℕ, ◌+◌, ◌≤◌, Bool, false, List, [], ◌∷◌, ◌++◌, Contains, length, length-append, Option, Some, None, Err, refl, sym, subst, arith}
+use Rattle.std.proofs.Common.{◌≡◌, ◌≢◌, ◌⊎◌, inl, inr, ℕ, ◌+◌, ◌≤◌, Bool, false, List, [], ◌∷◌, ◌++◌, Contains, drop, length, length-append, Option, Some, None, Err, refl, sym, subst, arith}
 use Rattle.std.proofs.lemmas.List.Elements.{All-cons, All-contains, All-nil}
 use Rattle.std.specs.Io.KnownBytes.{Appends, Consumes}
 use Rattle.choreo_show.specs.Plain.{PlainShow}
 use Rattle.fleet_io.specs.Causes.{Rose}
 use Rattle.fleet_io.specs.Held.{buffer_bytes}
 use Rattle.fleet_io.specs.Taken.{AppendsFront}
-use Rattle.link_frames.specs.Frames.{end_frame}
 use Rattle.flight_model.specs.declared.flights.Flight.{Flight}
 use Rattle.flight_steps.specs.declared.faults.FlightFault.{FlightFault}
+use Rattle.flight_steps.specs.declared.faults.FlightFault.TheVariants as cause
 use Rattle.flight_steps.specs.declared.faults.StepsError.{StepsError}
 use Rattle.flight_steps.specs.declared.faults.StepsError.TheVariants as error
 use Rattle.flight_link.specs.Flights.{FlightFails, FlightGives, StaysPrompt, StopsAtEnd}
@@ -16,7 +16,8 @@ use Rattle.show_judge.specs.Answers.{Wrote}
 use Rattle.show_judge.specs.Verb.{Span, outcome}
 use Rattle.show_direct.specs.declared.options.Options.{Options}
 use Rattle.show_direct.specs.Flights.{fault_of, flight_of}
-use Rattle.show_direct.specs.Direct.{exchange_by, flight_exchange}
+use Rattle.show_direct.specs.Direct.{HasBegun, exchange_by, flight_exchange}
+use Rattle.show_direct.specs.Frames.{no_flight_byte, no_flight_bytes}
 use Rattle.show_direct.specs.Steps.{Carries, EndsFlight, FlightMade, direct_statuses}
 use Rattle.show_direct.proofs.CarryLemmas.{carried_memory, never_appended, never_front}
 use Rattle.show_direct.proofs.FlightLemmas.{are_flight}
@@ -86,19 +87,36 @@ carried_flight o up show down f bytes left ended m status made is =
     subst (λ (why : Option FlightFault). Carries (exchange_by o up show down why) bytes left ended m status) (sym made.1)
     (flown o up show down bytes left ended m status made.1 (subst (λ (g : Flight). Flown g bytes left ended m status) made.0 is))
 
--- The end frame of 19 was written, and nothing was read.
+-- a cause's frame begins with its own byte
+frame_begins : (f : FlightFault) → no_flight_bytes f ≡ no_flight_byte ∷ drop 1 (no_flight_bytes f)
+frame_begins (cause.OtherDrone w d) = refl
+frame_begins (cause.Gap s d) = refl
+frame_begins (cause.Restless w d cue) = refl
+frame_begins (cause.Still w d) = refl
+frame_begins (cause.Slanted w d) = refl
+frame_begins (cause.Narrow near stray) = refl
+
+never_cause : (f : FlightFault) (old new : Option (List ℕ)) → Appends old new (no_flight_bytes f) → HasBegun old new → ⊥
+never_cause f old new appends begun =
+    never_appended no_flight_byte (drop 1 (no_flight_bytes f)) old new (inr refl) (subst (λ (xs : List ℕ). Appends old new xs) (frame_begins f) appends) begun
+
+never_cause_front : (f : FlightFault) (old new : Option (List ℕ)) → AppendsFront old new (no_flight_bytes f) → HasBegun old new → ⊥
+never_cause_front f old new front begun =
+    never_front no_flight_byte (drop 1 (no_flight_bytes f)) old new (inr refl) (subst (λ (xs : List ℕ). AppendsFront old new xs) (frame_begins f) front) begun
+
+-- The first cause and the end frame of 19 were written, and nothing was read.
 no_flight : (o : Options) (up show down : PlainShow) (fault : FlightFault) (bytes left : List ℕ) (ended : Bool) (m : Span) (status : ℕ) → length bytes ≤ length left + buffer_bytes →
-    m.told.faults ≤ m.tells.faults → Wrote 19 (end_frame 19) m.written m.written_after m.writes_failed m.writes_failed_after status →
+    m.told.faults ≤ m.tells.faults → Wrote 19 (no_flight_bytes fault) m.written m.written_after m.writes_failed m.writes_failed_after status →
     Carries (exchange_by o up show down (Some fault)) bytes left ended m status
 no_flight o up show down fault bytes left ended m status few later (inl (e, appends, writes)) = record {
-  gives = λ j. (outcome 19 (end_frame 19), refl, e, appends);
+  gives = λ j. (outcome 19 (no_flight_bytes fault), refl, e, appends);
   one = λ one. absurd (omega (arith, one, e));
   six = λ six. absurd (omega (arith, six, e));
   seven = λ seven. absurd (omega (arith, seven, e));
   prompt = λ seven taken sent before split old new. tt;
   ends = λ j. few;
   begun = elim [
-    | inl began ↦ absurd (never_appended 19 m.written m.written_after appends began)
+    | inl began ↦ absurd (never_cause fault m.written m.written_after appends began)
     | inr done ↦ absurd (omega (arith, done, e))
   ];
   known = subst (Contains direct_statuses) (sym e) (17, omega arith, refl);
@@ -109,11 +127,11 @@ no_flight o up show down fault bytes left ended m status few later (inr (e, rose
   gives = λ j. absurd (j.2 e);
   one = λ one. absurd (omega (arith, one, e));
   six = λ six. absurd (omega (arith, six, e));
-  seven = λ seven. (rose, (end_frame 19, front, inl (outcome 19 (end_frame 19), refl, refl)));
+  seven = λ seven. (rose, (no_flight_bytes fault, front, inl (outcome 19 (no_flight_bytes fault), refl, refl)));
   prompt = λ seven taken sent before split old new. tt;
   ends = λ j. absurd (j.2 e);
   begun = elim [
-    | inl began ↦ absurd (never_front 19 m.written m.written_after front began)
+    | inl began ↦ absurd (never_cause_front fault m.written m.written_after front began)
     | inr done ↦ absurd (omega (arith, done, e))
   ];
   known = subst (Contains direct_statuses) (sym e) (6, omega arith, refl);
@@ -122,7 +140,7 @@ no_flight o up show down fault bytes left ended m status few later (inr (e, rose
 }
 
 carried_fault : (o : Options) (up show down : PlainShow) (fault : FlightFault) (bytes left : List ℕ) (ended : Bool) (m : Span) (status : ℕ) → fault_of o up show down ≡ Some fault →
-    length bytes ≤ length left + buffer_bytes → m.told.faults ≤ m.tells.faults → Wrote 19 (end_frame 19) m.written m.written_after m.writes_failed m.writes_failed_after status →
+    length bytes ≤ length left + buffer_bytes → m.told.faults ≤ m.tells.faults → Wrote 19 (no_flight_bytes fault) m.written m.written_after m.writes_failed m.writes_failed_after status →
     Carries (flight_exchange o up show down) bytes left ended m status
 carried_fault o up show down fault bytes left ended m status made few later wrote =
     subst (λ (why : Option FlightFault). Carries (exchange_by o up show down why) bytes left ended m status) (sym made)

@@ -1,5 +1,6 @@
 pub mod ExchangeLemmas
 pub mod FlightLemmas
+pub mod FrameLemmas
 pub mod DirectLemmas
 pub mod FewLemmas
 pub mod ReadingLemmas

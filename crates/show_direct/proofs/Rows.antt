@@ -19,6 +19,7 @@ use Rattle.show_judge.specs.Verb.{outcome}
 use Rattle.show_direct.specs.declared.options.Options.{Options}
 use Rattle.show_direct.specs.Direct.{exchange_by, flight_exchange}
 use Rattle.show_direct.specs.Flights.{fault_of, flight_of}
+use Rattle.show_direct.specs.Frames.{fault_frame, fault_in}
 
 -- so near to the pads
 abbrev within : ℕ → Options
@@ -59,9 +60,24 @@ record FaultRows : Type 0 where
   below : fault_of (within 100) up (there_and_back (codes "a")) up ≡ Some (fault.Gap seam.ShowToDown 0)
   slanted : fault_of (within 100) (alone (codes "a") (place 0 0) (place 1 0 ∷ place 0 1 ∷ [])) (there_and_back (codes "a")) down ≡ Some (fault.Slanted way.Up 0)
   narrow : fault_of (within 101) up (there_and_back (codes "a")) down ≡ Some (fault.Narrow 101 100)
-  -- without any frame: the end frame of 8 after three shows that are a flight, and that of 19 after others
+  -- without any frame: the end frame of 8 after three shows that are a flight; after others the cause, and the end frame
+  -- of 19
   ended_early : (flight_exchange (within 100) up (there_and_back (codes "a")) down).gives [] (outcome 8 (0x45 ∷ 8 ∷ []))
-  no_flight : (flight_exchange (within 100) up up down).gives [] (outcome 19 (0x45 ∷ 19 ∷ []))
+  no_flight : (flight_exchange (within 100) up up down).gives [] (outcome 19 (5 ∷ 1 ∷ 0 ∷ 0 ∷ 0 ∷ 0 ∷ 0x45 ∷ 19 ∷ []))
+
+-- the frames of causes, with numbers of one byte and of two
+record FrameRows : Type 0 where
+  other : fault_frame (fault.OtherDrone way.Down 3) ≡ 5 ∷ 0 ∷ 1 ∷ 3 ∷ 0 ∷ 0 ∷ []
+  gap : fault_frame (fault.Gap seam.DownToUp 31) ≡ 5 ∷ 1 ∷ 2 ∷ 31 ∷ 0 ∷ 0 ∷ []
+  restless : fault_frame (fault.Restless way.Down 2 999) ≡ 5 ∷ 2 ∷ 1 ∷ 2 ∷ 231 ∷ 3 ∷ []
+  still : fault_frame (fault.Still way.Up 7) ≡ 5 ∷ 3 ∷ 0 ∷ 7 ∷ 0 ∷ 0 ∷ []
+  slanted : fault_frame (fault.Slanted way.Down 0) ≡ 5 ∷ 4 ∷ 1 ∷ 0 ∷ 0 ∷ 0 ∷ []
+  narrow : fault_frame (fault.Narrow 101 100) ≡ 5 ∷ 5 ∷ 0 ∷ 0 ∷ 0 ∷ 0 ∷ []
+  read : fault_in 101 100 (5 ∷ 2 ∷ 1 ∷ 2 ∷ 231 ∷ 3 ∷ []) ≡ fault.Restless way.Down 2 999
+  read_narrow : fault_in 101 100 (5 ∷ 5 ∷ 0 ∷ 0 ∷ 0 ∷ 0 ∷ []) ≡ fault.Narrow 101 100
+
+frame_rows : FrameRows
+frame_rows = record { other = refl; gap = refl; restless = refl; still = refl; slanted = refl; narrow = refl; read = refl; read_narrow = refl }
 
 early : FlightGives (flight_of (within 100) up (there_and_back (codes "a")) down) [] 8 (0x45 ∷ 8 ∷ [])
 unfolding ended sent_over expanded end_of

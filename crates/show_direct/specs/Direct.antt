@@ -6,7 +6,7 @@ use Rattle.text_lines.specs.Marker.{part_of, rest_of}
 use Rattle.choreo_reader.specs.Grammar.{StandsFor}
 use Rattle.choreo_show.specs.Plain.{PlainShow}
 use Rattle.fleet_io.specs.Held.{buffer_bytes}
-use Rattle.link_frames.specs.Frames.{end_byte, end_frame}
+use Rattle.link_frames.specs.Frames.{end_byte}
 use Rattle.flight_model.specs.declared.events.Event.{Event}
 use Rattle.flight_model.specs.declared.flights.Flight.{Flight}
 use Rattle.flight_steps.specs.declared.faults.FlightFault.{FlightFault}
@@ -18,6 +18,7 @@ use Rattle.show_judge.specs.Outcome.{IsVerb}
 use Rattle.show_judge.specs.Verb.{Verb, outcome}
 use Rattle.show_direct.specs.declared.options.Options.{Options}
 use Rattle.show_direct.specs.Flights.{AreFlight, fault_of, flight_of}
+use Rattle.show_direct.specs.Frames.{no_flight_byte, no_flight_bytes}
 use Rattle.show_direct.specs.Exchanges.{Exchange, text_exchange, text_verb}
 
 -- ---- the flight
@@ -27,7 +28,8 @@ abbrev pub FlightSucceeds : Flight → List ℕ → Type 0
 FlightSucceeds f bytes = (events : List Event) × (rest : List ℕ) × Takes f bytes events rest × (ended f events ≡ Some 0)
 
 -- The exchange of three shows, of which this is the flight, and this the first cause why they are none. Without a cause
--- the flight is flown through frames. With one the end frame of 19 is written, and no byte is read for it.
+-- the flight is flown through frames. With one a frame that names it and the end frame of 19 are written, and no byte is
+-- read for them.
 abbrev pub exchange_by : Options → PlainShow → PlainShow → PlainShow → Option FlightFault → Exchange
 exchange_by o up show down None = record {
   gives = λ bytes p. FlightGives (flight_of o up show down) bytes p.status p.output;
@@ -38,7 +40,7 @@ exchange_by o up show down None = record {
   succeeds = λ bytes. FlightSucceeds (flight_of o up show down) bytes;
 }
 exchange_by o up show down (Some fault) = record {
-  gives = λ bytes p. p ≡ outcome 19 (end_frame 19);
+  gives = λ bytes p. p ≡ outcome 19 (no_flight_bytes fault);
   stops = λ taken output. ⊥;
   prompt = λ taken sent. Unit {0};
   ends = λ bytes left. length bytes ≤ length left + buffer_bytes;
@@ -96,11 +98,11 @@ pub record FlyAsOne (o : Options) (input : List ℕ) : Type 0 where
   pub down : FliesText (part_of (rest_of (rest_of input)))
   pub flight : AreFlight o up.s show.s down.s
 
--- The flight began, by what was written before and after: first of all a byte that begins no end frame. Of texts that
--- are no flight the end frame is all that is written.
+-- The flight began, by what was written before and after: first of all a byte that begins neither an end frame nor the
+-- frame of a cause. Of texts that are no flight these are all that is written.
 abbrev pub HasBegun : Option (List ℕ) → Option (List ℕ) → Type 0
 HasBegun old new =
-    (before later : List ℕ) × (byte : ℕ) × (old ≡ Some before) × (new ≡ Some (before ++ byte ∷ later)) × (byte ≢ end_byte)
+    (before later : List ℕ) × (byte : ℕ) × (old ≡ Some before) × (new ≡ Some (before ++ byte ∷ later)) × (byte ≢ end_byte) × (byte ≢ no_flight_byte)
 
 -- the laws of the three commands
 pub record DirectLaw : Type 0 where

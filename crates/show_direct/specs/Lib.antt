@@ -1,4 +1,5 @@
 pub mod Flights
+pub mod Frames
 pub mod Exchanges
 pub mod Direct
 pub mod Steps

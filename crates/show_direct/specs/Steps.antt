@@ -23,6 +23,7 @@ use Rattle.show_direct.specs.declared.options.Options.{Options}
 use Rattle.show_direct.specs.declared.reading.Unread.{Unread}
 use Rattle.show_direct.specs.declared.reading.Unread.TheVariants as unread
 use Rattle.show_direct.specs.Flights.{fault_of, flight_of, routes_of}
+use Rattle.show_direct.specs.Frames.{no_flight_bytes}
 use Rattle.show_direct.specs.Exchanges.{Exchange, text_ways}
 use Rattle.show_direct.specs.Direct.{HasBegun}
 
@@ -117,7 +118,7 @@ FlightMade o up show down (Ok f) = (f ≡ flight_of o up show down) × (fault_of
 FlightMade o up show down (Err (error.Fault fault)) = fault_of o up show down ≡ Some fault
 FlightMade o up show down (Err error.Memory) = Unit {0}
 
--- What is written where there is no flight: the end frame of 19, or nothing for want of memory.
+-- What is written where there is no flight: the first cause and the end frame of 19, or nothing for want of memory.
 abbrev pub EndsFlight : StepsError → Option (List ℕ) → Option (List ℕ) → ℕ → ℕ → ℕ → Type 0
-EndsFlight (error.Fault fault) old new before after status = Wrote 19 (end_frame 19) old new before after status
+EndsFlight (error.Fault fault) old new before after status = Wrote 19 (no_flight_bytes fault) old new before after status
 EndsFlight error.Memory old new before after status = (status ≡ 1) × (new ≡ old) × (after ≡ before)

@@ -14,33 +14,33 @@ ghost use Rattle.show_direct.specs.declared.options.Options.{Options as Allowed}
 ghost use Rattle.show_direct.specs.Direct.{DirectLaw, FlyAsOne, HasBegun, direct_verb, down_exchange, flight_exchange, show_exchange, up_exchange};
 ghost use Rattle.show_direct.specs.Steps.{Carries, EndsFlight, FlightMade, coming, left_of};
 
+use crate::fault_frame::{NO_FLIGHT, no_flight_bytes};
 use crate::making::{Shows, make_flight};
 use crate::options::Options;
-use crate::reading::{end_unread, read_show, write_end};
+use crate::reading::{end_unread, read_show};
 use choreo_reader::show_law;
 use fleet_io::status::NO_MEMORY;
 use fleet_io::{Parts, Sink, Source, marker_law};
 use flight_link::{flight_link_law, orders_law};
 use flight_model::Flight;
 use flight_steps::StepsError;
+use show_judge::finish;
 use show_plan::Fitted;
 use std::alloc::Global;
 
-/// Three shows are no flight.
-pub const NO_FLIGHT: u8 = 19;
-
-// Ends where there is no flight: with the end frame of 19, or with nothing written for want of memory.
+// Ends where there is no flight: with the first cause and the end frame of 19, or with nothing written for want of
+// memory.
 fn end_flight<K: Sink>(sink: &mut K, error: StepsError) -> u8
     ensures { EndsFlight error (K.written sink.old) (K.written sink.new) (K.faults sink.old) (K.faults sink.new) result }
 {
     match error {
-        StepsError::Fault { .. } => write_end(sink, NO_FLIGHT),
+        StepsError::Fault { fault } => finish(sink, &no_flight_bytes(&fault), NO_FLIGHT),
         StepsError::Memory => NO_MEMORY,
     }
 }
 
-// Flies a flight through frames, or says by the end frame of 19 that there is none. For want of memory nothing is
-// written.
+// Flies a flight through frames, or says by a frame and the end frame of 19 why there is none. For want of memory
+// nothing is written.
 fn fly<S: Source, K: Sink>(
     made: Result<Flight, StepsError>,
     parts: &mut Parts,
@@ -165,8 +165,9 @@ pub fn direct_law()
 
 /// Runs `direct` (docs/COMMANDS.md): reads a way up, a show and a way down, each a text that a marker line ends, and
 /// flies the flight of the three through frames (docs/PROMISES.md, "Its frames"), to an end frame. Or it writes the end
-/// frame alone, with the status of the first reason why a show is refused, or with 19 where the three are no flight.
-/// Where the flight began, or ended with 0, the three shows are a flight, and fly apart.
+/// frame alone, with the status of the first reason why a show is refused. Where the three are no flight it writes the
+/// first cause (`fault_frame` of specs/Frames.antt), and the end frame of 19. Where the flight began, or ended with 0,
+/// the three shows are a flight, and fly apart.
 pub fn direct<S: Source, K: Sink>(
     alloc: Global,
     options: &Options,

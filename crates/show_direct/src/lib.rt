@@ -6,10 +6,12 @@
 //! `flight_link` carries it.
 #![tactic(auto)]
 
+mod fault_frame;
 mod flying;
 mod making;
 mod options;
 mod reading;
 
-pub use flying::{NO_FLIGHT, direct, direct_law};
+pub use fault_frame::{NO_FLIGHT, fault_frame_law};
+pub use flying::{direct, direct_law};
 pub use options::Options;

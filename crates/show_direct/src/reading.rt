@@ -88,8 +88,8 @@ pub fn read_show<S: Source>(
     }
 }
 
-/// Writes the end frame with this status, and returns it, or 7 where the sink failed.
-pub fn write_end<K: Sink>(sink: &mut K, status: u8) -> u8
+// Writes the end frame with this status, and returns it, or 7 where the sink failed.
+fn write_end<K: Sink>(sink: &mut K, status: u8) -> u8
     ensures { Wrote status (end_frame status) (K.written sink.old) (K.written sink.new) (K.faults sink.old) (K.faults sink.new) result }
 {
     finish(sink, &[END_BYTE, status], status)
