@@ -6,6 +6,7 @@ pub mod FewLemmas
 pub mod ReadingLemmas
 pub mod CarryLemmas
 pub mod FlownLemmas
+pub mod KeptLemmas
 pub mod MakingLemmas
 pub mod RunLemmas
 mod Rows

@@ -1,5 +1,5 @@
 -- A flight that is made of three shows that fit.
-use Rattle.std.proofs.Common.{◌≡◌, ℕ, ◌*◌, ◌≤◌, ℤ, not, List, [], ◌∷◌, length, map, Option, Some, None, Result, Ok, Err, refl, sym, ap, subst, ◌∙◌, arith}
+use Rattle.std.proofs.Common.{◌≡◌, ℕ, ◌*◌, ◌≤◌, ℤ, min, not, List, [], ◌∷◌, length, map, Option, Some, None, Result, Ok, Err, refl, sym, ap, subst, ◌∙◌, arith}
 use Rattle.std.proofs.lemmas.List.{length-map}
 use Rattle.std.proofs.lemmas.List.Elements.{All-cons, All-head, All-nil, All-tail, All-weaker}
 use Rattle.std.proofs.lemmas.List.Sums.{sum_by-cons}
@@ -37,7 +37,7 @@ use Rattle.show_plan.specs.Fitting.{IsFitted, IsValidFitted}
 use Rattle.show_plan.specs.Landing.{AreUploadable}
 use Rattle.show_judge.specs.Shows.{names_of, sent_of, trajectories_of}
 use Rattle.show_direct.specs.declared.options.Options.{Options}
-use Rattle.show_direct.specs.Flights.{fault_of, flight_of, routes_of}
+use Rattle.show_direct.specs.Flights.{fault_of, flight_of, most_silence, routes_of}
 use Rattle.show_direct.specs.Steps.{FlightMade, StepsMade}
 
 -- ---- steps
@@ -139,41 +139,43 @@ steps_fitted o up show down u s d c w result is_up is_show is_down n_up n_show n
 -- ---- the flight
 
 -- the flight of these steps and this show
-abbrev pub made_of : Options → ℤ → List Step → List Traj → ℕ → Settings → Flight
-made_of o floor steps curves ms e = record {
+abbrev pub made_of : Options → ℤ → ℕ → List Step → List Traj → ℕ → Settings → Flight
+made_of o floor silence steps curves ms e = record {
   steps = steps;
   curves = curves;
   show_ms = ms;
   stray = e.stray;
   late = e.late;
-  silence = o.silence;
+  silence = silence;
   flies_on = not o.then_land;
   floor = floor;
   descent = o.descent;
 }
 
-flight_is : (o : Options) (floor : ℤ) (u s d : PlainShow) (f : Fitted) (steps : List Step) → floor ≡ o.floor → IsValidFitted f → IsFitted f s → steps ≡ steps_of (routes_of o u s d) →
-    made_of o floor steps f.sent f.duration f.settings ≡ flight_of o u s d
-flight_is o floor u s d f steps low valid is same =
+flight_is : (o : Options) (floor : ℤ) (silence : ℕ) (u s d : PlainShow) (f : Fitted) (steps : List Step) → floor ≡ o.floor → silence ≡ min o.silence most_silence → IsValidFitted f → IsFitted f s →
+    steps ≡ steps_of (routes_of o u s d) → made_of o floor silence steps f.sent f.duration f.settings ≡ flight_of o u s d
+flight_is o floor silence u s d f steps low quiet valid is same =
     let ms : f.duration ≡ lasts (trajectories_of s) = sym (fitted_lasts f valid) ∙ ap lasts is.trajs in
-    ap (λ (z : ℤ). made_of o z steps f.sent f.duration f.settings) low
-    ∙ ap (λ (xs : List Step). made_of o o.floor xs f.sent f.duration f.settings) same
-    ∙ ap (λ (ts : List Traj). made_of o o.floor (steps_of (routes_of o u s d)) ts f.duration f.settings) is.sent
-    ∙ ap (λ (n : ℕ). made_of o o.floor (steps_of (routes_of o u s d)) (sent_of s) n f.settings) ms
-    ∙ ap (λ (e : Settings). made_of o o.floor (steps_of (routes_of o u s d)) (sent_of s) (lasts (trajectories_of s)) e) is.settings
+    let most = min o.silence most_silence in
+    ap (λ (z : ℤ). made_of o z silence steps f.sent f.duration f.settings) low
+    ∙ ap (λ (n : ℕ). made_of o o.floor n steps f.sent f.duration f.settings) quiet
+    ∙ ap (λ (xs : List Step). made_of o o.floor most xs f.sent f.duration f.settings) same
+    ∙ ap (λ (ts : List Traj). made_of o o.floor most (steps_of (routes_of o u s d)) ts f.duration f.settings) is.sent
+    ∙ ap (λ (n : ℕ). made_of o o.floor most (steps_of (routes_of o u s d)) (sent_of s) n f.settings) ms
+    ∙ ap (λ (e : Settings). made_of o o.floor most (steps_of (routes_of o u s d)) (sent_of s) (lasts (trajectories_of s)) e) is.settings
 
-pub flight_made : (o : Options) (floor : ℤ) (u s d : PlainShow) (f : Fitted) (steps : List Step) → floor ≡ o.floor → IsValidFitted f → IsFitted f s → StepsMade o u s d (Ok steps) →
-    FlightMade o u s d (Ok (made_of o floor steps f.sent f.duration f.settings))
-flight_made o floor u s d f steps low valid is made = (flight_is o floor u s d f steps low valid is made.0, made.1)
+pub flight_made : (o : Options) (floor : ℤ) (silence : ℕ) (u s d : PlainShow) (f : Fitted) (steps : List Step) → floor ≡ o.floor → silence ≡ min o.silence most_silence → IsValidFitted f →
+    IsFitted f s → StepsMade o u s d (Ok steps) → FlightMade o u s d (Ok (made_of o floor silence steps f.sent f.duration f.settings))
+flight_made o floor silence u s d f steps low quiet valid is made = (flight_is o floor silence u s d f steps low quiet valid is made.0, made.1)
 
 few_orders : (n : ℕ) (x : Orders) → n ≤ 32 → AreOrdersOf n x → AreFew x
 few_orders n (Each orders) few are = omega (arith, few, are)
 few_orders n (ToEach order) few are = tt
 
 -- it fits the director
-pub is_held : JoinLaw → (o : Options) (floor : ℤ) (f : Fitted) (steps : List Step) → IsValidFitted f → AreUploadable f.settings f.sent → All (IsStepOf (length f.trajs)) steps →
-    IsHeld (made_of o floor steps f.sent f.duration f.settings)
-is_held law o floor f steps valid up sizes =
+pub is_held : JoinLaw → (o : Options) (floor : ℤ) (silence : ℕ) (f : Fitted) (steps : List Step) → IsValidFitted f → AreUploadable f.settings f.sent → All (IsStepOf (length f.trajs)) steps →
+    IsHeld (made_of o floor silence steps f.sent f.duration f.settings)
+is_held law o floor silence f steps valid up sizes =
     let few : length f.trajs ≤ 32 = omega (arith, valid.few_drones, valid.trajs_counted) in
     let total = total_short valid.times f.trajs (some_trajs f valid) valid.lasting valid.formed (omega (arith, valid.times_counted, valid.few_cues)) in
     let lasting : All (λ (t : Traj). duration_of t ≡ f.duration) f.sent =

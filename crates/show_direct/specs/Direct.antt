@@ -9,6 +9,7 @@ use Rattle.fleet_io.specs.Held.{buffer_bytes}
 use Rattle.link_frames.specs.Frames.{end_byte}
 use Rattle.flight_model.specs.declared.events.Event.{Event}
 use Rattle.flight_model.specs.declared.flights.Flight.{Flight}
+use Rattle.flight_model.specs.Kept.{IsKeptShow}
 use Rattle.flight_steps.specs.declared.faults.FlightFault.{FlightFault}
 use Rattle.flight_link.specs.Flights.{FlightFails, FlightGives, IsPrompt, StopsAtEnd, Takes}
 use Rattle.flight_link.specs.Orders.{SaysWhole}
@@ -73,8 +74,9 @@ up_exchange o = text_exchange o.depth (λ up. show_exchange o up)
 -- ---- the command
 
 -- The input is three texts and frames. The texts stand for shows that are a flight, of which the first keeps near to
--- what it says, and apart. What was written is what the director says at events that stand in the frames; and each drone
--- was told all its orders by it, and nothing else.
+-- what it says, and apart. What was written is what the director says at events that stand in the frames. By these
+-- events each drone was told all its orders and nothing else, was at its curve in each sample of the show, and was never
+-- silent in it.
 pub record FliesWhole (o : Options) (input : List ℕ) (old new : Option (List ℕ)) : Type 0 where
   pub up : FliesText (part_of input)
   pub show : PlainShow
@@ -84,6 +86,7 @@ pub record FliesWhole (o : Options) (input : List ℕ) (old new : Option (List �
   pub flight : AreFlight o up.s show down
   pub output : List ℕ
   pub says : SaysWhole (flight_of o up.s show down) (rest_of (rest_of (rest_of input))) output
+  pub kept : IsKeptShow (flight_of o up.s show down) says.says.events
   pub written : Appends old new output
 
 -- the way up, and then the show

@@ -1,5 +1,5 @@
 -- What three shows are as a flight: their routes, the first cause why they are none, and the flight.
-use Rattle.std.specs.Prelude.{◌≡◌, not, Option}
+use Rattle.std.specs.Prelude.{◌≡◌, ℕ, min, not, Option}
 use Rattle.std.specs.Option.{option_or}
 use Rattle.choreo_show.specs.Plain.{PlainShow}
 use Rattle.flight_model.specs.declared.flights.Flight.{Flight}
@@ -34,6 +34,10 @@ pub record AreFlight (o : Options) (up show down : PlainShow) : Type 0 where
   pub down_names : words_of down ≡ words_of show
   pub flight : IsFlight (routes_of o up show down)
 
+-- The director counts times up to 1,000,000,000 ms, so a longer silence than this is none that it would find.
+abbrev pub most_silence : ℕ
+most_silence = 999999999
+
 -- The flight. Its curves are what the drones were sent for the show, and how far drones may be from them is what the
 -- show's settings say.
 abbrev pub flight_of : Options → PlainShow → PlainShow → PlainShow → Flight
@@ -43,7 +47,7 @@ flight_of o up show down = record {
   show_ms = lasts (trajectories_of show);
   stray = show.settings.stray;
   late = show.settings.late;
-  silence = o.silence;
+  silence = min o.silence most_silence;
   flies_on = not o.then_land;
   floor = o.floor;
   descent = o.descent;

@@ -21,8 +21,8 @@ use crate::reading::{end_unread, read_show};
 use choreo_reader::show_law;
 use fleet_io::status::NO_MEMORY;
 use fleet_io::{Parts, Sink, Source, marker_law};
-use flight_link::{flight_link_law, orders_law};
-use flight_model::Flight;
+use flight_link::flight_link_law;
+use flight_model::{Flight, director_law};
 use flight_steps::StepsError;
 use show_judge::finish;
 use show_plan::Fitted;
@@ -160,7 +160,7 @@ pub fn direct_law()
 {
     show_law();
     flight_link_law();
-    orders_law();
+    director_law();
 }
 
 /// Runs `direct` (docs/COMMANDS.md): reads a way up, a show and a way down, each a text that a marker line ends, and

@@ -1,11 +1,12 @@
 //! A flight is made of three shows.
 
 ghost use Rattle.std.specs.Int.{w16};
-ghost use Rattle.std.specs.Prelude.{◌≡◌, length, All, FitsSigned, IfOk};
+ghost use Rattle.std.specs.Prelude.{◌≡◌, length, min, All, FitsSigned, IfOk};
 ghost use Rattle.choreo_show.specs.Plain.{PlainShow};
 ghost use Rattle.flight_director.specs.Held.{IsHeld};
 ghost use Rattle.flight_steps.specs.Sizes.{IsStepOf};
 ghost use Rattle.show_plan.specs.Fitting.{IsFitted, IsValidFitted};
+ghost use Rattle.show_direct.specs.Flights.{most_silence};
 ghost use Rattle.show_direct.specs.Steps.{FlightMade, StepsMade};
 
 use crate::options::Options;
@@ -62,6 +63,16 @@ fn floor_of(options: &Options) -> i16
     options.floor
 }
 
+// The longest silence that the director would find, which counts times up to 1,000,000,000 ms.
+const MOST_SILENCE: u32 = 999_999_999;
+
+// After how long a drone is silent.
+fn silence_of(options: &Options) -> u32
+    ensures { result ≡ min options.now.silence most_silence }
+{
+    options.silence.min(MOST_SILENCE)
+}
+
 /// The flight of a way up, a show and a way down, or the first cause why they are none.
 pub fn make_flight(
     alloc: Global,
@@ -85,7 +96,7 @@ pub fn make_flight(
         show_ms: show.duration,
         stray: show.settings.stray,
         late: show.settings.late,
-        silence: options.silence,
+        silence: silence_of(options),
         flies_on: !options.then_land,
         floor: floor_of(options),
         descent: options.descent,

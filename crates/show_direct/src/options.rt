@@ -8,7 +8,7 @@ pub struct Options {
     /// How near a drone has to be to its pad, and to its position in the air.
     pub near: u16,
     pub at_place: u16,
-    /// A drone whose last sample is older is silent.
+    /// A drone whose last sample is older is silent. Longer than 999,999,999 is as long as that.
     pub silence: u32,
     /// Where all land that have risen: at this height, in this time.
     pub floor: i16,

@@ -124,7 +124,8 @@ fn run_command<S: Source, K: Sink>(
 /// - `six`, `seven`: 6 comes only after a read of standard input failed, and 7 only after a write to standard output failed.
 /// - `to_end`: at 0 of a command that reads all of its input, the last read met the end: what was read is the whole input.
 /// - `flies`, `uploads`: at 0 the bytes that were read are a show's text, and its drones keep apart, whoever uploads it.
-/// - `flown`, `flight`: at 0 of `direct` the bytes that were read begin with three texts of one flight, which was flown.
+/// - `flown`, `flight`: at 0 of `direct` the bytes that were read begin with three texts of one flight, which was flown, and whose
+///   show was kept.
 /// - `begun`: once a byte of a packet went out, the bytes that were read have such a text, whatever the status.
 /// - `headline`: at 0 standard output took the plan of the bytes that were read.
 /// - `regions`, `speeds`, `touches`, `motions`: at 0 what standard output took is true of the flight of the bytes that were
@@ -176,8 +177,9 @@ pub fn run<S: Source, K: Sink>(
     ensures begun { (depth : ℕ) (start readback : Bool) (input : List ℕ) → command_in words.now.items ≡ Some (Command.Upload depth start readback) → (S.told source.new).given ≡ (S.told source.old).given ++ input
         → HasBegun (K.written sink.old) (K.written sink.new) → UploadsText (part_of input) }
 
-    // 0 of `direct`: the input is three texts and frames. The texts stand for shows that are a flight, and each drone was
-    // told all its orders, and nothing else.
+    // 0 of `direct`: the input is three texts and frames. The texts stand for shows that are a flight. By the events in
+    // the frames each drone was told all its orders and nothing else, was at its curve in each sample of the show, and
+    // was never silent in it.
     ensures flown { (depth near at_place silence floor descent : ℕ) (then_land : Bool) (input : List ℕ) → command_in words.now.items ≡ Some (Command.Direct depth near at_place silence floor descent then_land)
         → (S.told source.new).given ≡ (S.told source.old).given ++ input → result ≡ 0
         → FliesWhole (options_of depth near at_place silence floor descent then_land) input (K.written sink.old) (K.written sink.new) }

@@ -1,0 +1,128 @@
+-- A flight that ended with 0 was flown to its last step, and its show was kept.
+use Rattle.std.proofs.Common.{◌≡◌, ℕ, suc, ◌+◌, ◌*◌, ◌<◌, ◌≤◌, ◌==◌, Bool, true, false, List, [], ◌∷◌, Contains, get_or, length, map, min, Option, Some, None, refl, sym, ap, ◌∙◌, arith}
+use Rattle.std.proofs.Math.Nat.{min-le_right}
+use Rattle.std.proofs.lemmas.List.{length-map}
+use Rattle.std.proofs.lemmas.List.Sums.{sum_by-cons}
+use Rattle.std.specs.List.{sum}
+use Rattle.std.specs.Option.{option_map, option_or}
+use Rattle.choreo_lines.specs.Name.{Name}
+use Rattle.choreo_reader.specs.Laws.{ShowLaw}
+use Rattle.choreo_show.specs.Plain.{PlainShow}
+use Rattle.cue_grid.proofs.Fits.{fit_grid}
+use Rattle.cue_grid.specs.Cues.{grid_of}
+use Rattle.cue_grid.specs.Grids.{FitCues, IsGrid}
+use Rattle.cue_grid.specs.declared.grid.Cue.{Cue}
+use Rattle.cue_grid.specs.declared.grid.GridFault.{GridFault}
+use Rattle.figure_expand.specs.declared.fault.AxisValue.{AxisValue}
+use Rattle.traj_codec.specs.Joined.{joined}
+use Rattle.traj_codec.specs.Positions.{durations}
+use Rattle.traj_codec.specs.declared.traj.Traj.{Traj}
+use Rattle.flight_model.specs.Directors.{drones, most_ms, sent, start}
+use Rattle.flight_model.specs.Kept.{HasShow, KeptLaw}
+use Rattle.flight_model.specs.Legs.{lasts}
+use Rattle.flight_model.specs.declared.events.Event.{Event}
+use Rattle.flight_model.specs.declared.events.Frame.{Frame}
+use Rattle.flight_model.specs.declared.events.Frame.TheVariants.{To, ToAll, Noted, Over}
+use Rattle.flight_model.specs.declared.flights.Flight.{Flight}
+use Rattle.flight_link.specs.Flights.{EndsGoing, EndsWith, FlightGives, event_limit}
+unfoldable use Rattle.flight_link.specs.Sends.{ended}
+use Rattle.flight_link.specs.Sends.{end_in}
+use Rattle.refusals.specs.declared.refusal.Refusal.{Refusal}
+use Rattle.show_plan.proofs.Flight.{flight_lasts}
+use Rattle.show_plan.specs.Fitting.{in_order}
+use Rattle.show_plan.specs.Trajectories.{by_cue, cue_times}
+use Rattle.show_judge.specs.Refused.{no_plan, show_refusal}
+use Rattle.show_judge.specs.Shows.{cut_of, trajectories_of}
+use Rattle.show_direct.specs.declared.options.Options.{Options}
+use Rattle.show_direct.specs.Flights.{AreFlight, flight_of, most_silence, routes_of}
+use Rattle.show_direct.specs.Exchanges.{Accepts, text_ways}
+
+-- ---- the end that gives 0
+
+-- a flight that goes on doesn't end with 0
+going_on : (d : ℕ) (full : Bool) (rest : List ℕ) → EndsGoing d full rest 0 → ⊥
+going_on d true rest e = omega (arith, e)
+going_on d false [] e = omega (arith, e)
+going_on d false (c ∷ rest) e = let is = e.0 in omega (arith, is)
+
+said_zero : (d : ℕ) (o : Option ℕ) (full : Bool) (rest : List ℕ) → EndsWith d o full rest 0 → o ≡ Some 0
+said_zero d None full rest e = absurd (going_on d full rest e)
+said_zero d (Some n) full rest e = ap (λ (m : ℕ). Some m) (sym e)
+
+later : (x : Frame) (frames : List Frame) (y : Frame) → Contains frames y → Contains (x ∷ frames) y
+later x frames y c = (suc c.0, omega (arith, c.1), c.2)
+
+same_status : (a b : ℕ) → Some a ≡ Some b → a ≡ b
+same_status a b is = cc
+
+-- it is that of a flight that was flown and kept
+flown_in : (frames : List Frame) → end_in frames ≡ Some 0 → Contains frames (Over true true)
+flown_in [] is = absurd (cc)
+flown_in (To d o ∷ frames) is = later (To d o) frames (Over true true) (flown_in frames is)
+flown_in (ToAll o ∷ frames) is = later (ToAll o) frames (Over true true) (flown_in frames is)
+flown_in (Noted n ∷ frames) is = later (Noted n) frames (Over true true) (flown_in frames is)
+flown_in (Over true true ∷ frames) is = (0, omega arith, refl)
+flown_in (Over true false ∷ frames) is = absurd (let e = same_status 20 0 is in omega (arith, e))
+flown_in (Over false kept ∷ frames) is = absurd (let e = same_status 20 0 is in omega (arith, e))
+
+in_sent : (f : Flight) (events : List Event) → ended f events ≡ Some 0 → Contains (sent f (start f) events) (Over true true)
+unfolding ended
+in_sent f events is = flown_in (sent f (start f) events) is
+
+pub said_kept : (f : Flight) (bytes output : List ℕ) (g : FlightGives f bytes 0 output) → Contains (sent f (start f) g.events) (Over true true)
+said_kept f bytes output g = in_sent f g.events (said_zero (drones f) (ended f g.events) (length g.events == event_limit) g.rest g.ends)
+
+-- ---- how long a show lasts
+
+-- cues last at most 65,535 milliseconds each
+cues_short : (n : ℕ) (cues : List Cue) → FitCues n cues → sum (map (λ (cue : Cue). cue.ms) cues) ≤ 65535 * length cues
+cues_short n [] fit = omega arith
+cues_short n (cue ∷ cues) fit =
+    omega (arith, sum_by-cons (λ (k : ℕ). k) cue.ms (map (λ (c : Cue). c.ms) cues), fit.0.short, cues_short n cues fit.1)
+
+-- trajectories last as long as the first of them
+first_lasts : (ts : List Traj) (none : Traj) → lasts ts ≤ sum (durations (get_or ts 0 none).segments)
+first_lasts [] none = omega arith
+first_lasts (t ∷ ts) none = omega arith
+
+show_short : (s : PlainShow) → IsGrid (grid_of s) → lasts (trajectories_of s) ≤ most_ms
+show_short s is =
+    let g = grid_of s in
+    let whole : sum (durations (get_or (by_cue g) 0 (record { start = []; segments = [] })).segments) ≡ sum (cue_times g) =
+    ap (λ (ms : List ℕ). sum ms) (flight_lasts g 0 (omega (arith, is.some_start))) in
+    omega (arith, first_lasts (by_cue g) (record { start = []; segments = [] }), whole, cues_short (length g.starts) g.cues is.cues, is.few_cues)
+
+-- ---- a show that nothing refuses
+
+no_grid_fault : (names : List Name) (g : Option GridFault) (r : Option AxisValue) (rest : Option Refusal) → option_or (option_map (no_plan names) (in_order g r None)) rest ≡ None → g ≡ None
+no_grid_fault names None r rest none = refl
+no_grid_fault names (Some f) r rest none = absurd (cc)
+
+accepted_grid : ShowLaw → (depth : ℕ) (bytes : List ℕ) (s : PlainShow) → Accepts depth bytes s → IsGrid (grid_of s)
+accepted_grid law depth bytes s accepts =
+    fit_grid s (law.valid _ s accepts.stands) (no_grid_fault _ _ _ _ accepts.accepted)
+
+-- ---- the flight of shows
+
+-- The steps of a flight fly its show.
+has_show : KeptLaw → (o : Options) (up show down : PlainShow) → AreFlight o up show down → IsGrid (grid_of show) → HasShow (flight_of o up show down)
+has_show law o up show down is grid =
+    let quiet : min o.silence most_silence < most_ms = omega (arith, min-le_right o.silence most_silence) in
+    let flown : HasShow (record (flight_of o up show down) { curves = trajectories_of show }) =
+    law.has_show (record (flight_of o up show down) { curves = trajectories_of show }) (routes_of o up show down) is.flight refl refl refl (show_short show grid) quiet in
+    record {
+      number = flown.number;
+      starting = flown.starting;
+      next = flown.next;
+      is_starting = flown.is_starting;
+      is_next = flown.is_next;
+      starts = flown.starts;
+      asked = flown.asked;
+      each = flown.each ∙ sym (length-map (trajectories_of show) joined);
+      waits = flown.waits;
+      short = flown.short;
+      heard = flown.heard;
+    }
+
+pub flies_show : ShowLaw → KeptLaw → (o : Options) (up show down : PlainShow) (bytes : List ℕ) → AreFlight o up show down → Accepts o.depth bytes show → HasShow (flight_of o up show down)
+flies_show law kept o up show down bytes is accepts = has_show kept o up show down is (accepted_grid law o.depth bytes show accepts)
