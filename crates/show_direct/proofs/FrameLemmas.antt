@@ -1,10 +1,12 @@
 -- What a frame says of the cause that it names.
 use Rattle.std.proofs.Common.{◌≡◌, ℕ, ◌+◌, ◌*◌, ◌/◌, ◌%◌, ◌<◌, ap, sym, ◌∙◌, arith}
+use Rattle.choreo_reader.specs.Laws.{ShowLaw}
 use Rattle.flight_steps.specs.declared.faults.FlightFault.{FlightFault}
 use Rattle.flight_steps.specs.declared.faults.FlightFault.TheVariants as fault
 use Rattle.flight_steps.specs.declared.faults.Seam.TheVariants as seam
 use Rattle.flight_steps.specs.declared.faults.Way.TheVariants as way
 use Rattle.show_direct.specs.Frames.{FaultFrameLaw, IsNamed, fault_frame, fault_in}
+use Rattle.show_direct.proofs.NamedLemmas.{named}
 
 one_byte : (n : ℕ) → n < 256 → n % 256 ≡ n
 one_byte n small = omega (arith, small)
@@ -12,7 +14,7 @@ one_byte n small = omega (arith, small)
 two_bytes : (n : ℕ) → n < 256 * 256 → n % 256 + 256 * ((n / 256) % 256) ≡ n
 two_bytes n small = omega (arith, small)
 
-pub reads_back : FaultFrameLaw
+reads_back : (near stray : ℕ) (f : FlightFault) → IsNamed near stray f → fault_in near stray (fault_frame f) ≡ f
 reads_back near stray (fault.OtherDrone way.Up d) is = ap (λ (n : ℕ). fault.OtherDrone way.Up n) (one_byte d is)
 reads_back near stray (fault.OtherDrone way.Down d) is = ap (λ (n : ℕ). fault.OtherDrone way.Down n) (one_byte d is)
 reads_back near stray (fault.Gap seam.UpToShow d) is = ap (λ (n : ℕ). fault.Gap seam.UpToShow n) (one_byte d is)
@@ -29,3 +31,6 @@ reads_back near stray (fault.Still way.Down d) is = ap (λ (n : ℕ). fault.Stil
 reads_back near stray (fault.Slanted way.Up d) is = ap (λ (n : ℕ). fault.Slanted way.Up n) (one_byte d is)
 reads_back near stray (fault.Slanted way.Down d) is = ap (λ (n : ℕ). fault.Slanted way.Down n) (one_byte d is)
 reads_back near stray (fault.Narrow n s) is = ap (λ (k : ℕ). fault.Narrow k stray) (sym is.0) ∙ ap (λ (k : ℕ). fault.Narrow n k) (sym is.1)
+
+pub frame_law : ShowLaw → FaultFrameLaw
+frame_law law = record { one = reads_back; named = named law }

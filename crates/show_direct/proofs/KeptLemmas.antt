@@ -98,7 +98,7 @@ no_grid_fault : (names : List Name) (g : Option GridFault) (r : Option AxisValue
 no_grid_fault names None r rest none = refl
 no_grid_fault names (Some f) r rest none = absurd (cc)
 
-accepted_grid : ShowLaw → (depth : ℕ) (bytes : List ℕ) (s : PlainShow) → Accepts depth bytes s → IsGrid (grid_of s)
+pub accepted_grid : ShowLaw → (depth : ℕ) (bytes : List ℕ) (s : PlainShow) → Accepts depth bytes s → IsGrid (grid_of s)
 accepted_grid law depth bytes s accepts =
     fit_grid s (law.valid _ s accepts.stands) (no_grid_fault _ _ _ _ accepts.accepted)
 

@@ -8,5 +8,6 @@ pub mod CarryLemmas
 pub mod FlownLemmas
 pub mod KeptLemmas
 pub mod MakingLemmas
+pub mod NamedLemmas
 pub mod RunLemmas
 mod Rows

@@ -1,5 +1,6 @@
 -- The frame that names the first cause why three shows are no flight (docs/PROMISES.md, "Its frames").
-use Rattle.std.specs.Prelude.{◌≡◌, ℕ, ◌+◌, ◌*◌, ◌/◌, ◌%◌, ◌^◌, ◌<◌, ◌==◌, if◌then◌else◌, List, [], ◌∷◌, ◌++◌, slice_index}
+use Rattle.std.specs.Prelude.{◌≡◌, ℕ, ◌+◌, ◌*◌, ◌/◌, ◌%◌, ◌<◌, ◌==◌, if◌then◌else◌, List, [], ◌∷◌, ◌++◌, slice_index, Some}
+use Rattle.choreo_show.specs.Plain.{PlainShow}
 use Rattle.link_frames.specs.Frames.{end_frame}
 use Rattle.flight_steps.specs.declared.faults.FlightFault.{FlightFault}
 use Rattle.flight_steps.specs.declared.faults.FlightFault.TheVariants as fault
@@ -7,6 +8,9 @@ use Rattle.flight_steps.specs.declared.faults.Seam.{Seam}
 use Rattle.flight_steps.specs.declared.faults.Seam.TheVariants as seam
 use Rattle.flight_steps.specs.declared.faults.Way.{Way}
 use Rattle.flight_steps.specs.declared.faults.Way.TheVariants as way
+use Rattle.show_direct.specs.declared.options.Options.{Options}
+use Rattle.show_direct.specs.Exchanges.{Accepts}
+use Rattle.show_direct.specs.Flights.{fault_of}
 
 -- ---- its bytes
 
@@ -74,6 +78,9 @@ IsNamed near stray (fault.Still w d) = d < 256
 IsNamed near stray (fault.Slanted w d) = d < 256
 IsNamed near stray (fault.Narrow n s) = (n ≡ near) × (s ≡ stray)
 
--- A frame names one cause.
-abbrev pub FaultFrameLaw : Type 0
-FaultFrameLaw = (near stray : ℕ) (f : FlightFault) → IsNamed near stray f → fault_in near stray (fault_frame f) ≡ f
+pub record FaultFrameLaw : Type 0 where
+  -- the bytes of a cause that can be named say which it is
+  pub one : (near stray : ℕ) (f : FlightFault) → IsNamed near stray f → fault_in near stray (fault_frame f) ≡ f
+  -- the first cause against three shows that are accepted can be named
+  pub named : (o : Options) (first second third : List ℕ) (up show down : PlainShow) (f : FlightFault) →
+      Accepts o.depth first up → Accepts o.depth second show → Accepts o.depth third down → fault_of o up show down ≡ Some f → IsNamed o.near up.settings.stray f

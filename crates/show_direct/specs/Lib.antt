@@ -1,5 +1,5 @@
 pub mod Flights
-pub mod Frames
 pub mod Exchanges
+pub mod Frames
 pub mod Direct
 pub mod Steps

@@ -4,6 +4,7 @@ ghost use Rattle.std.specs.Prelude.{◌≡◌, ◌++◌};
 ghost use Rattle.link_frames.specs.Frames.{end_frame};
 ghost use Rattle.show_direct.specs.Frames.{FaultFrameLaw, cause_bytes, no_flight_bytes, seam_byte, way_byte};
 
+use choreo_reader::show_law;
 use flight_steps::{FlightFault, Seam, Way};
 use link_frames::END_BYTE;
 
@@ -64,8 +65,10 @@ pub fn no_flight_bytes(fault: &FlightFault) -> [u8; 8]
     }
 }
 
-/// A law. A frame names one cause, whose numbers fit their bytes; how near drones have to be, and how far they may
-/// stray, is known without it.
+/// A law. The bytes of a frame name one cause, given how near to their pads drones have to be and how far they may
+/// stray; and of three shows that are accepted the first cause can be named so.
 pub fn fault_frame_law()
     ensures { FaultFrameLaw }
-{}
+{
+    show_law();
+}
