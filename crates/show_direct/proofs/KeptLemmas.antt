@@ -1,5 +1,5 @@
 -- A flight that ended with 0 was flown to its last step, and its show was kept.
-use Rattle.std.proofs.Common.{◌≡◌, ℕ, suc, ◌+◌, ◌*◌, ◌<◌, ◌≤◌, ◌==◌, Bool, true, false, List, [], ◌∷◌, Contains, get_or, length, map, min, Option, Some, None, refl, sym, ap, ◌∙◌, arith}
+use Rattle.std.proofs.Common.{◌≡◌, ℕ, suc, ◌*◌, ◌<◌, ◌≤◌, ◌==◌, Bool, true, false, List, [], ◌∷◌, Contains, get_or, length, map, min, Option, Some, None, refl, sym, ap, ◌∙◌, arith}
 use Rattle.std.proofs.Math.Nat.{min-le_right}
 use Rattle.std.proofs.lemmas.List.{length-map}
 use Rattle.std.proofs.lemmas.List.Sums.{sum_by-cons}
@@ -31,11 +31,11 @@ use Rattle.refusals.specs.declared.refusal.Refusal.{Refusal}
 use Rattle.show_plan.proofs.Flight.{flight_lasts}
 use Rattle.show_plan.specs.Fitting.{in_order}
 use Rattle.show_plan.specs.Trajectories.{by_cue, cue_times}
-use Rattle.show_judge.specs.Refused.{no_plan, show_refusal}
-use Rattle.show_judge.specs.Shows.{cut_of, trajectories_of}
+use Rattle.show_judge.specs.Refused.{no_plan}
+use Rattle.show_judge.specs.Shows.{trajectories_of}
 use Rattle.show_direct.specs.declared.options.Options.{Options}
 use Rattle.show_direct.specs.Flights.{AreFlight, flight_of, most_silence, routes_of}
-use Rattle.show_direct.specs.Exchanges.{Accepts, text_ways}
+use Rattle.show_direct.specs.Exchanges.{Accepts}
 
 -- ---- the end that gives 0
 

@@ -1,7 +1,7 @@
 -- Three shows by hand that are a flight, and beside them some that are none.
-use Rattle.std.proofs.Common.{◌≡◌, ℕ, ◌*◌, false, true, List, [], ◌∷◌, Option, Some, None, refl, arith}
+use Rattle.std.proofs.Common.{◌≡◌, ℕ, ◌*◌, true, List, [], ◌∷◌, Some, None, refl, arith}
 use Rattle.std.proofs.lemmas.List.Elements.{All-nil}
-use Rattle.std.specs.Prelude.{ℤ, codes, pos}
+use Rattle.std.specs.Prelude.{codes, pos}
 use Rattle.choreo_lines.specs.declared.parts.Act.TheVariants as act
 use Rattle.choreo_lines.specs.declared.parts.Point.{Point}
 use Rattle.choreo_show.specs.Plain as plain
@@ -17,7 +17,7 @@ use Rattle.flight_link.specs.Flights.{FlightGives}
 unfoldable use Rattle.flight_link.specs.Sends.{ended, sent_over}
 use Rattle.show_judge.specs.Verb.{outcome}
 use Rattle.show_direct.specs.declared.options.Options.{Options}
-use Rattle.show_direct.specs.Direct.{exchange_by, flight_exchange}
+use Rattle.show_direct.specs.Direct.{flight_exchange}
 use Rattle.show_direct.specs.Flights.{fault_of, flight_of}
 use Rattle.show_direct.specs.Frames.{fault_frame, fault_in}
 

@@ -32,8 +32,8 @@ seam_byte seam.DownToUp = 2
 abbrev pub cause_bytes : ℕ → ℕ → ℕ → ℕ → List ℕ
 cause_bytes cause place drone cue = no_flight_byte ∷ cause ∷ place ∷ drone % 256 ∷ cue % 256 ∷ (cue / 256) % 256 ∷ []
 
--- What a cause hasn't is 0. How near drones have to be and how far they may stray is in no frame, since who reads it
--- gave both.
+-- What a cause lacks is 0. How near drones have to be to their pads, and how far they may stray, is in no frame: the
+-- reader gave both numbers.
 abbrev pub fault_frame : FlightFault → List ℕ
 fault_frame (fault.OtherDrone w d) = cause_bytes 0 (way_byte w) d 0
 fault_frame (fault.Gap s d) = cause_bytes 1 (seam_byte s) d 0
@@ -78,6 +78,7 @@ IsNamed near stray (fault.Still w d) = d < 256
 IsNamed near stray (fault.Slanted w d) = d < 256
 IsNamed near stray (fault.Narrow n s) = (n ≡ near) × (s ≡ stray)
 
+-- What holds of the frame.
 pub record FaultFrameLaw : Type 0 where
   -- the bytes of a cause that can be named say which it is
   pub one : (near stray : ℕ) (f : FlightFault) → IsNamed near stray f → fault_in near stray (fault_frame f) ≡ f
