@@ -543,7 +543,8 @@ class Page(Led):
         self.assertIn("drone b 100cm 0 1m 0\n", self.text())
         self.browser.type("\uE013\uE013\uE015", "#number-value")  # up, up, down
         self.assertIn("drone b 100cm 0.1m 1m 0\n", self.text())
-        for typed, wanted in (("1.25", "1.25m"), ("-30cm", "-0.3m"), ("x", "-0.3m"), ("2s", "2m"), ("0", "0")):
+        for typed, wanted in (("1.25", "1.25m"), ("-0.05", "-0.05m"), ("-30cm", "-0.3m"), ("x", "-0.3m"), ("2s", "2m"),
+                              ("-.5m", "-0.5m"), ("0", "0")):
             self.browser.type(CONTROL + "a" + "\uE000" + typed, "#number-value")
             self.assertIn("drone b 100cm %s 1m 0\n" % wanted, self.text())
         self.put_cursor("drone b 100cm 0 1m 0")

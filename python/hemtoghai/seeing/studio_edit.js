@@ -42,10 +42,11 @@ const asShown = (value, unit) => {
   const [factor] = UNITS[unit], digits = Math.round(Math.log10(factor));
   return (value / factor).toFixed(digits).replace(/\.?0+$/, "") || "0";
 };
-// Shows the number of the cursor; while somebody writes into the field itself it stays.
+// Shows the number of the cursor; while somebody writes into the field itself it stays, letter by letter: the `-0` on the
+// way to -0.5 is no 0.
 function showNumber(force) {
   const input = byId("number-value");
-  if (document.activeElement === input && !force) return;
+  if ((writing || document.activeElement === input) && !force) return;
   const line = cursorLine();
   target = given.watch ? null : numberAt(line, selectionFrom() - offsetOf(line));
   byId("number").hidden = target === null;
