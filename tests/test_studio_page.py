@@ -661,6 +661,11 @@ class Page(Led):
         self.open(example("formation_change"), size=(390, 844))
         self.says("accepted")
         self.assertEqual(self.browser.run("return document.documentElement.scrollWidth"), 390)
+        # The charts are as wide as their room from the first flight on.
+        self.wait(lambda: self.browser.run("return Boolean(found.notes)"), "no notes")
+        wide = "return ['heights', 'share'].map(it => document.querySelector(`#${it} rect[fill=none]`).width.baseVal.value)"
+        self.assertEqual([width > 250 for width in self.browser.run(wide)], [True, True])
+        self.assertEqual(self.browser.faults(), [])
         self.open(example("formation_change"), size=(1280, 800))
         self.says("accepted")
         size = self.browser.run("const it = document.documentElement; return [it.scrollWidth, it.scrollHeight]")
