@@ -154,7 +154,7 @@ class Bound(Case):
         for begin, end, x, square in ((0, 1000, 30, 2500), (0, 500, 30, 2500), (2000, 3000, 1030, 2500),
                                       (2500, 3000, 1030, 2500), (0, 2000, 0, 1001600), (500, 3000, 1000, 1001600)):
             held = [[Fraction(v)] for v in (x, 40, 0, 2)]
-            found = path.leaves(Fraction(begin), Fraction(end), held, 6, (Fraction(0), Fraction(0)), paths.farthest)
+            found = path.leaves(Fraction(begin), Fraction(end), held, 6, (Fraction(0), Fraction(0)))
             self.assertEqual(found, (square, 4), (begin, end))
 
     def test_farthest(self):

@@ -66,7 +66,8 @@ SKYC = [
     (settings([1, 2], *POINT, 1), "isn't three numbers"), (settings([0, 0, None], *POINT, 1), "isn't three numbers"),
     (settings([[0, 0, 1]], *POINT, 2), "none or two are known"),
     (settings([[0, 0], [0, 0, 0]], *POINT, 2), "three numbers"),
-    (settings([33, 0, 0], *POINT, 1), "farther than 32.767 m"), (settings([0, 1e300, 0], *POINT, 1), "farther than"),
+    (settings([33, 0, 0], *POINT, 1), "farther than 32.767 m"), (settings([0, 1e30, 0], *POINT, 1), "farther than"),
+    (settings([0, 1e300, 0], *POINT, 1), "an exponent has at most two digits"),
     (settings([[0, 0], [3, 1], [2, 1]], "yawControl", "setpoints"), "yaw goes back"),
     (settings([[0, 0], [2, 1], [2, 9]], "yawControl", "setpoints"), "yaw jumps"),
     (settings([[0, 0, 0]], "yawControl", "setpoints"), "setpoint"),
@@ -153,7 +154,7 @@ class Faults(Case):
         # As many numbers as bytes are taken, and no more.
         said = self.refused(self.file("a.skyc", packed(front + "1," * 60000)))
         self.assertRegex(said, "more than 20[0-9]{3} numbers")
-        self.assertIn("more than 1000000 numbers", self.refused(self.file("a.csv", "1," * 1000001)))
+        self.assertIn("more than 1000000 cells", self.refused(self.file("a.csv", "1," * 1000001)))
 
     def test_zips(self):
         self.assertIn("a zip without a CSV file", self.refused(self.file("a.zip", members({"a.txt": "1,2"}))))
@@ -212,6 +213,55 @@ class Limits(Case):
         self.assertIn("in 256 segments", self.refused(4, "--waypoints", "--tolerance", "500", steps(256)))
         self.assertEqual(self.run_tool("import", "--waypoints", "--tolerance", "1", steps(255))[0], 0)
         self.assertIn("more than 1000 cues", self.refused(3, "--waypoints", "--tolerance", "1", steps(1001)))
+
+    def test_row_again_and_again(self):
+        # A row of polynomials that stands 300 times more: at each of them the drone jumps by some millimetres, so that
+        # no cue fits. A file of 95 KB of this kind took 20 s of processor time.
+        with open(os.path.join(common.TOP, "examples", "eight_left.csv")) as file:
+            rows = file.read().split("\n")
+        path, begun = self.file("a.csv", "\n".join(rows[:3] + rows[3:4] * 300 + rows[3:])), time.process_time()
+        self.assertRegex(self.refused(3, "--comparisons", "30000", path), "more than 1000 cues; no tolerance up to 1000")
+        self.assertLess(time.process_time() - begun, 10)
+
+    def test_comparisons(self):
+        # A search that may take few comparisons finds no cues; one that may take more, no tolerance; then it does.
+        path, found, most = self.file("a.skyc", files.skyc([files.wild(1, 20)])), [], 100.0
+        while "fits with --tolerance" not in "".join(found[-1:]) and most < 10000:
+            words = ["--tolerance", "2", "--memory", "2 3600", "--comparisons", str(int(most)), path]
+            said, most = self.run_tool("import", *words)[2], 1.2 * most
+            if re.sub("[0-9]+", "", said) not in [re.sub("[0-9]+", "", it) for it in found]:
+                found.append(said)
+        self.assertEqual(len(found), 3, found)
+        self.assertIn("no cues were found in 100 comparisons: cut the file into several", found[0])
+        self.assertRegex(found[1], r"take \d+ bytes of 496, in \d+ segments; no tolerance that helps was found in \d+ comp")
+
+    def test_corners_are_counted_first(self):
+        # Lines with 20,001 corners: no cue is looked for, since none goes over a corner.
+        rows = "".join("%d,%d,0,1\n" % (k, k % 2) for k in range(20002))
+        said = self.refused(3, "--waypoints", "--comparisons", "1", self.file("a.csv", rows))
+        self.assertIn("more than 1000 cues; no tolerance up to 1000 mm helps: cut the show into several", said)
+        said = self.refused(3, "--waypoints", "--judge", "--comparisons", "1", self.file("a.csv"))
+        self.assertIn("more than 20000 cues: judge a part of the show", said)
+
+    def test_many_rows(self):
+        # Empty lines, names, references and long numbers: what is read is bounded, and so are time and memory.
+        first, begun = "0,0,0,1\n", time.process_time()
+        self.assertIn("more than 1000000 lines", self.refused(3, "--waypoints", self.file("a.csv", first + "\n" * 9 ** 7)))
+        names = "".join("%s,0,0,0,1\n" % ("!" * k) for k in range(1, 2000)) + "".join(
+            "%s,0,0,0,1\n" % chr(k) for k in range(0x4E00, 0x9E00))
+        self.assertIn("33 drones, and a show", self.refused(3, "--waypoints", self.file("a.csv", names)))
+        rows = "".join("%d,0,0,1\n" % k for k in range(75001))
+        self.assertIn("line 75001: more than 300000 numbers", self.refused(3, "--waypoints", self.file("a.csv", rows)))
+        # 140 places, 134 of them in micrometres, are 446 bits: that counts as seven, and a row as ten.
+        rows = "".join("%d,1.%s1e-99,0,1\n" % (k, "0" * 40) for k in range(30001))
+        self.assertIn("line 30001: more than 300000", self.refused(3, "--waypoints", self.file("a.csv", rows)))
+        points = {"points": [[k, [0, 0, 1]] for k in range(4000)], "version": 1}
+        drones = [files.drone(str(k), []) for k in range(32)]
+        for one in drones:
+            one["settings"]["trajectory"] = {"$ref": "#/way"}
+        said = self.refused(3, self.file("a.skyc", files.archive({"show.json": files.show(drones, way=points)})))
+        self.assertIn("more than 300000 numbers", said)
+        self.assertLess(time.process_time() - begun, 60)
 
     def test_ellipsoid(self):
         words = ["--ellipsoid", "1 2000", self.file("a.csv", "1,0.0004,0,1\n")]

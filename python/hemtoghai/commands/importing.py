@@ -33,13 +33,14 @@ from hemtoghai.commands import why
 from hemtoghai.companion import add_depth, begins, many, parser, stop
 from hemtoghai.exchange import foreign
 from hemtoghai.geometry import fitting, separation
-from hemtoghai.geometry.paths import Path
+from hemtoghai.geometry.paths import Budget, Path, TooLong
 from hemtoghai.language import choreo
 from hemtoghai.language.lines import header, line_in, NEWEST
 
 Paths = List[Path[Fraction]]
 Axes = Tuple[int, int]  # half axes of an ellipsoid, in millimetres
 MOST_JUDGED = 20000  # cues of a show that is only judged
+COMPARISONS = 200000  # of a piece of a file with a curve, in a search for cues: some seconds
 STRETCH = 150  # cues of curves, in 23 bytes each, fit into 4,096
 STEPS = [1, 2, 5, 10, 20, 30, 50, 70, 100, 200, 500, 1000]  # millimetres
 FAULTY = 3
@@ -146,8 +147,8 @@ class TooMuch(NamedTuple):
 
 def too_much(fit: fitting.Fit, head: list[str], form: int) -> TooMuch | None:
     """What is too much of an import, or None."""
-    if len(fit.cues) > choreo.MOST_CUES:
-        return TooMuch(FAULTY, "more than %d cues" % choreo.MOST_CUES, len(fit.cues) / choreo.MOST_CUES)
+    if fit.crowded or len(fit.cues) > choreo.MOST_CUES:
+        return TooMuch(FAULTY, "more than %d cues" % choreo.MOST_CUES, max(1, len(fit.cues) / choreo.MOST_CUES))
     try:
         flown = choreo.flown_of(fit.text(head, form).encode())
         room = flown.room()
@@ -162,22 +163,40 @@ def too_much(fit: fitting.Fit, head: list[str], form: int) -> TooMuch | None:
     return None
 
 
-def tolerance_for(paths: Paths, options: argparse.Namespace, head: list[str], times: float,
-                  edges: int) -> int | None:
-    """A tolerance at which a show fits, or None: greater ones are tried, from the first on at which cubics may have so
-    many times fewer pieces. No tolerance does without the edges of rests and corners."""
-    for mm in STEPS if edges <= choreo.MOST_CUES else ():
-        if mm > max(options.tolerance, options.tolerance * times ** 2):
-            if too_much(fit_of(paths, options, mm), head, options.form) is None:
-                return mm
-    return None
+def fits(paths: Paths, options: argparse.Namespace, head: list[str], tolerance: float) -> bool:
+    """Whether a show fits at a tolerance. A drone that flies in more cues than it takes segments is seen at once."""
+    fit = fit_of(paths, options, tolerance)
+    flights = [sum(act.words != ["hold"] for act in acts) for acts in zip(*(cue.acts for cue in fit.cues))]
+    return max(flights, default=0) <= choreo.MOST_SEGMENTS and too_much(fit, head, options.form) is None
 
 
-def stop_for(paths: Paths, options: argparse.Namespace, found: TooMuch, head: list[str], edges: int) -> NoReturn:
-    """Ends the tool for what is too much, with the tolerance at which the show would fit."""
+def tolerance_for(paths: Paths, options: argparse.Namespace, head: list[str], times: float) -> int | None:
+    """A tolerance at which a show fits, or None: of the steps from the first on at which cubics may have so many times
+    fewer pieces. The greatest is tried first, and then the others by halving."""
+    steps = [mm for mm in STEPS if mm > max(options.tolerance, options.tolerance * times ** 2)]
+    if not steps or not fits(paths, options, head, steps[-1]):
+        return None
+    low, high = 0, len(steps) - 1
+    while low < high:
+        middle = (low + high) // 2
+        if fits(paths, options, head, steps[middle]):
+            high = middle
+        else:
+            low = middle + 1
+    return steps[high]
+
+
+def stop_for(paths: Paths, options: argparse.Namespace, found: TooMuch, head: list[str], crowded: bool) -> NoReturn:
+    """Ends the tool for what is too much, with the tolerance at which the show would fit. No tolerance does without the
+    edges of rests and corners."""
     if not found.times:
         stop(found.words, found.status)
-    mm = tolerance_for(paths, options, head, found.times, edges)
+    options.budget = Budget(options.comparisons)
+    try:
+        mm = None if crowded else tolerance_for(paths, options, head, found.times)
+    except TooLong:
+        stop("%s; no tolerance that helps was found in %d comparisons: cut the show into several" % (
+            found.words, options.comparisons), found.status)
     stop("%s; %s" % (found.words, "the show fits with --tolerance %d" % mm if mm else
                      "no tolerance up to %d mm helps: cut the show into several" % STEPS[-1]), found.status)
 
@@ -224,11 +243,15 @@ def options_of(words: list[str]) -> argparse.Namespace:
                         help="the form of the language: 2, with units, or 1, in whole numbers; without it 2")
     reader.add_argument("--starts", metavar="FILE",
                         help="a CSV file with name,x,y,z a row (metres), added to polynomials")
+    reader.add_argument("--comparisons", type=numbers((1, 99999999)), default=COMPARISONS, metavar="N",
+                        help="comparisons of pieces with curves after which the search for cues ends; without it %d"
+                             % COMPARISONS)
     reader.add_argument("--judge", action="store_true", help="write no show: judge the file's own curves")
     add_depth(reader, "of --judge: 0 to 8, without it 6")
     reader.add_argument("files", nargs="+", metavar="FILE", help="one .skyc, or CSV files")
     options = reader.parse_args(words)
     options.skyc, options.left_out = options.files[0].lower().endswith(".skyc"), {}
+    options.budget = Budget(options.comparisons)
     if options.skyc and len(options.files) > 1:
         reader.error("one .skyc has all drones")
     if options.starts and (options.skyc or options.waypoints or options.smooth):
@@ -249,20 +272,16 @@ def paths_of(options: argparse.Namespace) -> Paths:
     try:
         options.skyc = options.skyc or is_show(options.files)
         if options.skyc:
-            paths = foreign.read_skyc(options.files[0], options.left_out)
-        else:
-            paths = foreign.read_csv(options.files, options.waypoints or options.smooth, options.smooth, options.starts)
+            return foreign.read_skyc(options.files[0], options.left_out)
+        return foreign.read_csv(options.files, options.waypoints or options.smooth, options.smooth, options.starts)
     except foreign.Unreadable as error:
         return stop(("%s: %s" % (options.files[0], error) if options.skyc else str(error)), FAULTY)
-    if len(paths) > choreo.MOST_DRONES:
-        stop("%d drones, and a show has at most %d" % (len(paths), choreo.MOST_DRONES), FAULTY)
-    return paths
 
 
 def fit_of(paths: Paths, options: argparse.Namespace, tolerance: float) -> fitting.Fit:
     """The cues for paths; those of a show that is written are no more than it may have, and one."""
     return fitting.Fit(paths, tolerance, options.yaw_tolerance, options.least, not options.loose,
-                       MOST_JUDGED if options.judge else choreo.MOST_CUES)
+                       MOST_JUDGED if options.judge else choreo.MOST_CUES, options.budget)
 
 
 def say(*words: object) -> None:
@@ -320,12 +339,16 @@ def head_of(options: argparse.Namespace, bound: Fraction, turned: Fraction, fact
 def main(words: list[str]) -> int:
     options = options_of(words)
     paths = paths_of(options)
-    fit = fit_of(paths, options, options.tolerance)
+    try:
+        fit = fit_of(paths, options, options.tolerance)
+    except TooLong:
+        return stop("no cues were found in %d comparisons: cut the file into several, take a greater --tolerance, or "
+                    "allow more with --comparisons" % options.comparisons, FAULTY)
     head = [header(options.form), line_in(options.form, "memory", *options.memory)]
     found = None if options.judge else too_much(fit, head, options.form)
     if found:
-        stop_for(paths, options, found, head, len(fit.edges) - 1)
-    if options.judge and len(fit.cues) > MOST_JUDGED:
+        stop_for(paths, options, found, head, fit.crowded)
+    if fit.crowded or len(fit.cues) > MOST_JUDGED:
         stop("more than %d cues: judge a part of the show, or take a greater --tolerance" % MOST_JUDGED, FAULTY)
     bounds = fit.bounds()
     bound, turned = max(row[0] for row in bounds), max(row[1] for row in bounds)

@@ -8,6 +8,7 @@ from __future__ import annotations
 import bisect
 import csv
 import io
+import itertools
 import json
 import posixpath
 import re
@@ -22,6 +23,7 @@ from typing import List, Tuple, Type, TypeVar
 from hemtoghai.companion import read_front
 from hemtoghai.geometry import paths
 from hemtoghai.geometry.paths import part, Path, PI
+from hemtoghai.language.choreo import MOST_DRONES
 
 Kind = TypeVar("Kind")
 Row = List[Fraction]  # numbers of a line, control values, or a place
@@ -29,10 +31,14 @@ Piece = paths.Piece[Fraction]
 Timed = Tuple[Fraction, Row]  # an instant in milliseconds, and a place with its yaw
 
 LARGEST = 1 << 24  # bytes of a file, or of all members of an archive that are read
-NUMBERS = 1000000  # of all files together
+CELLS = LINES = 1000000  # cells of all CSV files, and lines of one
+NUMBERS = 300000  # that are read, of all files together; one with more than twenty places counts as several
+BITS = 64  # of a number, for which it counts as one
 # An archive is packed less than so many times, and has fewer numbers than bytes: else it isn't a show that flies.
 PACKED, SMALLEST = 64, 20000
-NUMBER = re.compile(r"[-+]?(\d+\.?\d*|\.\d+)([eE][-+]?\d{1,3})?")
+NUMBER = re.compile(r"([-+]?)(\d+\.?\d*|\.\d+)([eE][-+]?\d{1,3})?")
+LARGEST_EXPONENT = 99
+TENS = [10 ** k for k in range(200)]
 JUMP = 100000  # micrometres that a path may jump on an axis: the polynomials of some files are rounded
 LONGEST = 36000000  # milliseconds of a show
 SHORTEST = Fraction(1, 1000)  # milliseconds of a piece
@@ -44,23 +50,45 @@ class Unreadable(Exception):
 
 
 class Counter:
-    """Counts numbers, up to a limit."""
+    """Counts things, up to a limit."""
 
-    def __init__(self, most: int) -> None:
-        self.most = self.left = most
+    def __init__(self, most: int, things: str = "numbers") -> None:
+        self.most, self.left, self.things = most, most, things
 
     def take(self, count: int = 1) -> None:
         """Counts so many more."""
         self.left -= count
         if self.left < 0:
-            raise Unreadable("more than %d numbers" % self.most)
+            raise Unreadable("more than %d %s" % (self.most, self.things))
+
+    def number(self, word: str, tens: int = 0) -> Fraction:
+        """A number as it is written, times a power of ten; it counts the more the longer it is."""
+        found = number(word, tens)
+        self.take(1 + max(found.numerator.bit_length(), found.denominator.bit_length()) // BITS)
+        return found
 
 
-def number(word: str) -> Fraction:
-    """A number as it is written."""
-    if len(word) > 60 or not NUMBER.fullmatch(word):
+def number(word: str, tens: int = 0) -> Fraction:
+    """A number as it is written, times a power of ten."""
+    found = NUMBER.fullmatch(word) if len(word) <= 60 else None
+    if not found:
         raise Unreadable("%.20r is no number" % word)
-    return Fraction(word)
+    exponent = int(found[3][1:]) if found[3] else 0
+    if abs(exponent) > LARGEST_EXPONENT:
+        raise Unreadable("%.20r is beyond what is read: an exponent has at most two digits" % word)
+    whole, _, rest = found[2].partition(".")
+    digits, places = int(found[1] + whole + rest), len(rest) - exponent - tens
+    return Fraction(digits, TENS[places]) if places > 0 else Fraction(digits * TENS[-places])
+
+
+def is_beyond(v: Fraction, most: int) -> bool:
+    """Whether a number is farther from 0 than this."""
+    return abs(v.numerator) > most * v.denominator
+
+
+def shortest(row: Row) -> Row:
+    """The control values of a curve on an axis: one, where it stays."""
+    return row[:1] if row.count(row[0]) == len(row) else row
 
 
 def name_of(word: str, taken: set[str]) -> str:
@@ -83,9 +111,9 @@ def checked(name: str, pieces: list[Piece]) -> Path[Fraction]:
     for begin, end, rows in pieces:
         if end - begin < SHORTEST:
             raise Unreadable("%s has two instants less than a microsecond apart at %.6f s" % (name, begin / 1000))
-        if any(abs(v) > FARTHEST for row in rows[:3] for v in row):
+        if any(is_beyond(v, FARTHEST) for row in rows[:3] for v in row):
             raise Unreadable("%s is farther than 32.767 m from the origin on an axis, at %.3f s" % (name, begin / 1000))
-        if any(abs(v) > TURNED for v in rows[3]):
+        if any(is_beyond(v, TURNED) for v in rows[3]):
             raise Unreadable("%s is turned by more than 3276.7 degrees, at %.3f s" % (name, begin / 1000))
     path = Path(name, pieces)
     far, when = max(path.jumps(), default=(0, 0))
@@ -122,6 +150,7 @@ class Archive:
         self.texts: dict[str, object] = {}
         self.left = min(LARGEST, PACKED * (SMALLEST + len(data)))
         self.counter = Counter(min(NUMBERS, SMALLEST + len(data)))
+        self.flown = Counter(NUMBERS)  # of drones that may refer to one trajectory
         try:
             self.file = zipfile.ZipFile(io.BytesIO(data))
         except (ValueError, NotImplementedError, OverflowError, struct.error, zipfile.BadZipFile, OSError) as error:
@@ -147,18 +176,13 @@ class Archive:
                 zipfile.BadZipFile, OSError) as error:
             raise Unreadable("%.60s is damaged: %s" % (where, error or type(error).__name__))
 
-    def number(self, word: str) -> Fraction:
-        """A number as it is written, one of not too many."""
-        self.counter.take()
-        return number(word)
-
     def text(self, where: str) -> object:
         """The JSON text of a member, its numbers as they are written."""
         if where not in self.texts:
             try:
                 text = self.data(where).decode("utf-8")
-                self.texts[where] = json.loads(text, parse_float=self.number, parse_int=self.number,
-                                               parse_constant=self.number)
+                read = self.counter.number
+                self.texts[where] = json.loads(text, parse_float=read, parse_int=read, parse_constant=read)
             except (ValueError, RecursionError) as error:
                 raise Unreadable("%.60s is damaged: %s" % (where, error or type(error).__name__))
         return self.texts[where]
@@ -180,6 +204,12 @@ class Archive:
         raise Unreadable("%s: references that go round" % base)
 
 
+def limit_drones(count: int) -> None:
+    """Refuses more drones than a show may have."""
+    if count > MOST_DRONES:
+        raise Unreadable("%d drones, and a show has at most %d" % (count, MOST_DRONES))
+
+
 LEFT_OUT = {"lights": "lights", "pyro": "pyrotechnics"}  # what a drone's settings may have, and no show has
 
 
@@ -194,6 +224,7 @@ def read_skyc(path: str, left_out: dict[str, int]) -> list[Path[Fraction]]:
     drones = field(archive.follow(field(show, "swarm", dict, "show.json")), "drones", list, "the swarm")
     if not drones:
         raise Unreadable("show.json has no drone")
+    limit_drones(len(drones))
     words: set[str] = set()
     taken: set[str] = set()
     out = []
@@ -231,7 +262,9 @@ def skyc_path(archive: Archive, where: str, settings: object, name: str) -> Path
     if version != 1:
         raise Unreadable("%s: a trajectory of version %s, and 1 is known" % (where, version))
     late = field(trajectory, "takeoffTime", Fraction, where, Fraction(0)) * 1000
-    points = [point_of(point, where) for point in field(trajectory, "points", list, where)]
+    listed = field(trajectory, "points", list, where)
+    archive.flown.take(4 * len(listed))
+    points = [point_of(point, where) for point in listed]
     if not points:
         raise Unreadable("%s: a trajectory without a point" % where)
     pieces: list[Piece] = []
@@ -243,6 +276,7 @@ def skyc_path(archive: Archive, where: str, settings: object, name: str) -> Path
     if not pieces:
         pieces = [stays(late + points[0][0], points[0][1])]
     yaw = archive.follow(field(settings, "yawControl", dict, where, {"setpoints": []}))
+    archive.flown.take(2 * len(field(yaw, "setpoints", list, where)))
     setpoints = [setpoint_of(it, late, where) for it in field(yaw, "setpoints", list, where)]
     for (a, p), (b, q) in zip(setpoints, setpoints[1:]):
         if b < a or (a == b and p != q):
@@ -305,7 +339,7 @@ def limited(path: str) -> bytes:
 def separator_of(text: str) -> str:
     """What parts the cells of a text: a semicolon or a tab, where its first row has one outside of quotes, else a
     comma."""
-    for line in text.splitlines():
+    for line in itertools.islice(io.StringIO(text, newline=None), LINES):
         if line.strip() and not line.lstrip().startswith("#"):
             bare = "".join(line.split('"')[::2])
             return next((sign for sign in ";\t" if sign in bare), ",")
@@ -318,58 +352,86 @@ def with_point(cell: str) -> str:
     return whole + "." + rest if comma and NUMBER.fullmatch(whole + "." + rest) else cell
 
 
-def rows_of(data: bytes) -> tuple[list[tuple[int, list[str]]], list[str]]:
-    """The rows of the bytes of a CSV file as (line, cells), and the words of its head, which is a first row without a
-    number. Where semicolons or tabs part the cells, numbers may have a decimal comma."""
-    try:
-        text = data.decode("utf-8-sig")
-        separator = separator_of(text)
-        rows = [(k, [cell.strip() for cell in row]) for k, row in enumerate(
-            csv.reader(io.StringIO(text, newline=""), delimiter=separator), 1)]
-    except (UnicodeDecodeError, csv.Error) as error:
-        raise Unreadable("no CSV: %s" % error)
-    if separator != ",":
-        rows = [(k, [with_point(cell) for cell in row]) for k, row in rows]
-    rows = [(k, row) for k, row in rows if any(row) and not row[0].startswith("#")]
-    for _, row in rows:
-        while not row[-1]:
-            row.pop()
-    head: list[str] = []
-    if rows and not any(NUMBER.fullmatch(cell) for cell in rows[0][1]):
-        head = [cell.lower() for cell in rows.pop(0)[1]]
-    if not rows:
-        raise Unreadable("no row of numbers")
-    return rows, head
+class Table:
+    """The bytes of a CSV file: the words of its head, which is a first row without a number, and its `rows` as (line,
+    cells), each when it is asked for. Where semicolons or tabs part the cells, numbers may have a decimal comma."""
+
+    def __init__(self, data: bytes) -> None:
+        try:
+            text = data.decode("utf-8-sig")
+        except UnicodeDecodeError as error:
+            raise Unreadable("no CSV: %s" % error)
+        rows = self.rows_of(text)
+        first = next(rows, None)
+        self.head: list[str] = []
+        if first and not any(NUMBER.fullmatch(cell) for cell in first[1]):
+            self.head = [cell.lower() for cell in first[1]]
+            first = next(rows, None)
+        if first is None:
+            raise Unreadable("no row of numbers")
+        self.first = first[1]
+        self.rows = itertools.chain([first], rows)
+
+    @staticmethod
+    def rows_of(text: str) -> Iterator[tuple[int, list[str]]]:
+        """The rows of a text that have cells, without comments and empty cells at their ends."""
+        separator, lines = separator_of(text), Counter(LINES, "lines")
+        try:
+            for line, row in enumerate(csv.reader(io.StringIO(text, newline=""), delimiter=separator), 1):
+                lines.take()
+                cells = [cell.strip() for cell in row]
+                if not any(cells) or cells[0].startswith("#"):
+                    continue
+                while not cells[-1]:
+                    cells.pop()
+                yield line, cells if separator == "," else [with_point(cell) for cell in cells]
+        except csv.Error as error:
+            raise Unreadable("no CSV: %s" % error)
 
 
-def numbers_of(line: int, cells: list[str]) -> Row:
-    """The numbers of a row."""
+def numbers_of(line: int, cells: list[str], counter: Counter, tens: Sequence[int]) -> Row:
+    """The numbers of a row, each times a power of ten."""
     try:
-        return [number(cell) for cell in cells]
+        return [counter.number(cell, ten) for cell, ten in zip(cells, tens)]
     except Unreadable as error:
         raise Unreadable("line %d: %s" % (line, error))
 
 
-def read_polynomials(data: bytes, name: str, start: Row) -> Path[Fraction]:
-    """The path in the bytes of a file of uav_trajectories: in each row a duration and eight coefficients an axis, in
-    metres and radians."""
+OVER = 105  # what the binomials of seven divide
+WEIGHTS = [[comb(j, k) * (OVER // comb(7, k)) for k in range(j + 1)] for j in range(8)]
+
+
+def control_values(coefficients: Row, length: Fraction) -> Row:
+    """The control values of a polynomial of degree seven between 0 and a length; in whole numbers to the last step."""
+    if not any(coefficients[1:]):
+        return coefficients[:1]
+    (whole, over), a, b = paths.in_whole_numbers(coefficients), length.numerator, length.denominator
+    terms = [c * a ** k * b ** (7 - k) for k, c in enumerate(whole)]
+    return [Fraction(sum(weight * term for weight, term in zip(row, terms)), OVER * over * b ** 7) for row in WEIGHTS]
+
+
+POLYNOMIAL = [0] + [6] * 24 + [0] * 8  # powers of ten: seconds, then micrometres, then radians
+
+
+def read_polynomials(table: Table, start: Row, counter: Counter) -> list[Piece]:
+    """The pieces in a file of uav_trajectories: in each row a duration and eight coefficients an axis, in metres and
+    radians. The start is in micrometres."""
     t = Fraction(0)
     pieces: list[Piece] = []
-    for line, cells in rows_of(data)[0]:
-        row = numbers_of(line, cells)
-        if len(row) != 33:
-            raise Unreadable("line %d: %d numbers, and 33 are wanted, a duration first" % (line, len(row)))
+    for line, cells in table.rows:
+        if len(cells) != 33:
+            numbers_of(line, cells, counter, [0] * len(cells))
+            raise Unreadable("line %d: %d numbers, and 33 are wanted, a duration first" % (line, len(cells)))
+        row = numbers_of(line, cells, counter, POLYNOMIAL)
         if row[0] <= 0:
             raise Unreadable("line %d: a duration of %s s" % (line, cells[0]))
-        length, rows = row[0], []
-        for axis in range(4):
-            scaled = [c * length ** k for k, c in enumerate(row[1 + 8 * axis:9 + 8 * axis])]
-            points = [sum((Fraction(comb(j, k), comb(7, k)) * scaled[k] for k in range(j + 1)), Fraction(0))
-                      for j in range(8)]
-            rows.append([p * 1800 / PI for p in points] if axis == 3 else [(p + start[axis]) * 1000000 for p in points])
-        pieces.append((t * 1000, (t + length) * 1000, [row[:1] if len(set(row)) == 1 else row for row in rows]))
-        t += length
-    return checked(name, pieces)
+        axes = [row[k:k + 8] for k in (1, 9, 17)]
+        for axis, place in zip(axes, start):
+            axis[0] += place
+        axes.append([c * 1800 / PI if c else c for c in row[25:]])
+        begin, t = t, t + row[0] * 1000
+        pieces.append((begin, t, [shortest(control_values(axis, row[0])) for axis in axes]))
+    return pieces
 
 
 COLUMNS = {"t": "t", "time": "t", "time [s]": "t", "t [s]": "t", "time [msec]": "ms", "time [ms]": "ms", "t [ms]": "ms",
@@ -399,21 +461,23 @@ def columns_of(head: list[str], first: list[str]) -> dict[str, int]:
     return found
 
 
-def read_waypoints(data: bytes, stem: str, smooth: bool) -> dict[str, list[Piece]]:
-    """The paths in the bytes of a file of waypoints by the names of their drones, as lists of pieces: t,x,y,z and maybe
-    yaw in each row (seconds, metres, degrees; or Skybrush's CSV, with milliseconds and colours), and maybe a column of
-    drones."""
-    rows, head = rows_of(data)
-    columns = columns_of(head, rows[0][1])
-    words, scale = [word for word in ("t", "ms", "x", "y", "z", "yaw") if word in columns], 1 if "ms" in columns else 1000
+POWERS = {"t": 3, "ms": 0, "x": 6, "y": 6, "z": 6, "yaw": 1}  # of ten, to milliseconds, micrometres, tenths
+
+
+def read_waypoints(table: Table, stem: str, smooth: bool, counter: Counter) -> dict[str, list[Piece]]:
+    """The paths in a file of waypoints by the names of their drones, as lists of pieces: t,x,y,z and maybe yaw in each
+    row (seconds, metres, degrees; or Skybrush's CSV, with milliseconds and colours), and maybe a column of drones."""
+    columns, head = columns_of(table.head, table.first), table.head
+    words = [word for word in POWERS if word in columns]
+    places, tens, last = [columns[word] for word in words], [POWERS[word] for word in words], max(columns.values())
     points: dict[str, list[Timed]] = {}
-    for line, cells in rows:
-        if len(cells) <= max(columns.values()) or (not head and len(cells) > len(columns)):
+    for line, cells in table.rows:
+        if len(cells) <= last or (not head and len(cells) > len(columns)):
             raise Unreadable("line %d: %d cells, and %d are wanted" % (line, len(cells), len(columns)))
-        row = numbers_of(line, [cells[columns[word]] for word in words])
+        row = numbers_of(line, [cells[place] for place in places], counter, tens)
         own = points.setdefault(cells[columns["drone"]] if "drone" in columns else stem, [])
-        yaw = row[4] * 10 if len(row) > 4 else Fraction(0)
-        own.append((row[0] * scale, [v * 1000000 for v in row[1:4]] + [yaw]))
+        limit_drones(len(points))
+        own.append((row[0], row[1:4] + (row[4:] or [Fraction(0)])))
         if len(own) > 1 and own[-2][0] >= own[-1][0]:
             raise Unreadable("line %d: the time doesn't grow" % line)
     return {word: joined(own, smooth) for word, own in points.items()}
@@ -430,20 +494,23 @@ def joined(points: list[Timed], smooth: bool) -> list[Piece]:
         return [stays(*points[0])]
     pieces: list[Piece] = []
     for k, ((begin, p), (end, q)) in enumerate(zip(points, points[1:])):
-        third = (end - begin) / 3
-        rows = [[x, x + third * u, y - third * v, y] if smooth else [x, y]
-                for x, y, u, v in zip(p, q, slope(k), slope(k + 1))]
-        pieces.append((begin, end, [row[:1] if len(set(row)) == 1 else row for row in rows]))
+        if smooth:
+            third = (end - begin) / 3
+            rows = [[x, x + third * u, y - third * v, y] for x, y, u, v in zip(p, q, slope(k), slope(k + 1))]
+        else:
+            rows = [[x, y] for x, y in zip(p, q)]
+        pieces.append((begin, end, [shortest(row) for row in rows]))
     return pieces
 
 
 def read_starts(path: str) -> dict[str, Row]:
-    """Places by names, from name,x,y,z a row, in metres."""
+    """Places in micrometres by names, from name,x,y,z a row, in metres."""
     out: dict[str, Row] = {}
-    for line, cells in rows_of(limited(path))[0]:
+    counter = Counter(NUMBERS)
+    for line, cells in Table(limited(path)).rows:
         if len(cells) != 4 or cells[0] in out:
             raise Unreadable("line %d: name,x,y,z are wanted, once for each drone" % line)
-        out[cells[0]] = numbers_of(line, cells[1:])
+        out[cells[0]] = numbers_of(line, cells[1:], counter, [6] * 3)
     return out
 
 
@@ -469,20 +536,21 @@ def stem_of(path: str) -> str:
     return posixpath.splitext(posixpath.basename(path))[0]
 
 
-def has_waypoints(data: bytes) -> bool:
+def has_waypoints(table: Table) -> bool:
     """Whether a CSV file has a head that names t, x, y and z."""
-    words = {COLUMNS.get(cell) for cell in rows_of(data)[1]}
+    words = {COLUMNS.get(cell) for cell in table.head}
     return {"x", "y", "z"} <= words and bool({"t", "ms"} & words)
 
 
-def one_csv(data: bytes, stem: str, waypoints: bool, smooth: bool,
-            places: dict[str, Row] | None) -> dict[str, list[Piece]]:
+def one_csv(data: bytes, stem: str, waypoints: bool, smooth: bool, places: dict[str, Row] | None,
+            counter: Counter) -> dict[str, list[Piece]]:
     """The paths in the bytes of a CSV file by the names of their drones, as lists of pieces."""
-    if waypoints or has_waypoints(data):
-        return read_waypoints(data, stem, smooth)
+    table = Table(data)
+    if waypoints or has_waypoints(table):
+        return read_waypoints(table, stem, smooth, counter)
     if places is not None and stem not in places:
         raise Unreadable("the file of --starts has no place for %.40s" % stem)
-    return {stem: read_polynomials(data, "", (places or {}).get(stem, [Fraction(0)] * 3)).pieces}
+    return {stem: read_polynomials(table, (places or {}).get(stem, [Fraction(0)] * 3), counter)}
 
 
 def read_csv(files: Sequence[str], waypoints: bool, smooth: bool = False,
@@ -490,15 +558,16 @@ def read_csv(files: Sequence[str], waypoints: bool, smooth: bool = False,
     """The paths of CSV files, or of zips of them: polynomials, a drone a file, or waypoints."""
     taken: set[str] = set()
     found: dict[str, Path[Fraction]] = {}
-    counter = Counter(NUMBERS)
+    cells, counter = Counter(CELLS, "cells"), Counter(NUMBERS)
     places = read_starts(starts) if starts else None
     for where, stem, data in (member for path in files for member in members_of(path)):
         try:
-            counter.take(data.count(b",") + data.count(b";") + data.count(b"\t"))
-            for word, pieces in one_csv(data, stem, waypoints, smooth, places).items():
+            cells.take(data.count(b",") + data.count(b";") + data.count(b"\t"))
+            for word, pieces in one_csv(data, stem, waypoints, smooth, places, counter).items():
                 if word in found:
                     raise Unreadable("two drones have the name %.40r" % word)
                 found[word] = checked(name_of(word, taken), pieces)
+                limit_drones(len(found))
         except Unreadable as error:
             raise Unreadable("%s: %s" % (where, error))
     lost = [word for word in places or () if word not in found]

@@ -6,15 +6,13 @@ how far what was found leaves the paths.
 """
 from __future__ import annotations
 
-from __future__ import annotations
-
 import bisect
 import math
 from collections.abc import Sequence
 from fractions import Fraction
 from typing import List, NamedTuple, Tuple, Union
 
-from hemtoghai.geometry.paths import farthest, Path, root_up, roughly_farthest
+from hemtoghai.geometry.paths import Budget, Path, root_up
 from hemtoghai.language import choreo
 from hemtoghai.language.lines import line_in
 
@@ -43,11 +41,12 @@ class Cue(NamedTuple):
 
 
 class Fit:
-    """The cues of a show for paths. `forced` has the instants at which a cue begins that leaves a path farther than the
-    tolerance."""
+    """The cues of a show for paths: no more than `most` and one, and none at all where the edges alone would make more
+    of them (`crowded`). `forced` has the instants at which a cue begins that leaves a path farther than the tolerance.
+    The search ends with TooLong where it would take more comparisons than its budget has."""
 
     def __init__(self, paths: list[Path[Fraction]], tolerance: float, yaw_tolerance: float, least: int,
-                 pinned: bool = True, most: int | None = None) -> None:
+                 pinned: bool, most: int, budget: Budget) -> None:
         self.exact, self.paths, self.least = paths, [path.in_doubles() for path in paths], least
         # A little less, for what doubles are off.
         self.enough = (tolerance * 999.999) ** 2, (yaw_tolerance * 9.99999) ** 2
@@ -56,9 +55,12 @@ class Fit:
         self.cues: list[Cue] = []
         self.forced: list[int] = []
         self.order = list(range(len(paths)))
+        self.budget = budget
+        self.known: dict[tuple[int, int], list[float]] = {}
         self.edges, self.sides = self.edges_of(REST if pinned else math.inf)
+        self.crowded = len(self.edges) - 1 > most
         begin = 0
-        while begin < self.end and (most is None or len(self.cues) <= most):
+        while begin < self.end and len(self.cues) <= most and not self.crowded:
             begin = self.add_cue(begin)
 
     def goal(self, place: Sequence[float]) -> choreo.Row:
@@ -72,7 +74,8 @@ class Fit:
         stills = {edge for path in self.paths for begin, end in path.stills(self.end, rest)
                   for edge in (math.ceil(begin), math.floor(end))}
         corners = [(k, t) for k, path in enumerate(self.paths) for _, t in path.corners()]
-        near = {t: min([edge for edge in stills if abs(edge - t) <= 1], default=round(t)) for _, t in corners}
+        near = {t: next((edge for edge in range(math.ceil(t - 1), math.floor(t + 1) + 1) if edge in stills), round(t))
+                for _, t in corners}
         kept = [0, self.end]
         for edge in sorted(stills) + sorted(set(near.values()) - stills):
             place = bisect.bisect(kept, edge)
@@ -84,11 +87,13 @@ class Fit:
         return kept, sides
 
     def velocities(self, k: int, t: int) -> Sides:
-        """A drone's velocities before and after an instant: two only where its speed jumps."""
+        """A drone's velocities before and after an instant: two only where its speed jumps. Those of the begin of a cue
+        are asked for at each length that is tried."""
         if t in self.sides[k]:
             return self.sides[k][t]
-        one = self.paths[k].slope(float(t))
-        return one, one
+        if (k, t) not in self.known:
+            self.known[k, t] = self.paths[k].slope(float(t))
+        return self.known[k, t], self.known[k, t]
 
     def rest_of(self, begin: int) -> int:
         """How long it is until the next instant at which a cue ends in any case."""
@@ -115,9 +120,8 @@ class Fit:
         found: dict[int, Act] = {}
         for place, k in enumerate(self.order):
             found[k] = self.act(k, begin, end)
-            far = self.paths[k].leaves(begin, end, [[float(v) for v in row] for row in found[k].rows], 4, self.enough,
-                                       roughly_farthest)
-            if far[0] > self.enough[0] or far[1] > self.enough[1]:
+            rows = [[float(v) for v in row] for row in found[k].rows]
+            if not self.paths[k].keeps(begin, end, rows, self.enough, self.budget):
                 self.order.insert(0, self.order.pop(place))  # who failed last is looked at first
                 return None
         return [found[k] for k in range(len(self.paths))]
@@ -156,6 +160,7 @@ class Fit:
     def add_cue(self, begin: int) -> int:
         """Finds the next cue; its end."""
         length, found = self.balanced(begin, *self.longest_from(begin))
+        self.known.clear()
         self.cues.append(Cue(begin, length, found))
         self.now = [[row[-1] for row in act.rows] for act in found]
         return begin + length
@@ -168,7 +173,7 @@ class Fit:
             worst = Fraction(0), Fraction(0)
             for begin, length, acts in self.cues:
                 rows = [[Fraction(v) for v in row] for row in acts[k].rows]
-                worst = path.leaves(Fraction(begin), Fraction(begin + length), rows, 6, worst, farthest)
+                worst = path.leaves(Fraction(begin), Fraction(begin + length), rows, 6, worst)
             out.append((root_up(worst[0] / 1000000), root_up(worst[1] / 100)))
         return out
 
