@@ -220,7 +220,8 @@ class Limits(Case):
         with open(os.path.join(common.TOP, "examples", "eight_left.csv")) as file:
             rows = file.read().split("\n")
         path, begun = self.file("a.csv", "\n".join(rows[:3] + rows[3:4] * 300 + rows[3:])), time.process_time()
-        self.assertRegex(self.refused(3, "--comparisons", "30000", path), "more than 1000 cues; no tolerance up to 1000")
+        said = self.refused(3, "--comparisons", "30000", path)
+        self.assertRegex(said, "more than 1000 cues; no tolerance up to 1000 mm helps")
         self.assertLess(time.process_time() - begun, 10)
 
     def test_comparisons(self):
@@ -233,7 +234,7 @@ class Limits(Case):
                 found.append(said)
         self.assertEqual(len(found), 3, found)
         self.assertIn("no cues were found in 100 comparisons: cut the file into several", found[0])
-        self.assertRegex(found[1], r"take \d+ bytes of 496, in \d+ segments; no tolerance that helps was found in \d+ comp")
+        self.assertRegex(found[1], r"take \d+ bytes of 496, in \d+ segments; no tolerance that helps was found in \d+")
 
     def test_corners_are_counted_first(self):
         # Lines with 20,001 corners: no cue is looked for, since none goes over a corner.
@@ -244,24 +245,24 @@ class Limits(Case):
         self.assertIn("more than 20000 cues: judge a part of the show", said)
 
     def test_many_rows(self):
-        # Empty lines, names, references and long numbers: what is read is bounded, and so are time and memory.
-        first, begun = "0,0,0,1\n", time.process_time()
-        self.assertIn("more than 1000000 lines", self.refused(3, "--waypoints", self.file("a.csv", first + "\n" * 9 ** 7)))
-        names = "".join("%s,0,0,0,1\n" % ("!" * k) for k in range(1, 2000)) + "".join(
-            "%s,0,0,0,1\n" % chr(k) for k in range(0x4E00, 0x9E00))
-        self.assertIn("33 drones, and a show", self.refused(3, "--waypoints", self.file("a.csv", names)))
-        rows = "".join("%d,0,0,1\n" % k for k in range(75001))
-        self.assertIn("line 75001: more than 300000 numbers", self.refused(3, "--waypoints", self.file("a.csv", rows)))
+        # Empty lines, names, references and long numbers: what is read is bounded, whatever it is.
+        for name, most in (("NUMBERS", 3000), ("LINES", 5000)):
+            self.addCleanup(setattr, foreign, name, getattr(foreign, name))
+            setattr(foreign, name, most)
+        self.assertIn("more than 5000 lines", self.refused(3, "--waypoints", self.file("a.csv", "0,0,0,1\n" + "\n" * 5000)))
+        rows = "".join("%s,0,0,0,1\n" % ("!" * k) for k in range(1, 34))  # names of which a show makes one
+        self.assertIn("33 drones, and a show", self.refused(3, "--waypoints", self.file("a.csv", rows)))
+        rows = "".join("%d,0,0,1\n" % k for k in range(751))
+        self.assertIn("line 751: more than 3000 numbers", self.refused(3, "--waypoints", self.file("a.csv", rows)))
         # 140 places, 134 of them in micrometres, are 446 bits: that counts as seven, and a row as ten.
-        rows = "".join("%d,1.%s1e-99,0,1\n" % (k, "0" * 40) for k in range(30001))
-        self.assertIn("line 30001: more than 300000", self.refused(3, "--waypoints", self.file("a.csv", rows)))
-        points = {"points": [[k, [0, 0, 1]] for k in range(4000)], "version": 1}
+        rows = "".join("%d,1.%s1e-99,0,1\n" % (k, "0" * 40) for k in range(301))
+        self.assertIn("line 301: more than 3000", self.refused(3, "--waypoints", self.file("a.csv", rows)))
+        # 32 drones that refer to one trajectory of 24 points fly 3,072 numbers, and the file has a few hundred.
         drones = [files.drone(str(k), []) for k in range(32)]
         for one in drones:
             one["settings"]["trajectory"] = {"$ref": "#/way"}
-        said = self.refused(3, self.file("a.skyc", files.archive({"show.json": files.show(drones, way=points)})))
-        self.assertIn("more than 300000 numbers", said)
-        self.assertLess(time.process_time() - begun, 60)
+        whole = files.show(drones, way={"points": [[k, [0, 0, 1]] for k in range(24)], "version": 1})
+        self.assertIn("more than 3000 numbers", self.refused(3, self.file("a.skyc", files.archive({"show.json": whole}))))
 
     def test_ellipsoid(self):
         words = ["--ellipsoid", "1 2000", self.file("a.csv", "1,0.0004,0,1\n")]
