@@ -1,5 +1,5 @@
 -- That there is a fault exactly where there is no flight.
-use Rattle.std.proofs.Common.{◌≡◌, ◌<◌, ◌≤◌, ◌+◌, ◌∷◌, ◌∙◌, [], List, Bool, false, cond, true, ◌&&◌, refl, sym, ap, None, Some, Option, ℕ, zero, suc, length, map, arith, inl, inr, nat_le}
+use Rattle.std.proofs.Common.{◌≡◌, ◌<◌, ◌≤◌, ◌∷◌, ◌∙◌, [], List, Bool, false, cond, true, ◌&&◌, refl, sym, ap, None, Some, Option, ℕ, zero, suc, length, map, arith, inl, inr, nat_le}
 use Rattle.std.proofs.lemmas.List.{length-map}
 use Rattle.std.specs.Prelude.{ℤ, slice_get, All, bytes_eq}
 use Rattle.std.specs.Option.{option_or}

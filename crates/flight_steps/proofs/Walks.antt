@@ -1,5 +1,5 @@
 -- Walks over what is left of a list.
-use Rattle.std.proofs.Common.{◌≡◌, ◌<◌, ◌≤◌, ◌+◌, ◌-◌, ◌∷◌, ◌++◌, ◌∙◌, [], List, Bool, false, cond, true, ◌&&◌, ◌||◌, refl, sym, ap, None, Some, Option, ℕ, zero, suc, take, drop, length, get_or, map, arith}
+use Rattle.std.proofs.Common.{◌≡◌, ◌<◌, ◌≤◌, ◌+◌, ◌∷◌, ◌++◌, ◌∙◌, [], List, Bool, false, cond, true, ◌||◌, refl, sym, ap, None, Some, Option, ℕ, zero, suc, drop, length, map, arith}
 use Rattle.std.specs.List.{range_with_len, list_any, flat_map}
 use Rattle.std.proofs.lemmas.List.{append-nil, append_assoc}
 use Rattle.std.proofs.lemmas.List.FromFn.{map-range_with_len_more}

@@ -1,7 +1,7 @@
 -- Why three shows are no flight: the first cause, in this order. Names on the way up, then on the way down; drone by
 -- drone, whether each of the three begins where the one before ended; drone by drone, the way up; then the way down;
 -- then how far drones may stand from their pads.
-use Rattle.std.specs.Prelude.{◌≡◌, ℕ, zero, suc, Bool, true, false, ◌&&◌, nat_le, if◌then◌else◌, List, [], ◌∷◌, length, map, Option, Some, None, ℤ, bytes_eq, Result, Ok, Err, All}
+use Rattle.std.specs.Prelude.{◌≡◌, ℕ, suc, Bool, true, ◌&&◌, nat_le, if◌then◌else◌, List, [], ◌∷◌, length, map, Option, Some, None, ℤ, bytes_eq, Result, Ok, Err, All}
 use Rattle.std.specs.Ordering.{int_eq}
 use Rattle.std.specs.Cmp.Lexicographic.{pointwise}
 use Rattle.std.specs.Option.{option_or}
@@ -24,8 +24,6 @@ use Rattle.flight_steps.specs.declared.faults.FlightFault.TheVariants as fault
 use Rattle.flight_steps.specs.declared.faults.StepsError.{StepsError}
 use Rattle.flight_steps.specs.declared.faults.StepsError.TheVariants as error
 use Rattle.flight_steps.specs.declared.ways.Crews.{Crews}
-use Rattle.flight_steps.specs.declared.ways.Ways.{Ways}
-use Rattle.flight_steps.specs.Ways.{routes}
 use Rattle.flight_steps.specs.Sizes.{IsStepOf}
 
 -- ---- names

@@ -1,5 +1,5 @@
 -- Words of private functions.
-use Rattle.std.specs.Prelude.{◌≡◌, ℕ, ◌<◌}
+use Rattle.std.specs.Prelude.{◌≡◌}
 use Rattle.fleet_math.specs.Bernstein.{at}
 use Rattle.flight_model.specs.declared.flights.Leg.{Leg}
 

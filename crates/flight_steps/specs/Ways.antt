@@ -1,6 +1,6 @@
 -- What `flight_model` calls the routes of a flight.
-use Rattle.std.specs.Prelude.{◌≡◌, ℕ, List, length}
-use Rattle.flight_model.specs.Legs.{Routes, IsFlight, lasts}
+use Rattle.std.specs.Prelude.{◌≡◌, length}
+use Rattle.flight_model.specs.Legs.{Routes, lasts}
 use Rattle.flight_steps.specs.declared.ways.Ways.{Ways}
 use Rattle.flight_steps.specs.declared.ways.Crews.{Crews}
 

@@ -1,4 +1,4 @@
-use Rattle.std.proofs.Common.{◌≡◌, ◌++◌, ◌+◌, ◌≤◌, ◌∷◌, [], drop, take, map, length, ℕ, Option, None}
+use Rattle.std.proofs.Common.{◌≡◌, drop}
 use Rattle.flight_steps.specs.Faults.{restless_from}
 use Rattle.flight_steps.proofs.judging.restless.Given as goal
 

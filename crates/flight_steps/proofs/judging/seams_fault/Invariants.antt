@@ -1,4 +1,4 @@
-use Rattle.std.proofs.Common.{◌≡◌, ◌++◌, ◌+◌, ◌≤◌, ◌∷◌, [], drop, take, map, length, ℕ, Option, None}
+use Rattle.std.proofs.Common.{◌≡◌, drop}
 use Rattle.flight_steps.specs.Faults.{seams_fault}
 use Rattle.flight_steps.proofs.judging.seams_fault.Given as goal
 

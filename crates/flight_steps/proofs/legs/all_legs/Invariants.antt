@@ -1,4 +1,4 @@
-use Rattle.std.proofs.Common.{◌≡◌, ◌++◌, ◌+◌, ◌≤◌, ◌∷◌, [], drop, take, map, length, ℕ, Option, None}
+use Rattle.std.proofs.Common.{◌≡◌, take, map}
 use Rattle.flight_model.specs.Legs.{legs_of}
 use Rattle.flight_steps.proofs.legs.all_legs.Given as goal
 

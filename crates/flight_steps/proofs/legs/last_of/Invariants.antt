@@ -1,4 +1,4 @@
-use Rattle.std.proofs.Common.{◌≡◌, ◌++◌, ◌+◌, ◌≤◌, ◌∷◌, [], drop, take, map, length, ℕ, Option, None}
+use Rattle.std.proofs.Common.{◌≡◌, drop}
 use Rattle.fleet_math.specs.Decoded.{last_value}
 use Rattle.flight_steps.proofs.legs.last_of.Given as goal
 

@@ -1,4 +1,4 @@
-use Rattle.std.proofs.Common.{◌≡◌, ◌++◌, ◌+◌, ◌≤◌, ◌∷◌, [], drop, take, map, length, ℕ, Option, None}
+use Rattle.std.proofs.Common.{◌≡◌, drop}
 use Rattle.flight_model.specs.Legs.{ends_from}
 use Rattle.flight_steps.proofs.legs.way_ends.Given as goal
 

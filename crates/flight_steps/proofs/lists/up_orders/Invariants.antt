@@ -1,4 +1,4 @@
-use Rattle.std.proofs.Common.{◌≡◌, ◌++◌, ◌+◌, ◌≤◌, ◌∷◌, [], drop, take, map, length, ℕ, Option, None}
+use Rattle.std.proofs.Common.{◌≡◌, take, map}
 use Rattle.flight_model.specs.Legs.{up_order}
 use Rattle.flight_steps.proofs.lists.up_orders.Given as goal
 

@@ -1,4 +1,4 @@
-use Rattle.std.proofs.Common.{◌≡◌, ◌++◌, ◌+◌, ◌≤◌, ◌∷◌, [], drop, take, map, length, ℕ, Option, None}
+use Rattle.std.proofs.Common.{◌≡◌, drop}
 use Rattle.flight_model.specs.Legs.{first_move}
 use Rattle.flight_steps.proofs.moves.first_move.Given as goal
 

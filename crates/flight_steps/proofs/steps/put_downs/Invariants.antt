@@ -1,5 +1,5 @@
-use Rattle.std.proofs.Common.{◌≡◌, ◌++◌, ◌+◌, ◌≤◌, ◌∷◌, [], drop, take, map, length, ℕ, Option, None}
-use Rattle.std.specs.List.{flat_map, range_with_len}
+use Rattle.std.proofs.Common.{◌≡◌, ◌++◌, map}
+use Rattle.std.specs.List.{range_with_len}
 use Rattle.flight_model.specs.Legs.{down_step}
 use Rattle.flight_steps.specs.Ways.{routes}
 use Rattle.flight_steps.proofs.steps.put_downs.Given as goal

@@ -1,4 +1,4 @@
-use Rattle.std.proofs.Common.{◌≡◌, ◌++◌, ◌+◌, ◌≤◌, ◌∷◌, [], drop, take, map, length, ℕ, Option, None}
+use Rattle.std.proofs.Common.{◌≡◌, ◌++◌, ◌∷◌, []}
 use Rattle.std.specs.List.{flat_map, range_with_len}
 use Rattle.flight_model.specs.Legs.{arm_step, up_step}
 use Rattle.flight_steps.specs.Ways.{routes}
