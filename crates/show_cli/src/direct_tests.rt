@@ -50,12 +50,7 @@ const ENDS: [Row; 10] = [
     // A drone that isn't there.
     (TEXTS, b"\x03\x01\x00", 11, b"\x45\x0B"),
     // The gap of drone 0 between its way up and the show.
-    (
-        APART,
-        EVENTS,
-        19,
-        b"\x05\x01\x00\x00\x00\x00\x45\x13",
-    ),
+    (APART, EVENTS, 19, b"\x05\x01\x00\x00\x00\x00\x45\x13"),
     (b"choreo 3\n%%\n", EVENTS, 3, b"\x45\x03"),
     (SECOND_FAULTY, EVENTS, 3, b"\x45\x03"),
     (b"", b"", 3, b"\x45\x03"),
