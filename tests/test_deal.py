@@ -173,7 +173,7 @@ class Deal(unittest.TestCase):
         """Where each place would go to the drone that is already there the places stay, with a status of its own."""
         status, said, told = run("deal", text=LAYERS)
         self.assertEqual((status, said), (71, LAYERS), told)
-        self.assertIn("f, line 9: nobody would move", told)
+        self.assertIn("f, line 9: no drone would move", told)
         self.assertNotIn("deal", run("why", text=LAYERS)[1])  # it would not help
         # Two of three stay, which is said, too.
         text = LAYERS.replace("formation", "drone c 5000000 0 1000000 0\nformation").replace(

@@ -568,7 +568,7 @@ class Wheel(unittest.TestCase):
         show = os.path.join(TOP, "examples", "crossing.choreo")
         status, out, error = self.python("-m", "hemtoghai", "check", show)
         self.assertEqual((status, out), (5, "error 5 pair a b cue 1 part 28 of 64\n"))
-        self.assertEqual(error, "hemtoghai: hemtoghai why %s says more, and what to change\n" % show)
+        self.assertEqual(error, "hemtoghai: hemtoghai why %s explains the refusal and lists changes that help\n" % show)
         status, out, _ = self.python("-m", "hemtoghai", "--version")
         self.assertEqual((status, out.split("\n")[0], "proof: " + PROVED in out, "not as released" in out),
                          (0, "hemtoghai 7.8.9", True, False), out)

@@ -185,7 +185,7 @@ def print_end(options, done, ended):
     for line in done.traffic.end_lines(status):
         print(line)
     if status in (4, 5):
-        print("%s why %s says more, and what to change" % (program.COMMAND, options.show))
+        print("%s why %s explains the refusal and lists changes that help" % (program.COMMAND, options.show))
     if ended != status:
         stop("the program ended with status %d, but its end frame says %d" % (ended, status))
     return status

@@ -46,7 +46,7 @@ def report(made: Dealt, before: list[State]) -> None:
             "; %d drone%s where %s" % (stay, " stays" if stay == 1 else "s stay", "it is" if stay == 1 else "they are")
             if stay else ""))
         if line.number in made.still:
-            say("%s, line %d: nobody would move: each place would go to the drone that is already there. The places "
+            say("%s, line %d: no drone would move: each place would go to the drone that already has it. The places "
                 "stay as they are written" % (formation.values[0], line.number))
 
 
@@ -131,7 +131,7 @@ def say_carried(made: Dealt, new_line: Callable[[int], int]) -> None:
         say("look at %s of the new text: the turns of a repeat begin there with other drones at the places, so the "
             "names stay" % listed([new_line(number) for number in made.unsure]))
     for number in sorted(made.lost):
-        say("look at what follows line %d of the new text: the formation there has places for other drones than the "
+        say("look at the lines after line %d of the new text: the formation there has places for other drones than the "
             "one before, so from there on each drone flies its own acts" % new_line(number))
 
 

@@ -145,15 +145,15 @@ def one_object(room: str, archives: list[str]) -> str:
     said("objcopy", *("--keep-global-symbol=" + name for name in NAMES), whole)
     extra = names_of(whole, "--undefined-only") - WANTED
     if extra:
-        stop("the objects take more than is known: %s" % " ".join(sorted(extra)))
+        stop("the objects need more from outside than is allowed: %s" % " ".join(sorted(extra)))
     return whole
 
 
 def need_names(file: str, *flags: str) -> None:
-    """Ends the tool where a library shows other names than its own."""
+    """Ends the tool if a library exports other names than its own."""
     shown = names_of(file, "--defined-only", *flags) - {"HEMTOGHAI_0"}
     if shown != set(NAMES):
-        stop("%s shows other names: %s" % (file, " ".join(sorted(shown))))
+        stop("%s exports other names: %s" % (file, " ".join(sorted(shown))))
 
 
 def make_libraries(lib: str, version: str, archives: list[str]) -> list[str]:

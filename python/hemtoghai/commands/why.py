@@ -299,7 +299,7 @@ def write_cured(path: str, text: bytes, deep: int) -> None:
         new, done, left = cured(text, deep)
         before, after = (choreo.flown_of(it).milliseconds for it in (text, new))
     except choreo.Refused as refusal:
-        stop("what helps leads to another refusal: %s" % refusal)
+        stop("the cured show is refused for another reason: %s" % refusal)
     for line in done:
         print("cured in " + line)
     if done:

@@ -80,5 +80,6 @@ def explain(found: str, text: bytes, status: int, files: list[str]) -> None:
         small = small_text(text)
         if small:
             say(small)
-        return say("%s why %s says more, and what to change" % (program.COMMAND, files[0] if files else "SHOW"))
+        return say("%s why %s explains the refusal and lists changes that help" % (
+            program.COMMAND, files[0] if files else "SHOW"))
     return say("read on: docs/COMMANDS.md, Statuses and fault lines")
