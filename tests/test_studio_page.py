@@ -103,13 +103,15 @@ class Browser:
         """Types into an element, at its cursor, key by key."""
         self.ask("POST", self.element(css) + "/value", {"text": words})
 
-    def drag(self, begin, end):
-        """Presses the mouse at a point of the page, moves it in steps, and lets it go; a click where both are the same."""
+    def drag(self, begin, end, kind="mouse"):
+        """Presses the mouse at a point of the page, moves it in steps, and lets it go; a click where both are the same.
+        The same with a finger, whose kind is `touch`."""
         steps = [[round(a + (b - a) * k / 4) for a, b in zip(begin, end)] for k in range(1, 5)] if begin != end else []
         moves = [{"type": "pointerMove", "duration": 20, "x": x, "y": y} for x, y in steps]
-        self.ask("POST", "/actions", {"actions": [{"type": "pointer", "id": "mouse", "actions": [
-            {"type": "pointerMove", "duration": 0, "x": round(begin[0]), "y": round(begin[1])},
-            {"type": "pointerDown", "button": 0}, *moves, {"type": "pointerUp", "button": 0}]}]})
+        acts = [{"type": "pointerMove", "duration": 0, "x": round(begin[0]), "y": round(begin[1])},
+                {"type": "pointerDown", "button": 0}, *moves, {"type": "pointerUp", "button": 0}]
+        self.ask("POST", "/actions", {"actions": [
+            {"type": "pointer", "id": kind, "parameters": {"pointerType": kind}, "actions": acts}]})
 
     def faults(self):
         """What the browser complained of."""
@@ -486,6 +488,23 @@ class Page(Led):
         self.assertEqual(self.text(), GOOD)
         self.assertEqual(self.browser.faults(), [])
 
+    def test_order_of_menu(self):
+        """In a cue what moves all drones stands above the single ones. A click on the cue's button leaves the keys to the
+        text."""
+        formation = "formation f\nat a 0 0 1000000 0\nat b 1000000 0 1000000 0\nend\n"
+        self.open(GOOD.replace("cue 2000", formation + "cue 2000") + "cue 500\nend\n")
+        self.says("2 cues")
+        self.put_cursor("cue 500")
+        self.browser.click("#insert")
+        words = "return [...document.querySelectorAll('#menu button')].map(it => it.innerText)"
+        self.wait(lambda: self.browser.run(words) == ["all 2", "form f", "a", "b"], "another menu")
+        self.browser.run("closeMenu(true)")
+        self.wait(lambda: self.words("where") == "line 11 · cue 2", "no cue")
+        self.browser.click("#to-cue")
+        self.assertAlmostEqual(self.at(), 2000, delta=5)
+        self.assertEqual(self.browser.run("return document.activeElement.id"), "text")
+        self.assertEqual(self.browser.faults(), [])
+
     def test_acts_of_menu(self):
         """Another act in the menu: a quarter circle around the middle of all drones. Then the field of numbers waits for
         the length of the cue, in seconds, and Ctrl-Z there takes the cue away."""
@@ -625,6 +644,24 @@ class Page(Led):
         self.assertEqual(self.text(), GOOD)
         self.browser.drag((x, y), (x, y))
         self.assertEqual(self.text(), GOOD)
+        self.assertEqual(self.browser.faults(), [])
+
+    def test_stretch_by_finger(self):
+        """On a telephone the end of a cue is wide enough for a finger."""
+        emulate = {"cmd": "Emulation.setTouchEmulationEnabled", "params": {"enabled": True}}
+        self.browser.ask("POST", "/goog/cdp/execute", emulate)
+        self.addCleanup(self.browser.ask, "POST", "/goog/cdp/execute", {**emulate, "params": {"enabled": False}})
+        self.open(GOOD + "cue 2000\nend\n", size=(390, 844))
+        self.says("2 cues")
+        self.wait(lambda: self.browser.run("return Boolean(found.notes)"), "no notes")
+        x, y, wide = self.browser.run(
+            "document.getElementById('heights').scrollIntoView({block: 'center'});"
+            "const box = document.querySelector('#heights .grip').getBoundingClientRect();"
+            "return [box.left + box.width / 2, box.top + box.height / 2, box.width]")
+        self.assertEqual(wide, 22)
+        self.browser.drag((x + 9, y), (x - 40, y), "touch")
+        self.wait(lambda: self.text().count("cue 2000") == 1, "nothing was written")
+        self.says("2 cues, 3.")
         self.assertEqual(self.browser.faults(), [])
 
     def test_pick(self):

@@ -177,6 +177,8 @@ function bindButtons() {
   byId("leave").onclick = () => byId("offer").close();
   byId("to-cue").onclick = toCue;
   byId("follow").onchange = onCursor;
+  // The mouse leaves the keys to the text there.
+  for (const id of ["to-cue", "follows"]) byId(id).addEventListener("mousedown", event => event.preventDefault());
   const middle = () => [byId("space").clientWidth / 2, byId("space").clientHeight / 2];
   byId("nearer").onclick = () => { if (flight) zoomBy(1.25, middle()); };
   byId("farther").onclick = () => { if (flight) zoomBy(0.8, middle()); };

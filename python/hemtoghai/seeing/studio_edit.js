@@ -218,20 +218,22 @@ function addActChoice(menu, places) {
   };
 }
 const isSense = slot => Array.isArray(slot) && slot.includes("ccw");
+// What moves many stands first: a list of 32 drones is longer than the menu.
 function fillActs(places, free) {
   const middle = middleOf(places.drones);
-  for (const row of free) menuButton(row[0], () => insert(actLine(row, middle)));
   if (free.length > 1) {
     menuButton(`all ${free.length}`, () => insert(free.map(row => actLine(row, middle)).join("\n")));
   }
-  if (places.in_figure) return;
-  for (const name of places.formations) menuButton(`form ${name}`, () => insert(`form ${name} move`));
+  if (!places.in_figure) {
+    for (const name of places.formations) menuButton(`form ${name}`, () => insert(`form ${name} move`));
+  }
+  for (const row of free) menuButton(row[0], () => insert(actLine(row, middle)));
 }
 function fillPlaces(free) {
-  for (const row of free) menuButton(`place of ${row[0]}`, () => insert(placeLine("at", row)));
   if (free.length > 1) {
     menuButton(`places of all ${free.length}`, () => insert(free.map(row => placeLine("at", row)).join("\n")));
   }
+  for (const row of free) menuButton(`place of ${row[0]}`, () => insert(placeLine("at", row)));
 }
 // A line of a name with a place and a yaw.
 function placeLine(word, [name, x, y, z, yaw]) {

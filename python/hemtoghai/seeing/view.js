@@ -521,7 +521,8 @@ function bindChart(svg, left, wide) {
   svg.onpointermove = event => { if (event.buttons) go(event); };
   svg.onclick = () => { if (onPick) onPick(now); };
 }
-const GRIP = 5;  // pixels at either side of the end of a cue; cues that are narrower than both together have no grip
+// Pixels at either side of the end of a cue, more for a finger; cues that are narrower than both together have no grip.
+const GRIP = matchMedia("(pointer: coarse)").matches ? 11 : 5;
 // Grips above a chart, by which the end of a cue is dragged.
 function drawGrips(svg, x, above, floor) {
   flight.cues.forEach(([from], k) => {
@@ -650,7 +651,7 @@ function move(ms) {
   said += ` (${flight.cues[cue][1]})`;
   if (flight.nearest.length) {
     const [share, i, j] = flight.nearest[sampleAt(now)];
-    said += `; nearest: ${flight.names[i]} and ${flight.names[j]} with ${share.toFixed(0)} %`;
+    said += `; nearest: ${flight.names[i]} and ${flight.names[j]} with ${share.toFixed(0)}\u00a0%`;
   }
   byId("now").textContent = said;
   moveDrones();
