@@ -28,6 +28,22 @@ def wants_program(test):
     return unittest.skipUnless(os.access(PROGRAM, os.X_OK), "the program isn't built: ./show check FILE builds it")(test)
 
 
+class Folder:
+    """Files below a place."""
+    place = ""
+
+    def path(self, name):
+        """The path of a file."""
+        return os.path.join(self.place, name)
+
+    def write(self, name, data, mode=0o644):
+        """Writes a file of these bytes or this text, and the folders that it is in."""
+        os.makedirs(os.path.dirname(self.path(name)), exist_ok=True)
+        with open(self.path(name), "wb") as file:
+            file.write(data if isinstance(data, bytes) else data.encode())
+        os.chmod(self.path(name), mode)
+
+
 def example(name):
     """The bytes of an example, and what its drones fly."""
     with open(os.path.join(TOP, "examples", name + ".choreo"), "rb") as file:

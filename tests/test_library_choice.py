@@ -33,7 +33,7 @@ uint8_t hemtoghai_run(const char *words, size_t words_length, const char *input,
 SCRIPT = "#!/bin/sh\necho by the program\n"
 
 
-class Case(unittest.TestCase):
+class Case(common.Folder, unittest.TestCase):
     """A folder with a library in its place, its manifest, and a program without a record."""
     compiled = b""
 
@@ -53,7 +53,7 @@ class Case(unittest.TestCase):
         folder = tempfile.TemporaryDirectory()
         self.addCleanup(folder.cleanup)
         self.place = folder.name
-        self.write("crates/show_cli/out/show_cli", SCRIPT.encode(), 0o755)
+        self.write("crates/show_cli/out/show_cli", SCRIPT, 0o755)
         self.library = "library/out/lib/libhemtoghai.so.7.8.9"
         for where, name, value in ((program, "TOP", self.place), (program, "MANIFEST", self.path("MANIFEST.json")),
                                    (program, "PROGRAM", self.path("crates/show_cli/out/show_cli")),
@@ -66,17 +66,6 @@ class Case(unittest.TestCase):
         """Has something be another until the test ends."""
         patch.start()
         self.addCleanup(patch.stop)
-
-    def path(self, name):
-        """The path of a file in the folder."""
-        return os.path.join(self.place, name)
-
-    def write(self, name, data, mode=0o644):
-        """Writes a file."""
-        os.makedirs(os.path.dirname(self.path(name)), exist_ok=True)
-        with open(self.path(name), "wb") as file:
-            file.write(data)
-        os.chmod(self.path(name), mode)
 
     def make(self, data=None, **more):
         """Has a library be in its place, and its manifest, whose text is returned."""

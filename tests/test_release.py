@@ -19,7 +19,7 @@ import unittest
 import zipfile
 from unittest import mock
 
-from common import PROGRAM, TOP
+from common import Folder, PROGRAM, TOP
 from hemtoghai import machine
 from hemtoghai.language import choreo
 from hemtoghai.launching import manual, wheels, words as commands
@@ -50,7 +50,7 @@ def digest(path):
         return hashlib.sha256(file.read()).hexdigest()
 
 
-class Repository:
+class Repository(Folder):
     """A repository from which a release can be made."""
 
     def __init__(self, room):
@@ -60,33 +60,22 @@ class Repository:
                             ignore=shutil.ignore_patterns("__pycache__", "out", "target"))
         for name in ("show", "pyproject.toml"):
             shutil.copy(os.path.join(TOP, name), self.place)
-        self.file("README.md", "of the repository\n")
-        self.file("VERSION", "7.8.9\n")
-        self.file("crates.txt", "show_cli:\nhemtoghai staticlib:\n")
-        self.file(".gitignore", "out/\n")
-        self.file("crates/show_cli/src/lib.rt", "fn f() {}\n")
-        self.file("crates/hemtoghai/src/lib.rt", "fn h() {}\n")
-        self.file("bin/rt", "#!/bin/sh\n[ \"$1\" = version ] && echo a toolchain\n", 0o755)
+        self.write("README.md", "of the repository\n")
+        self.write("VERSION", "7.8.9\n")
+        self.write("crates.txt", "show_cli:\nhemtoghai staticlib:\n")
+        self.write(".gitignore", "out/\n")
+        self.write("crates/show_cli/src/lib.rt", "fn f() {}\n")
+        self.write("crates/hemtoghai/src/lib.rt", "fn h() {}\n")
+        self.write("bin/rt", "#!/bin/sh\n[ \"$1\" = version ] && echo a toolchain\n", 0o755)
         os.symlink(sys.executable, self.path("bin/python3"))
         self.program = self.path("crates/show_cli/out/show_cli")
-        self.file(self.program, STAND_IN, 0o755)
+        self.write(self.program, STAND_IN, 0o755)
         if IS_BUILT:
             shutil.copy(PROGRAM, self.program)
         self.git("init", "-q")
         self.commit()
         self.record()
         self.library()
-
-    def path(self, name):
-        """The path of a file."""
-        return os.path.join(self.place, name)
-
-    def file(self, name, text, mode=0o644):
-        """Writes a file."""
-        os.makedirs(os.path.dirname(self.path(name)), exist_ok=True)
-        with open(self.path(name), "w") as file:
-            file.write(text)
-        os.chmod(self.path(name), mode)
 
     def git(self, *words):
         """What git says."""
@@ -113,17 +102,17 @@ class Repository:
     def library(self, said=PROVED):
         """Makes the files of the library, and notes their build, as ./show library does."""
         out = self.path("library/out")
-        self.file(os.path.join(out, "include/hemtoghai.h"), "")
+        self.write(os.path.join(out, "include/hemtoghai.h"), "")
         shutil.copy(self.path("library/hemtoghai.h"), os.path.join(out, "include/hemtoghai.h"))
         for name, built in (("lib/libhemtoghai.a", "lib/libhemtoghai.a"),
                             ("lib/libhemtoghai.so.7.8.9", "lib/libhemtoghai.so"),
                             ("lib/pkgconfig/hemtoghai.pc", "lib/pkgconfig/hemtoghai.pc")):
-            self.file(os.path.join(out, name), name)
+            self.write(os.path.join(out, name), name)
             if HAS_LIBRARY:
                 shutil.copy(os.path.join(LIBRARY, built), os.path.join(out, name))
         files = [os.path.join(folder, name) for folder, _, names in os.walk(out) for name in names]
         sums = {os.path.relpath(path, out): digest(path) for path in files if not path.endswith(".json")}
-        self.file(os.path.join(out, "MANIFEST.json"), json.dumps({
+        self.write(os.path.join(out, "MANIFEST.json"), json.dumps({
             "version": "7.8.9", "rests_on": said, "files": sums,
             "stamp": self.said("records.stamp(records.crates_below('hemtoghai'))")}))
 
@@ -160,12 +149,12 @@ class Refusals(unittest.TestCase):
     def test_another_program(self):
         source, program = self.repository.path("crates/show_cli/src/lib.rt"), self.repository.program
         # Sources that are others, though their file is the older one, and the same with a commit of them.
-        self.repository.file("crates/show_cli/src/lib.rt", "fn g() {}\n")
+        self.repository.write("crates/show_cli/src/lib.rt", "fn g() {}\n")
         os.utime(source, (1, 1))
         self.refused("isn't the one of these sources", "--changed")
         self.repository.commit()
         self.refused("isn't the one of these sources")
-        self.repository.file("crates/show_cli/src/lib.rt", "fn f() {}\n")
+        self.repository.write("crates/show_cli/src/lib.rt", "fn f() {}\n")
         self.repository.commit()
         with open(program, "ab") as file:
             file.write(b"\n")
@@ -186,10 +175,10 @@ class Refusals(unittest.TestCase):
                 file.write(b"\n")
             self.refused("the library isn't the one of these sources", "--changed")
             self.repository.library()
-        self.repository.file("library/hemtoghai.h", "/* another */\n")
+        self.repository.write("library/hemtoghai.h", "/* another */\n")
         self.refused("the library isn't the one of these sources", "--changed")
         self.repository.git("checkout", "library/hemtoghai.h")
-        self.repository.file("crates/hemtoghai/src/lib.rt", "fn i() {}\n")
+        self.repository.write("crates/hemtoghai/src/lib.rt", "fn i() {}\n")
         self.refused("the library isn't the one of these sources", "--changed")
         self.repository.git("checkout", "crates/hemtoghai/src/lib.rt")
         self.repository.library("nothing of a proof")
@@ -198,16 +187,16 @@ class Refusals(unittest.TestCase):
         self.refused("the library isn't the one of these sources")
 
     def test_files(self):
-        self.repository.file("docs/more.md", "more\n")
+        self.repository.write("docs/more.md", "more\n")
         self.refused("files differ from the commit")
         self.assertEqual(self.repository.release("--changed")[0], 0)
         with tarfile.open(self.repository.packed("-changed")) as tar:
             manifest = json.load(tar.extractfile(NAME % "-changed" + "/MANIFEST.json"))
         self.assertIs(manifest["changed_since"], True)
         os.remove(self.repository.packed("-changed"))
-        self.repository.file("VERSION", "seven\n")
+        self.repository.write("VERSION", "seven\n")
         self.refused("VERSION isn't a version", "--changed")
-        self.repository.file("VERSION", "7.8.9\n")
+        self.repository.write("VERSION", "7.8.9\n")
         self.refused("No such file or directory", "--changed", "--out", "none")
 
 
