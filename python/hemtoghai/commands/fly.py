@@ -28,10 +28,10 @@ from typing import Dict, List, Sequence
 from hemtoghai import program
 from hemtoghai.companion import ask_check, flown_of, missing, parser, stop
 from hemtoghai.flying import clock, crazyradio, finite, legs
+from hemtoghai.flying.bridge import Bridge, confirm
 from hemtoghai.flying.crew import Answers, Cut, Interrupted, say, TELLER, Watch
 from hemtoghai.flying.descent import Descent, EARLY
 from hemtoghai.flying.fleet import Fleet, FLIGHT, Log, Trouble
-from hemtoghai.flying.flight import confirm, Flight
 from hemtoghai.flying.preflight import preflight
 from hemtoghai.flying.simulation import set_simulation, simulated
 from hemtoghai.flying.uploads import carry, ENDS, Host, Traffic, wanted_packets
@@ -75,7 +75,6 @@ def options_of(words: list[str]) -> argparse.Namespace:
                        help="a fault of a simulated drone")
     reader.add_argument("--pads", metavar="PADS", help="a text with a line `NAME X Y Z` in micrometres: where drones "
                                                       "stand; without it below their first places, at height 0")
-    reader.add_argument("--below", action="store_true", help="land below the last places, and not on the pads")
     reader.add_argument("--ceiling", type=finite.option(1, 100000, True), metavar="MM",
                        help="nobody is lifted higher than this on the ways")
     reader.add_argument("--only", choices=("look", "upload", "land", "stop"),
@@ -181,9 +180,9 @@ def upload(radio: crazyradio.Radio, flown, text: bytes) -> None:
 def fly(radio: crazyradio.Radio, flown, text: bytes, pads: Sequence[legs.Place], options: argparse.Namespace,
         log: Log, watch: Watch, answers: Answers) -> int:
     """All steps with drones that answer; the status."""
-    fleet, ways = Fleet(radio, log), None
+    fleet, ways, bridge = Fleet(radio, log), None, None
     try:
-        ways = Ways(flown, preflight(fleet, flown, pads, options), options)
+        ways = Ways(flown, text, preflight(fleet, flown, pads, options), options)
         ways.tell()
         if options.only is None:
             ways.prepare()
@@ -192,11 +191,14 @@ def fly(radio: crazyradio.Radio, flown, text: bytes, pads: Sequence[legs.Place],
             upload(radio, flown, text)
         if options.only:
             return 0
+        bridge = Bridge(fleet, flown, ways, options, watch, answers)
         ways.wait(watch.look)
         confirm(options, answers, "Take off?", watch.look)
-        return Flight(fleet, flown, ways, options, watch, answers).run()
+        return bridge.run()
     finally:
         watch.off()  # what is left is to close all
+        if bridge:
+            bridge.director.kill()
         if ways:
             ways.end()
         fleet.end_logs()
@@ -270,7 +272,7 @@ def show(options: argparse.Namespace, watch: Watch, answers: Answers, radios: Li
     """Flies the show. The status; the radio that was opened is added to a list, to be closed."""
     text, flown = judged_show(options)
     pads = pads_of(flown, options)
-    Ways(flown, pads, options)  # refused before the link is opened, as a log is that can't be written
+    Ways(flown, text, pads, options)  # refused before the link is opened, as a log is that can't be written
     log = Log(options.log, say)
     uris = set_simulation(flown, pads, options) if options.simulate else crazyradio.addresses(
         options.radio, flown.names)

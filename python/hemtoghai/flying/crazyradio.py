@@ -246,14 +246,16 @@ class Radio:
         self.waiting[drone].put((raw, before, after))
 
     def ask(self, drone: int, port: int, channel: int, data: bytes, same: Optional[int] = None,
-            seconds: float = PATIENCE, length: Optional[int] = None, least: int = 0, every: float = ANSWER) -> bytes:
+            seconds: float = PATIENCE, length: Optional[int] = None, least: int = 0, every: float = ANSWER,
+            since: Optional[int] = None) -> bytes:
         """The answer to a question, which is put again `every` so many seconds until it comes: one that begins with the
         first `same` bytes of the question's data, all where it is None, and has so many bytes where a length is given,
-        at least so many where the least is. A question that was dropped isn't put again."""
+        at least so many where the least is. A question that was dropped isn't put again, and not once where it was
+        dropped `since`, a count of drops."""
         key, found = (drone, port, channel, length, least, bytes(data[:same])), []
         with self.changed:
             self.answers[key] = found
-            asked = self.asked
+            asked = self.asked if since is None else since
         until = clock.now() + seconds
         try:
             while clock.now() < until:

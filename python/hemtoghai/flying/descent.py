@@ -106,10 +106,11 @@ class Descent:
         self.landed |= set(drones) - set(up)
         return up
 
-    def land(self, words: str, warn: Callable[[], None] = lambda: None, told: float = float("inf")) -> bool:
-        """Lands all drones that aren't down, and once more those that aren't then; disarms those that are down, since a
-        drone that is disarmed in the air falls. A second Ctrl-C stops the motors. Says who isn't down, and stays with
-        them. Whether all are down."""
+    def land(self, words: str, warn: Callable[[], None] = lambda: None, told: float = float("inf"),
+             seconds: Optional[float] = None) -> bool:
+        """Lands all drones that aren't down, in so many seconds where they are given, and once more those that aren't
+        then; disarms those that are down, since a drone that is disarmed in the air falls. A second Ctrl-C stops the
+        motors. Says who isn't down, and stays with them. Whether all are down."""
         self.watch.land()
         up = sorted(self.rising | set(self.up(self.all)))
         self.rising = set()
@@ -117,13 +118,16 @@ class Descent:
             say(words)
             warn()
         for _ in range(2):
-            up = self.bring_down(up, None, told) if up else []
+            up = self.bring_down(up, seconds, told) if up else []
             if not up:
                 break
-            told = float("inf")
+            told, seconds = float("inf"), None
             self.say_up(up)
         self.disarm(self.all)
-        up = self.stay(self.up(self.all))
+        return self.finish(self.stay(self.up(self.all)))
+
+    def finish(self, up: List[int]) -> bool:
+        """Ends the watch, and says where all are; whether all are down."""
         self.watch.end()
         say("landed" if not up else "landed, but for %s: not disarmed; --only land and --only stop still reach them" %
             self.words_of(up))

@@ -142,7 +142,7 @@ def take_off(height: float, seconds: float) -> bytes:
 
 def land(height: float, seconds: float) -> bytes:
     """The data of a landing at an absolute height, with the yaw as it is."""
-    return struct.pack("<BBff?f", 8, 0, height, 0.0, True, seconds)
+    return LAND + struct.pack("<Bff?f", 0, height, 0.0, True, seconds)
 
 
 def go_to(x: float, y: float, z: float, yaw: float, seconds: float) -> bytes:
@@ -155,6 +155,7 @@ def start(trajectory: int) -> bytes:
     return struct.pack("<BBBBBf", 5, 0, 0, 0, trajectory, 1.0)
 
 
+LAND = bytes([8])  # the first byte of a landing
 STOP = bytes([3, 0])  # the motors stop, and the drone falls
 
 # ---- the emergency stop, port 6 channel 1 (85 %): motors off until the drone is started anew

@@ -72,6 +72,11 @@ class State:
         self.places = (self.places + [place])[-HISTORY:]
         return True
 
+    def where(self) -> List[float]:
+        """Its last place; each drone that flies has one."""
+        assert self.place is not None
+        return self.place
+
     def weigh(self, volts: float, at: float) -> None:
         """Notes a voltage: under thrust single samples sag."""
         self.volts = volts
@@ -296,26 +301,25 @@ class Fleet:
 
     # ---- commands
 
-    def command(self, drone: int, data: bytes, word: str) -> Tuple[float, float]:
+    def command(self, drone: int, data: bytes, word: str, since: Optional[int] = None) -> Tuple[float, float]:
         """A command to one drone, until it is answered; when it went out first and when it was answered. A take-off
-        that is asked for once more, since its answer was lost, is refused: then it was taken."""
-        begin = clock.now()
-        answer = self.radio.ask(drone, firmware.COMMANDER, 0, data, 3, seconds=2, least=4)
-        again = answer[3] == 1 and clock.now() - begin > 0.9 * ANSWER
+        that is asked for once more, since its answer was lost, is refused: then it was taken. So is a landing of one
+        that lands already. Nothing goes out where all questions were dropped `since`, a count of the radio's."""
+        begin, lands = clock.now(), data[:1] == firmware.LAND
+        answer = self.radio.ask(drone, firmware.COMMANDER, 0, data, 3, seconds=2, least=4,
+                                every=AGAIN if lands else ANSWER, since=since)
+        again = answer[3] == 1 and (lands or clock.now() - begin > 0.9 * ANSWER)
         if answer[3] and not again:
             raise Trouble("%s refuses to %s: status %d" % (self.names[drone], word, answer[3]))
         return begin, clock.now()
 
-    def commands(self, rows: Dict[int, bytes], word: str, look: Optional[Look],
-                 heard: Callable[[int], object] = lambda k: None) -> float:
-        """Commands to drones, side by side: data by drone. `heard` is told of each that answered. The seconds within
-        which all went out and were answered."""
-        def command(k: int) -> Optional[Tuple[float, float]]:
-            times = self.command(k, rows[k], word) if k in rows else None
-            heard(k)
-            return times
-        times = [row for row in self.radio.each(command, look) if row]
-        return max(row[1] for row in times) - min(row[0] for row in times)
+    def ask_arm(self, drone: int, since: Optional[int] = None) -> None:
+        """Arms a drone; one that says itself whether it is armed needs no answer."""
+        try:
+            self.radio.ask(drone, firmware.PLATFORM, 0, firmware.arm(True), 1, seconds=2, since=since)
+        except Dead:
+            if self.states[drone].info is None:
+                raise
 
     def holds(self, drone: int, memory: Sequence[int], data: bytes) -> bool:
         """Whether a drone's memory still begins with these bytes: one that started anew has lost them."""
@@ -326,11 +330,12 @@ class Fleet:
     def arm(self, on: bool, drones: Sequence[int], look: Optional[Look] = None) -> List[str]:
         """Arms or disarms drones; which of them aren't as they should be afterwards, by their own supervisors, or
         didn't answer where they have none. A drone that arms by itself can't be disarmed."""
-        quiet = set()
+        quiet: Set[int] = set()
 
-        def arm(drone: int) -> object:
+        def arm(drone: int) -> None:
             try:
-                return drone in drones and self.radio.ask(drone, firmware.PLATFORM, 0, firmware.arm(on), 1, seconds=2)
+                if drone in drones:
+                    self.radio.ask(drone, firmware.PLATFORM, 0, firmware.arm(on), 1, seconds=2)
             except Dead:
                 quiet.add(drone)
         self.radio.each(arm, look)

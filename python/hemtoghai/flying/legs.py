@@ -13,7 +13,7 @@ from hemtoghai.flying.stages import (AIM, apart, ask_all, GO_TO, judge_stages, j
 
 __all__ = ["AIM", "GO_TO", "GROUND", "LAND", "LATE", "LIFT", "Leg", "NoWay", "Place", "Planner", "Rules", "SAME_FLOOR",
            "Stage", "TAKE_OFF", "apart", "ask_all", "below", "down", "judge_stages", "judged", "milliseconds_for", "pads_by_name",
-           "places_of", "read_pads", "refusal_of", "stage_texts", "standing_apart", "text_of", "top_of", "way_down", "way_up"]
+           "places_of", "read_pads", "refusal_of", "refuse_still", "stage_texts", "standing_apart", "text_of", "top_of", "way_down", "way_up"]
 
 
 def way_up(names: Sequence[str], pads: Sequence[Place], firsts: Sequence[Place], yaws: Sequence[int], rules: Rules) -> Leg:
@@ -49,6 +49,15 @@ def down(names: Sequence[str], pads: Sequence[Place], lasts: Sequence[Place], ya
         raise why or refusal
     leg.why_below = why
     return leg
+
+
+def refuse_still(leg: Leg, word: str) -> None:
+    """Raises NoWay where a drone has no move on a leg, since the show begins or ends at its pad: the flight director
+    takes none that doesn't rise and land."""
+    still = [leg.names[k] for k in leg.begin if not any(k in stage.to for stage in leg.stages)]
+    if still:
+        raise NoWay("the show of %s %s on the floor, and each drone has to be brought %s: have it %d mm above its pad there" % (
+            ", ".join(still), word, "up" if word == "begins" else "down", LIFT))
 
 
 def places_of(flown) -> Tuple[List[Place], List[Place], List[int], List[int]]:

@@ -68,13 +68,15 @@ class Rules:
         return 2 * (self.radius + self.stray)
 
 
-def text_of(names: Sequence[str], at: Dict[int, Place], yaws: Sequence[int], stages: Iterable[Stage], rules: Rules,
-            **more) -> bytes:
-    """A show's text: where drones begin, and a cue for each stage. Further lines for its `head`, and another `stray`
-    and `late` than the rules', are given by name."""
-    rows = ["choreo 1", *more.get("head", ()), "ellipsoid %d %d" % (rules.radius, rules.height),
-            "stray %d" % more.get("stray", rules.stray), "late %d" % more.get("late", rules.late)]
-    rows += ["drone %s %d %d %d %d" % (names[k], *(1000 * v for v in place), yaws[k]) for k, place in at.items()]
+def text_of(names: Sequence[str], at: Dict[int, Place], yaws: Sequence[int], stages: Iterable[Stage], rules: Rules, *,
+            head: Sequence[str] = (), stray: Optional[int] = None, late: Optional[int] = None,
+            begin: Optional[Sequence[int]] = None) -> bytes:
+    """A show's text: where drones begin, and a cue for each stage. Further lines for its `head`, another `stray` and
+    `late` than the rules', and other yaws for the begin, are given by name."""
+    rows = ["choreo 1", *head, "ellipsoid %d %d" % (rules.radius, rules.height),
+            "stray %d" % (rules.stray if stray is None else stray), "late %d" % (rules.late if late is None else late)]
+    rows += ["drone %s %d %d %d %d" % (names[k], *(1000 * v for v in place), (begin or yaws)[k])
+             for k, place in at.items()]
     for stage in stages:
         rows += ["cue %d" % stage.milliseconds]
         rows += ["%s move %d %d %d %d" % (names[k], *(1000 * v for v in place), yaws[k])
@@ -124,11 +126,13 @@ def apart(one: Sequence[float], other: Sequence[float]) -> float:
 
 
 class Leg:
-    """A way of all drones: where they begin, and its stages. `whole` is whether `check` accepts it as one show,
-    `why_below` why it doesn't lead to the pads, where it doesn't, and `hint` what would make it shorter, or None."""
+    """A way of all drones: where they begin, and its stages. Drones turn to `yaws` in it, from `first_yaws`. `whole` is
+    whether `check` accepts it as one show, `why_below` why it doesn't lead to the pads, where it doesn't, and `hint`
+    what would make it shorter, or None."""
 
     def __init__(self, names: Sequence[str], at: Dict[int, Place], yaws: Sequence[int], rules: Rules) -> None:
-        self.names, self.begin, self.yaws, self.rules = names, {k: tuple(v) for k, v in at.items()}, yaws, rules
+        self.names, self.begin, self.yaws, self.rules = names, dict(at), yaws, rules
+        self.first_yaws = yaws
         self.stages: List[Stage] = []
         self.whole, self.late, self.why_below, self.hint = False, rules.late, None, None
 
@@ -145,7 +149,8 @@ class Leg:
 
     def text(self, head: Sequence[str] = ()) -> bytes:
         """The leg as a show."""
-        return text_of(self.names, self.begin, self.yaws, self.stages, self.rules, late=self.late, head=head)
+        return text_of(self.names, self.begin, self.yaws, self.stages, self.rules, late=self.late, head=head,
+                       begin=self.first_yaws)
 
     def reversed(self) -> "Leg":
         """The same way back: a move from rest to rest is the same curve backwards."""

@@ -3,43 +3,96 @@
 Landings from each stage of both ways are judged before anybody takes off, by a thread of their own, and so is the way
 back from each stage: at a fault there is no time to ask `check`.
 """
+import argparse
 import threading
 import time
 from typing import Callable, Dict, Iterable, List, Optional, Sequence, Tuple
 
-from hemtoghai.flying import landings, legs
+from hemtoghai import program
+from hemtoghai.flying import director, landings, legs
 from hemtoghai.flying.crew import say
 from hemtoghai.flying.fleet import Trouble
 from hemtoghai.flying.legs import Place
+from hemtoghai.language.choreo import Flown
 
 STARTS = range(0, 2001, 400)  # milliseconds after a start, at which it is judged as one that not all took
 PATIENCE = 120  # real seconds for which a take-off waits until landings on the ways are judged
+# Why the flight director takes three shows for no flight, by the numbers of its causes.
+CAUSES = ("has other drones than the show", "doesn't begin where the one before ends", "doesn't rest between two stages",
+          "has no move", "doesn't leave its pad straight up, or come to it straight down",
+          "is judged with less stray than drones may stand aside")
 
 
 class Ways:
     """The ways up from pads, in mm, and down, judged, and the landings of the show; raises Trouble where there is no
-    way."""
+    way, or the flight director doesn't take them."""
 
-    def __init__(self, flown, pads: Sequence[Place], options) -> None:
-        self.flown, self.pads, self.below = flown, pads, options.below
-        self.rules = legs.Rules(flown.show.settings, max(legs.AIM, options.wander), options.ceiling)
+    def __init__(self, flown: Flown, text: bytes, pads: Sequence[Place], options: argparse.Namespace) -> None:
+        self.flown, self.pads, self.at_start, self.silence = flown, list(pads), options.at_start, options.silence
+        settings = flown.show.settings
+        aim = max(legs.AIM, options.wander, options.at_start - settings["stray"][0])
+        self.rules = legs.Rules(settings, aim, options.ceiling)
         self.firsts, self.lasts, self.yaws, self.last_yaws = legs.places_of(flown)
         try:
             self.up = legs.way_up(flown.names, pads, self.firsts, self.yaws, self.rules)
+            legs.refuse_still(self.up, "begins")
         except legs.NoWay as why:
             raise Trouble("not flown: no way up: %s" % why) from None
         try:
             self.down = self.way_down(self.lasts)
+            legs.refuse_still(self.down, "ends")
         except legs.NoWay as why:
             raise Trouble("not flown: no way down: %s" % why) from None
-        floors = [pad[2] for pad in pads]
-        self.landings = landings.Landings(flown, floors, self.rules)
+        if self.down.why_below:
+            raise Trouble("not flown: no way down to the pads: %s" % self.down.why_below)
+        self.down.first_yaws = self.last_yaws
+        self.floors = [pad[2] for pad in pads]
+        self.texts = [self.up.text(), text, self.down.text()]
+        self.ask_director()
+        self.landings = landings.Landings(flown, self.floors, self.rules)
         self.rows: Dict[int, List[landings.StageLandings]] = {
-            id(leg): [landings.StageLandings(leg, number, floors) for number in range(len(leg.stages))]
+            id(leg): [landings.StageLandings(leg, number, self.floors) for number in range(len(leg.stages))]
             for leg in (self.up, self.down)}
         self.broken: List[Tuple[int, Optional[str]]] = []
         self.preparing: Optional[threading.Thread] = None
         self.is_prepared = self.over = False
+
+    # ---- the flight director
+
+    def descent(self) -> int:
+        """The milliseconds of a landing that the director orders. They are no multiple of a hundred, by which it is told
+        from the landings of the way down."""
+        return 100 * (landings.landing_ms([self.top() - min(self.floors)]) // 100 + 1) + 1
+
+    def director_words(self) -> List[str]:
+        """The director's options. Drones may stand so far aside of their pads as the way up is judged for."""
+        return ["--near", "%d" % self.rules.stray, "--at", "%d" % self.at_start, "--silence",
+                "%d" % (1000 * self.silence), "--floor", "%d" % max(0, min(self.floors)), "--descent",
+                "%d" % self.descent(), "--then", "fly"]
+
+    def begin_director(self) -> director.Director:
+        """The director of this flight, as a process that waits for what happens; raises Trouble."""
+        try:
+            return director.Director(self.director_words(), self.texts)
+        except (program.Unusable, OSError) as why:
+            raise Trouble("not flown: the flight director can't be started: %s" % why) from None
+
+    def ask_director(self) -> None:
+        """Raises Trouble where the ways and the show are no flight to the director."""
+        try:
+            *before, end = director.judged(self.director_words(), self.texts)
+        except (program.Unusable, OSError) as why:
+            raise Trouble("not flown: the flight director can't be started: %s" % why) from None
+        status = end.status if isinstance(end, director.Ended) else None
+        if status == director.NOT_FLOWN:
+            return
+        words = ["the way up, the show and the way down are no flight to `direct`: status %s" % status]
+        for cause in before:
+            if isinstance(cause, director.Cause) and cause.number < len(CAUSES):
+                words.append("%s, %s, stage %d: %s" % (
+                    self.flown.names[cause.drone] if cause.drone < len(self.flown.names) else "a drone",
+                    ("up", "down", "to the pads")[min(2, cause.where)], cause.cue + 1, CAUSES[cause.number]))
+        raise Trouble("not flown: %s" % "; ".join(words))
 
     # ---- what is judged before take-off
 
@@ -91,11 +144,11 @@ class Ways:
 
     def way_down(self, places: Sequence[Place], fixed: Iterable[int] = ()) -> legs.Leg:
         """A way down from places, clear of drones that hold there; raises NoWay."""
-        return legs.down(self.flown.names, self.pads, places, self.last_yaws, self.rules, self.below, fixed)
+        return legs.down(self.flown.names, self.pads, places, self.yaws, self.rules, False, fixed)
 
     def standing(self) -> Dict[int, Place]:
         """The pads by drone, as they are judged."""
-        return {k: tuple(pad) for k, pad in enumerate(self.pads)}
+        return dict(enumerate(self.pads))
 
     def top(self) -> int:
         """How high anybody goes, in mm."""
@@ -122,8 +175,6 @@ class Ways:
         for name, leg in (("up", self.up), ("down", self.down)):
             say("way %s: %.1f s, judged %s" % (name, leg.milliseconds() / 1000,
                                                "as a whole" if leg.whole else "stage by stage"))
-            if leg.why_below:
-                say("  below the last places, since there is no way to the pads: %s" % leg.why_below)
             for line in leg.lines():
                 say(line)
             if leg.hint:

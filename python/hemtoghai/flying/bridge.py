@@ -1,0 +1,449 @@
+"""The bridge between a fleet and the proved flight director (flying/director.py), from the floor to the floor.
+
+It tells the director how much time passed, what drones say, what they answer and the crew's go, and carries each order
+to its drone, repeating it until it is answered. When all arm, rise, go, start, come down, land and are disarmed is the
+director's to say alone. Where a drone has a fault, the director refuses to go on, or its process ends, flying/home.py
+brings all home. A second Ctrl-C stops all motors, whatever the director says.
+"""
+import argparse
+import math
+import queue
+import threading
+import time
+from collections import deque
+from typing import Callable, Deque, Dict, List, Optional, Set, Tuple
+
+from hemtoghai.companion import many
+from hemtoghai.flying import clock, director, firmware, landings, legs
+from hemtoghai.flying.crazyradio import Dead
+from hemtoghai.flying.crew import Answers, Cut, Interrupted, say, Watch
+from hemtoghai.flying.descent import EARLY
+from hemtoghai.flying.director import Noted, Order, Over, Said, To
+from hemtoghai.flying.fleet import Fleet, Trouble
+from hemtoghai.flying.home import Home
+from hemtoghai.flying.ways import Ways
+from hemtoghai.language.choreo import Flown
+
+LOOK = 0.05  # seconds between two looks at all drones
+TELLS = 5  # seconds between two lines on how it goes
+GOES = 3.0  # seconds for which a go is said again: it counts only where all drones are as they have to be
+REPLY, REPLIES = 0.05, 1.0  # real seconds in which the director answers a go that it takes, and least ones for all
+PLACES = 8.0  # seconds in which all have to be at their first places, once the way up is over
+PATIENCE = 12.0  # seconds after the end of a step until which the director has begun the next one, or said who is late
+MUTE = 255  # the status that the director is told of a drone that refuses, or has no answer
+
+
+def confirm(options: argparse.Namespace, answers: Answers, text: str, look: Callable[[], None]) -> None:
+    """Asks the crew, and looks after what flies; anything but `yes` ends the flight."""
+    if not options.yes and answers.line(text + " Type yes: ", look) != "yes":
+        raise Trouble("nobody said yes")
+
+
+class Bridge(Home):
+    """A flight by the director. `told_at` is up to when it was told of the time, `went` the same at the last go, and `told` what it was told of each
+    drone last. `ahead` are by drone the stages in which orders come, `to_arm` who was told to arm, and `came` the
+    answers that it wasn't told yet. `due_by` is when it has to have said something."""
+
+    def __init__(self, fleet: Fleet, flown: Flown, ways: Ways, options: argparse.Namespace, watch: Watch,
+                 answers: Answers) -> None:
+        super().__init__(fleet, flown, ways, options, watch, answers)
+        self.director = ways.begin_director()
+        self.told_at, self.went, self.due_by = clock.now(), 0.0, math.inf
+        self.over: Optional[Over] = None
+        self.told: List[Tuple[Optional[float], int]] = [(None, 0)] * len(self.names)
+        self.ahead: List[Deque[Tuple[legs.Leg, int]]] = [deque(self.stages_of(k)) for k in self.all]
+        self.came: "queue.SimpleQueue[Tuple[int, Optional[str], float, int]]" = queue.SimpleQueue()
+        self.to_arm: Set[int] = set()
+        self.sinking: Set[int] = set()
+        self.refusals: Dict[int, str] = {}
+        self.is_said_late = False
+
+    def stages_of(self, k: int) -> List[Tuple[legs.Leg, int]]:
+        """The stages in which a drone has an order: from its first move up, to its last move down."""
+        up = [number for number, stage in enumerate(self.ways.up.stages) if k in stage.to]
+        down = [number for number, stage in enumerate(self.ways.down.stages) if k in stage.to]
+        return [*((self.ways.up, number) for number in range(up[0], len(self.ways.up.stages))),
+                *((self.ways.down, number) for number in range(down[-1] + 1))]
+
+    # ---- what the director is told
+
+    def flags(self, k: int) -> int:
+        """What a drone says of itself, as the director has it."""
+        info = self.fleet.states[k].info
+        is_armed = k in self.armed if info is None else bool(info & firmware.IS_ARMED)
+        is_ready = info is None or info & (firmware.CAN_ARM | firmware.IS_ARMED) and not info & firmware.WRECKED
+        return (director.READY * bool(is_ready) | director.ARMED * is_armed | director.DOWN * self.is_down(k)
+                | director.LOST * (self.wrong_with(k) is not None))
+
+    def tell(self) -> None:
+        """Tells the director how much time passed, and what is new of drones. Nothing is told until the show's time
+        begins, in the middle of when drones may have started."""
+        now = clock.now()
+        passed = int(1000 * (now - self.told_at))
+        if passed < 0:
+            return
+        self.told_at += passed / 1000
+        frames = director.clock_frames(passed)
+        for k, state in enumerate(self.fleet.states):
+            row = state.heard, self.flags(k)
+            if state.measured is not None and row != self.told[k]:
+                self.told[k] = row
+                frames += director.sample(k, 1000 * (now - state.measured), [1000 * v for v in state.where()], row[1])
+        self.director.hear(frames)
+
+    def tell_answers(self) -> None:
+        """Tells the director what drones answered."""
+        while not self.came.empty():
+            drone, words, seconds, stage = self.came.get()
+            if words is None:
+                self.unheard.pop(drone, None)
+            else:
+                self.refusals[drone] = words
+            self.director.hear(director.answer(drone, 0 if words is None else MUTE))
+            if stage == self.begun and 1000 * seconds > self.ways.rules.late and not self.is_said_late:
+                self.is_said_late = True
+                say("OUTSIDE OF WHAT WAS JUDGED: commands within %.0f ms, and %d were judged" % (
+                    1000 * seconds, self.ways.rules.late))
+
+    def look(self) -> None:
+        """Notes who is armed, and who has landed."""
+        for k, state in enumerate(self.fleet.states):
+            if k in self.to_arm and state.info is not None and state.info & firmware.IS_ARMED:
+                self.armed.add(k)
+            if k in self.sinking and self.is_down(k):
+                self.landed.add(k)
+
+    def step(self) -> None:
+        """Looks at all drones, tells the director, and does what it says; raises what is wrong."""
+        self.look()
+        self.guard()
+        self.tell()
+        self.tell_answers()
+        for said in self.director.says():
+            self.take(said)
+        if self.over is None and not self.director.is_well:
+            raise Trouble("the flight director takes nothing any more")
+        if clock.now() > self.due_by:
+            raise Trouble("the flight director doesn't go on")
+        clock.wait(LOOK)
+
+    # ---- what the director says
+
+    def take(self, said: Said) -> None:
+        """Does what the director says."""
+        if isinstance(said, To) and said.drone is None:
+            self.carry_to_all(said.order)
+        elif isinstance(said, To) and said.drone is not None:
+            self.carry(said.drone, said.order)
+        elif isinstance(said, Noted):
+            self.note(said.drone, said.fault)
+        elif isinstance(said, Over):
+            self.over = said
+        elif self.over is None:
+            raise Trouble("the flight director ended: status %s" % getattr(said, "status", None))
+
+    def note(self, k: int, fault: int) -> None:
+        """Raises a fault that the director finds, as far as flying/watched.py doesn't."""
+        name = self.names[k] if k < len(self.names) else "a drone"
+        if fault == director.REFUSED:
+            raise Trouble("; ".join(self.refusals.values()) or "%s refuses an order" % name)
+        if fault == director.LATE:
+            raise Trouble(k < len(self.names) and self.unfit(k, director.ARMED * (k in self.to_arm)) or
+                          "%s isn't as the next step wants it" % name)
+        if fault == director.WRONG:
+            raise Trouble(self.wrong_with(k) or "%s is lost" % name)
+        if fault == director.ASTRAY and self.ways.rules.show_stray:
+            say("OUTSIDE OF THE PROMISE since %.1f s: %s is off its curve, and the show's `stray` is %d" % (
+                max(0.0, clock.now() - self.began() - 0.3), name, self.ways.rules.show_stray))
+
+    def unfit(self, k: int, flags: int) -> Optional[str]:
+        """How a drone isn't as the next step wants it, which may want some of its flags, or None."""
+        name, lacks = self.names[k], flags & ~self.flags(k)
+        if not self.is_fresh(k):
+            return "%s is silent" % name
+        far = math.dist(self.fleet.states[k].where(), [v / 1000 for v in self.aims[k]])
+        if 1000 * far > min(self.options.at_start, self.ways.rules.stray):
+            return "%s is %.0f mm from its place" % (name, 1000 * far)
+        return "%s %s" % (name, "isn't armed" if lacks & director.ARMED else "can't be armed") if lacks else None
+
+    def carry_to_all(self, order: Order) -> None:
+        """Carries an order to all."""
+        if order.kind == director.START:
+            self.start()
+        elif order.kind == director.DISARM:
+            self.disarm(self.all)
+            self.due_by = clock.now() + PATIENCE
+
+    def carry(self, k: int, order: Order) -> None:
+        """Carries an order to its drone."""
+        if self.is_landing(order):
+            raise Trouble("the flight director lands all")
+        elif order.kind == director.ARM:
+            self.to_arm.add(k)
+            self.due_by = clock.now() + PATIENCE
+            self.give(k, lambda since: self.fleet.ask_arm(k, since))
+        elif self.ahead[k]:
+            self.lead(k, order)
+        else:
+            raise Trouble("the flight director has an order too many for %s" % self.names[k])
+
+    def lead(self, k: int, order: Order) -> None:
+        """Carries an order of a way: a rise, a go or a landing."""
+        leg, number = self.ahead[k].popleft()
+        if leg is not self.leg or number + 1 != self.begun:
+            self.begin_stage(leg, number)
+        seconds, place = order.milliseconds / 1000, self.aims[k]
+        self.unheard[k] = place
+        if order.kind == director.GO_TO:
+            x, y, z, yaw = order.at
+            data, word = firmware.go_to(x / 1000, y / 1000, z / 1000, math.radians(yaw / 10), seconds), "go to its place"
+            self.aims[k] = x, y, z
+        else:
+            (z,), lands = order.at, order.kind == director.SINK
+            data = (firmware.land if lands else firmware.take_off)(z / 1000, seconds)
+            word, self.aims[k] = "land" if lands else "take off", (*place[:2], z)
+            self.sinking |= {k} if lands else set()
+        if not any(self.ahead):
+            self.watch.land()  # the last ones land: a first Ctrl-C changes nothing any more
+        self.give(k, lambda since: self.fleet.command(k, data, word, since))
+
+    def begin_stage(self, leg: legs.Leg, number: int) -> None:
+        """The orders of a stage go out now."""
+        stage, now = leg.stages[number], clock.now()
+        seconds, names = stage.milliseconds / 1000, " ".join(self.names[k] for k in stage.to)
+        self.leg, self.begun, self.stage_began, self.stage_ends = leg, number + 1, now, now + seconds + 1
+        self.unheard, self.rising, self.is_said_late = {}, set(), len(stage.to) == 1
+        self.due_by = math.inf if stage is self.ways.up.stages[-1] else now + seconds + PATIENCE
+        if stage.kind == legs.TAKE_OFF:
+            self.flying, self.rising = True, set(stage.to)
+            self.watch.take_off()
+            say("taking off, %s: %s, %.1f s" % (many(len(stage.to), "drone"), names, seconds))
+        elif stage.kind == legs.LAND:
+            say("landing, %s: %s, %.1f s" % (many(len(stage.to), "drone"), names, seconds))
+
+    def give(self, k: int, ask: Callable[[int], object]) -> None:
+        """Has an order go to a drone by a thread, until it is answered; it goes nowhere once all questions are
+        dropped."""
+        since, begin, stage = self.fleet.radio.asked, clock.now(), self.begun
+
+        def run() -> None:
+            words = None
+            try:
+                ask(since)
+            except (Trouble, Dead) as why:
+                words = str(why)
+            except Exception as error:
+                words = "%s: %r" % (self.names[k], error)
+            self.came.put((k, words, clock.now() - begin, stage))
+        threading.Thread(target=run, daemon=True).start()
+
+    # ---- the flight
+
+    def ready(self) -> None:
+        """Looks, just before anybody takes off, whether drones are still as they were looked over; raises where not."""
+        faults = []
+        for k, (name, state, pad) in enumerate(zip(self.names, self.fleet.states, self.ways.pads)):
+            moved = 1000 * math.dist(state.where(), [v / 1000 for v in pad])
+            if not self.is_fresh(k):
+                faults.append("%s is silent" % name)
+            elif state.senseless is not None:
+                faults.append("%s sends a place that is no number" % name)
+            elif moved > self.ways.rules.aim:
+                faults.append("%s is %.0f mm from where it stood, and %d were judged" % (
+                    name, moved, self.ways.rules.aim))
+            elif state.says_it_flies():
+                faults.append("%s says that it flies" % name)
+        if not faults:
+            memory, data = self.flown.show.settings["memory"], self.flown.data()
+            held = self.fleet.radio.each(lambda k: self.fleet.holds(k, memory, data[k]), self.watch.look)
+            faults = ["%s doesn't hold the show any more: it was started anew since the upload" % name
+                      for name, is_held in zip(self.names, held) if not is_held]
+        if faults:
+            raise Trouble("not flown: " + ", ".join(faults))
+
+    def say_go(self, is_taken: Callable[[], bool]) -> None:
+        """Says go until the director takes it, but not for long."""
+        until = time.monotonic() + max(REPLIES, clock.real(GOES))
+        while not is_taken():
+            if time.monotonic() > until:
+                flags = director.ARMED if self.to_arm else director.READY
+                raise Trouble("the flight director doesn't take the go: %s" % "; ".join(
+                    words for words in (self.unfit(k, flags) for k in self.all) if words))
+            self.step()
+            self.director.hear(director.signal(director.GO))
+            self.went = self.told_at
+            said = self.director.wait(REPLY)  # without the time of this wait, by which the show would be begun
+            if said is not None:
+                self.take(said)
+
+    def rise(self) -> None:
+        """Has all go up, and waits until they are at their first places, and stay there for a second."""
+        self.ready()
+        self.told_at = clock.now()
+        self.step()
+        self.say_go(lambda: bool(self.to_arm))
+        while self.leg is not self.ways.up or self.begun < len(self.ways.up.stages):
+            self.step()
+        firsts, near = dict(enumerate(self.ways.firsts)), self.options.at_start
+        steady, until = math.inf, self.stage_ends + PLACES
+        while clock.now() < steady + 1.1:
+            self.step()
+            off = self.far_from(firsts, near)
+            if clock.now() < self.stage_ends - 1 or off:
+                steady = math.inf
+            elif steady == math.inf:
+                steady = clock.now()
+            if off and clock.now() > until:
+                raise Trouble("not at the first place: %s" % ", ".join(off))
+        self.rising = set()
+        say("at the first places: %s" % ", ".join("%s %.0f mm off" % (
+            name, 1000 * math.dist(state.where(), [v / 1000 for v in first]))
+            for name, state, first in zip(self.names, self.fleet.states, self.ways.firsts)))
+
+    def start(self) -> None:
+        """Starts all drones, and says how far apart their starts may be."""
+        (trajectory,) = self.flown.show.settings["trajectory"]
+        rows = self.fleet.start(trajectory, self.options.copies, not self.options.unicast)
+        begin, end = min(row[0] for row in rows.values()), max(row[1] for row in rows.values())
+        self.zero = begin
+        self.fleet.log.start(begin)
+        # Drones start within `late` after it went out: the show's time begins in the middle of that.
+        self.told_at += (begin + end + self.ways.rules.show_late / 1000) / 2 - self.went
+        for k, row in rows.items():
+            if row[3] is None:
+                self.refusals[k] = "%s didn't take the start" % self.names[k]
+            elif row[3]:
+                self.refusals[k] = "%s refuses the start with status %d" % (self.names[k], row[3])
+            self.director.hear(director.answer(k, MUTE if k in self.refusals else 0))
+        if self.refusals:
+            raise Trouble(", ".join(self.refusals.values()))
+        # A start was taken between when it went out and when it was answered: all may be so much later than the zero.
+        answered = max([row[2] for row in rows.values() if row[2] is not None]) - begin
+        self.slack = min(0.5, answered)
+        self.say_spread(1000 * (end - begin), 1000 * answered)
+        self.aims.update(enumerate(self.ways.lasts))
+        self.in_show, self.due_by = True, self.ends() + PATIENCE
+
+    def say_spread(self, spread: float, answered: float) -> None:
+        """Says how far apart starts may be, in milliseconds; raises where that is too far."""
+        single = not self.options.unicast and self.options.copies * len(self.fleet.radio.shared) == 1
+        say("started: %s; all answered within %.0f ms" % (
+            "by one packet to all" if single else "by packets within %.0f ms" % spread, answered))
+        if not single and spread > self.options.late:
+            raise Trouble("starts may be farther apart than %d ms" % self.options.late)
+        if not single and spread > self.ways.rules.show_late:
+            say("OUTSIDE OF THE PROMISE: starts went out within %.0f ms, and the show's `late` is %d" % (
+                spread, self.ways.rules.show_late))
+
+    def show(self) -> None:
+        """Looks after the show until its end."""
+        told = 0.0
+        while clock.now() < self.ends():
+            self.step()
+            if clock.now() - self.began() > told + TELLS:
+                told = clock.now() - self.began()
+                self.tell_crew(told)
+        say("flown: %.1f s; farthest from their curves: %s" % (self.flown.milliseconds / 1000, ", ".join(
+            "%s %.0f mm" % it for it in zip(self.names, self.strays))))
+
+    def tell_crew(self, seconds: float) -> None:
+        """A line on how it goes."""
+        names, states = self.names, self.fleet.states
+        far, low = max(zip(self.strays, names)), min((state.volts or 0.0, name) for state, name in zip(states, names))
+        quiet = max(zip(self.quiet, names))
+        blind = "silent" if self.silent else "off their curves" if self.off() else ""
+        why = None if blind else self.ways.landings.now(1000 * seconds)
+        say("%6.1f s: farthest %s %.0f mm, lowest %s %.2f V, quietest %s %.1f s; land now: %s" % (
+            seconds, far[1], far[0], low[1], low[0], quiet[1], quiet[0],
+            "not looked at while some are %s" % blind if blind else "apart" if why is None else
+            "not shown apart, %s" % landings.short(why)))
+
+    def down(self) -> None:
+        """Has all come down as the director says it; where one is silent or doesn't fly, by a way that keeps clear of
+        it, which the director hasn't."""
+        self.leave_show()
+        if self.silent | self.out:
+            self.come_down()
+            return
+        while self.over is None:
+            self.step()
+        if self.ways.rules.show_stray:
+            say("kept: the director found each drone at its curve whenever it looked, by the drones' own estimates"
+                if self.over.is_kept else "THE PROMISE WAS VOID in this flight: a drone was off its curve, or silent")
+
+    def fly(self) -> None:
+        """From the floor to the floor, as the director has it; raises what is wrong."""
+        self.rise()
+        confirm(self.options, self.answers, "All are at their first places. Start?", self.step)
+        self.say_go(lambda: self.zero is not None)
+        self.show()
+        self.down()
+
+    # ---- all of it
+
+    def land_all(self, words: str) -> bool:
+        """Lands all that aren't down; whether all are."""
+        if self.over is not None:
+            done = self.finish(self.stay(self.up(self.all)))
+        else:
+            seconds = self.landing_ordered()
+            done = self.land(words, self.warn, self.told_now() / 1000, seconds)
+        self.flying = False
+        return done
+
+    def not_flown(self, why: BaseException) -> int:
+        """Ends a flight in which nobody flew; the status."""
+        words = "Ctrl-C" if isinstance(why, Interrupted) else str(why)
+        say(words if words.startswith("not flown") else "not flown: %s" % words)
+        self.watch.off()
+        self.fleet.radio.drop()
+        self.disarm(self.all)
+        return EARLY
+
+    def whole(self) -> int:
+        """Flies from take-off to landing; the status."""
+        status, words = 0, "landing"
+        try:
+            self.fly()
+        except (Trouble, Dead, Interrupted) as why:
+            if not self.flying:
+                return self.not_flown(why)
+            status, words = EARLY, self.words_after(why) or self.down_after_all()
+        return status if self.land_all(words) else EARLY
+
+    def down_after_all(self) -> str:
+        """After a fault that was flown on with to the end of the show: has all come down; words for a landing of who
+        isn't down."""
+        try:
+            self.leave_show()
+            self.come_down()
+        except (Trouble, Dead, Interrupted) as why:
+            return self.words_after(why) or "landing all"
+        return "landing"
+
+    def run(self) -> int:
+        """Flies from take-off to landing, and lands all where this program itself fails; the status."""
+        try:
+            return self.whole()
+        except Cut:
+            self.director.hear(director.signal(director.STOP))
+            return self.cut()
+        except BaseException as error:
+            if not self.flying:
+                raise
+            say("FAULT of this program: %r" % error)
+            self.land_anyhow()
+            raise
+        finally:
+            self.director.kill()
+
+    def land_anyhow(self) -> None:
+        """Lands all after a fault of this program: as always, and where that fails too by bare commands."""
+        try:
+            try:
+                self.land_all("landing all")
+            except Exception as error:
+                say("FAULT of this program: %r" % error)
+                self.fleet.land(self.floors, self.all, self.seconds_down(self.all), self.watch.look)
+        except Cut:
+            self.cut()

@@ -1,0 +1,237 @@
+"""The proved program's `direct` as a process: it hears what happens, and says what is to be done. For ./show fly.
+
+Its frames are those of docs/PROMISES.md, 'Its frames'. Nothing is decided here: what is written and what is read is
+handed on. The process has a group of its own, since Ctrl-C at a terminal ends all that the terminal's group has.
+"""
+import os
+import queue
+import struct
+import subprocess
+import threading
+import time
+from typing import IO, Iterator, List, NamedTuple, Optional, Sequence, Tuple, Union
+
+from hemtoghai import program
+
+CLOCK, SAMPLE, ANSWER, SIGNAL = 1, 2, 3, 4  # the first bytes of what it hears
+GO, LAND, STOP = 0, 1, 2  # the crew's words
+READY, ARMED, LOST, DOWN = 1, 2, 4, 8  # the flags of a sample
+TO_ONE, TO_ALL, NOTE, OVER, CAUSE, END = 1, 2, 3, 4, 5, 0x45  # the first bytes of what it says
+ARM, RISE, GO_TO, SINK, START, HALT, DISARM = range(7)  # orders
+SIZES = {RISE: 6, GO_TO: 12, SINK: 6}  # bytes after an order's first
+SILENT, ASTRAY, WRONG, REFUSED, LATE = range(5)  # faults; the director calls WRONG `lost`
+NOT_FLOWN = 8  # the status of a flight to whose director nothing happened
+MOST_MS, MOST_AGE, MOST_MM = 65535, 65535, 32767
+FULL = 1.0  # real seconds for which the process may read nothing of what waits for it
+MARKER = b"%%\n"
+
+
+class Order(NamedTuple):
+    """What a drone is to do; `at` is x, y, z and yaw, or a height alone, in millimetres and tenths of a degree."""
+    kind: int
+    at: Tuple[int, ...] = ()
+    milliseconds: int = 0
+
+
+class To(NamedTuple):
+    """An order to a drone, or to all where that is None."""
+    drone: Optional[int]
+    order: Order
+
+
+class Noted(NamedTuple):
+    """A fault of a drone."""
+    drone: int
+    fault: int
+
+
+class Over(NamedTuple):
+    """The flight's end: whether it was flown, and whether the show was kept besides."""
+    is_flown: bool
+    is_kept: bool
+
+
+class Cause(NamedTuple):
+    """Why three shows are no flight: a number, which way or seam, and the drone and the cue."""
+    number: int
+    where: int
+    drone: int
+    cue: int
+
+
+class Ended(NamedTuple):
+    """The process's end: the status of its end frame, or None where it ended without one, or said what is no frame."""
+    status: Optional[int]
+
+
+Said = Union[To, Noted, Over, Cause, Ended]
+
+
+def order_of(stream: IO[bytes]) -> Order:
+    """The order that follows; raises ValueError where none does."""
+    kind = byte_of(stream)
+    if kind not in (ARM, START, HALT, DISARM, *SIZES):
+        raise ValueError
+    data = exactly(stream, SIZES.get(kind, 0))
+    if not data:
+        return Order(kind)
+    *at, milliseconds = struct.unpack("<%dhI" % ((len(data) - 4) // 2), data)
+    return Order(kind, tuple(at), milliseconds)
+
+
+def exactly(stream: IO[bytes], count: int) -> bytes:
+    """So many bytes; raises ValueError where there are fewer."""
+    data = stream.read(count)
+    if len(data) < count:
+        raise ValueError
+    return data
+
+
+def byte_of(stream: IO[bytes]) -> int:
+    """The next byte; raises ValueError where there is none."""
+    return exactly(stream, 1)[0]
+
+
+def said_by(stream: IO[bytes]) -> Said:
+    """The next frame of the director; raises ValueError where there is none."""
+    kind = byte_of(stream)
+    if kind == TO_ONE:
+        return To(byte_of(stream), order_of(stream))
+    if kind == TO_ALL:
+        return To(None, order_of(stream))
+    if kind == NOTE:
+        return Noted(byte_of(stream), byte_of(stream))
+    if kind == OVER:
+        flags = byte_of(stream)
+        return Over(bool(flags & 1), bool(flags & 2))
+    if kind == CAUSE:
+        return Cause(*struct.unpack("<BBBH", exactly(stream, 5)))
+    if kind == END:
+        return Ended(byte_of(stream))
+    raise ValueError
+
+
+def sample(drone: int, age: float, place: Sequence[float], flags: int) -> bytes:
+    """The frame of a sample: its age in milliseconds, its place in millimetres."""
+    at = [min(MOST_MM, max(-MOST_MM, round(v))) for v in place]
+    return struct.pack("<BBHhhhB", SAMPLE, drone, min(MOST_AGE, max(0, round(age))), *at, flags)
+
+
+def clock_frames(milliseconds: int) -> bytes:
+    """The frames of so much time that passed."""
+    out = b""
+    while milliseconds > 0:
+        part = min(MOST_MS, milliseconds)
+        out, milliseconds = out + struct.pack("<BH", CLOCK, part), milliseconds - part
+    return out
+
+
+def answer(drone: int, status: int) -> bytes:
+    """The frame of a drone's answer: 0 where it obeys."""
+    return bytes([ANSWER, drone, status])
+
+
+def signal(word: int) -> bytes:
+    """The frame of a word of the crew."""
+    return bytes([SIGNAL, word])
+
+
+class Director:
+    """The process over its pipes. `is_well` is whether it still takes what is written; what it says waits in a queue."""
+
+    def __init__(self, words: Sequence[str], texts: Sequence[bytes]) -> None:
+        """Raises program.Unusable or OSError where it can't be started."""
+        self.process = subprocess.Popen([program.runs(), "direct", *words], stdin=subprocess.PIPE,
+                                        stdout=subprocess.PIPE, stderr=subprocess.DEVNULL, bufsize=0,
+                                        start_new_session=True)
+        self.waiting, self.since, self.is_well, self.lock = b"", time.monotonic(), True, threading.Lock()
+        self.said: "queue.SimpleQueue[Said]" = queue.SimpleQueue()
+        self.reader = threading.Thread(target=self.listen, daemon=True)
+        self.reader.start()
+        assert self.process.stdin
+        self.writes_to = self.process.stdin.fileno()
+        for text in texts:
+            self.write_all(text + (b"" if text.endswith(b"\n") else b"\n") + MARKER)
+        os.set_blocking(self.writes_to, False)
+
+    def write_all(self, data: bytes) -> None:
+        """Writes what the process has to read before a flight, however long it judges it."""
+        try:
+            while data:
+                data = data[os.write(self.writes_to, data):]
+        except OSError:
+            self.is_well = False
+
+    def hear(self, frames: bytes) -> None:
+        """Writes frames, as far as the process takes them now; the rest waits. A process that takes nothing for a
+        second isn't well."""
+        with self.lock:
+            if not self.waiting:
+                self.since = time.monotonic()
+            self.waiting += frames
+            try:
+                while self.is_well and self.waiting:
+                    self.waiting = self.waiting[os.write(self.writes_to, self.waiting):]
+                    self.since = time.monotonic()
+            except BlockingIOError:
+                self.is_well = time.monotonic() - self.since < FULL
+            except (OSError, ValueError):
+                self.is_well = False
+
+    def says(self) -> Iterator[Said]:
+        """What it said since the last look."""
+        while not self.said.empty():
+            yield self.said.get()
+
+    def wait(self, seconds: float) -> Optional[Said]:
+        """The next that it says within so many real seconds, or None."""
+        try:
+            return self.said.get(timeout=seconds)
+        except queue.Empty:
+            return None
+
+    def listen(self) -> None:
+        """Reads frames until the end, and keeps them."""
+        assert self.process.stdout
+        with open(self.process.stdout.fileno(), "rb", closefd=False) as stream:
+            said: Said = Ended(None)
+            try:
+                while True:
+                    said = said_by(stream)
+                    self.said.put(said)
+                    if isinstance(said, Ended):
+                        return
+            except (ValueError, OSError):
+                self.said.put(Ended(None))
+
+    def close(self) -> None:
+        """Ends its input: it lands nobody then, and ends."""
+        self.is_well = False
+        try:
+            if self.process.stdin:
+                self.process.stdin.close()
+        except OSError:
+            pass
+
+    def kill(self) -> None:
+        """Ends the process where it still runs."""
+        self.close()
+        self.process.kill()
+        self.process.wait()
+        self.reader.join(1)
+        if self.process.stdout and not self.reader.is_alive():
+            self.process.stdout.close()
+
+
+def judged(words: Sequence[str], texts: Sequence[bytes]) -> List[Said]:
+    """What the director says where nothing happens: three texts that are a flight have an end without a cause. Raises
+    program.Unusable or OSError where it can't be started."""
+    director, out = Director(words, texts), []
+    try:
+        director.close()
+        while not out or not isinstance(out[-1], Ended):
+            said = director.wait(60)
+            out.append(Ended(None) if said is None else said)
+    finally:
+        director.kill()
+    return out

@@ -1,0 +1,400 @@
+"""What is done from the first fault of a flight on, or from Ctrl-C: all are brought home. For ./show fly.
+
+Landings straight down are judged by `check`, for each instant of the show and of the ways, before anybody takes off.
+Where a fault comes at an instant at which such a landing isn't shown apart, all fly on: in the show until it is, on the
+ways to the end of the stage that is flown, and then home by a way that is judged. The flight director is told no more
+of what happens from the first fault on, so that it gives no orders any more: but for its landing, where that is what was
+judged (flying/bridge.py).
+"""
+import math
+import time
+from typing import Callable, Dict, Iterator, List, Optional, Set, Tuple
+
+from hemtoghai.companion import many
+from hemtoghai.flying import clock, firmware, landings, legs
+from hemtoghai.flying.crazyradio import Dead
+from hemtoghai.flying.crew import Interrupted, say
+from hemtoghai.flying.director import Director, Ended, LAND, Order, signal, SINK, To
+from hemtoghai.flying.fleet import Trouble
+from hemtoghai.flying.watched import in_mm, Watched
+
+LEAD = 100  # milliseconds until a landing that is decided is begun
+MOST_PAIRS = 10  # that are named where all land
+HEARD_AGAIN = 5.0  # seconds for which one that didn't answer is waited for, before what is left is judged
+ANSWERS = 0.4  # real seconds in which `check` has to answer where drones fly on meanwhile
+OLD = 0.2  # seconds that a sample may be old by which a landing is judged
+ORDERED = 0.2  # real seconds in which the director has to order a landing
+NO_ANSWER = "`check` didn't answer in time"
+
+
+class Home(Watched):
+    """Brings all home. `doubt` is why a landing that begins now isn't shown apart, and `takes` the milliseconds that
+    `check` takes."""
+    director: Director
+    doubt: Optional[str] = None
+    takes = 200.0
+
+    # ---- the flight director, which isn't told any more of what happens
+
+    def dismiss(self) -> None:
+        """Ends the director's input: what follows is none of its flight."""
+        self.director.close()
+
+    def is_landing(self, order: Order) -> bool:
+        """Whether an order is of the director's landing of all, and not of its way down."""
+        return order.kind == SINK and order.milliseconds == self.ways.descent()
+
+    def landing_ordered(self) -> Optional[float]:
+        """Has the director order the landing of all, where that is what was judged: from where all are, at once, to one
+        height. Its seconds, or None where the director isn't asked, or doesn't answer."""
+        floors, is_landing = self.ways.floors, self.begun and self.leg.stages[self.begun - 1].kind == legs.LAND
+        if not self.director.is_well or is_landing or max(floors) - min(floors) > legs.SAME_FLOOR:
+            return None
+        if len(self.up(self.all)) < len(self.all) or self.silent or self.out:
+            return None
+        left, until = set(self.all), time.monotonic() + ORDERED
+        self.director.hear(signal(LAND))
+        while left:
+            said = self.director.wait(max(0.0, until - time.monotonic()))
+            if said is None or isinstance(said, Ended):
+                say("the flight director doesn't order the landing: it begins without it")
+                return None
+            if isinstance(said, To) and said.drone is not None and self.is_landing(said.order):
+                left.discard(said.drone)
+        return self.ways.descent() / 1000
+
+    # ---- in the show
+
+    def refusal(self) -> Optional[str]:
+        """Why not all may land at this instant of the show, or None; where some are silent, after a wait for the
+        instant that was looked at."""
+        t, off = 1000 * (clock.now() - self.began()), self.off()
+        if not self.silent and not off:
+            return self.ways.landings.now(t) or self.ways.landings.now(t + LEAD)
+        at, told, silent = t + self.takes + LEAD, self.told_now(), set(self.silent)
+        why = self.meanwhile(lambda: self.ways.landings.with_silent(at, silent, off, told) if silent else
+                             self.ways.landings.refusal(at, off, told))
+        took = 1000 * (clock.now() - self.began()) - t
+        self.takes = max(1.2 * took, 0.8 * self.takes)
+        left = at - LEAD / 2 - 1000 * (clock.now() - self.began())
+        if why is None and left < -LEAD / 2:
+            return "it took too long to look"
+        if why is None:
+            self.pause(clock.now() + left / 1000)
+        return why
+
+    def fly_on(self, fault: BaseException) -> bool:
+        """After a fault in the show: flies on until all may land, or to the end; whether it went on to the end."""
+        told = False
+        while clock.now() < self.ends():
+            why = self.refusal()
+            if why is None:
+                return False
+            if not told:
+                free = self.ways.landings.next(1000 * (clock.now() - self.began()))
+                say("FAULT: %s; flying on%s: a landing of all now isn't shown apart (%s)" % (
+                    fault, "" if free is None or self.silent or self.off() else " to %.1f s" % (free / 1000),
+                    landings.short(why)))
+                told = True
+            for words in self.noted():
+                say("FAULT besides: %s" % words)
+            clock.wait(0.1)
+        return True
+
+    # ---- on the ways: a landing
+
+    def refusal_ready(self) -> Optional[str]:
+        """Why not all may land from the stage that is flown, by what was judged before take-off, or None. Where a drone
+        isn't where the stage has it nothing was judged."""
+        row, began = self.ways.landings_at(self.leg, self.begun), self.stage_began
+        unsure = self.out | set(self.unheard)
+        if self.zero is not None and self.leg is self.ways.up:
+            return self.refusal_of_start()
+        if row is None:
+            return NO_ANSWER
+        for k, state in enumerate(self.fleet.states):
+            t = 0.0 if began is None or state.measured is None else 1000 * (state.measured - began)
+            if k in unsure or not self.is_fresh(k) or not row.has(k, t, [1000 * v for v in state.where()]):
+                return NO_ANSWER
+        return row.now(0.0 if began is None else 1000 * (clock.now() - began))
+
+    def refusal_of_start(self) -> Optional[str]:
+        """The same after a start that not all took: each is somewhere on its curve up to this instant."""
+        t, far = 1000 * (clock.now() - self.began()), self.ways.rules.stray
+        for k, (curve, state) in enumerate(zip(self.curves, self.fleet.states)):
+            if k in self.out or not self.is_fresh(k):
+                return NO_ANSWER
+            if curve.nearest([1000 * v for v in state.where()], 0, t + 50, far)[0] > far:
+                return NO_ANSWER
+        return self.ways.after_start(t)
+
+    def refusal_here(self) -> Optional[str]:
+        """Why not all may land straight down from where they are on the ways, or None: with how far they are carried
+        on by the speed of their last two samples, and how far they fly until all are told."""
+        lost = self.lost()
+        if lost and clock.now() < self.stage_ends:
+            return "%s may not have heard where to go" % self.words_of(lost)
+        at = self.places_here()
+        for places in (self.aims, self.unheard) if lost else (at,):
+            why = self.refusal_from({**at, **{k: places[k] for k in lost}})
+            if why:
+                return why
+        return None
+
+    def refusal_from(self, at: Dict[int, legs.Place]) -> Optional[str]:
+        """The same, with drones at these places."""
+        now = clock.now()
+        moving = [k for k in self.silent if at[k] != self.ways.pads[k]] if now < self.stage_ends else []
+        if moving:
+            return "%s silent on the way" % self.words_of(moving)
+        to = {k: (*at[k][:2], self.ways.pads[k][2]) for k in set(self.all) - self.hold(at)}
+        flown = self.leg.stages[self.begun - 1] if self.begun and now < self.stage_ends else None
+        if flown and flown.kind == legs.LAND and not set(to) <= set(flown.to):
+            return "%s on the way down" % self.words_of(flown.to)  # a landing isn't broken off by another
+        if not to or flown and flown.kind == legs.LAND:
+            return None
+        speed = max(1000 * self.fleet.states[k].speed() for k in to)
+        more = landings.carried(speed) + speed * (legs.LATE / 1000 + OLD + ANSWERS)
+        if self.ways.rules.stray + more > landings.MOST:
+            return landings.TOO_FAR
+        leg = legs.Leg(self.names, at, self.ways.yaws, legs.Rules(self.flown.show.settings, self.ways.rules.aim + more))
+        stage = legs.Stage(legs.LAND, landings.landing_ms([at[k][2] - place[2] for k, place in to.items()]), to)
+        return legs.judge_stages(leg, [stage], self.ways.standing(), at)
+
+    def refusal_soon(self) -> Optional[str]:
+        """Why not all may land now, or None: by what was judged beforehand, or else by `check`, which hasn't long."""
+        why = self.refusal_ready()
+        return why and self.soon(self.refusal_here, why)
+
+    def soon(self, refusal: Callable[[], Optional[str]], late: Optional[str]) -> Optional[str]:
+        """A refusal that `check` says, or this where it takes too long."""
+        found = self.within(refusal, ANSWERS)
+        return found[0] if found else late
+
+    # ---- on the ways: home by a way that is judged
+
+    def come_home(self, front: str) -> Optional[str]:
+        """At a fault on the ways: where a landing of all from here isn't shown apart, the stage that is flown goes to
+        its end, and all come down from there by a way that is judged: the way that they came, the rest of the way
+        down, or a new one. What is left to do is a landing of who isn't down: why that isn't shown apart, or None."""
+        self.watch.land()
+        self.fleet.radio.drop()
+        why = self.refusal_soon()
+        if why is None:
+            return None
+        self.dismiss()
+        gone_back = self.zero is not None and self.leg is self.ways.up
+        if gone_back:
+            self.break_off(front, why)
+        elif self.stage_ends > clock.now():
+            say("%s; a landing of all now isn't shown apart (%s): the stage that is flown goes to its end first" % (
+                front, landings.short(why)))
+        self.pause(self.stage_ends)
+        self.wait_heard()
+        why = NO_ANSWER if gone_back else self.refusal_ready()
+        if why == NO_ANSWER:  # else what was judged beforehand is as good where all are at rest; `check` may be slow
+            why = self.meanwhile(self.refusal_here)
+        return self.go_home(front, why) if why else None
+
+    def go_home(self, front: str, why: str) -> Optional[str]:
+        """Flies a judged way home from where all are at rest, and may not land for a reason; why not all may land in
+        its end, or None."""
+        at = self.places_planned()
+        leg, words = self.meanwhile(lambda: self.way_home(at))
+        if leg is None:
+            say("NEITHER A LANDING NOR A WAY DOWN is shown apart: %s" % landings.short(why))
+            return why
+        say("%s; a landing of all isn't shown apart (%s): all come down %s" % (front, landings.short(why), words))
+        for stage in leg.stages:
+            self.home_stage(stage)
+        return self.meanwhile(self.refusal_here) if self.up(self.all) else None
+
+    def wait_heard(self) -> None:
+        """Waits until who may not have heard where to go says again where it is, but not for long: where it is, is
+        known of nobody else."""
+        until = clock.now() + HEARD_AGAIN
+        while self.lost() and clock.now() < until:
+            self.pause(clock.now() + 0.1)
+
+    def places_planned(self) -> Dict[int, legs.Place]:
+        """Where drones are, those who are where their leg has them after its stage by the leg's own places: from there
+        the ways back were judged beforehand."""
+        at, planned = self.places_here(), self.leg.places(self.begun)
+        return {k: planned[k] if k in planned and math.dist(place, planned[k]) <= self.ways.rules.stray else place
+                for k, place in at.items()}  # a way beside a wreck has no place of it
+
+    def break_off(self, front: str, why: str) -> None:
+        """After a start that not all took: has all go back to their first places, from which the rest is judged."""
+        at, speed = self.places_here(), max(1000 * state.speed() for state in self.fleet.states)
+        to = {k: place for k, place in enumerate(self.ways.firsts) if at[k] != self.ways.pads[k]}
+        milliseconds = legs.milliseconds_for(legs.GO_TO, [math.dist(at[k], place) for k, place in to.items()])
+        stage = legs.Stage(legs.GO_TO, milliseconds, to)
+        more = self.ways.rules.aim + landings.carried(speed) + speed * (legs.LATE / 1000 + OLD + ANSWERS)
+        leg = legs.Leg(self.names, at, self.ways.yaws, legs.Rules(self.flown.show.settings, more))
+        mute = [k for k in to if not self.is_fresh(k)]
+        doubt = "%s silent, and may fly the show" % self.words_of(mute) if mute else self.soon(
+            lambda: legs.judge_stages(leg, [stage], self.ways.standing(), at), NO_ANSWER)
+        say("%s; a landing of all now isn't shown apart (%s): all go back to their first places%s" % (
+            front, landings.short(why), ", which is NOT JUDGED: %s" % landings.short(doubt) if doubt else ""))
+        self.home_stage(stage)
+
+    def way_home(self, at: Dict[int, legs.Place]) -> Tuple[Optional[legs.Leg], str]:
+        """A judged way down from places on the ways, and words for it; None where there is none."""
+        if self.lost():
+            return None, ""  # each is in one of two places
+        hold, is_up = self.hold(at), self.leg is self.ways.up
+        back = legs.Leg(self.names, self.leg.begin, self.ways.yaws, self.ways.rules)
+        back.stages = self.leg.stages[:self.begun]
+        again = 1 if self.unheard and self.begun else 0  # the stage that not all heard of is flown once more
+        way, count = (back.reversed(), 0) if is_up else (self.leg, self.begun - again)
+        rest = self.ways.rest_judged(way, count, at, hold)
+        if rest:
+            return rest, "the way that they came" if is_up else "by the rest of the way down"
+        return self.ways.new_judged(at, hold) or self.beside_wrecks(way, count, at, hold), "by a new way"
+
+    def beside_wrecks(self, leg: legs.Leg, count: int, at: Dict[int, legs.Place],
+                      hold: Set[int]) -> Optional[legs.Leg]:
+        """The rest of a leg, judged without the drones that don't fly any more: better than to come down on one that
+        lies below. None where there are none, or it isn't accepted."""
+        wrecks = self.out - self.silent
+        rest = self.ways.rest_judged(leg, count, {k: at[k] for k in at if k not in wrecks}, hold) if wrecks else None
+        if rest:
+            say("NOT JUDGED beside %s: nothing leads clear of where it lies" % self.words_of(wrecks))
+        return rest
+
+    def go_to_rows(self, stage: legs.Stage) -> Dict[int, bytes]:
+        """The commands of a stage in which drones go to places, with the yaws of the show's begin."""
+        return {k: firmware.go_to(x / 1000, y / 1000, z / 1000, math.radians(self.ways.yaws[k] / 10),
+                                  stage.milliseconds / 1000) for k, (x, y, z) in stage.to.items()}
+
+    def home_stage(self, stage: legs.Stage, look: Callable[[], None] = lambda: None) -> List[str]:
+        """A stage of the way home: it is flown whatever is wrong, but for what a look raises, and a second Ctrl-C stops
+        all motors. Who didn't answer, in words."""
+        seconds, mute = stage.milliseconds / 1000, []
+        if stage.kind == legs.LAND:
+            self.bring_down(list(stage.to), seconds, self.ways.rules.late / 1000)
+            return []
+        rows = self.go_to_rows(stage)
+        self.unheard = {k: self.aims[k] for k in rows}
+        self.aims.update(stage.to)
+
+        def go(drone: int) -> None:
+            try:
+                if drone in rows:
+                    self.fleet.command(drone, rows[drone], "go back")
+                    self.unheard.pop(drone, None)
+            except (Trouble, Dead) as error:
+                mute.append(str(error))
+        self.fleet.radio.each(go, self.watch.look)
+        for words in mute:
+            say(words)
+        self.pause(clock.now() + seconds + 1, look)
+        return mute
+
+    # ---- down from the end of the show, where some can't come
+
+    def leave_show(self) -> None:
+        """The show is over: what is flown from here on is the way down."""
+        self.in_show, self.leg, self.begun, self.stage_began, self.stage_ends = (
+            False, self.ways.down, 0, None, clock.now())
+
+    def come_down(self) -> None:
+        """Flies the way down, which the director isn't led by any more; where some are silent, and hover at the end of
+        their curves as is assumed, or don't fly any more, one that keeps clear of them. Raises what is new on it."""
+        self.dismiss()
+        hold = self.silent | self.out
+        self.leg = self.way_beside(hold) if hold else self.ways.down
+        for number, whole in enumerate(self.leg.stages, 1):
+            stage = whole.without(self.out | self.silent)
+            self.begun, self.stage_began = number, clock.now()
+            self.stage_ends = self.stage_began + stage.milliseconds / 1000 + 1
+            if stage.to:
+                self.fly_stage(stage)
+
+    def way_beside(self, hold: Set[int]) -> legs.Leg:
+        """A judged way down from the last places that keeps clear of some; raises Trouble where there is none."""
+        say("silent, and hovering at the end of its curve, as is assumed: %s" % self.words_of(self.silent)
+            if self.silent else "doesn't fly any more: %s" % self.words_of(self.out))
+        at = dict(enumerate(self.ways.lasts))
+        at.update((k, in_mm(self.fleet.states[k].where())) for k in self.out if k not in self.silent)
+        leg = self.meanwhile(lambda: self.ways.new_judged(at, hold) or self.beside_wrecks(self.ways.down, 0, at, hold))
+        if leg is None:
+            raise Trouble("NO WAY DOWN is judged apart from %s" % self.words_of(hold))
+        for line in leg.lines():
+            say(line)
+        return leg
+
+    def fly_stage(self, stage: legs.Stage) -> None:
+        """Flies a stage of it, on guard."""
+        if stage.kind == legs.LAND:
+            say("landing, %s: %s, %.1f s" % (many(len(stage.to), "drone"), " ".join(self.names[k] for k in stage.to),
+                                            stage.milliseconds / 1000))
+            self.aims.update(stage.to)
+        mute = self.home_stage(stage, self.guard)
+        off = self.up(stage.to) if stage.kind == legs.LAND else []
+        wrong = [*mute, *self.noted(), *("%s isn't down" % self.names[k] for k in off)]
+        if stage.kind != legs.LAND:
+            wrong += ["%s isn't at the next place" % name for name in self.far_from(stage.to, self.options.at_start)]
+        if wrong:
+            raise Trouble("; ".join(wrong))
+
+    # ---- landing
+
+    def doubt_now(self) -> Optional[str]:
+        """Why a landing that begins now in the show isn't shown apart, by what was judged before, or None."""
+        t = 1000 * (clock.now() - self.began())
+        if t >= self.flown.milliseconds:
+            return self.ways.landings.now(self.flown.milliseconds)
+        if self.silent or self.off():
+            return "not looked at with %s" % (
+                self.words_of(self.silent) + " silent" if self.silent else self.words_of(self.off()) + " off the curve")
+        return self.ways.landings.now(t)
+
+    def warn(self) -> None:
+        """Says where the landing that begins now isn't shown apart, and names pairs that may come down on each other.
+        Nobody is asked: the landing waits for nothing."""
+        if self.doubt is None:
+            return
+        say("THIS LANDING ISN'T SHOWN APART: %s" % landings.short(self.doubt))
+        t = 1000 * (clock.now() - self.began()) if self.zero is not None else 0.0
+        for pair in list(self.near_pairs(t))[:MOST_PAIRS]:
+            say("MAY COME DOWN ON EACH OTHER: %s and %s" % pair)
+
+    def told_now(self) -> int:
+        """The milliseconds within which all hear of a landing: a broadcast goes out where none is down."""
+        return self.ways.landings.told if self.in_show and len(self.up(self.all)) == len(self.all) else legs.LATE
+
+    def near_pairs(self, t: float) -> Iterator[Tuple[str, str]]:
+        """The pairs that are nearer to each other from above than their ellipsoids, with how far they may be carried
+        on."""
+        places, carried = [in_mm(state.where()) for state in self.fleet.states], [0.0] * len(self.names)
+        for k in self.all if self.in_show else ():
+            carried[k] = landings.carried(math.hypot(*self.ways.landings.speed(k, min(t, self.flown.milliseconds))))
+            if k in self.silent:
+                x, y, z = (round(v) for v in self.curves[k].at(t))
+                places[k] = x, y, z
+        for i in self.all:
+            for j in range(i):
+                far = legs.apart(places[i], places[j]) - carried[i] - carried[j]
+                if far <= 2 * self.ways.rules.radius and not {i, j} <= self.landed:
+                    yield self.names[j], self.names[i]
+
+    def words_after(self, why: BaseException) -> Optional[str]:
+        """Does what a fault or a Ctrl-C wants; the words for the landing that follows, or None where the show went on
+        to its end."""
+        if isinstance(why, Interrupted):
+            words, front = "Ctrl-C: landing all; once more stops the motors", "Ctrl-C, once more stops the motors"
+        else:
+            words, front = "FAULT: %s; landing all" % why, "FAULT: %s" % why
+        self.doubt = None
+        if not self.in_show:
+            self.doubt = self.come_home(front)
+        elif isinstance(why, Interrupted):
+            self.doubt = self.doubt_now()
+        else:
+            try:
+                if self.fly_on(why):
+                    return None
+            except Interrupted as pressed:
+                return self.words_after(pressed)
+        return words
