@@ -206,7 +206,9 @@ class Flights(unittest.TestCase):
         self.flown("copies", 0, "started: by packets within", ends={"a": "3 starts", "b": "3 starts"})
 
     def test_places(self):
-        self.flown("floor", 0, "nobody takes off: all first places are on the floor", without=["taking off"])
+        # each drone has to rise and to land: the director flies nobody who begins or ends the show on the floor
+        self.flown("floor", 1, "not flown: no way up: the show of a, b begins on the floor, and each drone has to be brought up: have it 200 mm "
+                   "above its pad there\n", without=["firmware"])
         self.flown("above", 1, "not flown: no way up: a and b come too near: pads 0 mm apart from above, places 0; put their pads",
                    without=["taking off", "uploaded", "firmware"])
         self.flown("passing", 0, "taking off, 2 drones: b a, 3.0 s\n", "landed\n")
@@ -243,10 +245,11 @@ class Flights(unittest.TestCase):
 
     def test_not_up(self):
         down = r", 0.0[0-9]\) m, disarmed, 0 starts"
-        for fault, said in (("unarmed", "not flown: not armed: b\n"), ("stays", "FAULT: b refuses to take off: status 16; landing all\nlanded"),
-                            ("stuck", "FAULT: not up: b; landing all\nlanded")):
+        # the director waits eight seconds for one that isn't as the next step wants it
+        for fault, said in (("unarmed", "not flown: b isn't armed\n"), ("stays", "FAULT: b refuses to take off: status 16; landing all\nlanded"),
+                            ("stuck", "FAULT: b is 1000 mm from its place; landing all\nlanded")):
             self.flown(fault, 1, said, without=["started"], ends={"a": down, "b": down})
-        self.flown("stray", 1, "FAULT: not up: a, b; landing all\nlanded", without=["started"])
+        self.flown("stray", 1, "FAULT: [ab] is [0-9]+ mm from its place; landing all\nlanded", without=["started"])
 
     def test_faults_in_flight(self):
         for fault, said, starts, end in (
@@ -259,7 +262,7 @@ class Flights(unittest.TestCase):
 
     def test_one_that_does_not_land(self):
         # It isn't disarmed, since it would fall.
-        self.flown("hovers", 1, "FAULT: not seen to be down: b; landing all\nNOT SEEN TO BE DOWN: b.*\nNOT SEEN TO BE DOWN: b.*\n.*landed, but for b: not disarmed; "
+        self.flown("hovers", 1, "FAULT: b is 1000 mm from its place; landing all\nNOT SEEN TO BE DOWN: b.*\nNOT SEEN TO BE DOWN: b.*\n.*landed, but for b: not disarmed; "
                    "--only land and --only stop still reach them",
                    ends={"a": r", 0.00\) m, disarmed, 1 start", "b": r", 1.00\) m, armed, 1 start"})
 

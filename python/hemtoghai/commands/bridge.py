@@ -18,17 +18,19 @@ import importlib.util
 import os
 import queue
 import sys
+from argparse import ArgumentTypeError, Namespace
+from collections.abc import Iterator, Sequence
 
-from argparse import ArgumentTypeError
 from hemtoghai import program
 from hemtoghai.companion import add_depth, decoded, flown_of, many, no_program, parser, stop
 from hemtoghai.flying import links
-from hemtoghai.flying.uploads import carry, ENDS, Host, Traffic, wanted_packets
+from hemtoghai.flying.uploads import carry, Carrying, ENDS, Events, Host, Traffic, wanted_packets
+from hemtoghai.language.choreo import Flown
 
 
 # ---- what drones hold
 
-def memory_lines(drone, name, flown, data):
+def memory_lines(drone: links.Drone, name: str, flown: Flown, data: bytes) -> Iterator[str]:
     """What a drone's memory holds: lines for people."""
     offset, (number,) = flown.show.settings["memory"][1], flown.show.settings["trajectory"]
     same = bytes(drone.memory[offset:offset + len(data)]) == data
@@ -42,18 +44,18 @@ def memory_lines(drone, name, flown, data):
         yield "  trajectory %d is not defined" % number
 
 
-def flight(drone, entry):
+def flight(drone: links.Drone, entry: tuple[int, int]) -> str:
     """The time and the ends of what a memory decodes to under an entry, or that it decodes to nothing."""
     offset, pieces = entry
     found = decoded(bytes(drone.memory[offset:end_of(drone.memory, offset, pieces)]), pieces)
     if not found:
         return "the bytes there are no trajectory"
     ends = [found[0]] + [[row[-1] for row in segment[1]] for segment in found[1][-1:]]
-    return "%.3f s, from (%d, %d, %d) to (%d, %d, %d) mm" % (
-        sum(segment[0] for segment in found[1]) / 1000, *ends[0][:3], *ends[-1][:3])
+    first, last = ("(%d, %d, %d)" % (x, y, z) for x, y, z, _ in (ends[0], ends[-1]))
+    return "%.3f s, from %s to %s mm" % (sum(segment[0] for segment in found[1]) / 1000, first, last)
 
 
-def end_of(memory, offset, pieces):
+def end_of(memory: bytearray, offset: int, pieces: int) -> int:
     """Where the bytes of a trajectory of so many segments end: its start, its segments by their headers, three bytes
     more."""
     at = offset + 8
@@ -64,7 +66,7 @@ def end_of(memory, offset, pieces):
     return min(len(memory), at + 3)
 
 
-def write_memories(folder, names, drones):
+def write_memories(folder: str, names: Sequence[str], drones: Sequence[links.Drone]) -> None:
     """Writes each drone's memory to FOLDER/NAME.memory."""
     try:
         os.makedirs(folder, exist_ok=True)
@@ -77,7 +79,7 @@ def write_memories(folder, names, drones):
 
 # ---- words
 
-def share(word):
+def share(word: str) -> float:
     """A share in percent."""
     try:
         if 0 <= float(word) <= 100:
@@ -87,7 +89,7 @@ def share(word):
     raise ArgumentTypeError("a share is 0 to 100 percent, not %s" % word)
 
 
-def positive(word):
+def positive(word: str) -> float:
     """A number above 0."""
     try:
         if 0 < float(word) <= 1000000:
@@ -97,14 +99,14 @@ def positive(word):
     raise ArgumentTypeError("a number above 0 and up to 1000000 is wanted, not %s" % word)
 
 
-def byte(word):
+def byte(word: str) -> int:
     """A number of one byte."""
     if not word.isdigit() or len(word) > 3 or int(word) > 255:
         raise ArgumentTypeError("a memory's id is 0 to 255, not %s" % word)
     return int(word)
 
 
-def options_of(words: list[str]):
+def options_of(words: list[str]) -> Namespace:
     """The tool's words."""
     reader = parser(__doc__)
     add_depth(reader)
@@ -144,19 +146,22 @@ def options_of(words: list[str]):
     return options
 
 
-def link_of(path, names, heard):
+def link_of(path: str, names: Sequence[str], heard: links.Heard) -> links.Link:
     """The link of a Python file."""
     try:
         spec = importlib.util.spec_from_file_location("link_of_the_bridge", path)
         sys.modules.setdefault("links", links)  # for a release, as a link's file may still have it
+        if not spec or not spec.loader:
+            raise ImportError("it is no Python file")
         module = importlib.util.module_from_spec(spec)
         spec.loader.exec_module(module)
-        return module.Link(names, heard)
+        link: links.Link = module.Link(names, heard)
+        return link
     except Exception as error:
         return stop("%s: no link: %s" % (path, error or type(error).__name__))
 
 
-def radio_of(options, flown, heard):
+def radio_of(options: Namespace, flown: Flown, heard: links.Heard) -> links.Link:
     """The link to real drones; nothing stays open where one of them can't be used."""
     from hemtoghai.flying import crazyradio
     radio = None
@@ -171,7 +176,7 @@ def radio_of(options, flown, heard):
         return stop("%s: no link: %s" % (options.radio, error or type(error).__name__))
 
 
-def print_end(options, done, ended):
+def print_end(options: Namespace, done: Carrying, ended: int) -> int:
     """Says how the upload ended; the tool's status."""
     status = done.status
     if status is None:
@@ -191,7 +196,7 @@ def print_end(options, done, ended):
     return status
 
 
-def link_for(options, flown, drones, heard):
+def link_for(options: Namespace, flown: Flown, drones: Sequence[links.Drone], heard: links.Heard) -> links.Link:
     """The link that the words ask for."""
     if options.radio:
         return radio_of(options, flown, heard)
@@ -200,10 +205,14 @@ def link_for(options, flown, drones, heard):
     return links.SimulatedLink(flown.names, heard, drones, options)
 
 
-def uploaded(options, text, flown, drones):
+def uploaded(options: Namespace, text: bytes, flown: Flown,
+             drones: Sequence[links.Drone]) -> tuple[Carrying, int, list[str]]:
     """Uploads; what was carried, the program's own status, and what the link says of itself."""
-    events = queue.Queue()
-    link = link_for(options, flown, drones, lambda drone, packet: events.put(("heard", drone, packet)))
+    events: Events = queue.Queue()
+
+    def heard(drone: int, packet: bytes) -> None:
+        events.put(("heard", drone, packet))
+    link = link_for(options, flown, drones, heard)
     words = ["--start"] * options.start + ["--readback"] * options.readback
     traffic = Traffic(flown.names, wanted_packets(flown, options.start, options.readback))
     host = None
@@ -223,8 +232,9 @@ def main(words: list[str]) -> int:
     text, flown = flown_of(options.show)
     if not os.path.isfile(options.program):
         stop("%s is not there: ./show check FILE builds the program" % os.path.relpath(options.program))
-    if options.program == program.PROGRAM and no_program():
-        stop(no_program())
+    fault = no_program() if options.program == program.PROGRAM else None
+    if fault:
+        stop(fault)
     memory_id = flown.show.settings["memory"][0] if options.id is None else options.id
     drones = [links.Drone(memory_id) for _ in flown.names]
     done, ended, lines = uploaded(options, text, flown, drones)

@@ -51,7 +51,8 @@ def rows_of(path: str) -> List[List[str]]:
 def read_log(path: str) -> Dict[str, List[Tuple[float, List[float], Optional[float]]]]:
     """The samples by drone: (seconds, place in mm, the drone's seconds or None)."""
     rows = rows_of(path)
-    names, out = ["time", "drone", "x", "y", "z"], {}
+    names = ["time", "drone", "x", "y", "z"]
+    out: Dict[str, List[Tuple[float, List[float], Optional[float]]]] = {}
     if rows and set(names) <= {cell.strip() for cell in rows[0]}:
         names, rows = [cell.strip() for cell in rows[0]], rows[1:]
     at = {name: names.index(name) for name in names}
@@ -70,10 +71,12 @@ def read_log(path: str) -> Dict[str, List[Tuple[float, List[float], Optional[flo
 def by_own_clock(samples: Sequence[Tuple[float, List[float], Optional[float]]]) -> List[Sample]:
     """The samples as (milliseconds, place), by the drone's own clock where it is known: set so that no packet came
     early."""
-    if not samples or any(stamp is None for _, _, stamp in samples):
+    own = [stamp for _, _, stamp in samples if stamp is not None]
+    if not samples or len(own) < len(samples):
         return [(1000 * t, place) for t, place, _ in samples]
-    stamps, turns = [], 0.0
-    for _, _, stamp in samples:
+    stamps: List[float] = []
+    turns = 0.0
+    for stamp in own:
         if stamps and stamp + turns < stamps[-1] - WRAP / 2:
             turns += WRAP
         stamps.append(stamp + turns)
@@ -120,7 +123,7 @@ def offset_of(samples: Sequence[Sample], curve: Curve) -> Optional[int]:
 def edge(samples: Sequence[Sample], curve: Curve, best: Tuple[float, int], way: int) -> int:
     """How far an offset may go one way from the best one, to a millisecond, until the greatest distance is more than
     FLAT above the least."""
-    def is_good(by):
+    def is_good(by: int) -> bool:
         return farthest(samples, curve, best[1] + way * by, best[0] + FLAT) <= best[0] + FLAT
     near, far = 0, 1
     while far < REACH and is_good(far):
@@ -163,14 +166,14 @@ def judge_all(judged: Dict[str, Judged], offsets: Sequence[int], options: argpar
     """Judges all drones by the setting of the common clock, between the least and the greatest offset, that leaves
     the fewest samples outside."""
     low, high = offsets[0], offsets[-1]
-    best = None
+    best = inf, 0.0
     for middle in [offsets[len(offsets) // 2], *(low + (high - low) * k / 8 for k in range(9))]:
         for it in judged.values():
             it.judge(middle, options.late, options.stray)
         outside = sum(len(it.outside) for it in judged.values())
         if outside == 0:
             return
-        best = min(best or (outside, middle), (outside, middle))
+        best = min(best, (float(outside), middle))
     for it in judged.values():
         it.judge(best[1], options.late, options.stray)
 

@@ -23,7 +23,7 @@ stopped. 70: no answer.
 import argparse
 import queue
 import signal
-from typing import Dict, List, Sequence
+from typing import Dict, List, Sequence, Tuple
 
 from hemtoghai import program
 from hemtoghai.companion import ask_check, flown_of, missing, parser, stop
@@ -34,8 +34,9 @@ from hemtoghai.flying.descent import Descent, EARLY
 from hemtoghai.flying.fleet import Fleet, FLIGHT, Log, Trouble
 from hemtoghai.flying.preflight import preflight
 from hemtoghai.flying.simulation import set_simulation, simulated
-from hemtoghai.flying.uploads import carry, ENDS, Host, Traffic, wanted_packets
+from hemtoghai.flying.uploads import carry, ENDS, Events, Host, Traffic, wanted_packets
 from hemtoghai.flying.ways import Ways
+from hemtoghai.language.choreo import Flown
 from hemtoghai.writing import flyable
 
 NO_STRAY, NO_LATE = 250, 100  # of a show without these lines
@@ -100,7 +101,7 @@ def options_of(words: list[str]) -> argparse.Namespace:
 
 # ---- before the link is opened
 
-def judged_show(options: argparse.Namespace):
+def judged_show(options: argparse.Namespace) -> Tuple[bytes, Flown]:
     """The show's text and what it flies, where the program accepts it and drones can fly it."""
     text, flown = flown_of(options.show)
     answer = ask_check(text)
@@ -115,7 +116,7 @@ def judged_show(options: argparse.Namespace):
     return text, flown
 
 
-def refuse_what_none_flies(text: bytes, flown, options: argparse.Namespace) -> None:
+def refuse_what_none_flies(text: bytes, flown: Flown, options: argparse.Namespace) -> None:
     """Raises what `./show check` warns of, where no option lets it through."""
     most = {"accel": round(1000 * options.accel), "jump": round(1000 * options.jump)}
     try:
@@ -133,7 +134,7 @@ def refuse_what_none_flies(text: bytes, flown, options: argparse.Namespace) -> N
         raise Trouble("not flown: %s" % small)
 
 
-def say_promises(flown, options: argparse.Namespace) -> None:
+def say_promises(flown: Flown, options: argparse.Namespace) -> None:
     """Sets `stray` and `late` to the show's where they aren't given, and says where nothing is promised."""
     (stray,), (late,) = flown.show.settings["stray"], flown.show.settings["late"]
     options.stray, options.late = options.stray or stray or NO_STRAY, options.late or late or NO_LATE
@@ -148,20 +149,23 @@ def say_promises(flown, options: argparse.Namespace) -> None:
             % options.late)
 
 
-def pads_of(flown, options: argparse.Namespace) -> List[legs.Place]:
+def pads_of(flown: Flown, options: argparse.Namespace) -> List[legs.Place]:
     """The pads, in whole mm."""
     return legs.read_pads(options.pads, flown.names) if options.pads else legs.below(legs.places_of(flown)[0])
 
 
 # ---- with drones that answer
 
-def upload(radio: crazyradio.Radio, flown, text: bytes) -> None:
+def upload(radio: crazyradio.Radio, flown: Flown, text: bytes) -> None:
     """Uploads by the proved program, with read-back and without starts."""
-    events, begin, host, link = queue.Queue(), clock.now(), None, None
+    events: Events = queue.Queue()
+    begin, host, link = clock.now(), None, None
     traffic = Traffic(flown.names, wanted_packets(flown, False, True))
+
+    def heard(drone: int, packet: bytes) -> None:
+        events.put(("heard", drone, packet))
     try:
-        link = crazyradio.Link(flown.names, lambda drone, packet: events.put(("heard", drone, packet)), radio,
-                               flown.show.settings["memory"][0])
+        link = crazyradio.Link(flown.names, heard, radio, flown.show.settings["memory"][0])
         host = Host([program.PROGRAM, "upload", "--readback"], text, events)
         done = carry(host, link, events, None, traffic, say)
         ended = host.end()
@@ -171,13 +175,13 @@ def upload(radio: crazyradio.Radio, flown, text: bytes) -> None:
         if link:
             radio.listeners.remove(link.came)
     if (done.status, ended) != (0, 0):
-        words = [ENDS.get(done.status, done.rest.decode(errors="replace")[:60]), done.fault,
+        words = [ENDS.get(done.status or 0, "") if done.status else done.rest.decode(errors="replace")[:60], done.fault,
                  *traffic.end_lines(done.status)]
         raise Trouble("not flown: upload: status %s, %s" % (done.status, ": ".join(word for word in words if word)))
     say("uploaded and read back: each drone has its trajectory (%.1f s)" % (clock.now() - begin))
 
 
-def fly(radio: crazyradio.Radio, flown, text: bytes, pads: Sequence[legs.Place], options: argparse.Namespace,
+def fly(radio: crazyradio.Radio, flown: Flown, text: bytes, pads: Sequence[legs.Place], options: argparse.Namespace,
         log: Log, watch: Watch, answers: Answers) -> int:
     """All steps with drones that answer; the status."""
     fleet, ways, bridge = Fleet(radio, log), None, None
@@ -234,7 +238,7 @@ def only(radio: crazyradio.Radio, floors: Dict[str, float], options: argparse.Na
 
 def begin_logs(fleet: Fleet, drones: Sequence[int]) -> None:
     """Has drones send where they are, as far as they let that be done."""
-    def begin(k):
+    def begin(k: int) -> None:
         try:
             if k in drones:
                 fleet.begin_logs(k, EVERY, (FLIGHT,))
@@ -282,7 +286,8 @@ def show(options: argparse.Namespace, watch: Watch, answers: Answers, radios: Li
 
 def main(words: list[str]) -> int:
     options = options_of(words)
-    watch, answers, radios = Watch(), Answers(), []
+    watch, answers = Watch(), Answers()
+    radios: List[crazyradio.Radio] = []
     signal.signal(signal.SIGPIPE, signal.SIG_IGN)
     try:
         return (emergency if options.only in ("land", "stop") else show)(options, watch, answers, radios)

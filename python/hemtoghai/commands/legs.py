@@ -27,7 +27,7 @@ from hemtoghai.flying.landings import Landings
 NO_WAY = 16
 
 
-def write(leg, path, name, show, top):
+def write(leg: legs.Leg, path: str, name: str, show: str, top: int) -> None:
     """Writes a leg as a show, and its summary; the show's own curves stay below `top`."""
     words = "judged as a whole" if leg.whole else "judged stage by stage: the next begins when the one before has ended"
     with open(path, "wb") as file:
@@ -67,10 +67,13 @@ def main(words: list[str]) -> int:
     rules = legs.Rules(flown.show.settings, ceiling=options.ceiling)
     print("judged with: %s" % rules.words())
     status = 0
-    for name, way in (("up", lambda: legs.way_up(flown.names, pads, firsts, begin, rules)),
-                      ("down", lambda: legs.down(flown.names, pads, lasts, end, rules, options.below))):
+    for name in ("up", "down"):
         try:
-            leg = way()
+            if name == "up":
+                leg = legs.way_up(flown.names, pads, firsts, begin, rules)
+            else:
+                leg = legs.down(flown.names, pads, lasts, begin, rules, options.below)
+                leg.first_yaws = end
             write(leg, os.devnull if options.dry else os.path.join(options.out, name + ".choreo"), name, options.show,
                   legs.top_of(flown))
         except legs.NoWay as why:

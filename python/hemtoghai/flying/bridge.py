@@ -25,6 +25,7 @@ from hemtoghai.flying.ways import Ways
 from hemtoghai.language.choreo import Flown
 
 LOOK = 0.05  # seconds between two looks at all drones
+AT_ONCE = 8  # samples that the director is told at once in the show
 TELLS = 5  # seconds between two lines on how it goes
 GOES = 3.0  # seconds for which a go is said again: it counts only where all drones are as they have to be
 REPLY, REPLIES = 0.05, 1.0  # real seconds in which the director answers a go that it takes, and least ones for all
@@ -76,19 +77,21 @@ class Bridge(Home):
                 | director.LOST * (self.wrong_with(k) is not None))
 
     def tell(self) -> None:
-        """Tells the director how much time passed, and what is new of drones. Nothing is told until the show's time
-        begins, in the middle of when drones may have started."""
-        now = clock.now()
+        """Tells the director how much time passed, and what is new of drones: in the show, where it compares samples
+        with curves, of few at a time, those first of whom it knows the least. Nothing is told while it hasn't read what
+        it was told before, or until the show's time begins, in the middle of when drones may have started."""
+        now, states = clock.now(), self.fleet.states
         passed = int(1000 * (now - self.told_at))
-        if passed < 0:
+        if not self.director.is_free() or passed < 0:
             return
         self.told_at += passed / 1000
-        frames = director.clock_frames(passed)
-        for k, state in enumerate(self.fleet.states):
-            row = state.heard, self.flags(k)
-            if state.measured is not None and row != self.told[k]:
-                self.told[k] = row
-                frames += director.sample(k, 1000 * (now - state.measured), [1000 * v for v in state.where()], row[1])
+        frames, rows = director.clock_frames(passed), [(state.heard, self.flags(k)) for k, state in enumerate(states)]
+        new = sorted((k for k in self.all if rows[k] != self.told[k]), key=lambda k: self.told[k][0] or 0.0)
+        for k in new[:AT_ONCE if self.zero is not None else None]:
+            at = states[k].measured
+            if at is not None:
+                self.told[k] = rows[k]
+                frames += director.sample(k, 1000 * (now - at), [1000 * v for v in states[k].where()], rows[k][1])
         self.director.hear(frames)
 
     def tell_answers(self) -> None:

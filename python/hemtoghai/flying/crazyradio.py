@@ -24,10 +24,10 @@ import random
 import re
 import threading
 import time
-from typing import Any, Callable, Dict, Iterable, List, Optional, Sequence, Tuple
+from typing import Any, Callable, Dict, Iterable, List, Optional, Sequence, Set, Tuple
 
 from hemtoghai.flying import clock, firmware
-from hemtoghai.flying.links import COMMAND, key_of, Link as Asked, MEMORY, READ, WRITE
+from hemtoghai.flying.links import COMMAND, Heard, Key, key_of, Link as AnyLink, MEMORY, READ, WRITE
 
 ANSWER, PATIENCE = 0.3, 5.0  # seconds until a question is put again, and until a drone that is heard counts as mute
 QUIET = 2.0  # seconds without any packet until a drone counts as silent
@@ -41,11 +41,14 @@ MANY = 15  # drones of one dongle above which somebody is to know
 
 Work = Callable[[], None]
 Sent = List[Any]  # when the first copy of a broadcast went, and when the last had, or what failed
+Job = Tuple[bytes, int, Sent, threading.Event]
+Waiting = Optional[Tuple[bytes, Work, Work]]  # a packet, and what is called before and after it is sent
+Asked = Tuple[int, int, int, Optional[int], int, bytes]  # drone, port, channel, length, least and the first bytes
 
 
 def everybody(path: str) -> Dict[str, str]:
     """The drones' URIs by their names, from a text of lines `NAME URI`; raises ValueError where that is none."""
-    found = {}
+    found: Dict[str, str] = {}
     with open(path, encoding="utf-8") as lines:
         for number, line in enumerate(lines, 1):
             words = line.partition("#")[0].split()
@@ -53,10 +56,10 @@ def everybody(path: str) -> Dict[str, str]:
                 words[1] = words[1][:-10] + words[1][-10:].upper()
             if words and (len(words) != 2 or words[0] in found or words[1] in found.values()):
                 raise ValueError("%s, line %d: `NAME URI` is wanted, each once" % (path, number))
-            found.update([words] if words else [])
             if words and not URI.fullmatch(words[1]):
                 raise ValueError("%s, line %d: %s isn't radio://DONGLE/CHANNEL/RATE/ADDRESS with 250K, 1M or 2M" % (
                     path, number, words[1]))
+            found.update({words[0]: words[1]} if words else {})
     return found
 
 
@@ -78,7 +81,8 @@ class Dongle:
     was pulled out, the library's calls may never return."""
 
     def __init__(self, number: str, channel: str, rate: str) -> None:
-        self.name, self.shared, self.jobs = "dongle %s" % number, None, queue.Queue()
+        self.name, self.shared = "dongle %s" % number, None  # type: str, Any
+        self.jobs: "queue.SimpleQueue[Optional[Job]]" = queue.SimpleQueue()
         self.thread = threading.Thread(target=self.run, args=(int(number), int(channel), RATES[rate]), daemon=True)
         self.thread.start()
 
@@ -109,7 +113,8 @@ class Dongle:
     def send(self, raw: bytes, copies: int) -> Tuple[Sent, threading.Event]:
         """Has a packet sent; a list that gets when the first copy went and when the last had, and an event once it
         has."""
-        row, done = [], threading.Event()
+        row: Sent = []
+        done = threading.Event()
         self.jobs.put((raw, copies, row, done))
         return row, done
 
@@ -126,7 +131,8 @@ class Silence:
     step between two looks only the first part counts."""
 
     def __init__(self, count: int, most: float = 4 * LOOK) -> None:
-        self.most, self.looked, self.rows = most, clock.now(), [(0.0, None)] * count
+        self.most, self.looked = most, clock.now()
+        self.rows: List[Tuple[float, Optional[float]]] = [(0.0, None)] * count
 
     def look(self, heard: Sequence[Optional[float]]) -> List[float]:
         """The seconds for each drone, by when each was heard last."""
@@ -151,10 +157,15 @@ class Radio:
         except ImportError as error:
             raise ImportError("%s: Bitcraze's library is needed, pip install cflib" % error) from error
         self.names, self.uris, self.packet_of = names, uris, CRTPPacket
-        self.open, self.listeners, self.faults = True, [], {}
-        self.last, self.answers, self.changed = [None] * len(names), {}, threading.Condition()
-        self.waiting, self.drivers, self.threads, self.shared = [queue.Queue() for _ in names], [], [], {}
-        self.asked = 0
+        self.open, self.asked, self.changed = True, 0, threading.Condition()
+        self.listeners: List[Heard] = []
+        self.faults: Dict[int, str] = {}
+        self.last: List[Optional[float]] = [None] * len(names)
+        self.answers: Dict[Asked, List[bytes]] = {}
+        self.waiting: "List[queue.SimpleQueue[Waiting]]" = [queue.SimpleQueue() for _ in names]
+        self.drivers: List[Any] = []
+        self.threads: List[threading.Thread] = []
+        self.shared: Dict[Tuple[str, str, str], Dongle] = {}
         try:
             if not getattr(cflib.crtp, "CLASSES", None):
                 cflib.crtp.init_drivers()
@@ -235,8 +246,8 @@ class Radio:
         """Hands a packet on to those who wait for an answer like it."""
         port, channel, data = firmware.parts(raw)
         with self.changed:
-            for (asked, *where, length, least, front), found in self.answers.items():
-                if (asked, where) == (drone, [port, channel]) and data.startswith(front) and (
+            for (*where, length, least, front), found in self.answers.items():
+                if where == [drone, port, channel] and data.startswith(front) and (
                         length in (None, len(data))) and len(data) >= least:
                     found.append(data)
                     self.changed.notify_all()
@@ -252,7 +263,8 @@ class Radio:
         first `same` bytes of the question's data, all where it is None, and has so many bytes where a length is given,
         at least so many where the least is. A question that was dropped isn't put again, and not once where it was
         dropped `since`, a count of drops."""
-        key, found = (drone, port, channel, length, least, bytes(data[:same])), []
+        key: Asked = (drone, port, channel, length, least, bytes(data[:same]))
+        found: List[bytes] = []
         with self.changed:
             self.answers[key] = found
             asked = self.asked if since is None else since
@@ -323,14 +335,14 @@ class Radio:
 
     def dongles(self) -> List[Dongle]:
         """The dongles, channels and rates of all drones, opened for broadcasts."""
-        for key in sorted({tuple(uri.split("/")[2:5]) for uri in self.uris}):
-            if key not in self.shared:
-                self.shared[key] = Dongle(*key)
+        for number, channel, rate in sorted({(*uri.split("/")[2:5],) for uri in self.uris}):
+            if (number, channel, rate) not in self.shared:
+                self.shared[number, channel, rate] = Dongle(number, channel, rate)
         return list(self.shared.values())
 
     def crowded(self) -> List[Tuple[str, int]]:
         """The dongles with more drones than are usual, and how many these are."""
-        counts = {}
+        counts: Dict[str, int] = {}
         for uri in self.uris:
             counts[uri.split("/")[2]] = counts.get(uri.split("/")[2], 0) + 1
         return [(number, count) for number, count in sorted(counts.items()) if count > MANY]
@@ -382,18 +394,21 @@ class Radio:
             print("radio: closing failed: %s" % error)
 
 
-class Link(Asked):
+class Link(AnyLink):
     """The link of ./show bridge and ./show fly over a radio, to drones whose trajectory memory has this id. `fault`
     says why it sends no more, or is None. `starts` has by drone when its start went out first and was answered
     last."""
     answer_time = 0.1
 
-    def __init__(self, names: Sequence[str], heard: Callable[[int, bytes], None], radio: Radio, memory: int,
+    def __init__(self, names: Sequence[str], heard: Heard, radio: Radio, memory: int,
                  repeat_starts: bool = False) -> None:
         super().__init__(names, heard)
         self.radio, self.memory, self.repeat_starts = radio, memory, repeat_starts
-        self.fault, self.asked, self.lock, self.silence = None, set(), threading.Lock(), Silence(len(names))
-        self.starts, self.copies, self.strangers, self.answer_time = {}, 0, 0, clock.real(self.answer_time)
+        self.lock, self.silence = threading.Lock(), Silence(len(names))
+        self.fault: Optional[str] = None
+        self.asked: Set[Tuple[int, Key]] = set()
+        self.starts: Dict[int, List[Optional[float]]] = {}
+        self.copies, self.strangers, self.answer_time = 0, 0, clock.real(self.answer_time)
         self.lists = radio.each(radio.memories)
         wrong = [line for line in map(self.wrong_memory, range(len(names))) if line]
         if wrong:
@@ -423,7 +438,8 @@ class Link(Asked):
             if self.fault or again:
                 self.left, self.copies = self.left + 1, self.copies + again
                 return
-            self.asked.add((drone, key))
+            if key is not None:
+                self.asked.add((drone, key))
         self.radio.send(drone, packet, lambda: self.going(drone, is_start), self.gone)
 
     def going(self, drone: int, is_start: bool) -> None:
@@ -483,13 +499,14 @@ def start_lines(names: Sequence[str], starts: Dict[int, List[Optional[float]]], 
         return []
     rows = {names[drone]: row for drone, row in sorted(starts.items())}
     zero = min([sent for sent, _ in rows.values() if sent is not None] or [0.0])
-    quiet = [name for name, (sent, heard) in rows.items() if sent is None or heard is None]
+    taken = {name: (sent, heard) for name, (sent, heard) in rows.items() if sent is not None and heard is not None}
+    quiet = [name for name in rows if name not in taken]
     out = ["%s can have taken its start from %.0f to %.0f ms" % (name, 1000 * (sent - zero), 1000 * (heard - zero))
-           for name, (sent, heard) in rows.items() if name not in quiet]
+           for name, (sent, heard) in taken.items()]
     if quiet:
         return out + ["started, or not: %s: the start %s and wasn't answered" % (
             ", ".join(quiet), "was repeated" if repeated else "went out once")]
-    sent, heard = [row[0] for row in rows.values()], [row[1] for row in rows.values()]
+    sent_at, heard_at = [row[0] for row in taken.values()], [row[1] for row in taken.values()]
     words = "starts were REPEATED, and a drone begins anew at each" if repeated else "each drone was sent one start"
     return out + ["%s; taken within %.0f ms of one another at most, %.0f at least" % (
-        words, 1000 * (max(heard) - min(sent)), 1000 * max(0, max(sent) - min(heard)))]
+        words, 1000 * (max(heard_at) - min(sent_at)), 1000 * max(0, max(sent_at) - min(heard_at)))]

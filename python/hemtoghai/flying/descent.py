@@ -20,7 +20,8 @@ class Descent:
 
     def __init__(self, fleet: Fleet, floors: Sequence[float], silence: float, watch: Watch, answers: Answers) -> None:
         self.fleet, self.floors, self.longest, self.watch, self.answers = fleet, floors, silence, watch, answers
-        self.names, self.all, self.landed = fleet.names, list(range(len(fleet.names))), set()
+        self.names, self.all = fleet.names, list(range(len(fleet.names)))
+        self.landed: Set[int] = set()
         self.rising: Set[int] = set()  # told to take off a moment ago: on the floor they aren't down
         watch.stop_motors = fleet.cut
 
@@ -33,7 +34,7 @@ class Descent:
 
     def is_down(self, k: int) -> bool:
         """Whether a drone says that it is down."""
-        return self.is_fresh(k) and self.fleet.states[k].place[2] <= self.floors[k] + DOWN
+        return self.is_fresh(k) and self.fleet.states[k].where()[2] <= self.floors[k] + DOWN
 
     def up(self, drones: Iterable[int]) -> List[int]:
         """Which of these drones aren't seen to be down: in the air, or silent."""
@@ -45,8 +46,8 @@ class Descent:
 
     def seconds_down(self, drones: Iterable[int]) -> float:
         """How long a landing of drones takes. None sets the pace of the others by a height that no room has."""
-        heights = [min(HIGHEST, self.fleet.states[k].place[2] - self.floors[k]) for k in drones
-                   if self.fleet.states[k].place]
+        heights = [min(HIGHEST, place[2] - self.floors[k]) for k in drones
+                   for place in [self.fleet.states[k].place] if place]
         return max([LEAST, *(height / SINK for height in heights or [HIGHEST / 20])])
 
     def account(self) -> None:

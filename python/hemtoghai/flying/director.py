@@ -3,10 +3,12 @@
 Its frames are those of docs/PROMISES.md, 'Its frames'. Nothing is decided here: what is written and what is read is
 handed on. The process has a group of its own, since Ctrl-C at a terminal ends all that the terminal's group has.
 """
+import fcntl
 import os
 import queue
 import struct
 import subprocess
+import termios
 import threading
 import time
 from typing import IO, Iterator, List, NamedTuple, Optional, Sequence, Tuple, Union
@@ -22,7 +24,7 @@ SIZES = {RISE: 6, GO_TO: 12, SINK: 6}  # bytes after an order's first
 SILENT, ASTRAY, WRONG, REFUSED, LATE = range(5)  # faults; the director calls WRONG `lost`
 NOT_FLOWN = 8  # the status of a flight to whose director nothing happened
 MOST_MS, MOST_AGE, MOST_MM = 65535, 65535, 32767
-FULL = 1.0  # real seconds for which the process may read nothing of what waits for it
+HANGS = 5.0  # real seconds for which the process may read nothing of what waits for it
 MARKER = b"%%\n"
 
 
@@ -137,7 +139,8 @@ def signal(word: int) -> bytes:
 
 
 class Director:
-    """The process over its pipes. `is_well` is whether it still takes what is written; what it says waits in a queue."""
+    """The process over its pipes. `is_well` is whether it still takes what is written, and `since` when it last had read
+    all of it; what it says waits in a queue."""
 
     def __init__(self, words: Sequence[str], texts: Sequence[bytes]) -> None:
         """Raises program.Unusable or OSError where it can't be started."""
@@ -163,20 +166,30 @@ class Director:
             self.is_well = False
 
     def hear(self, frames: bytes) -> None:
-        """Writes frames, as far as the process takes them now; the rest waits. A process that takes nothing for a
-        second isn't well."""
+        """Writes frames, as far as the process takes them now; the rest waits."""
         with self.lock:
-            if not self.waiting:
-                self.since = time.monotonic()
             self.waiting += frames
             try:
                 while self.is_well and self.waiting:
                     self.waiting = self.waiting[os.write(self.writes_to, self.waiting):]
-                    self.since = time.monotonic()
             except BlockingIOError:
-                self.is_well = time.monotonic() - self.since < FULL
+                pass
             except (OSError, ValueError):
                 self.is_well = False
+
+    def is_free(self) -> bool:
+        """Whether it has read all that was written. It isn't well where it hasn't for too long."""
+        self.hear(b"")
+        try:
+            unread, = struct.unpack("i", fcntl.ioctl(self.writes_to, termios.FIONREAD, bytes(4)))
+        except (OSError, ValueError):
+            self.is_well = False
+            return False
+        if unread or self.waiting:
+            self.is_well = self.is_well and time.monotonic() - self.since < HANGS
+            return False
+        self.since = time.monotonic()
+        return True
 
     def says(self) -> Iterator[Said]:
         """What it said since the last look."""
@@ -226,7 +239,8 @@ class Director:
 def judged(words: Sequence[str], texts: Sequence[bytes]) -> List[Said]:
     """What the director says where nothing happens: three texts that are a flight have an end without a cause. Raises
     program.Unusable or OSError where it can't be started."""
-    director, out = Director(words, texts), []
+    director = Director(words, texts)
+    out: List[Said] = []
     try:
         director.close()
         while not out or not isinstance(out[-1], Ended):

@@ -6,7 +6,7 @@ import csv
 import math
 import random
 import threading
-from typing import Callable, Dict, Iterable, List, Optional, Sequence, Set, Tuple
+from typing import Callable, Dict, Iterable, List, Optional, Sequence, Set, TextIO, Tuple
 
 from hemtoghai.flying import clock, finite, firmware
 from hemtoghai.flying.crazyradio import ANSWER, Dead, Radio
@@ -65,7 +65,8 @@ class State:
         if not (finite.is_place(place) and math.isfinite(yaw) and math.isfinite(volts)):
             self.senseless = at if self.senseless is None else self.senseless
             return False
-        self.place, self.info, self.yaw = place, values.get("supervisor.info"), values.get("stateEstimate.yaw")
+        info = values.get("supervisor.info")
+        self.place, self.info, self.yaw = place, None if info is None else int(info), values.get("stateEstimate.yaw")
         self.senseless = None
         self.measure(at, stamp)
         self.weigh(volts, at)
@@ -84,7 +85,7 @@ class State:
 
     def is_empty(self, seconds: float) -> bool:
         """Whether the voltage was too low for so long."""
-        return self.low is not None and self.heard - self.low >= seconds
+        return self.low is not None and self.heard is not None and self.heard - self.low >= seconds
 
     def measure(self, heard: float, stamp: int) -> None:
         """Notes when a sample came, and the drone's milliseconds in it, which begin anew after WRAP."""
@@ -112,14 +113,15 @@ class Log:
     OSError."""
 
     def __init__(self, path: Optional[str], tell: Callable[[str], None]) -> None:
-        self.path, self.tell, self.fault, self.lock = path, tell, None, threading.Lock()
-        self.waiting, self.zero, self.over = [], None, threading.Event()
-        self.file = open(path, "w", newline="", encoding="utf-8") if path else None
-        self.rows, self.thread = csv.writer(self.file) if path else None, None
+        self.path, self.tell, self.lock, self.over = path, tell, threading.Lock(), threading.Event()
+        self.waiting: List[Tuple[float, str, Sequence[float], int]] = []
+        self.fault: object = None
+        self.zero: Optional[float] = None
+        self.thread: Optional[threading.Thread] = None
         if path:
-            self.rows.writerow(["time", "drone", "x", "y", "z", "stamp"])
-            self.file.flush()
-            self.thread = threading.Thread(target=self.run, daemon=True)
+            file = open(path, "w", newline="", encoding="utf-8")
+            self.put_rows(file, [["time", "drone", "x", "y", "z", "stamp"]])
+            self.thread = threading.Thread(target=self.run, args=(file,), daemon=True)
             self.thread.start()
 
     def put(self, at: float, name: str, place: Sequence[float], stamp: int) -> None:
@@ -132,26 +134,32 @@ class Log:
         """The instant of the start."""
         self.zero = zero
 
-    def run(self) -> None:
+    @staticmethod
+    def put_rows(file: TextIO, rows: Iterable[Sequence[object]]) -> None:
+        """Writes rows, and nothing of them stays here."""
+        csv.writer(file).writerows(rows)
+        file.flush()
+
+    def run(self, file: TextIO) -> None:
         """Writes what waits, five times a second, until the log is closed or can't be written."""
         try:
             while not self.over.wait(0.2):
-                self.write()
-            self.write()
-            self.file.close()
+                self.write(file)
+            self.write(file)
+            file.close()
         except (OSError, ValueError) as error:
             self.fault = error
             self.tell("THE LOG CAN'T BE WRITTEN any more: %s; all else goes on" % error)
 
-    def write(self) -> None:
+    def write(self, file: TextIO) -> None:
         """Writes what waits, once the instant of the start is known."""
-        if self.zero is None:
+        zero = self.zero
+        if zero is None:
             return
         with self.lock:
             rows, self.waiting = self.waiting, []
-        for at, name, place, stamp in rows:
-            self.rows.writerow(["%.4f" % (at - self.zero), name, *("%.5f" % v for v in place), stamp])
-        self.file.flush()
+        self.put_rows(file, [["%.4f" % (at - zero), name, *("%.5f" % v for v in place), stamp]
+                             for at, name, place, stamp in rows])
 
     def close(self) -> None:
         """Has all written that waits, by the time of its last sample where nothing was started, but not for long."""
@@ -189,7 +197,7 @@ class Fleet:
                 self.started[drone] = clock.now(), data[3]
         if (port, channel) == (firmware.COMMANDER, 0) and data[:3] == firmware.group() + bytes([MARK]):
             self.heard_broadcast.add(drone)
-        kinds = self.kinds[drone].get(data[0] if data else None)
+        kinds = self.kinds[drone].get(data[0]) if data else None
         if (port, channel) != (firmware.LOGS, 2) or not kinds:
             return
         found, state = firmware.logged(data, [kind for _, kind in kinds]), self.states[drone]
@@ -199,8 +207,10 @@ class Fleet:
         if block == SETTLING:
             most = max(values) if all(map(math.isfinite, values)) else math.inf
             state.variances = (state.variances + [most])[-HISTORY:]
-        elif state.take(dict(zip((name for name, _ in kinds), values)), clock.now(), stamp):
-            self.log.put(state.heard, self.names[drone], state.place, stamp)
+            return
+        at = clock.now()
+        if state.take(dict(zip((name for name, _ in kinds), values)), at, stamp):
+            self.log.put(at, self.names[drone], state.where(), stamp)
 
     def table(self, drone: int, port: int) -> Table:
         """A drone's table of parameters or logs: numbers and types by name. Equal tables are read once."""
@@ -341,10 +351,9 @@ class Fleet:
         self.radio.each(arm, look)
         until, wrong = clock.now() + 2, []
         while clock.now() < until:
-            wrong = [self.names[drone] for drone in drones if (
-                drone in quiet if self.states[drone].info is None else
-                bool(self.states[drone].info & firmware.IS_ARMED) != on
-                and (on or not self.states[drone].info & firmware.AUTO_ARM))]
+            wrong = [self.names[drone] for drone in drones for info in [self.states[drone].info] if (
+                drone in quiet if info is None else
+                bool(info & firmware.IS_ARMED) != on and (on or not info & firmware.AUTO_ARM))]
             if not wrong:
                 break
             if look:
@@ -365,11 +374,13 @@ class Fleet:
         else:
             sent = {}
             for drone in range(len(self.names)):
-                sent[drone] = (clock.now(),) * 2
+                now = clock.now()
+                sent[drone] = now, now
                 self.radio.send(drone, raw)
         self.radio.each(self.pass_by)
+        nothing: Tuple[Optional[float], Optional[int]] = (None, None)
         with self.lock:
-            return {drone: (*sent[drone], *self.started.get(drone, (None, None))) for drone in sent}
+            return {drone: (*sent[drone], *self.started.get(drone, nothing)) for drone in sent}
 
     def pass_by(self, drone: int) -> None:
         """Waits until a drone has answered all commands before, but not for long. The question has a mark by chance, so

@@ -371,8 +371,7 @@ class Home(Watched):
         for k in self.all if self.in_show else ():
             carried[k] = landings.carried(math.hypot(*self.ways.landings.speed(k, min(t, self.flown.milliseconds))))
             if k in self.silent:
-                x, y, z = (round(v) for v in self.curves[k].at(t))
-                places[k] = x, y, z
+                places[k] = legs.place_of(self.curves[k].at(t))
         for i in self.all:
             for j in range(i):
                 far = legs.apart(places[i], places[j]) - carried[i] - carried[j]

@@ -15,12 +15,13 @@ judged alike. Millimetres and milliseconds.
 """
 from itertools import combinations
 from math import ceil, dist, hypot
-from typing import Dict, Iterable, Iterator, List, Optional, Sequence, Set, Tuple
+from typing import Dict, Iterable, Iterator, List, Optional, Protocol, Sequence, Set, Tuple
 
 from hemtoghai.companion import value
-from hemtoghai.flying.legs import (apart, ask_all, LAND, LATE, Leg, LIFT, Place, refusal_of, Rules, SAME_FLOOR, Stage,
+from hemtoghai.flying.legs import (apart, ask_all, LAND, LATE, Leg, LIFT, Place, place_of, refusal_of, Rules, SAME_FLOOR, Stage,
                                    stage_texts, standing_apart, text_of)
 from hemtoghai.geometry.curves import curves_of
+from hemtoghai.language.choreo import Flown
 
 BRAKE, REACT = 5.0, 0.1  # m/s^2 with which a drone brakes at least, and seconds until it does
 TOLD = 100  # until a drone that missed the broadcast is told by a packet of its own; without a broadcast it is LATE
@@ -35,6 +36,13 @@ TOO_FAR = "drones are carried on too far"
 
 Reach = Tuple[Place, float]  # the middle of what a drone may reach, and how far it is from that at most
 Cubic = List[List[float]]  # four control points
+
+
+class Moving(Protocol):
+    """What has a place at each time, in mm."""
+
+    def at(self, t: float) -> List[float]:
+        """The place at a time."""
 
 
 def landing_ms(heights: Iterable[float]) -> int:
@@ -54,15 +62,16 @@ def told_within(floors: Sequence[float]) -> int:
 
 def off_reach(place: Sequence[float], speed: float) -> Reach:
     """What a drone may reach that isn't on its curve, by its own place in mm and its speed in mm a second."""
-    return tuple(round(v) for v in place), carried(speed) + speed * LATE / 1000  # told by a packet of its own
+    return place_of(place), carried(speed) + speed * LATE / 1000  # told by a packet of its own
 
 
 class Landings:
     """The landings of a show: `floors` are by drone, in mm. A step is how far apart the instants are that stand for
     all. Drones are `before` late at most in what they fly, and told of a landing within `told`."""
 
-    def __init__(self, flown, floors: Sequence[int], rules: Rules, step: Optional[int] = None) -> None:
-        self.names, self.curves, self.floors, self.rules = flown.names, list(curves_of(flown).values()), floors, rules
+    def __init__(self, flown: Flown, floors: Sequence[int], rules: Rules, step: Optional[int] = None) -> None:
+        self.names, self.floors, self.rules = flown.names, floors, rules
+        self.curves: List[Moving] = list(curves_of(flown).values())
         self.end, self.stray, self.before, self.told = (
             flown.milliseconds, rules.show_stray, rules.show_late, told_within(floors))
         self.step = step or max(100, 50 * ceil(self.end / 60000))
@@ -89,8 +98,8 @@ class Landings:
             size = hypot(*speed)
             on = carried(size) / size if size > 0.01 else 0.0
             points += [place, [v + on * w for v, w in zip(place, speed)]]
-        middle = [round((min(row) + max(row)) / 2) for row in zip(*points)]
-        return tuple(middle), max(dist(middle, point) for point in points)
+        middle = place_of((min(row) + max(row)) / 2 for row in zip(*points))
+        return middle, max(dist(middle, point) for point in points)
 
     def after_start(self, t: float) -> Optional[str]:
         """Why not all may land so long after a start that some took and others didn't, or None: each drone is anywhere
@@ -98,7 +107,7 @@ class Landings:
         rows = {}
         for k, curve in enumerate(self.curves):
             points = [self.reach(k, at) for at in range(0, ceil(t) + self.step, self.step)]
-            middle = tuple(round((a + b) / 2) for a, b in zip(curve.at(0), points[-1][0]))
+            middle = place_of((a + b) / 2 for a, b in zip(curve.at(0), points[-1][0]))
             rows[k] = middle, max(dist(middle, place) + more for place, more in [*points, (curve.at(0), 0.0)])
         return self.ask(rows, max(row[1] for row in rows.values()))
 
@@ -156,7 +165,7 @@ class Landings:
         far = {(i, j): apart(rows[i][0], rows[j][0]) for i in rows for j in rows}
         sets: List[List[int]] = []
         have: Set[Tuple[int, int]] = set()
-        for pair in sorted(combinations(rows, 2), key=far.get):
+        for pair in sorted(combinations(rows, 2), key=lambda it: far[it]):
             if pair in have:
                 continue
             for drones in sets:
@@ -262,7 +271,7 @@ class Landings:
                  more: float, told: Optional[int] = None) -> Optional[bytes]:
         """A show of cubics: drones that land by their ways, and silent ones on their curves. By how much the cubics are
         off, where it is looked, comes to the stray, half of it more, and the rounding. None where that is too much."""
-        movers = {k: Mover(times[0], ways[k]) for k in ways}
+        movers: Dict[int, Moving] = {k: Mover(times[0], ways[k]) for k in ways}
         movers.update((k, self.curves[k]) for k in silent)
         off, cues = 0.0, []
         for begin, end in zip(times, times[1:]):
@@ -287,8 +296,9 @@ class StageLandings(Landings):
 
     def __init__(self, leg: Leg, number: int, floors: Sequence[int]) -> None:
         stage, at = leg.stages[number], leg.places(number)
-        self.leg, self.names, self.floors, self.rules = leg, leg.names, floors, leg.rules
-        self.curves = [Mover(0, (at[k], stage.to.get(k, at[k]), stage.milliseconds)) for k in range(len(at))]
+        self.leg, self.names, self.floors, self.rules = leg, list(leg.names), floors, leg.rules
+        self.movers = [Mover(0, (at[k], stage.to.get(k, at[k]), stage.milliseconds)) for k in range(len(at))]
+        self.curves = list(self.movers)
         self.end, self.stray, self.before, self.told = stage.milliseconds, leg.rules.stray, leg.rules.late, LATE
         self.standing = {k: place for k, place in at.items() if k not in stage.to and place[2] <= floors[k]}
         self.step, self.rows, self.cues = STEP, None, [(0, self.end)]
@@ -296,7 +306,7 @@ class StageLandings(Landings):
 
     def reach(self, k: int, t: float, told: Optional[int] = None) -> Reach:
         """What a drone may reach: one that holds stays where it is."""
-        return (self.curves[k].first, 0.0) if self.curves[k].holds() else super().reach(k, t, told)
+        return (self.movers[k].first, 0.0) if self.movers[k].holds() else super().reach(k, t, told)
 
     def texts(self, rows: Dict[int, Reach], more: float, told: Optional[int] = None) -> List[bytes]:
         """The shows that a landing is of those who don't stand."""
@@ -357,16 +367,16 @@ class Mover:
         return [v + (w - v) * s for v, w in zip(self.first, self.last)]
 
 
-def cubic_of(mover, begin: float, end: float) -> Cubic:
+def cubic_of(mover: Moving, begin: float, end: float) -> Cubic:
     """A cubic with a curve's places and speeds at two times."""
-    def speed(at, way):
+    def speed(at: float, way: int) -> List[float]:
         return [way * (b - a) / 0.5 for a, b in zip(mover.at(at), mover.at(at + way * 0.5))]
     a, b, third = mover.at(begin), mover.at(end), (end - begin) / 3
     return [a, [v + third * w for v, w in zip(a, speed(begin, 1))],
             [v - third * w for v, w in zip(b, speed(end, -1))], b]
 
 
-def off_by(mover, cubic: Cubic, begin: float, end: float) -> float:
+def off_by(mover: Moving, cubic: Cubic, begin: float, end: float) -> float:
     """How far a cubic is from a curve, at seven instants."""
     return max(dist(mover.at(begin + n / 8 * (end - begin)), [value(axis, n / 8) for axis in zip(*cubic)])
                for n in range(1, 8))

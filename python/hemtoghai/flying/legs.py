@@ -4,16 +4,17 @@ Each leg is a list of stages (flying/stages.py), which is looked for (flying/rou
 program's `check`: what searches proves nothing, and has not to. Millimetres and milliseconds.
 """
 import re
-from typing import Dict, Iterable, List, Sequence, Tuple
+from typing import Dict, Iterable, List, Optional, Sequence, Tuple
 
-from hemtoghai.flying.routes import GROUND, LIFT, Planner
+from hemtoghai.flying.routes import GROUND, LIFT, place_of, Planner
 from hemtoghai.flying.stages import (AIM, apart, ask_all, GO_TO, judge_stages, judged, LAND, LATE, Leg,
                                      milliseconds_for, NoWay, Place, refusal_of, Rules, SAME_FLOOR, Stage, stage_texts,
                                      standing_apart, TAKE_OFF, text_of)
+from hemtoghai.language.choreo import Flown
 
 __all__ = ["AIM", "GO_TO", "GROUND", "LAND", "LATE", "LIFT", "Leg", "NoWay", "Place", "Planner", "Rules", "SAME_FLOOR",
-           "Stage", "TAKE_OFF", "apart", "ask_all", "below", "down", "judge_stages", "judged", "milliseconds_for", "pads_by_name",
-           "places_of", "read_pads", "refusal_of", "refuse_still", "stage_texts", "standing_apart", "text_of", "top_of", "way_down", "way_up"]
+           "Stage", "TAKE_OFF", "apart", "ask_all", "below", "down", "judge_stages", "judged", "milliseconds_for",
+           "pads_by_name", "place_of", "places_of", "read_pads", "refusal_of", "refuse_still", "stage_texts", "standing_apart", "text_of", "top_of", "way_down", "way_up"]
 
 
 def way_up(names: Sequence[str], pads: Sequence[Place], firsts: Sequence[Place], yaws: Sequence[int], rules: Rules) -> Leg:
@@ -27,7 +28,7 @@ def way_down(names: Sequence[str], pads: Sequence[Place], lasts: Sequence[Place]
     its pad stays where it is."""
     pads = [last if abs(last[2] - pad[2]) <= GROUND else pad for pad, last in zip(pads, lasts)]
     leg = Planner(names, pads, lasts, yaws, rules, fixed, 0).plan().reversed()
-    refusal = leg.judge({k: tuple(pad) for k, pad in enumerate(pads) if k not in fixed})
+    refusal = leg.judge({k: place_of(pad) for k, pad in enumerate(pads) if k not in fixed})
     if refusal:
         raise NoWay(refusal)
     return leg
@@ -37,7 +38,7 @@ def down(names: Sequence[str], pads: Sequence[Place], lasts: Sequence[Place], ya
          is_below: bool = False, fixed: Iterable[int] = ()) -> Leg:
     """The leg from last places to the pads, or straight down below them where that is wanted or nothing else is
     accepted; raises NoWay."""
-    why = None
+    why: Optional[NoWay] = None
     if not is_below:
         try:
             return way_down(names, pads, lasts, yaws, rules, fixed)
@@ -60,14 +61,14 @@ def refuse_still(leg: Leg, word: str) -> None:
             ", ".join(still), word, "up" if word == "begins" else "down", LIFT))
 
 
-def places_of(flown) -> Tuple[List[Place], List[Place], List[int], List[int]]:
+def places_of(flown: Flown) -> Tuple[List[Place], List[Place], List[int], List[int]]:
     """The first and the last places of a show in whole mm, as they are sent, and its yaws there."""
-    firsts = [tuple(int(row[0]) for row in flight[0][1][:3]) for flight in flown.sent]
-    lasts = [tuple(int(row[-1]) for row in flight[-1][1][:3]) for flight in flown.sent]
+    firsts = [place_of(row[0] for row in flight[0][1][:3]) for flight in flown.sent]
+    lasts = [place_of(row[-1] for row in flight[-1][1][:3]) for flight in flown.sent]
     return firsts, lasts, [flight[0][1][3][0] for flight in flown.sent], [flight[-1][1][3][-1] for flight in flown.sent]
 
 
-def top_of(flown) -> int:
+def top_of(flown: Flown) -> int:
     """A height in mm that no curve of a show leaves upwards."""
     return max(v for flight in flown.sent for _, elements in flight for v in elements[2])
 
@@ -82,7 +83,7 @@ def pads_by_name(path: str) -> Dict[str, Place]:
                           or not all(re.fullmatch("-?[0-9]{1,8}", word) for word in words[1:])):
                 raise ValueError("%s, line %d: `NAME X Y Z` in micrometres is wanted, each once" % (path, number))
             if words:
-                found[words[0]] = tuple(round(int(word) / 1000) for word in words[1:])
+                found[words[0]] = place_of(int(word) / 1000 for word in words[1:])
     return found
 
 

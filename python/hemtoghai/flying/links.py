@@ -3,18 +3,23 @@
 A link for real radios is another class with the calls of `Link`: flying/crazyradio.py is one, and says what was never
 tried of it. The simulated drones are those of docs/RADIO.md, 'A drone'. Nothing here is proved.
 """
+import argparse
 import heapq
 import random
 import threading
 import time
+from typing import Callable, List, Optional, Sequence, Tuple
 
 MEMORY = 4096
 ENTRIES = 10
 READ, WRITE, COMMAND = 0x41, 0x42, 0x80  # ports and channels, without link bits
 START = bytes([0, 0, 0x80, 0x3F])  # the one time scale that a drone starts with
 
+Key = Tuple[int, bytes]  # what a packet and its answer have in common
+Heard = Callable[[int, bytes], None]
 
-def key_of(raw, is_answer):
+
+def key_of(raw: bytes, is_answer: bool) -> Optional[Key]:
     """What a packet of an upload and its answer have in common, or None where the bytes are neither."""
     port, data = raw[0] & 0xF3, raw[1:]
     if port in (READ, WRITE) and len(data) >= 6:
@@ -24,7 +29,7 @@ def key_of(raw, is_answer):
     return None
 
 
-def words_of(packet):
+def words_of(packet: bytes) -> str:
     """What a packet of an upload does, for people."""
     if packet[0] & 0xF3 == COMMAND:
         return "%s of trajectory %d" % (("start", packet[5]) if packet[1] == 5 else ("define", packet[2]))
@@ -44,21 +49,21 @@ class Link:
     """
     answer_time = 0.1
 
-    def __init__(self, names, heard):
+    def __init__(self, names: Sequence[str], heard: Heard) -> None:
         self.names, self.heard, self.left = names, heard, 0
 
-    def send(self, drone, packet):
+    def send(self, drone: int, packet: bytes) -> None:
         """Takes a packet for a drone; returns at once."""
         raise NotImplementedError
 
-    def close(self):
+    def close(self) -> None:
         """Ends the link; nothing is heard after it."""
 
-    def report(self):
+    def report(self) -> List[str]:
         """Lines on what the link did, for people."""
         return []
 
-    def ailing(self):
+    def ailing(self) -> Optional[str]:
         """Why the link can't go on, or None: then the upload is ended at once."""
         return None
 
@@ -67,11 +72,12 @@ class Drone:
     """A drone: its memory's id and bytes, its table of trajectories as (offset, pieces) or None, and the one that it
     has started."""
 
-    def __init__(self, memory_id):
+    def __init__(self, memory_id: int) -> None:
         self.memory_id, self.memory = memory_id, bytearray(b"\xFF" * MEMORY)
-        self.table, self.started = [None] * ENTRIES, None
+        self.table: List[Optional[Tuple[int, int]]] = [None] * ENTRIES
+        self.started: Optional[int] = None
 
-    def take(self, packet):
+    def take(self, packet: bytes) -> Optional[bytes]:
         """Carries a packet out; the answer, or None where the packet has none."""
         port, payload = packet[0] & 0xF3, packet[1:]
         head = bytes([port | 0x0C])  # the link bits are written as 3
@@ -84,7 +90,7 @@ class Drone:
             return head + payload[:3] + bytes([self.define(payload) if payload[0] == 6 else self.start(payload)])
         return None
 
-    def write(self, memory_id, address, data):
+    def write(self, memory_id: int, address: int, data: bytes) -> bytes:
         """Stores bytes; the status."""
         if memory_id != self.memory_id:
             return bytes([2])
@@ -93,7 +99,7 @@ class Drone:
         self.memory[address:address + len(data)] = data
         return bytes([0])
 
-    def read(self, memory_id, address, length):
+    def read(self, memory_id: int, address: int, length: int) -> bytes:
         """The status and, where it is 0, the bytes."""
         if memory_id != self.memory_id:
             return bytes([2])
@@ -101,7 +107,7 @@ class Drone:
             return bytes([5])
         return bytes([0]) + self.memory[address:address + length]
 
-    def define(self, payload):
+    def define(self, payload: bytes) -> int:
         """Puts an entry into the table; the status."""
         offset = int.from_bytes(payload[4:8], "little")
         if payload[1] >= ENTRIES or payload[2] != 1 or payload[3] != 1:
@@ -111,7 +117,7 @@ class Drone:
         self.table[payload[1]] = offset, payload[8]
         return 0
 
-    def start(self, payload):
+    def start(self, payload: bytes) -> int:
         """Starts a trajectory; the status."""
         number = payload[4]
         if any(payload[1:4]) or payload[5:9] != START or number >= ENTRIES or self.table[number] is None:
@@ -124,28 +130,29 @@ class SimulatedLink(Link):
     """A link to simulated drones that loses, repeats, delays and reorders packets both ways. Each packet takes its turn
     at `rate` packets a second, and then between one and two times `delay` seconds."""
 
-    def __init__(self, names, heard, drones, options):
+    def __init__(self, names: Sequence[str], heard: Heard, drones: Sequence[Drone], options: argparse.Namespace) -> None:
         super().__init__(names, heard)
         self.drones, self.options, self.chance = drones, options, random.Random(options.seed)
         self.answer_time = max(0.005, 5 * options.delay / 1000, 2 / options.rate)
         self.counts = dict.fromkeys(("down", "up", "lost", "again", "late"), 0)
-        self.under_way, self.number, self.free_at, self.open = [], 0, 0.0, True
+        self.under_way: List[Tuple[float, int, str, int, bytes]] = []
+        self.number, self.free_at, self.open = 0, 0.0, True
         self.changed = threading.Condition()
         self.thread = threading.Thread(target=self.run, daemon=True)
         self.thread.start()
 
-    def send(self, drone, packet):
+    def send(self, drone: int, packet: bytes) -> None:
         with self.changed:
             self.free_at = max(self.free_at, time.monotonic()) + 1 / self.options.rate
             self.put(self.free_at, "leave", drone, packet)
             self.changed.notify()
 
-    def put(self, at, what, drone, packet):
+    def put(self, at: float, what: str, drone: int, packet: bytes) -> None:
         """Notes what happens at an instant; what is noted first comes first among equals."""
         self.number += 1
         heapq.heappush(self.under_way, (at, self.number, what, drone, packet))
 
-    def fly(self, what, drone, packet):
+    def fly(self, what: str, drone: int, packet: bytes) -> None:
         """Sends a packet through the air: it is lost, or arrives once or more."""
         options, counts = self.options, self.counts
         counts[what] += 1
@@ -162,7 +169,7 @@ class SimulatedLink(Link):
                 return
             counts["again"] += 1
 
-    def run(self):
+    def run(self) -> None:
         """Lets happen what is due, until the link is closed."""
         with self.changed:
             while self.open:
@@ -181,12 +188,12 @@ class SimulatedLink(Link):
                 else:
                     self.heard(drone, packet)
 
-    def close(self):
+    def close(self) -> None:
         with self.changed:
             self.open = False
             self.changed.notify()
         self.thread.join()
 
-    def report(self):
+    def report(self) -> List[str]:
         words = "simulated link, seed %d: %d packets to drones, %d answers back; %d of them lost, %d repeated, %d late"
         return [words % (self.options.seed, *(self.counts[it] for it in ("down", "up", "lost", "again", "late")))]

@@ -1,10 +1,12 @@
 """The look at all drones before a flight: firmware, memory, battery, estimator, supervisor and place. For `fly`."""
+import argparse
 import math
 from typing import List, Sequence
 
 from hemtoghai.flying import clock, firmware
 from hemtoghai.flying.crew import say
 from hemtoghai.flying.fleet import Fleet, HISTORY, State, Trouble
+from hemtoghai.flying.legs import Place, place_of
 from hemtoghai.language import choreo
 
 SETTLES = 10  # seconds in which an estimator that began anew has to be settled
@@ -17,10 +19,12 @@ class Report:
     """What the look finds of a drone, in the order of the columns, and its faults."""
 
     def __init__(self) -> None:
-        self.version, self.protocol, self.memories, self.faults = "?", 0, [], []
+        self.version, self.protocol = "?", 0
+        self.memories: List[int] = []
+        self.faults: List[str] = []
 
 
-def looked_over(fleet: Fleet, drone: int, options, memory: int) -> Report:
+def looked_over(fleet: Fleet, drone: int, options: argparse.Namespace, memory: int) -> Report:
     """Looks a drone over that was heard, and sets it up; its report."""
     report = Report()
     report.protocol, report.version = fleet.versions(drone)
@@ -39,23 +43,23 @@ def looked_over(fleet: Fleet, drone: int, options, memory: int) -> Report:
 
 def wander_of(state: State) -> float:
     """How far a drone's last places are apart, in metres."""
-    return max(math.dist(place, state.place) for place in state.places)
+    return max(math.dist(place, state.where()) for place in state.places)
 
 
-def is_settled(state: State, options) -> bool:
+def is_settled(state: State, options: argparse.Namespace) -> bool:
     """Whether a drone's estimator is settled."""
     return bool(state.senseless is None and state.place and state.variances and len(state.places) >= HISTORY
                 and max(state.variances) <= options.variance and wander_of(state) <= options.wander / 1000)
 
 
-def settle(fleet: Fleet, options) -> None:
+def settle(fleet: Fleet, options: argparse.Namespace) -> None:
     """Has the estimators begin anew of drones that say that they don't fly, and waits until all are settled. Nothing is
     done to one that says nothing: it may be in the air."""
     until = clock.now() + SENDS
     while clock.now() < until and any(state.place is None for state in fleet.states):
         clock.wait(0.05)
 
-    def begin_anew(k):
+    def begin_anew(k: int) -> None:
         if fleet.states[k].place is not None and not fleet.states[k].says_it_flies():
             fleet.reset_estimator(k)
     fleet.radio.each(begin_anew)
@@ -66,7 +70,7 @@ def settle(fleet: Fleet, options) -> None:
         clock.wait(0.05)
 
 
-def judge_state(state: State, report: Report, pad: Sequence[int], yaw: float, options) -> None:
+def judge_state(state: State, report: Report, pad: Sequence[int], yaw: float, options: argparse.Namespace) -> None:
     """Adds the faults of a drone's battery, estimator, supervisor and place to its report."""
     if state.senseless is not None:
         report.faults.append("sends a place, a yaw or a voltage that is no number: start it anew")
@@ -76,8 +80,9 @@ def judge_state(state: State, report: Report, pad: Sequence[int], yaw: float, op
         return
     if state.says_it_flies():
         report.faults.append("says that it flies: nothing is uploaded to a drone in the air")
-    if state.volts < options.battery:
-        report.faults.append("%.2f V, and %.2f are wanted" % (state.volts, options.battery))
+    volts = state.volts or 0.0
+    if volts < options.battery:
+        report.faults.append("%.2f V, and %.2f are wanted" % (volts, options.battery))
     if not is_settled(state, options):
         report.faults.append("its estimator isn't settled: variance %.4f, %.0f mm of wander" % (
             max(state.variances), 1000 * wander_of(state)))
@@ -88,12 +93,12 @@ def judge_state(state: State, report: Report, pad: Sequence[int], yaw: float, op
     judge_place(state, report, pad, yaw, options)
 
 
-def judge_place(state: State, report: Report, pad: Sequence[int], yaw: float, options) -> None:
+def judge_place(state: State, report: Report, pad: Sequence[int], yaw: float, options: argparse.Namespace) -> None:
     """Adds to a drone's report how it stands beside its pad."""
-    aside = 1000 * math.dist(state.place[:2], [v / 1000 for v in pad[:2]])
+    aside = 1000 * math.dist(state.where()[:2], [v / 1000 for v in pad[:2]])
     if aside > options.near:
         report.faults.append("stands %.0f mm aside of its pad, and %.0f are allowed" % (aside, options.near))
-    high = state.place[2] - pad[2] / 1000
+    high = state.where()[2] - pad[2] / 1000
     if abs(high) > PAD_HEIGHT:
         report.faults.append("is %.0f mm %s than its pad, it estimates: --pads says how high pads are" % (
             1000 * abs(high), "higher" if high > 0 else "lower"))
@@ -106,12 +111,13 @@ def judge_place(state: State, report: Report, pad: Sequence[int], yaw: float, op
 def print_report(name: str, state: State, report: Report, pad: Sequence[int]) -> None:
     """Prints a drone's line of the table."""
     if state.place:
+        x, y, z = state.place
         say("%-16s %-16s %6s %7.2f %9.5f %9.0f  (%.2f, %.2f, %.2f)" % (
-            name, report.version[:16], " ".join(map(str, report.memories)), state.volts, max(state.variances or [0]),
-            1000 * math.dist(state.place[:2], [v / 1000 for v in pad[:2]]), *state.place))
+            name, report.version[:16], " ".join(map(str, report.memories)), state.volts or 0.0,
+            max(state.variances or [0]), 1000 * math.dist((x, y), [v / 1000 for v in pad[:2]]), x, y, z))
 
 
-def preflight(fleet: Fleet, flown, pads: Sequence[Sequence[int]], options) -> List[tuple]:
+def preflight(fleet: Fleet, flown: choreo.Flown, pads: Sequence[Place], options: argparse.Namespace) -> List[Place]:
     """Looks all drones over and prints what was found; where they stand, in whole mm, or raises what is wrong."""
     memory = flown.show.settings["memory"][0]
     for number, count in fleet.radio.crowded():
@@ -132,4 +138,4 @@ def preflight(fleet: Fleet, flown, pads: Sequence[Sequence[int]], options) -> Li
     if faults:
         raise Trouble("not flown:\n  " + "\n  ".join(faults))
     fleet.end_settling()
-    return [tuple(round(1000 * sum(row) / len(row)) for row in zip(*state.places)) for state in fleet.states]
+    return [place_of(1000 * sum(row) / len(row) for row in zip(*state.places)) for state in fleet.states]

@@ -26,6 +26,12 @@ REFUSED = re.compile("error 5 pair ([a-z0-9_]+) ([a-z0-9_]+) cue ([0-9]+)")
 Way = List[Place]
 
 
+def place_of(values: Iterable[float]) -> Place:
+    """The place of three numbers."""
+    x, y, z = (round(v) for v in values)
+    return x, y, z
+
+
 def nearest(one: Sequence[Sequence[float]], two: Sequence[Sequence[float]], sizes: Sequence[float]) -> float:
     """How near two come that go straight in step, each from its first place to its second: 1 where the scaled
     distance is that of the sizes."""
@@ -43,7 +49,7 @@ class Planner:
     def __init__(self, names: Sequence[str], pads: Sequence[Place], firsts: Sequence[Place], yaws: Sequence[int],
                  rules: Rules, fixed: Iterable[int] = (), lift: int = LIFT) -> None:
         self.names, self.yaws, self.rules, self.fixed, self.lift = names, yaws, rules, set(fixed), lift
-        self.pads, self.firsts = [tuple(pad) for pad in pads], [tuple(first) for first in firsts]
+        self.pads, self.firsts = [place_of(pad) for pad in pads], [place_of(first) for first in firsts]
         self.standing = {k: pad for k, pad in enumerate(self.pads) if k not in self.fixed}
         self.room, self.wide = ROOMS[0], ROOMS[0] * rules.side()
         self.step = 2 * (rules.height + rules.stray) + 100
@@ -134,7 +140,7 @@ class Planner:
     def go(self, leg: Leg, left: List[int], ways: Dict[int, List[Way]], kind: str = TAKE_OFF) -> bool:
         """Lets those go together who seem to be able to, each by the first of its ways that seems free, and takes them
         from those who are left; whether anybody went."""
-        at, group = leg.places(), {}
+        at, group = leg.places(), dict[int, Way]()
         for k in left:
             if self.waits_for(k, [j for j in left if j not in group]):
                 continue

@@ -1,10 +1,12 @@
 """Simulated drones in place of real ones: for ./show fly --simulate."""
+import argparse
 import os
 import sys
-from typing import Dict, Iterator, List, Sequence, Tuple
+from typing import Dict, Iterator, List, Optional, Sequence, Tuple
 
 from hemtoghai.companion import stop
 from hemtoghai.flying import clock, finite
+from hemtoghai.language.choreo import Flown
 from hemtoghai.program import PACKAGE
 
 # What --sim can set, and its greatest number.
@@ -12,7 +14,7 @@ SETTINGS = {"stray": 1e4, "late": 1e4, "loss": 100, "seed": 1e9, "speed": 100, "
             "dies": 1e6}
 
 
-def set_simulation(flown, pads: Sequence[Tuple[int, int, int]], options) -> List[str]:
+def set_simulation(flown: Flown, pads: Sequence[Tuple[int, int, int]], options: argparse.Namespace) -> List[str]:
     """Puts the simulated library where Bitcraze's would be, with drones on their pads; their addresses."""
     sys.path.insert(0, os.path.join(PACKAGE, "flying", "simulated"))
     from cflib import air
@@ -31,9 +33,9 @@ def set_simulation(flown, pads: Sequence[Tuple[int, int, int]], options) -> List
     return uris
 
 
-def settings_of(words: Sequence[str]) -> Dict[str, float]:
+def settings_of(words: Sequence[str]) -> Dict[str, Optional[float]]:
     """The settings of words KEY=N; None where nothing is set."""
-    out = dict.fromkeys(SETTINGS)
+    out: Dict[str, Optional[float]] = dict.fromkeys(SETTINGS)
     for word in words:
         key, _, number = word.partition("=")
         try:
@@ -63,4 +65,4 @@ def faults_of(words: Sequence[str], names: Sequence[str], kinds: Dict[str, str])
 def simulated(names: Sequence[str]) -> Iterator[str]:
     """What the simulated drones are doing in the end: lines for people."""
     from cflib import air
-    return air.WORLD.lines(names)
+    yield from air.WORLD.lines(names)

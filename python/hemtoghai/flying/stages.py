@@ -14,7 +14,7 @@ with each other: their pads have to be PADS mm apart. Millimetres and millisecon
 import concurrent.futures
 import subprocess
 from math import ceil, dist
-from typing import Dict, Iterable, Iterator, List, Optional, Sequence, Tuple
+from typing import Dict, Iterable, Iterator, List, Mapping, Optional, Sequence, Tuple
 
 from hemtoghai import program
 from hemtoghai.companion import missing, no_program
@@ -52,7 +52,7 @@ class Rules:
     """What a leg is judged by: a show's ellipsoid, stray and late, and what legs add to them. A stray that is larger
     than the language has is refused by `check`."""
 
-    def __init__(self, settings: Dict[str, Sequence[int]], aim: float = AIM, ceiling: Optional[int] = None) -> None:
+    def __init__(self, settings: Mapping[str, Sequence[int]], aim: float = AIM, ceiling: Optional[int] = None) -> None:
         (self.radius, self.height), (stray,), (late,) = [settings[word] for word in ("ellipsoid", "stray", "late")]
         self.show_late, self.show_stray = late, stray
         self.aim, self.ceiling = ceil(aim), ceiling
@@ -75,12 +75,12 @@ def text_of(names: Sequence[str], at: Dict[int, Place], yaws: Sequence[int], sta
     `late` than the rules', and other yaws for the begin, are given by name."""
     rows = ["choreo 1", *head, "ellipsoid %d %d" % (rules.radius, rules.height),
             "stray %d" % (rules.stray if stray is None else stray), "late %d" % (rules.late if late is None else late)]
-    rows += ["drone %s %d %d %d %d" % (names[k], *(1000 * v for v in place), (begin or yaws)[k])
-             for k, place in at.items()]
+    rows += ["drone %s %d %d %d %d" % (names[k], 1000 * x, 1000 * y, 1000 * z, (begin or yaws)[k])
+             for k, (x, y, z) in at.items()]
     for stage in stages:
         rows += ["cue %d" % stage.milliseconds]
-        rows += ["%s move %d %d %d %d" % (names[k], *(1000 * v for v in place), yaws[k])
-                 for k, place in stage.to.items()]
+        rows += ["%s move %d %d %d %d" % (names[k], 1000 * x, 1000 * y, 1000 * z, yaws[k])
+                 for k, (x, y, z) in stage.to.items()]
         rows += ["end"]
     return ("\n".join(rows) + "\n").encode()
 
@@ -134,7 +134,9 @@ class Leg:
         self.names, self.begin, self.yaws, self.rules = names, dict(at), yaws, rules
         self.first_yaws = yaws
         self.stages: List[Stage] = []
-        self.whole, self.late, self.why_below, self.hint = False, rules.late, None, None
+        self.whole, self.late = False, rules.late
+        self.why_below: Optional[NoWay] = None
+        self.hint: Optional[str] = None
 
     def places(self, count: Optional[int] = None) -> Dict[int, Place]:
         """Where drones are after so many stages, or all."""
@@ -185,14 +187,14 @@ class Leg:
         """The stages, for people."""
         for number, stage in enumerate(self.stages, 1):
             at = self.places(number - 1)
-            rows = ["%s to (%.2f, %.2f, %.2f)" % (self.names[k], *(v / 1000 for v in place))
-                    for k, place in stage.to.items() if stage.kind != LAND or place != at[k]]
+            rows = ["%s to (%.2f, %.2f, %.2f)" % (self.names[k], x / 1000, y / 1000, z / 1000)
+                    for k, (x, y, z) in stage.to.items() if stage.kind != LAND or (x, y, z) != at[k]]
             yield "%3d. %-8s %5.1f s  %s" % (number, stage.kind, stage.milliseconds / 1000, "; ".join(rows))
 
 
 def classes_of(standing: Iterable[int], at: Dict[int, Place], side: float) -> List[List[int]]:
     """The drones that stand, in lists in each of which all are farther apart than this."""
-    out = []
+    out: List[List[int]] = []
     for k in standing:
         for row in out:
             if all(apart(at[k], at[other]) > side for other in row):

@@ -6,10 +6,12 @@ import queue
 import subprocess
 import threading
 import time
+from typing import Any, Callable, Dict, List, Optional, Sequence, Set, Tuple
 
 from hemtoghai import program as proved
 from hemtoghai.companion import stop
-from hemtoghai.flying.links import COMMAND, key_of, READ, words_of, WRITE
+from hemtoghai.flying.links import COMMAND, Key, key_of, Link, READ, words_of, WRITE
+from hemtoghai.language.choreo import Flown
 
 TICK, PACKET, END = 0x54, 0x50, 0x45
 GIVES_UP = 20  # ticks for which a packet is in flight; at each but the last it is sent
@@ -20,11 +22,15 @@ ENDS = {0: "done: each drone has what it is to fly", 3: "the show is faulty", 4:
         14: "a drone's memory holds something else"}
 
 
+Events = queue.Queue[Tuple[Any, ...]]  # what comes: a word, and what belongs to it
+Tell = Callable[[str], None]
+
+
 class Host:
     """The program's `upload` over pipes. What it sends comes by `events`: ("packet", drone, bytes), ("end", status),
     and ("closed", bytes that are no frame) where it ends without an end frame."""
 
-    def __init__(self, command, text, events):
+    def __init__(self, command: List[str], text: bytes, events: Events) -> None:
         self.events = events
         try:
             if os.path.abspath(command[0]) == proved.PROGRAM:
@@ -39,25 +45,27 @@ class Host:
         self.reader = threading.Thread(target=self.listen, daemon=True)
         self.reader.start()
 
-    def write(self, data):
+    def write(self, data: bytes) -> None:
         """Writes to the program; where it has ended, its end frame is under way."""
+        assert self.process.stdin
         try:
             while data:
                 data = data[self.process.stdin.write(data):]
         except (BrokenPipeError, ValueError):
             pass
 
-    def tick(self):
+    def tick(self) -> None:
         """A tick."""
         self.write(bytes([TICK]))
 
-    def hear(self, drone, packet):
+    def hear(self, drone: int, packet: bytes) -> None:
         """A packet that came from a drone; none longer than a packet may be can come."""
         if 1 <= len(packet) <= 31:
             self.write(bytes([PACKET, drone + 1, len(packet)]) + packet)
 
-    def listen(self):
+    def listen(self) -> None:
         """Reads frames until the end, and puts them into `events`."""
+        assert self.process.stdout
         with open(self.process.stdout.fileno(), "rb", closefd=False) as stream:
             while True:
                 kind = stream.read(1)
@@ -71,23 +79,27 @@ class Host:
                 elif kind == bytes([END]):
                     status = stream.read(1)
                     if len(status) == 1:
-                        return self.events.put(("end", status[0]))
-                return self.events.put(("closed", kind + stream.read(200)))
+                        self.events.put(("end", status[0]))
+                        return
+                self.events.put(("closed", kind + stream.read(200)))
+                return
 
-    def close_input(self):
+    def close_input(self) -> None:
         """Ends the program's input: an upload that is still going ends with 8."""
+        assert self.process.stdin
         try:
             self.process.stdin.close()
         except OSError:
             pass
 
-    def end(self):
+    def end(self) -> int:
         """Ends the program's input and waits for it; its status."""
         self.close_input()
         return self.process.wait()
 
-    def kill(self):
+    def kill(self) -> None:
         """Ends the program where it still runs, and all that belongs to it here."""
+        assert self.process.stdout
         self.process.kill()
         self.process.wait()
         self.close_input()
@@ -101,28 +113,34 @@ class Traffic:
     packets each drone is to have, for people. `refused` is the first answer that ended the upload with 10, `differs`
     the one with 14."""
 
-    def __init__(self, names, wanted):
+    def __init__(self, names: Sequence[str], wanted: Sequence[int]) -> None:
         self.names, self.wanted = names, wanted
-        self.packets, self.times = [{} for _ in names], [{} for _ in names]
-        self.good, self.held = [set() for _ in names], [{} for _ in names]
-        self.refused = self.differs = None
-        self.begun = self.ended = None
+        self.packets: List[Dict[Key, bytes]] = [{} for _ in names]
+        self.times: List[Dict[Key, int]] = [{} for _ in names]
+        self.good: List[Set[Key]] = [set() for _ in names]
+        self.held: List[Dict[int, int]] = [{} for _ in names]
+        self.refused: Optional[Tuple[int, Key, int]] = None
+        self.differs: Optional[Tuple[int, Key, int, Optional[int], int]] = None
+        self.begun: Optional[float] = None
+        self.ended: Optional[float] = None
 
-    def sent(self, drone, packet):
+    def sent(self, drone: int, packet: bytes) -> None:
         """The program sends a packet."""
         self.begun = self.begun or time.monotonic()
         key = key_of(packet, False)
+        if key is None:
+            return
         self.packets[drone].setdefault(key, packet)
         self.times[drone][key] = self.times[drone].get(key, 0) + 1
-        if key and key[0] == WRITE:
+        if key[0] == WRITE:
             address = int.from_bytes(packet[2:6], "little")
             self.held[drone].update(enumerate(packet[6:], address))
 
-    def heard(self, drone, raw):
+    def heard(self, drone: int, raw: bytes) -> None:
         """An answer goes to the program, which judges it as docs/RADIO.md says."""
         key = key_of(raw, True)
-        packet = self.packets[drone].get(key)
-        if packet is None or key in self.good[drone]:
+        packet = None if key is None else self.packets[drone].get(key)
+        if packet is None or key is None or key in self.good[drone]:
             return
         status = raw[4] if key[0] == COMMAND else raw[6]
         if key[0] == READ and status == 0:
@@ -138,34 +156,34 @@ class Traffic:
         else:
             self.good[drone].add(key)
 
-    def open(self, drone):
+    def open(self, drone: int) -> List[Key]:
         """The keys of a drone's packets that have no good answer yet, in the order of their numbers."""
         return [key for key in self.packets[drone] if key not in self.good[drone]]
 
-    def count_open(self, drone):
+    def count_open(self, drone: int) -> int:
         """How many these are."""
         return len(self.packets[drone]) - len(self.good[drone])
 
-    def seconds(self):
+    def seconds(self) -> float:
         """How long it took from the first packet to the end, or now."""
         return 0.0 if self.begun is None else (self.ended or time.monotonic()) - self.begun
 
-    def line(self):
+    def line(self) -> str:
         """How far each drone is."""
         return "%.0f s: %s" % (self.seconds(), ", ".join(
             "%s %d/%d" % row for row in zip(self.names, map(len, self.good), self.wanted)))
 
-    def about(self, drone, key):
+    def about(self, drone: int, key: Key) -> str:
         """A drone, a packet's number and what it is."""
         return "%s, packet %d: %s" % (
             self.names[drone], list(self.packets[drone]).index(key), words_of(self.packets[drone][key]))
 
-    def times_of(self, drone, key):
+    def times_of(self, drone: int, key: Key) -> str:
         """How often a packet was sent, in words."""
         times = self.times[drone][key]
         return "sent once" if times == 1 else "sent %d times" % times
 
-    def end_lines(self, status):
+    def end_lines(self, status: Optional[int]) -> List[str]:
         """Which drone, packet and address an end is about."""
         if status == 10 and self.refused:
             drone, key, answer = self.refused
@@ -180,7 +198,7 @@ class Traffic:
             row = late[0] if late else max(rows, key=lambda it: self.times[it[0]][it[1]])
             return ["%s had no good answer, %s" % (self.about(*row), self.times_of(*row))]
         if status == 8:
-            firsts = {}
+            firsts: Dict[int, Key] = {}
             for drone, key in rows:
                 firsts.setdefault(drone, key)
             return ["%s is open, %s" % (self.about(*row), self.times_of(*row)) for row in firsts.items()]
@@ -195,27 +213,28 @@ class Pace:
     STUCK = 10  # answer times after which a packet that is still in the link counts as gone
     ROUNDS, PATIENCE = 8, 5  # packets for each that a tick repeats, and answer times, where only some stand still
 
-    def __init__(self, answer_time, traffic):
+    def __init__(self, answer_time: float, traffic: Traffic) -> None:
         now = time.monotonic()
         self.answer_time, self.traffic, self.ticks = answer_time, traffic, 0
         self.handed, self.at_tick, self.left, self.moved = 0, 0, 0, now
-        self.last, self.since = [0] * len(traffic.names), [now] * len(traffic.names)
+        self.last = [0] * len(traffic.names)
+        self.since: List[Optional[float]] = [now] * len(traffic.names)
 
-    def step(self):
+    def step(self) -> float:
         """The seconds after which to look again."""
         return max(0.001, self.answer_time / 5)
 
-    def gives(self, drone):
+    def gives(self, drone: int) -> None:
         """A packet was handed to the link."""
         self.handed += 1
         self.last[drone], self.since[drone] = self.handed, None
 
-    def hears(self, drone):
+    def hears(self, drone: int) -> None:
         """A drone was heard."""
         if self.since[drone] is not None:
             self.since[drone] = time.monotonic()
 
-    def look(self, left):
+    def look(self, left: int) -> None:
         """Notes how many packets have left the link."""
         if left == self.left and None not in self.since:
             return
@@ -226,7 +245,7 @@ class Pace:
             if since is None and (self.last[drone] <= left or now > self.moved + self.STUCK * self.answer_time):
                 self.since[drone] = now
 
-    def is_due(self, left):
+    def is_due(self, left: int) -> bool:
         """Whether it is time for a tick, where this many packets have left the link."""
         self.look(left)
         now, counts = time.monotonic(), [self.traffic.count_open(k) for k in range(len(self.since))]
@@ -246,21 +265,25 @@ class Carrying:
     None where it ended without one, `rest` what else it wrote, and `fault` why the upload was stopped from here, or
     None."""
 
-    def __init__(self, host, link, events, tick, traffic, tell=None):
+    def __init__(self, host: Host, link: Link, events: Events, tick: Optional[float], traffic: Traffic,
+                 tell: Optional[Tell] = None) -> None:
         self.host, self.link, self.events, self.traffic, self.tell = host, link, events, traffic, tell
         self.pace = Pace(link.answer_time if tick is None else tick / 1000, traffic)
-        self.status, self.rest, self.fault, self.done = None, b"", None, False
-        self.told, self.next = 1, 0.0
+        self.rest, self.done, self.told, self.next = b"", False, 1, 0.0
+        self.status: Optional[int] = None
+        self.fault: Optional[str] = None
 
-    def stop(self, why):
+    def stop(self, why: str) -> None:
         """Ends the upload: the program is told that nothing comes any more, and ends it with 8."""
         if self.fault:
             raise KeyboardInterrupt
         self.fault = why
         self.host.close_input()
 
-    def step(self):
+    def step(self) -> None:
         """Waits for what happens next, and handles it."""
+        what: str
+        rest: List[Any]
         try:
             what, *rest = self.events.get(timeout=self.pace.step() if self.traffic.begun else None)
         except queue.Empty:
@@ -278,7 +301,7 @@ class Carrying:
             self.host.hear(*rest)
         self.look()
 
-    def give(self, drone, packet):
+    def give(self, drone: int, packet: bytes) -> None:
         """Hands a packet of the program to the link."""
         if drone >= len(self.link.names):
             stop("the program sends to drone %d, and the show has %d" % (drone + 1, len(self.link.names)))
@@ -286,7 +309,7 @@ class Carrying:
         self.pace.gives(drone)
         self.link.send(drone, packet)
 
-    def look(self):
+    def look(self) -> None:
         """Ticks where it is time, looks whether the link is well, and says how far the drones are."""
         now = time.monotonic()
         if self.done or self.fault or not self.traffic.begun or now < self.next:
@@ -302,7 +325,8 @@ class Carrying:
             self.tell(self.traffic.line())
 
 
-def carry(host, link, events, tick, traffic, tell=None):
+def carry(host: Host, link: Link, events: Events, tick: Optional[float], traffic: Traffic,
+          tell: Optional[Tell] = None) -> Carrying:
     """Carries packets until the program ends; what came of it. Ctrl-C stops the upload, the second one this loop."""
     carrying = Carrying(host, link, events, tick, traffic, tell)
     while not carrying.done:
@@ -313,7 +337,7 @@ def carry(host, link, events, tick, traffic, tell=None):
     return carrying
 
 
-def wanted_packets(flown, start, readback):
+def wanted_packets(flown: Flown, start: bool, readback: bool) -> List[int]:
     """How many packets each drone is to have: writes, a define, with read-back its reads, and a start where it is
     wanted."""
     return [-(-len(data) // 24) + 1 + (-(-len(data) // 20) if readback else 0) + bool(start) for data in flown.data()]

@@ -25,8 +25,7 @@ Found = TypeVar("Found")
 
 def in_mm(place: Sequence[float]) -> legs.Place:
     """A place in whole mm."""
-    x, y, z = (round(1000 * v) for v in place)
-    return x, y, z
+    return legs.place_of(1000 * v for v in place)
 
 
 class Watched(Descent):
@@ -69,7 +68,7 @@ class Watched(Descent):
         if state.senseless is not None and clock.now() - state.senseless > FAR_FOR:
             return "%s sends a place that is no number" % name
         if state.is_empty(self.options.sag):
-            return "%s has %.2f V left" % (name, state.volts)
+            return "%s has %.2f V left" % (name, state.volts or 0.0)
         if self.in_show and clock.now() - self.far_since.get(k, math.inf) > FAR_FOR:
             return "%s is %.0f mm from its curve" % (name, self.far[k])
         return None

@@ -12,7 +12,7 @@ import random
 import struct
 import threading
 import time
-from typing import Any, Dict, Iterator, List, Optional, Sequence, Tuple
+from typing import Any, Callable, Dict, Iterator, List, Optional, Sequence, Tuple
 
 from hemtoghai.companion import value
 from hemtoghai.flying import clock, firmware
@@ -105,21 +105,31 @@ class Drone:
 
     def __init__(self, world: "World", uri: str, home: Sequence[float], faults: Dict[str, float]) -> None:
         self.world, self.uri, self.faults, self.lock = world, uri, faults, threading.RLock()
-        home = [home[0] + (0.5 if "astray" in faults else 0), home[1], 0.5 if "riser" in faults else home[2]]
-        self.place, self.plan, self.began, self.armed, self.cut = home, None, 0.0, False, False
-        self.floor, self.flies, self.curve, self.curve_began, self.starts = home[2], False, None, None, []
+        x, y, z = home
+        self.place = [x + (0.5 if "astray" in faults else 0), y, 0.5 if "riser" in faults else z]
+        self.plan: Optional[Tuple[Any, ...]] = None
+        self.floor, self.flies, self.armed, self.lands, self.hits, self.yaw = self.place[2], False, False, False, 0.0, 0.0
+        self.cut: Optional[float] = None  # when its motors stopped
+        self.curve_began: Optional[float] = None
+        self.starts: List[float] = []
         self.memories = [(kind, self.memory_bytes(b"\xFF" * size)) for kind, size in MEMORIES]
-        self.lands, self.thrown, self.hits, self.armed_at, self.off_until, self.yaw = False, None, 0.0, None, None, 0.0
-        self.polled, self.refused, self.is_read = clock.now(), [], False
-        self.heard_at = None  # where a packet was heard at another instant than this one
+        self.thrown: Optional[Tuple[float, List[float]]] = None
+        self.armed_at: Optional[float] = None
+        self.off_until: Optional[float] = None
+        self.polled, self.is_read = clock.now(), False
+        self.refused: List[int] = []
+        self.heard_at: Optional[float] = None  # where a packet was heard at another instant than this one
         if "memory" in faults:
             self.memories.insert(2, (0x11, self.memory_bytes(b"\xFF" * 8192)))
-        self.table, self.parameters = [None] * 10, [row[2] for row in PARAMETERS]
-        self.blocks, self.up_queue = {}, []
+        self.table: List[Optional[Tuple[int, int, int, int]]] = [None] * 10
+        self.parameters: List[Any] = [row[2] for row in PARAMETERS]
+        self.blocks: Dict[int, List[Any]] = {}
+        self.up_queue: List[bytes] = []
         if "old" in faults:
             self.up_queue = [bytes([0x4E, 2]) + struct.pack("<IB", 24 * k, 0) for k in range(8)]
             self.up_queue.append(bytes([0x8C, 6, 0, 1, 0]))
-        self.safelink, self.last_up, self.down, self.held, self.late_share = False, 1, 0, None, 0.0
+        self.safelink, self.last_up, self.down, self.late_share = False, 1, 0, 0.0
+        self.held: Optional[bytes] = None
         self.is_written = False
         self.phase, self.booted = world.chance.random() * 7, clock.now() - 10 - 50 * world.chance.random()
 
@@ -131,13 +141,18 @@ class Drone:
 
     def is_due(self, fault: str) -> bool:
         """Whether a fault of some seconds after the start has come."""
-        return fault in self.faults and self.flown() is not None and self.flown() >= self.faults[fault]
+        flown = self.flown()
+        return fault in self.faults and flown is not None and flown >= self.faults[fault]
+
+    def is_in(self, fault: str, seconds: float) -> bool:
+        """The same, for so many seconds."""
+        return self.is_due(fault) and (self.flown() or 0.0) < self.faults[fault] + seconds
 
     def is_gone(self) -> bool:
         """Whether its link is gone."""
         if "reboots" in self.faults and self.is_read and self.table[0] is not None:
             self.reboot()
-        gap = self.is_due("gap") and self.flown() < self.faults["gap"] + 3
+        gap = self.is_in("gap", 3)
         off = self.off_until is not None and clock.now() < self.off_until
         return gap or off or "dead" in self.faults or self.is_due("silent") or "lost" in self.faults and self.is_written
 
@@ -171,9 +186,8 @@ class Drone:
         now = now or clock.now()
         at = self.planned(now)
         if self.cut or self.is_due("falls"):
-            if not self.cut:
-                self.drop()
-            fallen = now - self.cut
+            self.drop()
+            fallen = now - (self.cut or now)
             return [self.place[0], self.place[1], max(self.floor, self.place[2] - 4.9 * fallen * fallen)]
         if self.thrown is not None and now >= self.thrown[0]:
             seconds, speed = now - self.thrown[0], math.hypot(*self.thrown[1])
@@ -184,7 +198,7 @@ class Drone:
             way = [math.cos(a) * math.cos(b), math.sin(a) * math.cos(b), math.sin(b)]
             at = [v + self.world.stray / 1000 * w for v, w in zip(at, way)]
         if self.is_due("wanders"):
-            at[0] += 0.5 * (self.flown(now) - self.faults["wanders"])
+            at[0] += 0.5 * ((self.flown(now) or 0.0) - self.faults["wanders"])
         return [at[0], at[1], max(self.floor, at[2])]
 
     def drop(self) -> None:
@@ -245,18 +259,20 @@ class Drone:
     def take(self, raw: bytes) -> None:
         """Carries a packet out; its answer waits for the next poll."""
         port, channel, data = firmware.parts(bytes(raw))
-        answer = {firmware.PARAMETERS: self.parameter, firmware.MEMORY: self.memory, firmware.LOGS: self.log,
-                  firmware.COMMANDER: self.command, firmware.PLATFORM: self.platform,
-                  firmware.PLACES: self.emergency}.get(port, lambda *_: None)(channel, data)
+        ports: Dict[int, Callable[[int, bytes], Optional[bytes]]] = {
+            firmware.PARAMETERS: self.parameter, firmware.MEMORY: self.memory, firmware.LOGS: self.log,
+            firmware.COMMANDER: self.command, firmware.PLATFORM: self.platform, firmware.PLACES: self.emergency}
+        answer = ports[port](channel, data) if port in ports else None
         if answer is not None and "short" in self.faults and channel == 0 and port != firmware.COMMANDER:
             answer = answer[:3]
         if answer is not None:
             self.up_queue.append(firmware.packet(port, channel, answer))
 
-    def emergency(self, channel: int, data: bytes) -> None:
+    def emergency(self, channel: int, data: bytes) -> Optional[bytes]:
         """Port 6: the emergency stop."""
         if (channel, data[:1]) == (1, firmware.EMERGENCY_STOP):
             self.drop()
+        return None
 
     def platform(self, channel: int, data: bytes) -> Optional[bytes]:
         """Port 13: arming and versions."""
@@ -294,7 +310,8 @@ class Drone:
         if data[0] == 3:
             return struct.pack("<BHI", 3, len(items) + PADDING, checksum)
         number = int.from_bytes(data[1:3], "little")
-        name, kind = items[number - PADDING][:2] if number >= PADDING else ("filling.item%d" % number, items[0][1])
+        kind: int = items[max(0, number - PADDING)][1]
+        name: str = items[number - PADDING][0] if number >= PADDING else "filling.item%d" % number
         return data[:3] + bytes([kind]) + name.replace(".", "\0").encode() + b"\0"
 
     def parameter(self, channel: int, data: bytes) -> bytes:
@@ -302,7 +319,7 @@ class Drone:
         if channel == 0:
             return self.table_answer(data, PARAMETERS, 0xA1)
         number = int.from_bytes(data[:2], "little") - PADDING
-        form = "<" + firmware.PARAMETER_TYPES[PARAMETERS[number][1]]
+        form: str = "<" + firmware.PARAMETER_TYPES[PARAMETERS[number][1]]
         if channel == 1:
             return data[:2] + b"\0" + struct.pack(form, self.parameters[number])
         self.parameters[number] = struct.unpack_from(form, data, 2)[0]
@@ -359,7 +376,7 @@ class Drone:
             return 0.05 if "unsettled" in self.faults else 0.00002
         if name == "pm.vbat":
             low = 3.3 if "empty" in self.faults else 3.0 if self.is_due("drains") else FULL
-            if self.is_due("sag") and self.flown() < self.faults["sag"] + 0.5:
+            if self.is_in("sag", 0.5):
                 low = 3.1
             return low - SINKS * (self.flown() or 0)
         flying = self.flies and not self.cut and self.is_at()[2] > self.floor + 0.05
@@ -422,9 +439,10 @@ class Drone:
         number = data[4]
         if "refuses" in self.faults:
             return EBUSY
-        if number > 9 or self.table[number] is None:
+        entry = self.table[number] if number <= 9 else None
+        if entry is None:
             return 0  # also where nothing was started
-        _, _, offset, pieces = self.table[number]
+        _, _, offset, pieces = entry
         segments = segments_at([whole for kind, whole in self.memories if kind == 0x12][0], offset, pieces)
         if not segments:
             return ENOEXEC
@@ -445,9 +463,11 @@ class World:
               blocks: Optional[float] = None, dies: Optional[float] = None) -> None:
         """Sets drones at places (metres) by their URIs, each with its faults and their numbers. So many seconds after
         the first start calls of dongle 0 don't return any more (blocks), or return and nothing is sent (dies)."""
-        self.blocks, self.dies, self.nearest, self.watching = blocks, dies, None, False
+        self.blocks, self.dies, self.watching = blocks, dies, False
+        self.nearest: Optional[Tuple[float, int, int]] = None
         self.stray, self.late, self.loss, self.rate, self.unplugged = stray, late, loss, rate, unplugged
-        self.chance, self.lock, self.free = random.Random(seed), threading.Lock(), {}
+        self.chance, self.lock = random.Random(seed), threading.Lock()
+        self.free: Dict[str, float] = {}
         self.drones = {uri: Drone(self, uri, home, faults.get(uri, {})) for uri, home in homes.items()}
         # The first and the last start are `late` apart, the others lie evenly between them.
         shares = [k / max(1, len(homes) - 1) for k in range(len(homes))]
@@ -483,8 +503,9 @@ class World:
         first = min([drone.starts[0] for drone in self.drones.values() if drone.starts] or [0.0])
         for name, drone in zip(names, self.drones.values()):
             after = " after %.0f ms" % (1000 * (drone.starts[0] - first)) if drone.starts else ""
+            x, y, z = drone.is_at()
             yield "simulated: %s at (%.2f, %.2f, %.2f) m, %s, %d start%s%s" % (
-                name, *drone.is_at(), "cut" if drone.cut else "armed" if drone.armed else "disarmed",
+                name, x, y, z, "cut" if drone.cut else "armed" if drone.armed else "disarmed",
                 len(drone.starts), "" if len(drone.starts) == 1 else "s", after)
             if drone.hits:
                 yield "simulated: %s hit what it stands on at %.1f m/s" % (name, drone.hits)

@@ -15,7 +15,7 @@ def get_link_driver(uri: str, radio_link_statistics_callback: Any = None,
                     link_error_callback: Any = None) -> Optional[RadioDriver]:
     for driver_class in CLASSES:
         try:
-            instance = driver_class()
+            instance: RadioDriver = driver_class()
             instance.connect(uri, radio_link_statistics_callback, link_error_callback)
             return instance
         except WrongUriType:

@@ -3,7 +3,7 @@ import queue
 import re
 import threading
 import time
-from typing import Any, Callable, Optional, Sequence, Tuple
+from typing import Any, Callable, List, Optional, Sequence, Tuple
 
 from hemtoghai.flying import clock
 
@@ -12,7 +12,7 @@ from .crtpstack import CRTPPacket
 
 RETRIES = 100
 RELAXED = 0.01  # seconds between transfers where nothing comes
-OPEN = []  # the drivers that are open, for tests
+OPEN: List["RadioDriver"] = []  # the drivers that are open, for tests
 
 
 class WrongUriType(Exception):
@@ -21,8 +21,11 @@ class WrongUriType(Exception):
 
 class RadioDriver:
     def __init__(self) -> None:
-        self.uri, self.link_error_callback, self._thread = "", None, None
-        self.in_queue = self.out_queue = None
+        self.uri = ""
+        self.link_error_callback: Optional[Callable[[str], None]] = None
+        self.in_queue: "queue.Queue[CRTPPacket]" = queue.Queue()
+        self.out_queue: "queue.Queue[CRTPPacket]" = queue.Queue(1)
+        self._thread = _RadioDriverThread(self)
 
     def connect(self, uri: str, radio_link_statistics_callback: Any,
                 link_error_callback: Optional[Callable[[str], None]]) -> None:
@@ -31,8 +34,6 @@ class RadioDriver:
         if uri in air.WORLD.unplugged:
             raise Exception("Cannot find a Crazyradio Dongle")
         self.uri, self.link_error_callback = uri, link_error_callback
-        self.in_queue, self.out_queue = queue.Queue(), queue.Queue(1)
-        self._thread = _RadioDriverThread(uri, self)
         OPEN.append(self)
         self._thread.start()
 
@@ -59,19 +60,19 @@ class RadioDriver:
 
 
 class _RadioDriverThread(threading.Thread):
-    def __init__(self, uri: str, link: RadioDriver) -> None:
+    def __init__(self, link: RadioDriver) -> None:
         threading.Thread.__init__(self, daemon=True)
-        self.uri, self.link, self.open, self.left = uri, link, True, RETRIES
+        self.link, self.open, self.left = link, True, RETRIES
         self.up = self.down = 0
         self.safelink = False
 
     def exchange(self, data: bytes) -> Tuple[bool, bytes]:
         """A transfer, with safelink's numbers; none ends where the dongle is gone and the library waits for it."""
-        while air.WORLD.ails(self.uri.split("/")[2], air.WORLD.blocks):
+        while air.WORLD.ails(self.link.uri.split("/")[2], air.WORLD.blocks):
             time.sleep(0.05)
         if not self.safelink:
-            return air.WORLD.transfer(self.uri, data)
-        ack, came = air.WORLD.transfer(self.uri, bytes([data[0] & 0xF3 | self.up << 3 | self.down << 2]) + data[1:])
+            return air.WORLD.transfer(self.link.uri, data)
+        ack, came = air.WORLD.transfer(self.link.uri, bytes([data[0] & 0xF3 | self.up << 3 | self.down << 2]) + data[1:])
         if ack and came and (came[0] >> 2 & 1) == self.down:
             self.down = 1 - self.down
         if ack:
@@ -80,7 +81,7 @@ class _RadioDriverThread(threading.Thread):
 
     def run(self) -> None:
         for _ in range(10):
-            ack, came = air.WORLD.transfer(self.uri, b"\xFF\x05\x01")
+            ack, came = air.WORLD.transfer(self.link.uri, b"\xFF\x05\x01")
             if came == b"\xFF\x05\x01":
                 self.safelink = True
                 break
@@ -115,7 +116,9 @@ class RadioManager:
 class _SharedRadioInstance:
     def __init__(self, devid: int) -> None:
         self.devid = devid
-        self.channel = self.address = self.rate = None
+        self.channel: Optional[int] = None
+        self.address: Tuple[int, ...] = ()
+        self.rate: Optional[int] = None
 
     def set_channel(self, channel: int) -> None:
         self.channel = channel
