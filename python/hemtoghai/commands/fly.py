@@ -1,18 +1,19 @@
-"""Flies a show in stages: looks the drones over, plans the ways up and down, uploads, takes off, starts all at once,
-watches, logs, lands, and stops.
+"""Flies a show: looks the drones over, plans the ways up and down, uploads, and carries what the proved flight director
+orders, from the floor to the floor. From the first fault on it brings all home by itself.
 
     ./show fly --radio DRONES [OPTIONS] SHOW      real drones: DRONES has a line `NAME URI` for each
     ./show fly --simulate [OPTIONS] SHOW          the same steps with simulated drones that fly what they were sent
 
 NEVER TRIED WITH REAL DRONES, A RADIO OR BITCRAZE'S LIBRARY: packets, tables and answers are from memory of its
 firmware, and were tried with simulated drones that are from the same memory. TRY FIRST one drone without propellers,
-stage by stage with --only; then one drone with them; then two that are far apart. Nothing here is proved; what is
-uploaded is, by the program's own `upload --readback`, and `check` judged the ways up and down before anybody flies.
+stage by stage with --only; then one drone with them; then two that are far apart. Nothing here is proved. What is
+uploaded is, by the program's own `upload --readback`; and so is who decides a flight that goes right, the program's own
+`direct`: when all arm, rise, start, come down and are disarmed. It believes what this tool tells it of drones.
 
 Three times it asks, and anything but `yes` ends the flight: before the upload, before take-off and before the start.
 
-Ctrl-C in flight lands all drones at once, straight down, through whatever is below; a second one stops all motors, and
-the drones fall. At a fault all land at the next instant at which `check` has shown that they keep apart, and fly their
+Ctrl-C in flight lands all drones at once, straight down, through whatever is below; on the ways up and down only where
+that is judged. A second one stops all motors, and the drones fall. At a fault all land at the next instant at which `check` has shown that they keep apart, and fly their
 curves on until then. A drone that is silent flies its curve on, and so does everybody, to the end of the show, unless
 --on-silence land is given. Have somebody at hand who can cut the power, too: where this program or its radio dies in
 flight, drones fly their trajectories to the end and stay there.
