@@ -489,10 +489,10 @@ class Hard(unittest.TestCase):
 
     def test_promise(self):
         # The show's own stray is where all land; a larger one is an option, and it says since when the promise is void.
-        self.flown("stray", 1, "OUTSIDE OF THE PROMISE since [0-9.]+ s: [ab] is 7[0-9] mm from its curve, and the show's `stray` is 60\n",
-                   "FAULT: [ab] is 7[0-9] mm from its curve(; b is 7[0-9] mm from its curve)?; landing all", without=["flown:"])
-        self.flown("stray void", 0, "the promise is for 60 mm of stray: from there to 250 mm it is void", "OUTSIDE OF THE PROMISE since",
-                   "flown:")
+        self.flown("stray", 1, "FAULT: [ab] is 7[0-9] mm from its curve(; b is 7[0-9] mm from its curve)?; landing all", without=["flown:"])
+        self.flown("stray void", 0, "the promise is for 60 mm of stray: from there to 250 mm it is void",
+                   "OUTSIDE OF THE PROMISE since [0-9.]+ s: [ab] is off its curve, and the show's `stray` is 60\n", "flown:",
+                   "THE PROMISE WAS VOID in this flight")
         self.flown("copies late", 0, "NOTHING IS PROMISED of drones that are late",
                    "OUTSIDE OF THE PROMISE: starts went out within [0-9]+ ms, and the show's `late` is 0")
 

@@ -41,8 +41,8 @@ def confirm(options: argparse.Namespace, answers: Answers, text: str, look: Call
 
 
 class Bridge(Home):
-    """A flight by the director. `told_at` is up to when it was told of the time, `went` the same at the last go, and `told` what it was told of each
-    drone last. `ahead` are by drone the stages in which orders come, `to_arm` who was told to arm, and `came` the
+    """A flight by the director. `told_at` is up to when it was told of the time, `went` the same at the last go, and
+    `told` what it was told of each drone last. `ahead` are by drone the stages in which orders come, `to_arm` who was told to arm, and `came` the
     answers that it wasn't told yet. `due_by` is when it has to have said something."""
 
     def __init__(self, fleet: Fleet, flown: Flown, ways: Ways, options: argparse.Namespace, watch: Watch,
@@ -212,6 +212,8 @@ class Bridge(Home):
 
     def begin_stage(self, leg: legs.Leg, number: int) -> None:
         """The orders of a stage go out now."""
+        if leg is self.ways.down and self.in_show:
+            self.leave_show()
         stage, now = leg.stages[number], clock.now()
         seconds, names = stage.milliseconds / 1000, " ".join(self.names[k] for k in stage.to)
         self.leg, self.begun, self.stage_began, self.stage_ends = leg, number + 1, now, now + seconds + 1
@@ -339,9 +341,9 @@ class Bridge(Home):
                 spread, self.ways.rules.show_late))
 
     def show(self) -> None:
-        """Looks after the show until its end."""
+        """Looks after the show until its end, or until the director has the way down begin."""
         told = 0.0
-        while clock.now() < self.ends():
+        while self.in_show and clock.now() < self.ends():
             self.step()
             if clock.now() - self.began() > told + TELLS:
                 told = clock.now() - self.began()
@@ -364,10 +366,11 @@ class Bridge(Home):
     def down(self) -> None:
         """Has all come down as the director says it; where one is silent or doesn't fly, by a way that keeps clear of
         it, which the director hasn't."""
-        self.leave_show()
-        if self.silent | self.out:
-            self.come_down()
-            return
+        if self.in_show:
+            self.leave_show()
+            if self.silent | self.out:
+                self.come_down()
+                return
         while self.over is None:
             self.step()
         if self.ways.rules.show_stray:

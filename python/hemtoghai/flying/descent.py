@@ -115,8 +115,8 @@ class Descent:
         self.watch.land()
         up = sorted(self.rising | set(self.up(self.all)))
         self.rising = set()
+        say(words)
         if up:
-            say(words)
             warn()
         for _ in range(2):
             up = self.bring_down(up, seconds, told) if up else []

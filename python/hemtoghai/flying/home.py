@@ -42,7 +42,7 @@ class Home(Watched):
 
     def is_landing(self, order: Order) -> bool:
         """Whether an order is of the director's landing of all, and not of its way down."""
-        return order.kind == SINK and order.milliseconds == self.ways.descent()
+        return order.kind == SINK and order.milliseconds == self.ways.descent
 
     def landing_ordered(self) -> Optional[float]:
         """Has the director order the landing of all, where that is what was judged: from where all are, at once, to one
@@ -61,7 +61,7 @@ class Home(Watched):
                 return None
             if isinstance(said, To) and said.drone is not None and self.is_landing(said.order):
                 left.discard(said.drone)
-        return self.ways.descent() / 1000
+        return self.ways.descent / 1000
 
     # ---- in the show
 

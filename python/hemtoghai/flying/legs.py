@@ -57,8 +57,8 @@ def refuse_still(leg: Leg, word: str) -> None:
     takes none that doesn't rise and land."""
     still = [leg.names[k] for k in leg.begin if not any(k in stage.to for stage in leg.stages)]
     if still:
-        raise NoWay("the show of %s %s on the floor, and each drone has to be brought %s: have it %d mm above its pad there" % (
-            ", ".join(still), word, "up" if word == "begins" else "down", LIFT))
+        raise NoWay("the show of %s %s on the floor, and each drone has to be brought %s: have it %d mm above its pad there"
+                    % (", ".join(still), word, "up" if word == "begins" else "down", LIFT))
 
 
 def places_of(flown: Flown) -> Tuple[List[Place], List[Place], List[int], List[int]]:

@@ -130,7 +130,8 @@ class SimulatedLink(Link):
     """A link to simulated drones that loses, repeats, delays and reorders packets both ways. Each packet takes its turn
     at `rate` packets a second, and then between one and two times `delay` seconds."""
 
-    def __init__(self, names: Sequence[str], heard: Heard, drones: Sequence[Drone], options: argparse.Namespace) -> None:
+    def __init__(self, names: Sequence[str], heard: Heard, drones: Sequence[Drone],
+                 options: argparse.Namespace) -> None:
         super().__init__(names, heard)
         self.drones, self.options, self.chance = drones, options, random.Random(options.seed)
         self.answer_time = max(0.005, 5 * options.delay / 1000, 2 / options.rate)

@@ -47,6 +47,9 @@ class Ways:
             raise Trouble("not flown: no way down to the pads: %s" % self.down.why_below)
         self.down.first_yaws = self.last_yaws
         self.floors = [pad[2] for pad in pads]
+        # The milliseconds of the director's landing of all. They are no multiple of a hundred, by which it is told from
+        # the landings of the way down.
+        self.descent = 100 * (landings.landing_ms([self.top() - min(self.floors)]) // 100 + 1) + 1
         self.texts = [self.up.text(), text, self.down.text()]
         self.ask_director()
         self.landings = landings.Landings(flown, self.floors, self.rules)
@@ -59,16 +62,11 @@ class Ways:
 
     # ---- the flight director
 
-    def descent(self) -> int:
-        """The milliseconds of a landing that the director orders. They are no multiple of a hundred, by which it is told
-        from the landings of the way down."""
-        return 100 * (landings.landing_ms([self.top() - min(self.floors)]) // 100 + 1) + 1
-
     def director_words(self) -> List[str]:
         """The director's options. Drones may stand so far aside of their pads as the way up is judged for."""
         return ["--near", "%d" % self.rules.stray, "--at", "%d" % self.at_start, "--silence",
                 "%d" % (1000 * self.silence), "--floor", "%d" % max(0, min(self.floors)), "--descent",
-                "%d" % self.descent(), "--then", "fly"]
+                "%d" % self.descent, "--then", "fly"]
 
     def begin_director(self) -> director.Director:
         """The director of this flight, as a process that waits for what happens; raises Trouble."""
