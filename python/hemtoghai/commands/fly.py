@@ -31,7 +31,7 @@ from hemtoghai.companion import ask_check, flown_of, missing, parser, stop
 from hemtoghai.flying import clock, crazyradio, finite, legs
 from hemtoghai.flying.bridge import Bridge, confirm
 from hemtoghai.flying.crew import Answers, Cut, Interrupted, say, TELLER, Watch
-from hemtoghai.flying.descent import Descent, EARLY
+from hemtoghai.flying.descent import Descent, EARLY, LANDING
 from hemtoghai.flying.fleet import Fleet, FLIGHT, Log, Trouble
 from hemtoghai.flying.preflight import preflight
 from hemtoghai.flying.simulation import set_simulation, simulated
@@ -232,7 +232,7 @@ def only(radio: crazyradio.Radio, floors: Dict[str, float], options: argparse.Na
                                             "; REFUSED: " + ", ".join(refused) if refused else ""))
         begin_logs(fleet, heard)
         descent.wait_down(heard, LAND)
-        return 0 if descent.land("landing") else EARLY
+        return 0 if descent.land(LANDING) else EARLY
     except Cut:
         return descent.cut()
 

@@ -17,7 +17,7 @@ from hemtoghai.companion import many
 from hemtoghai.flying import clock, director, firmware, landings, legs
 from hemtoghai.flying.crazyradio import Dead
 from hemtoghai.flying.crew import Answers, Cut, Interrupted, say, Watch
-from hemtoghai.flying.descent import EARLY
+from hemtoghai.flying.descent import EARLY, LANDING
 from hemtoghai.flying.director import Noted, Order, Over, Said, To
 from hemtoghai.flying.fleet import Fleet, Trouble
 from hemtoghai.flying.home import Home
@@ -408,13 +408,15 @@ class Bridge(Home):
 
     def whole(self) -> int:
         """Flies from take-off to landing; the status."""
-        status, words = 0, "landing"
+        status, words = 0, LANDING
         try:
             self.fly()
         except (Trouble, Dead, Interrupted) as why:
             if not self.flying:
                 return self.not_flown(why)
             status, words = EARLY, self.words_after(why) or self.down_after_all()
+            if not self.up(self.all) and not self.is_said:
+                say(words)  # all are down by now: else the landing says it
         return status if self.land_all(words) else EARLY
 
     def down_after_all(self) -> str:
@@ -425,7 +427,7 @@ class Bridge(Home):
             self.come_down()
         except (Trouble, Dead, Interrupted) as why:
             return self.words_after(why) or "landing all"
-        return "landing"
+        return LANDING
 
     def run(self) -> int:
         """Flies from take-off to landing, and lands all where this program itself fails; the status."""

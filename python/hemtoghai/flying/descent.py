@@ -11,6 +11,7 @@ STAYS = 4.0  # seconds that a landing may take longer than it should
 REPEAT = 5.0  # seconds after which drones are told to land once more where nobody answers
 AIRBORNE = 900.0  # seconds that no battery of these drones lasts: one that is silent for longer isn't in the air
 EARLY, CUT = 1, 60
+LANDING = "landing"  # the words of a landing without a fault
 
 
 class Descent:
@@ -115,8 +116,8 @@ class Descent:
         self.watch.land()
         up = sorted(self.rising | set(self.up(self.all)))
         self.rising = set()
-        say(words)
         if up:
+            say(words)
             warn()
         for _ in range(2):
             up = self.bring_down(up, seconds, told) if up else []

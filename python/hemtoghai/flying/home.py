@@ -28,10 +28,11 @@ NO_ANSWER = "`check` didn't answer in time"
 
 
 class Home(Watched):
-    """Brings all home. `doubt` is why a landing that begins now isn't shown apart, and `takes` the milliseconds that
-    `check` takes."""
+    """Brings all home. `doubt` is why a landing that begins now isn't shown apart, `is_said` whether the fault was said,
+    and `takes` the milliseconds that `check` takes."""
     director: Director
     doubt: Optional[str] = None
+    is_said = False
     takes = 200.0
 
     # ---- the flight director, which isn't told any more of what happens
@@ -95,7 +96,7 @@ class Home(Watched):
                 say("FAULT: %s; flying on%s: a landing of all now isn't shown apart (%s)" % (
                     fault, "" if free is None or self.silent or self.off() else " to %.1f s" % (free / 1000),
                     landings.short(why)))
-                told = True
+                told = self.is_said = True
             for words in self.noted():
                 say("FAULT besides: %s" % words)
             clock.wait(0.1)
@@ -183,6 +184,7 @@ class Home(Watched):
         if why is None:
             return None
         self.dismiss()
+        self.is_said = True
         gone_back = self.zero is not None and self.leg is self.ways.up
         if gone_back:
             self.break_off(front, why)

@@ -1,0 +1,204 @@
+"""The flight director as a process: its frames, what `direct` says to a small flight, and flights in which it dies, lies,
+hangs or takes the ways for no flight."""
+import io
+import os
+import subprocess
+import sys
+import tempfile
+import unittest
+
+import common
+import flights
+from flights import as_if_idle, faster
+from hemtoghai.flying import director
+from hemtoghai.flying.director import Cause, Ended, Noted, Order, Over, To
+from test_fly import HIGH, last_heights
+from test_fly_hard import ASIDE, STACK
+
+UP = b"choreo 1\nstray 100\ndrone a 0 0 0 0\ncue 2000\na move 0 0 1000000 0\nend\n"
+SHOW = b"choreo 1\nstray 50\nlate 20\ndrone a 0 0 1000000 0\ncue 1000\nend\n"
+DOWN = b"choreo 1\nstray 100\ndrone a 0 0 1000000 0\ncue 2500\na move 0 0 0 0\nend\n"
+# ./show fly with another program in the place of the proved one.
+OTHER = """
+import sys
+sys.path[:0] = sys.argv[1:3]
+from hemtoghai import __main__, program
+program.PROGRAM = sys.argv[3]
+sys.argv[:4] = ["show", "fly"]
+__main__.run()
+"""
+# The proved program, but that its `direct` does something else once some bytes have come from it, and so many seconds
+# have passed.
+SPOILT = """#!%s
+import os, subprocess, sys, threading, time
+REAL, MARK, AFTER, WHAT = %r, %r, %r, %r
+if sys.argv[1:2] != ["direct"]:
+    os.execv(REAL, [REAL, *sys.argv[1:]])
+child, hangs = subprocess.Popen([REAL, *sys.argv[1:]], stdin=subprocess.PIPE, stdout=subprocess.PIPE), threading.Event()
+
+def feed():
+    while not hangs.is_set():
+        data = os.read(0, 4096)
+        if not data:
+            child.stdin.close()
+            return
+        child.stdin.write(data)
+        child.stdin.flush()
+threading.Thread(target=feed, daemon=True).start()
+seen, begun = b"", None
+os.set_blocking(child.stdout.fileno(), False)
+while True:
+    data = child.stdout.read(4096)
+    if data:
+        seen += data
+        os.write(1, data)
+    elif data == b"":
+        os._exit(child.wait())
+    if begun is None and MARK in seen:
+        begun = time.monotonic()
+    if begun is not None and time.monotonic() > begun + AFTER:
+        if WHAT == "lies":
+            os.write(1, b"\\xFF")
+        if WHAT == "hangs":
+            hangs.set()
+            time.sleep(600)
+        child.kill()
+        os._exit(1)
+    time.sleep(0.002)
+"""
+STARTED, RISEN = b"\x02\x04", b"\x01\x00\x01"
+
+
+def spoilt(what, mark, after, show, pads=None):
+    """A flight whose director dies, lies or hangs so many simulated seconds after bytes of it: the status, the output and
+    the log."""
+    with tempfile.TemporaryDirectory() as room:
+        def file(name, text):
+            with open(os.path.join(room, name), "w") as out:
+                out.write(text)
+            return out.name
+        speed = faster(4)
+        program = file("program", SPOILT % (sys.executable, common.PROGRAM, mark, after / speed, what))
+        os.chmod(program, 0o755)
+        log = os.path.join(room, "log.csv")
+        words = ["--simulate", "--sim", "speed=%d" % speed, "--silence", "3", "--yes", "--log", log]
+        words += ["--pads", file("pads", pads)] if pads else []
+        done = subprocess.run([sys.executable, "-c", OTHER, common.PYTHON, common.SIMULATED, program, *words, file("show.choreo", show)],
+                              cwd=common.TOP, stdin=subprocess.DEVNULL, stdout=subprocess.PIPE, stderr=subprocess.STDOUT,
+                              universal_newlines=True, timeout=300)
+        with open(log) as rows:
+            return done.returncode, done.stdout, rows.read()
+
+
+FLIGHTS = {
+    "dies": (spoilt, "dies", STARTED, 1.0, HIGH), "lies": (spoilt, "lies", STARTED, 1.0, HIGH),
+    "hangs": (spoilt, "hangs", STARTED, 1.0, HIGH), "dies going up": (spoilt, "dies", RISEN, 4.0, HIGH),
+    "dies above": (spoilt, "dies", RISEN, 5.2, STACK, ASIDE), "dies in a stack": (spoilt, "dies", STARTED, 1.0, STACK, ASIDE),
+}
+RUNS = flights.Flights(3, FLIGHTS)
+begun, forget, setUpModule = RUNS.begun, RUNS.forget, RUNS.set_up
+
+
+class Frames(unittest.TestCase):
+    def test_what_is_said(self):
+        for data, said in (("01 02 00", To(2, Order(director.ARM))),
+                           ("01 00 01 e8 03 d0 07 00 00", To(0, Order(director.RISE, (1000,), 2000))),
+                           ("01 01 02 d0 07 ff ff e8 03 7c fc 70 11 01 00", To(1, Order(director.GO_TO, (2000, -1, 1000, -900), 70000))),
+                           ("01 01 03 00 00 a0 0f 00 00", To(1, Order(director.SINK, (0,), 4000))), ("02 04", To(None, Order(director.START))),
+                           ("02 05", To(None, Order(director.HALT))), ("03 01 04", Noted(1, director.LATE)), ("04 03", Over(True, True)),
+                           ("04 01", Over(True, False)), ("04 00", Over(False, False)), ("05 03 01 02 2c 01", Cause(3, 1, 2, 300)),
+                           ("45 13", Ended(19))):
+            stream = io.BytesIO(bytes.fromhex(data))
+            self.assertEqual((director.said_by(stream), stream.read()), (said, b""), data)
+        for data in ("", "00", "06", "01 00 07", "02 09", "01 00 01 e8 03", "03 01", "05 03 01 02 2c", "45"):
+            with self.assertRaises(ValueError, msg=data):
+                director.said_by(io.BytesIO(bytes.fromhex(data)))
+
+    def test_what_is_told(self):
+        self.assertEqual(director.clock_frames(0), b"")
+        self.assertEqual(director.clock_frames(70000).hex(" "), "01 ff ff 01 71 11")
+        self.assertEqual(director.sample(1, 299.6, [2000.4, -1, -99999], director.READY | director.DOWN).hex(" "), "02 01 2c 01 d0 07 ff ff 01 80 09")
+        self.assertEqual((director.answer(1, 5), director.signal(director.STOP)), (b"\x03\x01\x05", b"\x04\x02"))
+
+
+@common.wants_program
+class Process(unittest.TestCase):
+    def said(self, events, texts=(UP, SHOW, DOWN)):
+        """What the director says to events, each a list of frames, to its end."""
+        it, out = director.Director(["--near", "100", "--at", "50", "--descent", "4001", "--silence", "3000"], texts), []
+        try:
+            for frames in events:
+                it.hear(frames)
+            it.process.stdin.close()
+            while not out or not isinstance(out[-1], Ended):
+                out.append(it.wait(30))
+            return out
+        finally:
+            it.kill()
+
+    def test_a_flight(self):
+        def at(z, flags):
+            return director.sample(0, 0, [0, 0, z], flags)
+        ready, armed, down = director.READY, director.ARMED | director.READY, director.DOWN
+        go, clock = director.signal(director.GO), director.clock_frames
+        up = [at(0, ready | down), go, at(0, armed | down), clock(2000), at(1000, armed), clock(1000), at(1000, armed), go]
+        risen = [To(0, Order(director.ARM)), To(0, Order(director.RISE, (1000,), 2000)), To(None, Order(director.START))]
+        show = [clock(500), at(1000, armed), clock(500), at(1000, armed), clock(2500), at(0, armed | down), clock(1000), at(0, armed | down),
+                at(0, down)]
+        flown = [To(0, Order(director.SINK, (0,), 2500)), To(None, Order(director.DISARM)), Over(True, True), Ended(0)]
+        self.assertEqual(self.said(up + show), risen + flown)
+        lands = [To(0, Order(director.SINK, (0,), 4001)), To(None, Order(director.HALT)), Over(False, False), Ended(20)]
+        self.assertEqual(self.said([*up, director.signal(director.LAND), director.signal(director.STOP), at(0, down)]), risen + lands)
+        self.assertEqual(self.said([*up, director.answer(0, 5)]), [*risen, Noted(0, director.REFUSED), lands[0], Ended(8)])
+
+    def test_no_flight(self):
+        self.assertEqual(director.judged(["--near", "100"], [UP, SHOW, DOWN]), [Ended(8)])
+        self.assertEqual(director.judged(["--near", "101"], [UP, SHOW, DOWN])[-1], Ended(19))
+        self.assertEqual(director.judged([], [UP, SHOW.replace(b"1000000", b"900000"), DOWN])[-1], Ended(19))
+        self.assertEqual(director.judged([], [UP, b"choreo 2\n", DOWN]), [Ended(3)])
+
+    def test_it_reads(self):
+        it = director.Director(["--near", "100"], [UP, SHOW, DOWN])
+        try:
+            self.assertTrue(it.is_well)
+            it.process.kill()
+            it.process.wait()
+            self.assertEqual(it.wait(10), Ended(None))
+            it.hear(director.clock_frames(1))
+            self.assertFalse(it.is_well)
+        finally:
+            it.kill()
+
+
+@common.wants_program
+class Spoilt(unittest.TestCase):
+    def flown(self, name, *lines, without=("THIS LANDING", "Traceback")):
+        """A flight that ends early, with all on the floor."""
+        status, out, rows = begun(name).result()
+        self.assertEqual(status, 1, out)
+        for line in lines:
+            self.assertRegex(as_if_idle(out), line, name)
+        for line in without:
+            self.assertNotIn(line, out, name)
+        for drone in "ab":
+            self.assertRegex(out, "end: %s: down, it says, at .*, disarmed" % drone, out)
+        self.assertTrue(all(height < 0.15 for height in last_heights(rows).values()), rows[-200:])
+
+    def test_in_the_show(self):
+        for name, words in (("dies", "the flight director ended: status None"), ("lies", "the flight director ended: status None"),
+                            ("hangs", "the flight director takes nothing any more")):
+            self.flown(name, "FAULT: %s; landing all\nlanded\n" % words)
+
+    def test_on_the_way_up(self):
+        self.flown("dies going up", "FAULT: the flight director ended: status None; landing all\nlanded\n")
+
+    def test_above_each_other(self):
+        # Where a landing would come down on another one all come home by a judged way, without the director.
+        self.flown("dies above", "FAULT: the flight director ended: status None; a landing of all now isn't shown apart .*: the stage that is flown "
+                   "goes to its end first\n", "all come down the way that they came\nlanded\n")
+        self.flown("dies in a stack", "FAULT: the flight director ended: status None; flying on: a landing of all now isn't shown apart",
+                   "landing, 2 drones: b a")
+
+
+if __name__ == "__main__":
+    unittest.main()
