@@ -13,10 +13,10 @@ uploaded is, by the program's own `upload --readback`; and so is who decides a f
 Three times it asks, and anything but `yes` ends the flight: before the upload, before take-off and before the start.
 
 Ctrl-C in flight lands all drones at once, straight down, through whatever is below; on the ways up and down only where
-that is judged. A second one stops all motors, and the drones fall. At a fault all land at the next instant at which `check` has shown that they keep apart, and fly their
-curves on until then. A drone that is silent flies its curve on, and so does everybody, to the end of the show, unless
---on-silence land is given. Have somebody at hand who can cut the power, too: where this program or its radio dies in
-flight, drones fly their trajectories to the end and stay there.
+that is judged. A second one stops all motors, and the drones fall. At a fault all land at the next instant at which
+`check` has shown that they keep apart, and fly their curves on until then. A drone that is silent flies its curve on,
+and so does everybody, to the end of the show, unless --on-silence land is given. Have somebody at hand who can cut the
+power, too: where this program or its radio dies in flight, drones fly their trajectories to the end and stay there.
 
 Status 0: flown and landed. 1: not flown, or landed early. 2: wrong words. 3 to 5: the show is refused. 60: motors were
 stopped. 70: no answer.

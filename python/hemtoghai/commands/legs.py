@@ -23,6 +23,7 @@ import os
 from hemtoghai.companion import ask_check, flown_of, many, missing, parser, stop
 from hemtoghai.flying import legs
 from hemtoghai.flying.landings import Landings
+from hemtoghai.language.choreo import Flown
 
 NO_WAY = 16
 
@@ -42,6 +43,19 @@ def write(leg: legs.Leg, path: str, name: str, show: str, top: int) -> None:
         print("  goes up to %.2f m, and the show to %.2f: --ceiling keeps it lower" % (leg.top() / 1000, top / 1000))
 
 
+def way_of(name: str, flown: Flown, pads: list[legs.Place], rules: legs.Rules, is_below: bool) -> legs.Leg:
+    """The way up or down; raises legs.NoWay."""
+    firsts, lasts, begin, end = legs.places_of(flown)
+    if name == "up":
+        leg = legs.way_up(flown.names, pads, firsts, begin, rules)
+        legs.refuse_still(leg, "begins")
+        return leg
+    leg = legs.down(flown.names, pads, lasts, begin, rules, is_below)
+    legs.refuse_still(leg, "ends")
+    leg.first_yaws = end
+    return leg
+
+
 def main(words: list[str]) -> int:
     reader = parser(__doc__)
     reader.add_argument("--out", metavar="FOLDER", default=".", help="the folder of the two shows; without it this one")
@@ -59,9 +73,8 @@ def main(words: list[str]) -> int:
     print("check: %s" % answer[1])
     if answer[0]:
         return answer[0]
-    firsts, lasts, begin, end = legs.places_of(flown)
     try:
-        pads = legs.read_pads(options.pads, flown.names) if options.pads else legs.below(firsts)
+        pads = legs.read_pads(options.pads, flown.names) if options.pads else legs.below(legs.places_of(flown)[0])
     except (OSError, ValueError) as error:
         stop(str(error))
     rules = legs.Rules(flown.show.settings, ceiling=options.ceiling)
@@ -69,13 +82,8 @@ def main(words: list[str]) -> int:
     status = 0
     for name in ("up", "down"):
         try:
-            if name == "up":
-                leg = legs.way_up(flown.names, pads, firsts, begin, rules)
-            else:
-                leg = legs.down(flown.names, pads, lasts, begin, rules, options.below)
-                leg.first_yaws = end
-            write(leg, os.devnull if options.dry else os.path.join(options.out, name + ".choreo"), name, options.show,
-                  legs.top_of(flown))
+            path = os.devnull if options.dry else os.path.join(options.out, name + ".choreo")
+            write(way_of(name, flown, pads, rules, options.below), path, name, options.show, legs.top_of(flown))
         except legs.NoWay as why:
             print("no way %s: %s" % (name, why))
             status = NO_WAY

@@ -42,8 +42,9 @@ def confirm(options: argparse.Namespace, answers: Answers, text: str, look: Call
 
 class Bridge(Home):
     """A flight by the director. `told_at` is up to when it was told of the time, `went` the same at the last go, and
-    `told` what it was told of each drone last. `ahead` are by drone the stages in which orders come, `to_arm` who was told to arm, and `came` the
-    answers that it wasn't told yet. `due_by` is when it has to have said something."""
+    `told` what it was told of each drone last. `ahead` are by drone the stages in which orders come, `to_arm` who was
+    told to arm, `sinking` who was told to land on the way down, `refusals` what drones refused, and `came` the answers
+    that the director wasn't told yet. `due_by` is when it has to have said something."""
 
     def __init__(self, fleet: Fleet, flown: Flown, ways: Ways, options: argparse.Namespace, watch: Watch,
                  answers: Answers) -> None:
@@ -199,8 +200,8 @@ class Bridge(Home):
         self.unheard[k] = place
         if order.kind == director.GO_TO:
             x, y, z, yaw = order.at
-            data, word = firmware.go_to(x / 1000, y / 1000, z / 1000, math.radians(yaw / 10), seconds), "go to its place"
-            self.aims[k] = x, y, z
+            data = firmware.go_to(x / 1000, y / 1000, z / 1000, math.radians(yaw / 10), seconds)
+            word, self.aims[k] = "go to its place", (x, y, z)
         else:
             (z,), lands = order.at, order.kind == director.SINK
             data = (firmware.land if lands else firmware.take_off)(z / 1000, seconds)
@@ -266,9 +267,9 @@ class Bridge(Home):
         if faults:
             raise Trouble("not flown: " + ", ".join(faults))
 
-    def say_go(self, is_taken: Callable[[], bool]) -> None:
+    def say_go(self, is_taken: Callable[[], bool], least: float = REPLIES) -> None:
         """Says go until the director takes it, but not for long."""
-        until = time.monotonic() + max(REPLIES, clock.real(GOES))
+        until = time.monotonic() + max(least, clock.real(GOES))
         while not is_taken():
             if time.monotonic() > until:
                 flags = director.ARMED if self.to_arm else director.READY
@@ -286,7 +287,7 @@ class Bridge(Home):
         self.ready()
         self.told_at = clock.now()
         self.step()
-        self.say_go(lambda: bool(self.to_arm))
+        self.say_go(lambda: bool(self.to_arm), REPLIES + 2 * self.ways.took)  # it may still judge the three shows
         while self.leg is not self.ways.up or self.begun < len(self.ways.up.stages):
             self.step()
         firsts, near = dict(enumerate(self.ways.firsts)), self.options.at_start
@@ -411,6 +412,7 @@ class Bridge(Home):
         status, words = 0, LANDING
         try:
             self.fly()
+            status = EARLY if self.over is not None and not self.over.is_flown else 0
         except (Trouble, Dead, Interrupted) as why:
             if not self.flying:
                 return self.not_flown(why)

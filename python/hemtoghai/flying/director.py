@@ -25,6 +25,7 @@ SILENT, ASTRAY, WRONG, REFUSED, LATE = range(5)  # faults; the director calls WR
 NOT_FLOWN = 8  # the status of a flight to whose director nothing happened
 MOST_MS, MOST_AGE, MOST_MM = 65535, 65535, 32767
 HANGS = 5.0  # real seconds for which the process may read nothing of what waits for it
+LONGEST = 600.0  # real seconds in which it has judged three shows
 MARKER = b"%%\n"
 
 
@@ -180,6 +181,8 @@ class Director:
     def is_free(self) -> bool:
         """Whether it has read all that was written. It isn't well where it hasn't for too long."""
         self.hear(b"")
+        if not self.is_well:
+            return False
         try:
             unread, = struct.unpack("i", fcntl.ioctl(self.writes_to, termios.FIONREAD, bytes(4)))
         except (OSError, ValueError):
@@ -244,7 +247,7 @@ def judged(words: Sequence[str], texts: Sequence[bytes]) -> List[Said]:
     try:
         director.close()
         while not out or not isinstance(out[-1], Ended):
-            said = director.wait(60)
+            said = director.wait(LONGEST)
             out.append(Ended(None) if said is None else said)
     finally:
         director.kill()

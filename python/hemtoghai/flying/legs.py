@@ -14,7 +14,8 @@ from hemtoghai.language.choreo import Flown
 
 __all__ = ["AIM", "GO_TO", "GROUND", "LAND", "LATE", "LIFT", "Leg", "NoWay", "Place", "Planner", "Rules", "SAME_FLOOR",
            "Stage", "TAKE_OFF", "apart", "ask_all", "below", "down", "judge_stages", "judged", "milliseconds_for",
-           "pads_by_name", "place_of", "places_of", "read_pads", "refusal_of", "refuse_still", "stage_texts", "standing_apart", "text_of", "top_of", "way_down", "way_up"]
+           "pads_by_name", "place_of", "places_of", "read_pads", "refusal_of", "refuse_still", "stage_texts",
+           "standing_apart", "text_of", "top_of", "way_down", "way_up"]
 
 
 def way_up(names: Sequence[str], pads: Sequence[Place], firsts: Sequence[Place], yaws: Sequence[int], rules: Rules) -> Leg:
@@ -57,8 +58,8 @@ def refuse_still(leg: Leg, word: str) -> None:
     takes none that doesn't rise and land."""
     still = [leg.names[k] for k in leg.begin if not any(k in stage.to for stage in leg.stages)]
     if still:
-        raise NoWay("the show of %s %s on the floor, and each drone has to be brought %s: have it %d mm above its pad there"
-                    % (", ".join(still), word, "up" if word == "begins" else "down", LIFT))
+        raise NoWay("the show of %s %s on the floor, and each drone has to be brought %s: have it %d mm above its pad "
+                    "there" % (", ".join(still), word, "up" if word == "begins" else "down", LIFT))
 
 
 def places_of(flown: Flown) -> Tuple[List[Place], List[Place], List[int], List[int]]:

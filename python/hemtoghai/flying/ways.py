@@ -18,8 +18,8 @@ from hemtoghai.language.choreo import Flown
 STARTS = range(0, 2001, 400)  # milliseconds after a start, at which it is judged as one that not all took
 PATIENCE = 120  # real seconds for which a take-off waits until landings on the ways are judged
 # Why the flight director takes three shows for no flight, by the numbers of its causes.
-CAUSES = ("has other drones than the show", "doesn't begin where the one before ends", "doesn't rest between two stages",
-          "has no move", "doesn't leave its pad straight up, or come to it straight down",
+CAUSES = ("has other drones than the show", "doesn't begin where the one before ends",
+          "doesn't rest between two stages", "has no move", "doesn't leave its pad straight up, or come to it straight down",
           "is judged with less stray than drones may stand aside")
 
 
@@ -77,10 +77,12 @@ class Ways:
 
     def ask_director(self) -> None:
         """Raises Trouble where the ways and the show are no flight to the director."""
+        begin = time.monotonic()
         try:
             *before, end = director.judged(self.director_words(), self.texts)
         except (program.Unusable, OSError) as why:
             raise Trouble("not flown: the flight director can't be started: %s" % why) from None
+        self.took = time.monotonic() - begin
         status = end.status if isinstance(end, director.Ended) else None
         if status == director.NOT_FLOWN:
             return

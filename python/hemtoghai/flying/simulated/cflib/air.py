@@ -108,7 +108,8 @@ class Drone:
         x, y, z = home
         self.place = [x + (0.5 if "astray" in faults else 0), y, 0.5 if "riser" in faults else z]
         self.plan: Optional[Tuple[Any, ...]] = None
-        self.floor, self.flies, self.armed, self.lands, self.hits, self.yaw = self.place[2], False, False, False, 0.0, 0.0
+        self.flies, self.armed, self.lands = False, False, False
+        self.floor, self.hits, self.yaw = self.place[2], 0.0, 0.0
         self.cut: Optional[float] = None  # when its motors stopped
         self.curve_began: Optional[float] = None
         self.starts: List[float] = []
