@@ -20,6 +20,7 @@ from hemtoghai.flying.watched import in_mm, Watched
 
 LEAD = 100  # milliseconds until a landing that is decided is begun
 MOST_PAIRS = 10  # that are named where all land
+WAYS = 3  # home that are begun, where drones don't answer on them
 HEARD_AGAIN = 5.0  # seconds for which one that didn't answer is waited for, before what is left is judged
 ANSWERS = 0.4  # real seconds in which `check` has to answer where drones fly on meanwhile
 OLD = 0.2  # seconds that a sample may be old by which a landing is judged
@@ -200,16 +201,23 @@ class Home(Watched):
 
     def go_home(self, front: str, why: str) -> Optional[str]:
         """Flies a judged way home from where all are at rest, and may not land for a reason; why not all may land in
-        its end, or None."""
-        at = self.places_planned()
-        leg, words = self.meanwhile(lambda: self.way_home(at))
-        if leg is None:
-            say("NEITHER A LANDING NOR A WAY DOWN is shown apart: %s" % landings.short(why))
-            return why
-        say("%s; a landing of all isn't shown apart (%s): all come down %s" % (front, landings.short(why), words))
-        for stage in leg.stages:
-            self.home_stage(stage)
-        return self.meanwhile(self.refusal_here) if self.up(self.all) else None
+        its end, or None. Who doesn't answer on it may be where it was: what is left is judged anew."""
+        planned = self.places_planned()
+        leg, words = self.meanwhile(lambda: self.way_home(planned))
+        for _ in range(WAYS):
+            if leg is None:
+                break
+            say("%s; a landing of all isn't shown apart (%s): all come down %s" % (front, landings.short(why), words))
+            if not any(map(self.home_stage, leg.stages)):
+                return self.meanwhile(self.refusal_here) if self.up(self.all) else None
+            self.wait_heard()
+            refusal = self.meanwhile(self.refusal_here)
+            if refusal is None:
+                return None
+            why, words, here = refusal, "by a new way", self.places_here()
+            leg = None if self.lost() else self.meanwhile(lambda: self.ways.new_judged(here, self.hold(here)))
+        say("NEITHER A LANDING NOR A WAY DOWN is shown apart: %s" % landings.short(why))
+        return why
 
     def wait_heard(self) -> None:
         """Waits until who may not have heard where to go says again where it is, but not for long: where it is, is
@@ -271,14 +279,15 @@ class Home(Watched):
 
     def home_stage(self, stage: legs.Stage, look: Callable[[], None] = lambda: None) -> List[str]:
         """A stage of the way home: it is flown whatever is wrong, but for what a look raises, and a second Ctrl-C stops
-        all motors. Who didn't answer, in words."""
+        all motors. Who didn't answer, or isn't down, in words."""
         seconds, mute = stage.milliseconds / 1000, []
-        if stage.kind == legs.LAND:
-            self.bring_down(list(stage.to), seconds, self.ways.rules.late / 1000)
-            return []
-        rows = self.go_to_rows(stage)
-        self.unheard = {k: self.aims[k] for k in rows}
+        before = {k: self.aims[k] for k in stage.to}
         self.aims.update(stage.to)
+        if stage.kind == legs.LAND:
+            up = self.bring_down(list(stage.to), seconds, self.ways.rules.late / 1000)
+            self.unheard = {k: before[k] for k in up}
+            return ["%s isn't down" % self.names[k] for k in up]
+        rows, self.unheard = self.go_to_rows(stage), before
 
         def go(drone: int) -> None:
             try:
@@ -331,10 +340,7 @@ class Home(Watched):
         if stage.kind == legs.LAND:
             say("landing, %s: %s, %.1f s" % (many(len(stage.to), "drone"), " ".join(self.names[k] for k in stage.to),
                                             stage.milliseconds / 1000))
-            self.aims.update(stage.to)
-        mute = self.home_stage(stage, self.guard)
-        off = self.up(stage.to) if stage.kind == legs.LAND else []
-        wrong = [*mute, *self.noted(), *("%s isn't down" % self.names[k] for k in off)]
+        wrong = [*self.home_stage(stage, self.guard), *self.noted()]
         if stage.kind != legs.LAND:
             wrong += ["%s isn't at the next place" % name for name in self.far_from(stage.to, self.options.at_start)]
         if wrong:
