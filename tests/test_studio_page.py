@@ -338,6 +338,17 @@ class Page(Led):
         self.says("TOO NEAR")
         self.assertEqual(self.text(), NEAR)
 
+    def test_found_of_older_text(self):
+        """What is listed of an older text fades below the verdict on a newer one."""
+        self.open(NEAR)
+        self.wait(lambda: "1 place where two are blocked" in self.words("found"), "no place")
+        self.wait(lambda: self.browser.run("return Boolean(found.notes)"), "no notes")
+        faded = self.browser.run(
+            "const it = document.getElementById('found'), before = it.className;"
+            "take({...found.verdict, status: 0, line: 'ok drones 2 cues 1 duration_ms 3000'});"
+            "return [before, it.className]")
+        self.assertEqual(faded, ["", "old"])
+
     def test_conflict(self):
         studio = self.open(GOOD)
         self.says("accepted")

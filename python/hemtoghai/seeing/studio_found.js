@@ -221,7 +221,7 @@ function showVerdict() {
   const {verdict, none} = found;
   if (none) return setBar("", "NO ANSWER", none.words);
   const by = verdict.judge !== "check" ? `NOT PROVED: ${verdict.why}` :
-    verdict.proved ? `${verdict.ms} ms` : `${verdict.ms} ms · NOT PROVED: ${verdict.why}`;
+    `judged in ${verdict.ms} ms${verdict.proved ? "" : ` · NOT PROVED: ${verdict.why}`}`;
   if (verdict.status === 0) return showAccepted(verdict, by);
   if (verdict.fault) return showFault(verdict, by);
   if (verdict.status === 5) return showNear(verdict, by);
@@ -289,8 +289,10 @@ function rich(words, parent) {
 }
 function showFound() {
   const {verdict, marks, notes} = found, panel = byId("found");
-  // Until more is known the older words stay, so that nothing jumps at each key.
-  if (verdict && !verdict.fault && !notes && !found.halted && [0, 4, 5].includes(verdict.status)) return;
+  // Until more is known the older words stay, so that nothing jumps at each key; they fade where that takes long.
+  const waits = verdict && !verdict.fault && !notes && !found.halted && [0, 4, 5].includes(verdict.status);
+  panel.classList.toggle("old", Boolean(waits));
+  if (waits) return;
   const open = panel.querySelector("details[open]") !== null, at = panel.scrollTop;
   panel.replaceChildren();
   if (verdict && verdict.fault) return listFault(verdict.fault, panel);
