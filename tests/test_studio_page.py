@@ -500,8 +500,8 @@ class Page(Led):
         self.assertEqual(self.browser.faults(), [])
 
     def test_order_of_menu(self):
-        """In a cue what moves all drones stands above the single ones. A click on the cue's button leaves the keys to the
-        text."""
+        """In a cue what moves all drones stands above the single ones. A click on the cue's button leaves the keys to
+        the text."""
         formation = "formation f\nat a 0 0 1000000 0\nat b 1000000 0 1000000 0\nend\n"
         self.open(GOOD.replace("cue 2000", formation + "cue 2000") + "cue 500\nend\n")
         self.says("2 cues")
@@ -711,7 +711,8 @@ class Page(Led):
         self.assertEqual(self.browser.run("return document.documentElement.scrollWidth"), 390)
         # The charts are as wide as their room from the first flight on.
         self.wait(lambda: self.browser.run("return Boolean(found.notes)"), "no notes")
-        wide = "return ['heights', 'share'].map(it => document.querySelector(`#${it} rect[fill=none]`).width.baseVal.value)"
+        wide = "return ['heights', 'share'].map(it => " \
+               "document.querySelector(`#${it} rect[fill=none]`).width.baseVal.value)"
         self.assertEqual([width > 250 for width in self.browser.run(wide)], [True, True])
         self.assertEqual(self.browser.faults(), [])
         self.open(example("formation_change"), size=(1280, 800))

@@ -42,8 +42,8 @@ const asShown = (value, unit) => {
   const [factor] = UNITS[unit], digits = Math.round(Math.log10(factor));
   return (value / factor).toFixed(digits).replace(/\.?0+$/, "") || "0";
 };
-// Shows the number of the cursor; while somebody writes into the field itself it stays, letter by letter: the `-0` on the
-// way to -0.5 is no 0.
+// Shows the number of the cursor. While somebody writes into the field itself its letters stay: on the way to -0.5 they
+// are -0, which isn't 0.
 function showNumber(force) {
   const input = byId("number-value");
   if ((writing || document.activeElement === input) && !force) return;
