@@ -297,6 +297,7 @@ FLIGHTS = {
     "high": (fly, b("high:0.9")), "riser": (fly, b("riser")), "pads": (with_pads, b("riser"), PADS),
     "stack": (with_pads, [], ASIDE, STACK), "stack no": (with_pads, [], ASIDE, STACK, "yes\nyes\nno\n"),
     "stack gap": (with_pads, ["--fault", "a:gap:5.8"], ASIDE, STACK),
+    "stack silent": (with_pads, [*b("refuses"), "--fault", "a:silent:1.9"], ASIDE, STACK, YES + "leave\n"),
     "stack refuses": (with_pads, b("refuses"), ASIDE, STACK), "stack falls": (with_pads, b("drains:0.2"), ASIDE, STACK),
     "auto": (fly, b("auto")), "timeout": (fly, ["--fault", "d9:timeout"], LAYERS), "reboots": (fly, b("reboots")),
     "turned": (fly, b("turned")), "flying": (fly, b("flying")),
@@ -441,6 +442,13 @@ class Hard(unittest.TestCase):
         self.assertRegex(as_if_idle(out), "FAULT: a doesn't answer(.*\n)*landed\n")
         self.assertNotIn("THIS LANDING", out)
         self.assertGreater(nearest(out), 0.6, out)
+
+    def test_a_way_home_ends_where_one_does_not_answer(self):
+        # b refuses the start, and a, below it, goes silent just before all go home: the upper one's landing isn't taken for
+        # judged.
+        out = self.flown("stack silent", 1, "FAULT: b refuses the start", "all come down the way that they came\na doesn't answer.*\n"
+                         "NEITHER A LANDING NOR A WAY DOWN is shown apart: a and b\n(.*\n)*THIS LANDING ISN'T SHOWN APART: a and b\n")
+        self.assertIn("end: a: NOT KNOWN: silent", out)
 
     # ---- before take-off
 
