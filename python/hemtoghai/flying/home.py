@@ -25,6 +25,7 @@ HEARD_AGAIN = 5.0  # seconds for which one that didn't answer is waited for, bef
 ANSWERS = 0.4  # real seconds in which `check` has to answer where drones fly on meanwhile
 OLD = 0.2  # seconds that a sample may be old by which a landing is judged
 ORDERED = 0.2  # real seconds in which the director has to order a landing
+SLOWER = 2.0  # seconds that its landing may take longer than all need
 NO_ANSWER = "`check` didn't answer in time"
 
 
@@ -48,11 +49,14 @@ class Home(Watched):
 
     def landing_ordered(self) -> Optional[float]:
         """Has the director order the landing of all, where that is what was judged: from where all are, at once, to one
-        height. Its seconds, or None where the director isn't asked, or doesn't answer."""
+        height. Its seconds, or None where the director isn't asked, or doesn't answer. It has one time for every height,
+        and isn't asked where that is much longer than it takes."""
         floors, is_landing = self.ways.floors, self.begun and self.leg.stages[self.begun - 1].kind == legs.LAND
         if not self.director.is_well or is_landing or max(floors) - min(floors) > legs.SAME_FLOOR:
             return None
         if len(self.up(self.all)) < len(self.all) or self.silent or self.out:
+            return None
+        if self.ways.descent / 1000 > self.seconds_down(self.all) + SLOWER:
             return None
         left, until = set(self.all), time.monotonic() + ORDERED
         self.director.hear(signal(LAND))
