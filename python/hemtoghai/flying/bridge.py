@@ -30,6 +30,7 @@ TELLS = 5  # seconds between two lines on how it goes
 GOES = 3.0  # seconds for which a go is said again: it counts only where all drones are as they have to be
 REPLY, REPLIES = 0.05, 1.0  # real seconds in which the director answers a go that it takes, and least ones for all
 PLACES = 8.0  # seconds in which all have to be at their first places, once the way up is over
+ENDS = 1.0  # real seconds in which all is heard that the director said before it ended
 PATIENCE = 12.0  # seconds after the end of a step until which the director has begun the next one, or said who is late
 MUTE = 255  # the status that the director is told of a drone that refuses, or has no answer
 
@@ -125,8 +126,11 @@ class Bridge(Home):
         self.tell_answers()
         for said in self.director.says():
             self.take(said)
-        if self.over is None and not self.director.is_well:
-            raise Trouble("the flight director takes nothing any more")
+        while self.over is None and not self.director.is_well:
+            said_last = self.director.wait(ENDS)  # what it said before it ended may still be under way
+            if said_last is None:
+                raise Trouble("the flight director takes nothing any more")
+            self.take(said_last)
         if clock.now() > self.due_by:
             raise Trouble("the flight director doesn't go on")
         clock.wait(LOOK)
