@@ -91,7 +91,7 @@ function toCue() {
 
 async function offer(path, title) {
   const asked = version;
-  tell("Working ..", ["Hide", () => {}]);
+  tell("Working, for two minutes at most", ["Hide", () => {}]);
   try {
     const answer = await (await post(path)).json();
     tell("");
