@@ -153,7 +153,7 @@ async function takeFlight(data) {
     begun = performance.now();
   }
   showFlight(data);
-  showAge();  // a narrow page gives the charts no room before
+  byId("flight").classList.replace("none", "old");  // a narrow page gives the charts no room before
   await drawInParts();
   if (mine === version) onCursor();
 }
