@@ -10,7 +10,7 @@ import unittest
 import common
 import flights
 from flights import as_if_idle, faster
-from hemtoghai.flying import director
+from hemtoghai.flying import director, ways
 from hemtoghai.flying.director import Cause, Ended, Noted, Order, Over, To
 from test_fly import HIGH, last_heights
 from test_fly_hard import ASIDE, STACK
@@ -113,6 +113,13 @@ class Frames(unittest.TestCase):
         for data in ("", "00", "06", "01 00 07", "02 09", "01 00 01 e8 03", "03 01", "05 03 01 02 2c", "45"):
             with self.assertRaises(ValueError, msg=data):
                 director.said_by(io.BytesIO(bytes.fromhex(data)))
+
+    def test_causes(self):
+        for numbers, words in (((0, 1, 0, 0), "a isn't the drone of the way down"), ((1, 2, 1, 0), "b doesn't end its way down where its way up"),
+                               ((2, 0, 1, 4), "b doesn't rest on its way up, in stage 5"), ((3, 1, 0, 0), "a has no move down"),
+                               ((4, 0, 0, 0), "a doesn't leave its pad straight up"), ((5, 0, 0, 0), "a may stand farther from its pad"),
+                               ((6, 0, 0, 0), "a cause 6"), ((1, 9, 9, 0), "a drone cause 1")):
+            self.assertIn(words, ways.words_of(Cause(*numbers), ["a", "b"]))
 
     def test_what_is_told(self):
         self.assertEqual(director.clock_frames(0), b"")

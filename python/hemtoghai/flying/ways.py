@@ -17,10 +17,22 @@ from hemtoghai.language.choreo import Flown
 
 STARTS = range(0, 2001, 400)  # milliseconds after a start, at which it is judged as one that not all took
 PATIENCE = 120  # real seconds for which a take-off waits until landings on the ways are judged
-# Why the flight director takes three shows for no flight, by the numbers of its causes.
-CAUSES = ("has other drones than the show", "doesn't begin where the one before ends",
-          "doesn't rest between two stages", "has no move", "doesn't leave its pad straight up, or come to it straight down",
-          "is judged with less stray than drones may stand aside")
+# Why the flight director takes three shows for no flight, by the numbers of its causes and by the way or the seam.
+CAUSES = (("isn't the drone of the way up", "isn't the drone of the way down"),
+          ("doesn't begin the show where its way up ends", "doesn't begin its way down where the show ends",
+           "doesn't end its way down where its way up begins"),
+          ("doesn't rest on its way up, in stage %d", "doesn't rest on its way down, in stage %d"),
+          ("has no move up", "has no move down"),
+          ("doesn't leave its pad straight up", "doesn't come to its pad straight down"),
+          ("may stand farther from its pad than its way up is judged for",))
+
+
+def words_of(cause: director.Cause, names: Sequence[str]) -> str:
+    """A cause in words."""
+    places: Sequence[str] = CAUSES[cause.number] if cause.number < len(CAUSES) else ()
+    words = places[cause.where] if cause.where < len(places) else "cause %d" % cause.number
+    return "%s %s" % (names[cause.drone] if cause.drone < len(names) else "a drone",
+                      words % (cause.cue + 1) if "%d" in words else words)
 
 
 class Ways:
@@ -86,13 +98,9 @@ class Ways:
         status = end.status if isinstance(end, director.Ended) else None
         if status == director.NOT_FLOWN:
             return
-        words = ["the way up, the show and the way down are no flight to `direct`: status %s" % status]
-        for cause in before:
-            if isinstance(cause, director.Cause) and cause.number < len(CAUSES):
-                words.append("%s, %s, stage %d: %s" % (
-                    self.flown.names[cause.drone] if cause.drone < len(self.flown.names) else "a drone",
-                    ("up", "down", "to the pads")[min(2, cause.where)], cause.cue + 1, CAUSES[cause.number]))
-        raise Trouble("not flown: %s" % "; ".join(words))
+        words = [words_of(cause, self.flown.names) for cause in before if isinstance(cause, director.Cause)]
+        raise Trouble("not flown: the way up, the show and the way down are no flight to `direct`, status %s%s" % (
+            status, ": " + "; ".join(words) if words else ""))
 
     # ---- what is judged before take-off
 
