@@ -313,6 +313,7 @@ class Bridge(Home):
     def start(self) -> None:
         """Starts all drones, and says how far apart their starts may be."""
         (trajectory,) = self.flown.show.settings["trajectory"]
+        self.zero = clock.now()  # whatever comes of it: a start that isn't known to have gone out may have been taken
         rows = self.fleet.start(trajectory, self.options.copies, not self.options.unicast)
         begin, end = min(row[0] for row in rows.values()), max(row[1] for row in rows.values())
         self.zero = begin

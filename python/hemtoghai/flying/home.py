@@ -149,7 +149,9 @@ class Home(Watched):
 
     def refusal_from(self, at: Dict[int, legs.Place]) -> Optional[str]:
         """The same, with drones at these places."""
-        now = clock.now()
+        now, mute = clock.now(), self.mute()
+        if mute:
+            return "%s not heard just now" % self.words_of(mute)
         moving = [k for k in self.silent if at[k] != self.ways.pads[k]] if now < self.stage_ends else []
         if moving:
             return "%s silent on the way" % self.words_of(moving)
@@ -224,10 +226,12 @@ class Home(Watched):
         return why
 
     def wait_heard(self) -> None:
-        """Waits until who may not have heard where to go says again where it is, but not for long: where it is, is
-        known of nobody else."""
+        """Waits until who may not have heard where to go, and who isn't heard, says again where it is, but not for long:
+        where it is, is known of nobody else."""
         until = clock.now() + HEARD_AGAIN
-        while self.lost() and clock.now() < until:
+        while (self.lost() or self.mute()) and clock.now() < until:
+            for words in self.listen():
+                say("FAULT besides: %s" % words)
             self.pause(clock.now() + 0.1)
 
     def places_planned(self) -> Dict[int, legs.Place]:

@@ -167,6 +167,10 @@ class Watched(Descent):
         """Who isn't led any more: on its pad, silent, or not flying."""
         return {k for k in self.all if at[k] == self.ways.pads[k] or not self.is_fresh(k)} | self.out
 
+    def mute(self) -> List[int]:
+        """Who isn't heard, and isn't counted as silent: not yet, or since this program itself stood still."""
+        return [k for k in self.all if not self.is_fresh(k) and k not in self.silent | self.out | self.landed]
+
     def lost(self) -> List[int]:
         """Who may not have heard where to go and doesn't say now where it is: it is there, or where it was before."""
         times = {k: self.fleet.states[k].measured for k, place in self.unheard.items() if place != self.aims[k]}
