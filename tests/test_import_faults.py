@@ -249,7 +249,8 @@ class Limits(Case):
         for name, most in (("NUMBERS", 3000), ("LINES", 5000)):
             self.addCleanup(setattr, foreign, name, getattr(foreign, name))
             setattr(foreign, name, most)
-        self.assertIn("more than 5000 lines", self.refused(3, "--waypoints", self.file("a.csv", "0,0,0,1\n" + "\n" * 5000)))
+        path = self.file("a.csv", "0,0,0,1\n" + "\n" * 5000)
+        self.assertIn("more than 5000 lines", self.refused(3, "--waypoints", path))
         rows = "".join("%s,0,0,0,1\n" % ("!" * k) for k in range(1, 34))  # names of which a show makes one
         self.assertIn("33 drones, and a show", self.refused(3, "--waypoints", self.file("a.csv", rows)))
         rows = "".join("%d,0,0,1\n" % k for k in range(751))
@@ -262,7 +263,8 @@ class Limits(Case):
         for one in drones:
             one["settings"]["trajectory"] = {"$ref": "#/way"}
         whole = files.show(drones, way={"points": [[k, [0, 0, 1]] for k in range(24)], "version": 1})
-        self.assertIn("more than 3000 numbers", self.refused(3, self.file("a.skyc", files.archive({"show.json": whole}))))
+        path = self.file("a.skyc", files.archive({"show.json": whole}))
+        self.assertIn("more than 3000 numbers", self.refused(3, path))
 
     def test_ellipsoid(self):
         words = ["--ellipsoid", "1 2000", self.file("a.csv", "1,0.0004,0,1\n")]
