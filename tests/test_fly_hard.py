@@ -446,7 +446,7 @@ class Hard(unittest.TestCase):
     def test_a_way_home_ends_where_one_does_not_answer(self):
         # b refuses the start, and a, below it, goes silent just before all go home: the upper one's landing isn't taken for
         # judged.
-        out = self.flown("stack silent", 1, "FAULT: b refuses the start", "all come down the way that they came\na doesn't answer.*\n"
+        out = self.flown("stack silent", 1, "FAULT: b refuses the start", "(all come down the way that they came\na doesn't answer.*\n)?"
                          "NEITHER A LANDING NOR A WAY DOWN is shown apart: a and b\n(.*\n)*THIS LANDING ISN'T SHOWN APART: a and b\n")
         self.assertIn("end: a: NOT KNOWN: silent", out)
 

@@ -26,6 +26,7 @@ from hemtoghai.language.choreo import Flown
 
 LOOK = 0.05  # seconds between two looks at all drones
 AT_ONCE = 8  # samples that the director is told at once in the show
+MOST_TOLD, STILL = 200, 50  # milliseconds that it is told at once, and real ones
 TELLS = 5  # seconds between two lines on how it goes
 GOES = 3.0  # seconds for which a go is said again: it counts only where all drones are as they have to be
 REPLY, REPLIES = 0.2, 1.0  # real seconds in which the director answers a go that it takes, and least ones for all
@@ -82,10 +83,11 @@ class Bridge(Home):
         """Tells the director how much time passed, and what is new of drones: in the show, where it compares samples
         with curves, of few at a time, those first of whom it knows the least. Nothing is told while it hasn't read what
         it was told before, or until the show's time begins, in the middle of when drones may have started."""
-        now, states = clock.now(), self.fleet.states
-        passed = int(1000 * (now - self.told_at))
+        states, passed = self.fleet.states, int(1000 * (clock.now() - self.told_at))
         if not self.director.is_free() or passed < 0:
             return
+        # A machine that stood still makes that good bit by bit, so that drones aren't late whom it couldn't hear.
+        passed = min(passed, max(MOST_TOLD, int(STILL / clock.real(1))))
         self.told_at += passed / 1000
         frames, rows = director.clock_frames(passed), [(state.heard, self.flags(k)) for k, state in enumerate(states)]
         new = sorted((k for k in self.all if rows[k] != self.told[k]), key=lambda k: self.told[k][0] or 0.0)
@@ -93,7 +95,8 @@ class Bridge(Home):
             at = states[k].measured
             if at is not None:
                 self.told[k] = rows[k]
-                frames += director.sample(k, 1000 * (now - at), [1000 * v for v in states[k].where()], rows[k][1])
+                age = 1000 * (self.told_at - at)
+                frames += director.sample(k, age, [1000 * v for v in states[k].where()], rows[k][1])
         self.director.hear(frames)
 
     def tell_answers(self) -> None:
@@ -131,7 +134,7 @@ class Bridge(Home):
             if said_last is None:
                 raise Trouble("the flight director takes nothing any more")
             self.take(said_last)
-        if clock.now() > self.due_by:
+        if self.told_at > self.due_by:  # it was told so: a machine that stood still isn't to blame
             raise Trouble("the flight director doesn't go on")
         clock.wait(LOOK)
 
@@ -157,7 +160,7 @@ class Bridge(Home):
             raise Trouble("; ".join(self.refusals.values()) or "%s refuses an order" % name)
         if fault == director.LATE:
             raise Trouble(k < len(self.names) and self.unfit(k, director.ARMED * (k in self.to_arm)) or
-                          "%s isn't as the next step wants it" % name)
+                          "%s isn't as the next step wants it for long enough" % name)
         if fault == director.WRONG:
             raise Trouble(self.wrong_with(k) or "%s is lost" % name)
         if fault == director.ASTRAY and self.ways.rules.show_stray:

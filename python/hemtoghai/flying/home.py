@@ -148,15 +148,19 @@ class Home(Watched):
         return None
 
     def refusal_from(self, at: Dict[int, legs.Place]) -> Optional[str]:
-        """The same, with drones at these places."""
-        now, mute = clock.now(), self.mute()
-        if mute:
-            return "%s not heard just now" % self.words_of(mute)
+        """The same, with drones at these places: who isn't heard stays where it is, or is told to land as all are."""
+        now, land = clock.now(), set(self.all) - self.hold(at)
         moving = [k for k in self.silent if at[k] != self.ways.pads[k]] if now < self.stage_ends else []
         if moving:
             return "%s silent on the way" % self.words_of(moving)
-        to = {k: (*at[k][:2], self.ways.pads[k][2]) for k in set(self.all) - self.hold(at)}
-        flown = self.leg.stages[self.begun - 1] if self.begun and now < self.stage_ends else None
+        mute = {k for k in self.mute() if at[k] != self.ways.pads[k]}
+        cases = [land, land | mute] if mute else [land]
+        return next((why for why in (self.refusal_of(at, drones) for drones in cases) if why), None)
+
+    def refusal_of(self, at: Dict[int, legs.Place], drones: Set[int]) -> Optional[str]:
+        """The same, where some land and all others stay."""
+        to = {k: (*at[k][:2], self.ways.pads[k][2]) for k in drones}
+        flown = self.leg.stages[self.begun - 1] if self.begun and clock.now() < self.stage_ends else None
         if flown and flown.kind == legs.LAND and not set(to) <= set(flown.to):
             return "%s on the way down" % self.words_of(flown.to)  # a landing isn't broken off by another
         if not to or flown and flown.kind == legs.LAND:
@@ -226,12 +230,9 @@ class Home(Watched):
         return why
 
     def wait_heard(self) -> None:
-        """Waits until who may not have heard where to go, and who isn't heard, says again where it is, but not for long:
-        where it is, is known of nobody else."""
+        """Waits until all say again where they are, but not for long: where it is, is known of nobody else."""
         until = clock.now() + HEARD_AGAIN
         while (self.lost() or self.mute()) and clock.now() < until:
-            for words in self.listen():
-                say("FAULT besides: %s" % words)
             self.pause(clock.now() + 0.1)
 
     def places_planned(self) -> Dict[int, legs.Place]:

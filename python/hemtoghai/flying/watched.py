@@ -168,8 +168,9 @@ class Watched(Descent):
         return {k for k in self.all if at[k] == self.ways.pads[k] or not self.is_fresh(k)} | self.out
 
     def mute(self) -> List[int]:
-        """Who isn't heard, and isn't counted as silent: not yet, or since this program itself stood still."""
-        return [k for k in self.all if not self.is_fresh(k) and k not in self.silent | self.out | self.landed]
+        """Who isn't heard, and isn't known to be on its pad: it may land where it is told to, or stay where it is."""
+        return [k for k, place in self.places_here().items()
+                if not self.is_fresh(k) and k not in self.out and place != self.ways.pads[k]]
 
     def lost(self) -> List[int]:
         """Who may not have heard where to go and doesn't say now where it is: it is there, or where it was before."""
