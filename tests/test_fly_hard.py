@@ -258,6 +258,24 @@ def stays(seconds=14):
     return status, out
 
 
+def stands_still(after, seconds=3.0):
+    """A flight that stands still for some real seconds, as on a machine that sleeps, so many simulated seconds after the
+    show, where one goes home above the other: its status, and the output."""
+    process = subprocess.Popen(
+        [common.SHOW, "fly", "--simulate", "--sim", "speed=%d" % faster(4), "--yes", SHOW], cwd=common.TOP, stdin=subprocess.DEVNULL,
+        stdout=subprocess.PIPE, stderr=subprocess.STDOUT, universal_newlines=True)
+    out = ""
+    for line in process.stdout:
+        out += line
+        if line.startswith("flown:"):
+            time.sleep(after / faster(4))
+            process.send_signal(signal.SIGSTOP)
+            time.sleep(seconds)
+            process.send_signal(signal.SIGCONT)
+    process.stdout.close()
+    return process.wait(), out
+
+
 def limited(words, size):
     """A flight in which no file gets longer than this: its status, the output, and the rows of the log."""
     with tempfile.TemporaryDirectory() as room:
@@ -325,7 +343,7 @@ FLIGHTS = {
     "slow and below": (while_check_is_slow, "taking off", 4.4, STACK, ASIDE),
     "senseless": (fly, b("senseless")), "volts": (fly, b("volts")), "loses": (fly, b("loses:1.5"), SHOW, YES + "leave\n"),
     "short": (fly, b("short")), "wreck": (fly, b("falls:4.6"), PASSING), "wanders": (fly, b("wanders:1"), BESIDE),
-    "hovers unasked": (stays,), "disk": (limited, [], 1500), "unread": (unread,),
+    "still": (stands_still, 2.0), "still above": (stands_still, 5.5), "hovers unasked": (stays,), "disk": (limited, [], 1500), "unread": (unread,),
 }
 RUNS = flights.Flights(AT_ONCE, FLIGHTS)
 begun, forget, setUpModule = RUNS.begun, RUNS.forget, RUNS.set_up
@@ -449,6 +467,15 @@ class Hard(unittest.TestCase):
         out = self.flown("stack silent", 1, "FAULT: b refuses the start", "(all come down the way that they came\na doesn't answer.*\n)?"
                          "NEITHER A LANDING NOR A WAY DOWN is shown apart: a and b\n(.*\n)*THIS LANDING ISN'T SHOWN APART: a and b\n")
         self.assertIn("end: a: NOT KNOWN: silent", out)
+
+    def test_a_machine_that_stands_still(self):
+        # Nobody is heard in that time, and nobody is taken for late, or for where it isn't.
+        for name in ("still", "still above"):
+            status, out = begun(name).result()
+            self.assertIn(status, (0, 1), out)
+            self.assertNotIn("THIS LANDING", out)
+            self.assertGreater(nearest(out), 0.6, out)
+            self.assertEqual((end(out, "a")[0], end(out, "b")[0]), (0.0, 0.0), out)
 
     # ---- before take-off
 
