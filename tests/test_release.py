@@ -631,7 +631,7 @@ class Manual(unittest.TestCase):
             self.assertIn("\n.TP\n.B %s\n%s" % (form.replace("-", "\\-"), what[:1].upper()), text)
         with open(os.path.join(TOP, "docs", "COMMANDS.md")) as file:
             page = file.read()
-        part = page[page.index("## Statuses and fault lines"):page.index("Of `upload` these")]
+        part = page[page.index("## Statuses and fault lines"):page.index("These are the end frames of `upload`")]
         statuses = re.findall(r"^\| (\d+) \|", part, re.M)
         self.assertEqual(re.findall(r"^\.TP\n(\d+): ", text, re.M), statuses)
         self.assertGreater(len(statuses), 25)
