@@ -192,8 +192,8 @@ class Spoilt(unittest.TestCase):
         self.assertTrue(all(height < 0.15 for height in last_heights(rows).values()), rows[-200:])
 
     def test_in_the_show(self):
-        for name, words in (("dies", "the flight director ended: status None"), ("lies", "the flight director ended: status None"),
-                            ("hangs", "the flight director takes nothing any more")):
+        ended = "the flight director ended: status None"
+        for name, words in (("dies", ended), ("lies", ended), ("hangs", "the flight director takes nothing any more")):
             self.flown(name, "FAULT: %s; landing all\nlanded\n" % words)
 
     def test_on_the_way_up(self):
@@ -201,10 +201,10 @@ class Spoilt(unittest.TestCase):
 
     def test_above_each_other(self):
         # Where a landing would come down on another one all come home by a judged way, without the director.
-        self.flown("dies above", "FAULT: the flight director ended: status None; a landing of all now isn't shown apart .*: the stage that is flown "
-                   "goes to its end first\n", "all come down the way that they came\nlanded\n")
-        self.flown("dies in a stack", "FAULT: the flight director ended: status None; flying on: a landing of all now isn't shown apart",
-                   "landing, 2 drones: b a")
+        ended = "FAULT: the flight director ended: status None; "
+        self.flown("dies above", ended + "a landing of all now isn't shown apart .*: the stage that is flown goes to its "
+                   "end first\n", "all come down the way that they came\nlanded\n")
+        self.flown("dies in a stack", ended + "flying on: a landing of all now isn't shown apart", "landing, 2 drones: b a")
 
 
 if __name__ == "__main__":
