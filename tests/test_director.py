@@ -93,21 +93,42 @@ def spoilt(what, mark, after, show, pads=None):
 FLIGHTS = {
     "dies": (spoilt, "dies", STARTED, 1.0, HIGH), "lies": (spoilt, "lies", STARTED, 1.0, HIGH),
     "hangs": (spoilt, "hangs", STARTED, 1.0, HIGH), "dies going up": (spoilt, "dies", RISEN, 4.0, HIGH),
-    "dies above": (spoilt, "dies", RISEN, 5.2, STACK, ASIDE), "dies in a stack": (spoilt, "dies", STARTED, 1.0, STACK, ASIDE),
+    "dies above": (spoilt, "dies", RISEN, 5.2, STACK, ASIDE),
+    "dies in a stack": (spoilt, "dies", STARTED, 1.0, STACK, ASIDE),
 }
+# Frames of the director, as docs/PROMISES.md has them.
+SAID = [
+    ("01 02 00", To(2, Order(director.ARM))),
+    ("01 00 01 e8 03 d0 07 00 00", To(0, Order(director.RISE, (1000,), 2000))),
+    ("01 01 02 d0 07 ff ff e8 03 7c fc 70 11 01 00", To(1, Order(director.GO_TO, (2000, -1, 1000, -900), 70000))),
+    ("01 01 03 00 00 a0 0f 00 00", To(1, Order(director.SINK, (0,), 4000))),
+    ("02 04", To(None, Order(director.START))),
+    ("02 05", To(None, Order(director.HALT))),
+    ("03 01 04", Noted(1, director.LATE)),
+    ("04 03", Over(True, True)),
+    ("04 01", Over(True, False)),
+    ("04 00", Over(False, False)),
+    ("05 03 01 02 2c 01", Cause(3, 1, 2, 300)),
+    ("45 13", Ended(19)),
+]
+# Causes why three shows are no flight: the cause, the way or the seam, the drone and the cue.
+CAUSES = [
+    ((0, 1, 0, 0), "a isn't the drone of the way down"),
+    ((1, 2, 1, 0), "b doesn't end its way down where its way up"),
+    ((2, 0, 1, 4), "b doesn't rest on its way up, in stage 5"),
+    ((3, 1, 0, 0), "a has no move down"),
+    ((4, 0, 0, 0), "a doesn't leave its pad straight up"),
+    ((5, 0, 0, 0), "a may stand farther from its pad"),
+    ((6, 0, 0, 0), "a cause 6"),
+    ((1, 9, 9, 0), "a drone cause 1"),
+]
 RUNS = flights.Flights(3, FLIGHTS)
 begun, forget, setUpModule = RUNS.begun, RUNS.forget, RUNS.set_up
 
 
 class Frames(unittest.TestCase):
     def test_what_is_said(self):
-        for data, said in (("01 02 00", To(2, Order(director.ARM))),
-                           ("01 00 01 e8 03 d0 07 00 00", To(0, Order(director.RISE, (1000,), 2000))),
-                           ("01 01 02 d0 07 ff ff e8 03 7c fc 70 11 01 00", To(1, Order(director.GO_TO, (2000, -1, 1000, -900), 70000))),
-                           ("01 01 03 00 00 a0 0f 00 00", To(1, Order(director.SINK, (0,), 4000))), ("02 04", To(None, Order(director.START))),
-                           ("02 05", To(None, Order(director.HALT))), ("03 01 04", Noted(1, director.LATE)), ("04 03", Over(True, True)),
-                           ("04 01", Over(True, False)), ("04 00", Over(False, False)), ("05 03 01 02 2c 01", Cause(3, 1, 2, 300)),
-                           ("45 13", Ended(19))):
+        for data, said in SAID:
             stream = io.BytesIO(bytes.fromhex(data))
             self.assertEqual((director.said_by(stream), stream.read()), (said, b""), data)
         for data in ("", "00", "06", "01 00 07", "02 09", "01 00 01 e8 03", "03 01", "05 03 01 02 2c", "45"):
@@ -115,16 +136,14 @@ class Frames(unittest.TestCase):
                 director.said_by(io.BytesIO(bytes.fromhex(data)))
 
     def test_causes(self):
-        for numbers, words in (((0, 1, 0, 0), "a isn't the drone of the way down"), ((1, 2, 1, 0), "b doesn't end its way down where its way up"),
-                               ((2, 0, 1, 4), "b doesn't rest on its way up, in stage 5"), ((3, 1, 0, 0), "a has no move down"),
-                               ((4, 0, 0, 0), "a doesn't leave its pad straight up"), ((5, 0, 0, 0), "a may stand farther from its pad"),
-                               ((6, 0, 0, 0), "a cause 6"), ((1, 9, 9, 0), "a drone cause 1")):
+        for numbers, words in CAUSES:
             self.assertIn(words, ways.words_of(Cause(*numbers), ["a", "b"]))
 
     def test_what_is_told(self):
         self.assertEqual(director.clock_frames(0), b"")
         self.assertEqual(director.clock_frames(70000).hex(" "), "01 ff ff 01 71 11")
-        self.assertEqual(director.sample(1, 299.6, [2000.4, -1, -99999], director.READY | director.DOWN).hex(" "), "02 01 2c 01 d0 07 ff ff 01 80 09")
+        frame = director.sample(1, 299.6, [2000.4, -1, -99999], director.READY | director.DOWN)
+        self.assertEqual(frame.hex(" "), "02 01 2c 01 d0 07 ff ff 01 80 09")
         self.assertEqual((director.answer(1, 5), director.signal(director.STOP)), (b"\x03\x01\x05", b"\x04\x02"))
 
 
@@ -132,7 +151,8 @@ class Frames(unittest.TestCase):
 class Process(unittest.TestCase):
     def said(self, events, texts=(UP, SHOW, DOWN)):
         """What the director says to events, each a list of frames, to its end."""
-        it, out = director.Director(["--near", "100", "--at", "50", "--descent", "4001", "--silence", "3000"], texts), []
+        words = ["--near", "100", "--at", "50", "--descent", "4001", "--silence", "3000"]
+        it, out = director.Director(words, texts), []
         try:
             for frames in events:
                 it.hear(frames)
@@ -150,13 +170,15 @@ class Process(unittest.TestCase):
         go, clock = director.signal(director.GO), director.clock_frames
         up = [at(0, ready | down), go, at(0, armed | down), clock(2000), at(1000, armed), clock(1000), at(1000, armed), go]
         risen = [To(0, Order(director.ARM)), To(0, Order(director.RISE, (1000,), 2000)), To(None, Order(director.START))]
-        show = [clock(500), at(1000, armed), clock(500), at(1000, armed), clock(2500), at(0, armed | down), clock(1000), at(0, armed | down),
-                at(0, down)]
+        show = [clock(500), at(1000, armed), clock(500), at(1000, armed), clock(2500), at(0, armed | down), clock(1000),
+                at(0, armed | down), at(0, down)]
         flown = [To(0, Order(director.SINK, (0,), 2500)), To(None, Order(director.DISARM)), Over(True, True), Ended(0)]
         self.assertEqual(self.said(up + show), risen + flown)
         lands = [To(0, Order(director.SINK, (0,), 4001)), To(None, Order(director.HALT)), Over(False, False), Ended(20)]
-        self.assertEqual(self.said([*up, director.signal(director.LAND), director.signal(director.STOP), at(0, down)]), risen + lands)
-        self.assertEqual(self.said([*up, director.answer(0, 5)]), [*risen, Noted(0, director.REFUSED), lands[0], Ended(8)])
+        stopped = [*up, director.signal(director.LAND), director.signal(director.STOP), at(0, down)]
+        self.assertEqual(self.said(stopped), risen + lands)
+        refused = [*risen, Noted(0, director.REFUSED), lands[0], Ended(8)]
+        self.assertEqual(self.said([*up, director.answer(0, 5)]), refused)
 
     def test_no_flight(self):
         self.assertEqual(director.judged(["--near", "100"], [UP, SHOW, DOWN]), [Ended(8)])
