@@ -1,9 +1,12 @@
 //! Whether drones keep to regions.
-use crate::curves::{Curve, Whole};
-use crate::fleet::{Fleet, Show};
-use crate::separation::halves_of;
+use crate::curves::{halves, Curve, Whole};
+use crate::fleet::Show;
+use crate::text::Text;
 
 const DEPTH: u32 = 6;
+
+/// The bounds of a region are at most so many millimetres from the middle.
+const FARTHEST: i64 = 100_000;
 
 /// Up to this depth control values of single curves are below 2^63.
 const NARROW_DEPTH: u32 = 5;
@@ -16,16 +19,16 @@ struct Region {
 }
 
 impl Region {
-    /// The region of a line, for drones that reach so far on each axis.
-    fn of(line: &str, by: [i64; 3]) -> Option<Region> {
-        let mut words = line.split_whitespace();
-        let keepout = match words.next()? {
-            "keepout" => true,
-            "volume" => false,
+    /// The region of the next line, for drones that reach so far on each axis.
+    fn read(text: &mut Text, by: [i64; 3]) -> Option<Region> {
+        let keepout = match text.word() {
+            b"" => return None,
+            b"keepout" => true,
+            b"volume" => false,
             _ => panic!("a region"),
         };
-        let mut next = || words.next().and_then(|it| it.parse::<i64>().ok()).expect("a number");
-        let (low, high): ([i64; 3], [i64; 3]) = ([next(), next(), next()], [next(), next(), next()]);
+        let mut place = || [(); 3].map(|()| text.number(-FARTHEST, FARTHEST));
+        let (low, high) = (place(), place());
         let by = if keepout { by } else { by.map(|it| -it) };
         let aside = |axis: usize, sign: i64| sign * by[axis];
         Some(Region {
@@ -65,26 +68,36 @@ where
     if depth == NARROW_DEPTH && size_of::<T>() == 8 {
         return entering::<i128>(region, &part.map(|curve| curve.map(i128::from)), depth);
     }
-    let [left, right] = halves_of(part);
+    let [x, y, z] = [halves(&part[0]), halves(&part[1]), halves(&part[2])];
+    let (left, right) = ([x.0, y.0, z.0], [x.1, y.1, z.1]);
     entering(region, &left, depth + 1)
         .or_else(|| entering(region, &right, depth + 1).map(|index| index + (1 << (DEPTH - depth - 1))))
 }
 
+/// The regions of a text, for drones that reach so far on each axis.
+fn regions(mut text: Text, by: [i64; 3]) -> Vec<Region> {
+    let mut out = Vec::new();
+    while !text.is_done() {
+        out.extend(Region::read(&mut text, by));
+        text.end_line();
+    }
+    out
+}
+
 /// The line on regions.
-pub fn judged(show: &Show, fleet: &Fleet, text: &[u8]) -> Result<String, String> {
-    let text = std::str::from_utf8(text).expect("a text");
+pub fn judged(show: &Show, text: Text) -> Result<String, String> {
     let by = [show.r + show.stray, show.r + show.stray, show.h + show.stray];
-    let regions: Vec<Region> = text.lines().filter_map(|line| Region::of(line, by)).collect();
+    let regions = regions(text, by);
     for (k, region) in regions.iter().enumerate() {
         for (drone, name) in show.names.iter().enumerate() {
-            if region.keeps(&fleet.bounds[drone].map(|it| it.map(i64::from)), 1) {
+            if region.keeps(&show.bounds[drone].rows(), 1) {
                 continue;
             }
-            for (cue, segment) in fleet.flight(drone).iter().enumerate() {
-                if region.keeps(&segment.bounds.map(|it| it.map(i64::from)), 1) {
+            for (cue, segment) in show.flight(drone).enumerate() {
+                if region.keeps(&segment.bounds.rows(), 1) {
                     continue;
                 }
-                let part = std::array::from_fn(|axis| segment.raised(axis));
+                let part = [0, 1, 2].map(|axis| segment.raised(axis).map(i64::from));
                 if let Some(index) = entering(region, &part, 0) {
                     let (region, cue, parts) = (k + 1, cue + 1, 1 << DEPTH);
                     return Err(format!("error 15 region {region} drone {name} cue {cue} part {index} of {parts}\n"));

@@ -1,12 +1,13 @@
 //! Curves of degree seven in whole numbers: for the plain programs that cut them.
 use std::ops::{Add, Mul, Shl, Sub};
 
-/// Whole numbers, of 64 bits or of 128.
+/// Whole numbers, of 32 bits, 64 or 128.
 pub trait Whole:
     Copy + Default + Ord + Add<Output = Self> + Sub<Output = Self> + Mul<Output = Self> + Shl<u32, Output = Self>
 {
 }
 
+impl Whole for i32 {}
 impl Whole for i64 {}
 impl Whole for i128 {}
 
@@ -30,7 +31,7 @@ pub const CHOOSE: [[i64; 8]; 8] = {
 };
 
 /// By degree, for each control value of degree seven, how often each control value goes into 5,040 times it.
-const SHARES: [[[i64; 8]; 8]; 8] = {
+const SHARES: [[[i32; 8]; 8]; 8] = {
     let mut shares = [[[0; 8]; 8]; 8];
     let mut n = 0;
     while n < 8 {
@@ -39,7 +40,7 @@ const SHARES: [[[i64; 8]; 8]; 8] = {
             let mut j = 0;
             while j <= n {
                 if j <= k && k - j <= 7 - n {
-                    shares[n][k][j] = 5040 / CHOOSE[7][k] * CHOOSE[n][j] * CHOOSE[7 - n][k - j];
+                    shares[n][k][j] = (5040 / CHOOSE[7][k] * CHOOSE[n][j] * CHOOSE[7 - n][k - j]) as i32;
                 }
                 j += 1;
             }
@@ -51,12 +52,12 @@ const SHARES: [[[i64; 8]; 8]; 8] = {
 };
 
 /// The control values raised to degree seven, times 5,040.
-pub fn raised(points: &[i64]) -> Curve<i64> {
-    let mut out = [0; 8];
-    for (v, shares) in out.iter_mut().zip(&SHARES[points.len() - 1]) {
-        *v = shares.iter().zip(points).map(|(share, point)| share * point).sum();
-    }
-    out
+#[inline]
+pub fn raised<T: Whole + From<i32>>(points: &[T]) -> Curve<T> {
+    std::array::from_fn(|k| {
+        let shares = SHARES[points.len() - 1][k].iter().zip(points);
+        shares.fold(T::default(), |sum, (share, point)| sum + T::from(*share) * *point)
+    })
 }
 
 /// Both halves, at a scale of 2^7 times the whole.

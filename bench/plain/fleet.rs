@@ -1,14 +1,96 @@
-//! Shows as their texts say them, and what their drones fly.
+//! A show as its text says it, and what its drones fly.
 use crate::curves::{raised, Curve};
-use std::collections::HashMap;
+use crate::text::Text;
 
-/// A place in micrometres.
-type Point = [i64; 3];
+/// Millimetres on x, y and z. The fourth number is 0, so that four lanes hold a place.
+pub type Place = [i16; 4];
 
-/// A cue's milliseconds, and for each drone the points that its curve goes by, where it flies one.
-pub struct Cue {
-    pub ms: i64,
-    acts: Vec<Option<[Point; 3]>>,
+/// The least and the greatest value on each axis, in millimetres.
+#[derive(Clone, Copy)]
+pub struct Bounds {
+    pub low: Place,
+    pub high: Place,
+}
+
+impl Bounds {
+    const NONE: Bounds = Bounds { low: [i16::MAX; 4], high: [i16::MIN; 4] };
+
+    fn with(self, other: Bounds) -> Bounds {
+        Bounds {
+            low: std::array::from_fn(|axis| self.low[axis].min(other.low[axis])),
+            high: std::array::from_fn(|axis| self.high[axis].max(other.high[axis])),
+        }
+    }
+
+    fn of(points: &[Place; 4]) -> Bounds {
+        let [a, b, c, d] = points.map(|low| Bounds { low, high: low });
+        a.with(b).with(c.with(d))
+    }
+
+    /// Whether they are apart by at least as much as this on some axis.
+    pub fn are_far(&self, other: &Bounds, gaps: &[i32; 3]) -> bool {
+        (0..3).any(|axis| {
+            let [low, high] = [self.low[axis], self.high[axis]].map(i32::from);
+            (i32::from(other.low[axis]) - high).max(low - i32::from(other.high[axis])) >= gaps[axis]
+        })
+    }
+
+    /// As whole numbers by axis.
+    pub fn rows(&self) -> [[i64; 2]; 3] {
+        std::array::from_fn(|axis| [self.low[axis].into(), self.high[axis].into()])
+    }
+}
+
+/// What a drone flies in a cue: a cubic curve by four points, or a `move`, whose control values of degree seven are four
+/// times the first point and four times the last.
+#[derive(Clone, Copy)]
+pub struct Segment {
+    points: [Place; 4],
+    is_move: bool,
+    pub bounds: Bounds,
+}
+
+impl Segment {
+    fn hold(at: Place) -> Segment {
+        Segment { points: [at; 4], is_move: false, bounds: Bounds { low: at, high: at } }
+    }
+
+    /// Whether it moves on an axis.
+    pub fn moves(&self, axis: usize) -> bool {
+        self.bounds.low[axis] < self.bounds.high[axis]
+    }
+
+    fn holds(&self) -> bool {
+        self.bounds.low == self.bounds.high
+    }
+
+    pub fn begin(&self) -> Place {
+        self.points[0]
+    }
+
+    /// Its degree on an axis.
+    pub fn degree(&self, axis: usize) -> usize {
+        match (self.moves(axis), self.is_move) {
+            (false, _) => 0,
+            (true, false) => 3,
+            (true, true) => 7,
+        }
+    }
+
+    /// Its control values on an axis: as many as its degree there and one more.
+    pub fn values(&self, axis: usize) -> impl Iterator<Item = i16> + '_ {
+        let degree = self.degree(axis);
+        (0..=degree).map(move |k| self.points[if degree == 7 { k / 4 * 3 } else { k }][axis])
+    }
+
+    /// Its control values of degree seven on an axis, times 5,040.
+    pub fn raised(&self, axis: usize) -> Curve<i32> {
+        let [a, b, c, d] = self.points.map(|point| i32::from(point[axis]));
+        if self.is_move {
+            return [a, a, a, a, d, d, d, d].map(|v| 5040 * v);
+        }
+        raised(&[a, b, c, d])
+    }
 }
 
 pub struct Show {
@@ -21,167 +103,159 @@ pub struct Show {
     pub memory: u8,
     pub offset: u32,
     pub names: Vec<String>,
-    starts: Vec<Point>,
-    pub cues: Vec<Cue>,
+    /// The milliseconds of each cue.
+    pub times: Vec<i64>,
+    /// The bounds of each flight.
+    pub bounds: Vec<Bounds>,
+    starts: Vec<Place>,
+    /// By cue, and in each by drone.
+    segments: Vec<Segment>,
+    /// The drone whose act is likely to come next.
+    next: usize,
 }
 
-/// A whole number between two others.
-fn number(word: &[u8], low: i64, high: i64) -> i64 {
-    let digits = word.strip_prefix(b"-").unwrap_or(word);
-    assert!(!digits.is_empty() && digits.len() <= 12, "a number");
-    let mut size = 0;
-    for digit in digits {
-        assert!(digit.is_ascii_digit(), "a number");
-        size = 10 * size + i64::from(digit - b'0');
-    }
-    let value = if digits.len() < word.len() { -size } else { size };
-    assert!(low <= value && value <= high, "a number in its bounds");
-    value
+/// A trajectory as it is sent has at most so many pieces, of at most so many milliseconds each, and memory so many bytes.
+const MOST_PIECES: usize = 255;
+const LONGEST_PIECE: i64 = 65_535;
+const MEMORY: usize = 4096;
+
+/// The next number of micrometres in millimetres, halves up.
+fn millimetres(text: &mut Text) -> i16 {
+    // Made positive, so that the quotient is rounded down.
+    let micrometres = text.number(-100_000_000, 100_000_000) + 100_000_500;
+    i16::try_from((micrometres as u32 / 1000) as i32 - 100_000).expect("a coordinate that fits")
 }
 
-/// The points that words name, three coordinates each.
-fn points<const N: usize>(words: &[&[u8]]) -> [Point; N] {
-    let mut out = [[0; 3]; N];
-    assert!(words.len() == 3 * N, "points");
-    for (point, words) in out.iter_mut().zip(words.chunks(3)) {
-        for (v, word) in point.iter_mut().zip(words) {
-            *v = number(word, -100_000_000, 100_000_000);
-        }
-    }
-    out
+fn place(text: &mut Text) -> Place {
+    [millimetres(text), millimetres(text), millimetres(text), 0]
 }
 
-/// Fills in the words of the first line of a text, and returns what comes after it.
-fn line_of<'a>(text: &'a [u8], words: &mut Vec<&'a [u8]>) -> &'a [u8] {
-    let mut at = 0;
-    words.clear();
-    while at < text.len() {
-        match text[at] {
-            b'\n' => return &text[at + 1..],
-            b' ' | b'\t' | b'\r' => at += 1,
-            b'#' => {
-                let comment = text[at..].iter().take_while(|b| matches!(b, b'\t' | b'\r' | b' '..=b'~'));
-                at += comment.count();
-            }
-            b'!'..=b'~' => {
-                let begin = at;
-                while at < text.len() && matches!(text[at], b'!'..=b'~') && text[at] != b'#' {
-                    at += 1;
-                }
-                words.push(&text[begin..at]);
-            }
-            _ => panic!("characters of a show"),
-        }
-    }
-    &[]
+fn no_yaw(text: &mut Text) {
+    assert!(text.word() == b"0", "a yaw of 0");
 }
 
 impl Show {
-    /// The show that a text stands for.
-    pub fn read(mut text: &[u8]) -> Show {
-        let (names, starts, cues) = (Vec::new(), Vec::new(), Vec::new());
-        let mut show = Show { r: 120, h: 300, stray: 0, late: 0, memory: 2, offset: 0, names, starts, cues };
-        let mut drones = HashMap::new();
-        let mut words = Vec::new();
-        while !text.is_empty() {
-            text = line_of(text, &mut words);
-            match words.as_slice() {
-                [] | [b"choreo", b"1"] | [b"end"] => {}
-                [b"memory", id, at] => (show.memory, show.offset) = (number(id, 0, 255) as u8, number(at, 0, 4095) as u32),
-                [b"ellipsoid", r, h] => (show.r, show.h) = (number(r, 1, 2000), number(h, 1, 2000)),
-                [b"stray", stray] => show.stray = number(stray, 0, 1000),
-                [b"late", late] => show.late = number(late, 0, 1000),
-                [b"drone", name, place @ .., b"0"] => {
-                    drones.insert(*name, show.starts.len());
-                    show.names.push(String::from_utf8_lossy(name).into_owned());
-                    show.starts.push(points::<1>(place)[0]);
+    /// The show that a text stands for, up to a line of two percent signs.
+    pub fn read(text: &mut Text) -> Show {
+        let (names, starts, times, segments, bounds) = (Vec::new(), Vec::new(), Vec::new(), Vec::new(), Vec::new());
+        let (r, h, stray, late, memory, offset, next) = (120, 300, 0, 0, 2, 0, 0);
+        let mut show = Show { r, h, stray, late, memory, offset, names, times, bounds, starts, segments, next };
+        while !text.is_done() {
+            match text.word() {
+                b"%%" => {
+                    text.end_line();
+                    break;
                 }
-                [b"cue", ms] => {
-                    show.cues.push(Cue { ms: number(ms, 1, 65_535), acts: vec![None; show.starts.len()] });
-                }
-                [name, b"curve", way @ .., b"0"] => {
-                    show.cues.last_mut().expect("a cue").acts[drones[name]] = Some(points(way));
-                }
-                _ => panic!("a line that is known"),
+                word => show.line(word, text),
             }
+            text.end_line();
         }
+        show.bounds = (0..show.drones()).map(|drone| show.flight(drone).fold(Bounds::NONE, |all, it| all.with(it.bounds))).collect();
+        assert!((0..show.drones()).all(|drone| show.fits(drone)), "trajectories that fit into the memory");
         show
     }
-}
 
-/// Micrometres in millimetres, halves up.
-fn millimetres(micrometres: i64) -> i16 {
-    i16::try_from((micrometres + 500).div_euclid(1000)).expect("a coordinate that fits")
-}
-
-/// The control values of a drone in a cue on each axis, in millimetres, and their bounds.
-pub struct Segment {
-    pub points: [[i16; 4]; 3],
-    pub bounds: [[i32; 2]; 3],
-}
-
-impl Segment {
-    fn of(points: [[i16; 4]; 3]) -> Segment {
-        let bounds = points.map(|row| {
-            let [a, b, c, d] = row.map(i32::from);
-            [a.min(b).min(c.min(d)), a.max(b).max(c.max(d))]
-        });
-        Segment { points, bounds }
-    }
-
-    /// Whether it moves on an axis.
-    pub fn moves(&self, axis: usize) -> bool {
-        self.bounds[axis][0] < self.bounds[axis][1]
-    }
-
-    /// Its raised curve on an axis.
-    pub fn raised(&self, axis: usize) -> Curve<i64> {
-        if self.moves(axis) {
-            raised(&self.points[axis].map(i64::from))
-        } else {
-            [5040 * i64::from(self.points[axis][0]); 8]
-        }
-    }
-}
-
-/// All that drones fly, drone by drone and cue by cue, and the bounds of each flight.
-pub struct Fleet {
-    pub drones: usize,
-    pub cues: usize,
-    pub segments: Vec<Segment>,
-    pub bounds: Vec<[[i32; 2]; 3]>,
-}
-
-/// The bounds of some segments on each axis.
-fn bounds_of(flight: &[Segment]) -> [[i32; 2]; 3] {
-    flight.iter().fold([[i32::MAX, i32::MIN]; 3], |all, it| {
-        std::array::from_fn(|axis| [all[axis][0].min(it.bounds[axis][0]), all[axis][1].max(it.bounds[axis][1])])
-    })
-}
-
-impl Fleet {
-    pub fn of(show: &Show) -> Fleet {
-        let (drones, cues) = (show.starts.len(), show.cues.len());
-        let mut segments = Vec::with_capacity(drones * cues);
-        for (drone, start) in show.starts.iter().enumerate() {
-            let mut at = start.map(millimetres);
-            let mut bytes = 11;
-            for cue in &show.cues {
-                let way = cue.acts[drone].map(|way| way.map(|point| point.map(millimetres)));
-                let [by, near, to] = way.unwrap_or([at; 3]);
-                let segment = Segment::of(std::array::from_fn(|axis| [at[axis], by[axis], near[axis], to[axis]]));
-                bytes += 3 + 6 * (0..3).filter(|&axis| segment.moves(axis)).count();
-                segments.push(segment);
-                at = to;
+    /// Reads the rest of a line with this first word.
+    fn line(&mut self, word: &[u8], text: &mut Text) {
+        match word {
+            b"" | b"end" => {}
+            b"choreo" => assert!(text.word() == b"1", "a text of form 1"),
+            b"memory" => (self.memory, self.offset) = (text.number(0, 255) as u8, text.number(0, 4095) as u32),
+            b"ellipsoid" => (self.r, self.h) = (text.number(1, 2000), text.number(1, 2000)),
+            b"stray" => self.stray = text.number(0, 1000),
+            b"late" => self.late = text.number(0, 1000),
+            b"drone" => {
+                assert!(self.times.is_empty(), "drones before cues");
+                self.names.push(String::from_utf8_lossy(text.word()).into_owned());
+                self.starts.push(place(text));
+                no_yaw(text);
             }
-            assert!(bytes + show.offset as usize <= 4096, "a trajectory that fits into a drone's memory");
+            b"cue" => self.begin_cue(text.number(1, 65_535)),
+            name => self.act(name, text),
         }
-        let bounds = segments.chunks(cues).map(bounds_of).collect();
-        Fleet { drones, cues, segments, bounds }
+    }
+
+    /// Adds a cue in which all drones hold.
+    fn begin_cue(&mut self, ms: i64) {
+        let last = self.segments.len().saturating_sub(self.drones());
+        for drone in 0..self.drones() {
+            let at = self.segments.get(last + drone).map_or(self.starts[drone], |it| it.points[3]);
+            self.segments.push(Segment::hold(at));
+        }
+        self.times.push(ms);
+        self.next = 0;
+    }
+
+    /// Reads the act of a drone into its place in the last cue.
+    fn act(&mut self, name: &[u8], text: &mut Text) {
+        let is_next = self.names.get(self.next).is_some_and(|it| it.as_bytes() == name);
+        let drone = if is_next { Some(self.next) } else { self.names.iter().position(|it| it.as_bytes() == name) };
+        let drone = drone.expect("a line that is known");
+        let first = self.segments.len().checked_sub(self.drones()).expect("a cue");
+        let segment = &mut self.segments[first + drone];
+        segment.is_move = match text.word() {
+            b"curve" => false,
+            b"move" => true,
+            _ => panic!("an act that is known"),
+        };
+        if segment.is_move {
+            let to = place(text);
+            (segment.points[1], segment.points[2], segment.points[3]) = (segment.points[0], to, to);
+        } else {
+            segment.points[1..].fill_with(|| place(text));
+        }
+        no_yaw(text);
+        segment.bounds = Bounds::of(&segment.points);
+        self.next = drone + 1;
+    }
+
+    pub fn drones(&self) -> usize {
+        self.names.len()
+    }
+
+    pub fn cues(&self) -> usize {
+        self.times.len()
     }
 
     /// The segments of a drone.
-    pub fn flight(&self, drone: usize) -> &[Segment] {
-        &self.segments[drone * self.cues..][..self.cues]
+    pub fn flight(&self, drone: usize) -> impl Iterator<Item = &Segment> {
+        self.segments[drone.min(self.segments.len())..].iter().step_by(self.drones())
+    }
+
+    /// No two drones are farther apart on an axis, in millimetres.
+    pub fn widest(&self) -> i64 {
+        let all = self.bounds.iter().fold(Bounds::NONE, |all, it| all.with(*it));
+        all.rows().map(|[low, high]| high - low).into_iter().fold(0, i64::max)
+    }
+
+    /// What all drones fly, cue by cue, with the milliseconds.
+    pub fn flown(&self) -> impl Iterator<Item = (i64, &Segment)> {
+        let cues = self.times.iter().zip(self.segments.chunks(self.drones().max(1)));
+        cues.flat_map(|(&ms, cue)| cue.iter().map(move |segment| (ms, segment)))
+    }
+
+    /// What a drone flies in a cue.
+    pub fn segment(&self, drone: usize, cue: usize) -> &Segment {
+        &self.segments[cue * self.drones() + drone]
+    }
+
+    /// The pieces that a drone is sent with their milliseconds, holds joined.
+    pub fn pieces(&self, drone: usize) -> Vec<(i64, &Segment)> {
+        let mut out: Vec<(i64, &Segment)> = Vec::with_capacity(self.cues());
+        for (&ms, segment) in self.times.iter().zip(self.flight(drone)) {
+            match out.last_mut() {
+                Some((all, last)) if last.holds() && segment.holds() && *all + ms <= LONGEST_PIECE => *all += ms,
+                _ => out.push((ms, segment)),
+            }
+        }
+        out
+    }
+
+    /// Whether a drone's trajectory fits into its memory.
+    fn fits(&self, drone: usize) -> bool {
+        let pieces = self.pieces(drone);
+        let size = |it: &Segment| 3 + 2 * (0..3).map(|axis| it.degree(axis)).sum::<usize>();
+        let bytes = 11 + pieces.iter().map(|(_, it)| size(it)).sum::<usize>();
+        bytes + self.offset as usize <= MEMORY && pieces.len() <= MOST_PIECES
     }
 }

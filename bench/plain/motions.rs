@@ -1,6 +1,6 @@
 //! How fast drones are at most, and how far they move while one is late.
 use crate::curves::{widest, widest_step};
-use crate::fleet::{Fleet, Segment, Show};
+use crate::fleet::{Segment, Show};
 use std::fmt::Write;
 
 /// By parts of this depth speeds are bounded, whatever the depth of the search.
@@ -15,7 +15,7 @@ fn fastest(segment: &Segment, ms: i64, axis: usize, depth: u32, found: i128) -> 
     if !segment.moves(axis) {
         return found;
     }
-    let curve = segment.raised(axis);
+    let curve = segment.raised(axis).map(i64::from);
     let (step, ms) = (widest_step(&curve), i128::from(ms));
     let time = 5_040 * ms;
     if i128::from(7_000_000 * step) <= time * found {
@@ -28,12 +28,12 @@ fn fastest(segment: &Segment, ms: i64, axis: usize, depth: u32, found: i128) -> 
 }
 
 /// The lines of all drones' speeds by parts of a depth.
-pub fn speeds(show: &Show, fleet: &Fleet, depth: u32) -> String {
+pub fn speeds(show: &Show, depth: u32) -> String {
     let mut out = String::new();
     for (drone, name) in show.names.iter().enumerate() {
         let of = |axis| {
-            let flight = fleet.flight(drone).iter().zip(&show.cues);
-            flight.fold(0, |found, (segment, cue)| fastest(segment, cue.ms, axis, depth, found))
+            let flight = show.flight(drone).zip(&show.times);
+            flight.fold(0, |found, (segment, &ms)| fastest(segment, ms, axis, depth, found))
         };
         let [x, y, z] = [0, 1, 2].map(of);
         writeln!(out, "speed {name} {x} {y} {z}").expect("room");
@@ -42,14 +42,12 @@ pub fn speeds(show: &Show, fleet: &Fleet, depth: u32) -> String {
 }
 
 /// How many millimetres any drone moves on each axis at most in the time by which one may be late.
-pub fn reach(show: &Show, fleet: &Fleet) -> [i64; 3] {
+pub fn reach(show: &Show) -> [i64; 3] {
     if show.late == 0 {
         return [0; 3];
     }
     [0, 1, 2].map(|axis| {
-        let found = fleet.segments.iter().enumerate().fold(0, |found, (k, segment)| {
-            fastest(segment, show.cues[k % fleet.cues].ms, axis, REACH_DEPTH, found)
-        });
+        let found = show.flown().fold(0, |found, (ms, segment)| fastest(segment, ms, axis, REACH_DEPTH, found));
         (i128::from(show.late) * found + 999_999).div_euclid(1_000_000).min(FARTHEST) as i64
     })
 }

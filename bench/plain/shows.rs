@@ -11,51 +11,54 @@
 //!     shows boxes < SHOW-AND-REGIONS
 mod boxes;
 mod curves;
+mod directions;
 mod fleet;
+mod lanes;
 mod motions;
 mod plans;
 mod rows;
 mod separation;
+mod text;
 
-use fleet::{Fleet, Show};
-use separation::Table;
+use directions::Table;
+use fleet::Show;
 use std::io::{self, Read, Write};
+use text::Text;
 
 /// The drones of a show as `play` flies them.
-fn played(show: &Show, fleet: &Fleet) -> Vec<rows::Drone> {
-    let segment = |(cue, it): (&fleet::Cue, &fleet::Segment)| {
-        let points = |axis: usize| it.points[axis][..if it.moves(axis) { 4 } else { 1 }].iter().map(|v| i64::from(*v)).collect();
-        rows::Segment { ms: cue.ms as u64, axes: [points(0), points(1), points(2), vec![0]] }
+fn played(show: &Show) -> Vec<rows::Drone> {
+    let segment = |(&ms, it): (&i64, &fleet::Segment)| {
+        let points = |axis: usize| it.values(axis).map(i64::from).collect();
+        rows::Segment { ms: ms as u64, axes: [points(0), points(1), points(2), vec![0]] }
     };
-    let flight = |drone| show.cues.iter().zip(fleet.flight(drone)).map(segment).collect();
+    let flight = |drone| show.times.iter().zip(show.flight(drone)).map(segment).collect();
     show.names.iter().enumerate().map(|(drone, name)| rows::Drone::new(name.as_bytes(), flight(drone))).collect()
 }
 
 /// What a command writes at status 0, or the line of a refusal. Rows are written as they are made.
-fn answer(command: &str, option: u32, show: &Show, second: &[u8]) -> Result<Vec<u8>, String> {
-    let fleet = Fleet::of(show);
+fn answer(command: &str, option: u32, mut text: Text) -> Result<Vec<u8>, String> {
+    let show = Show::read(&mut text);
     if command == "speed" {
-        return Ok(motions::speeds(show, &fleet, option).into_bytes());
+        return Ok(motions::speeds(&show, option).into_bytes());
     }
     if command == "boxes" {
-        return boxes::judged(show, &fleet, second).map(String::into_bytes);
+        return boxes::judged(&show, text).map(String::into_bytes);
     }
-    let table = Table::make(show, motions::reach(show, &fleet));
+    let table = Table::make(&show, motions::reach(&show));
     match command {
-        "certify" => return separation::certificate(show, &fleet, &table),
-        "verify" => return Ok(separation::verified(&fleet, &table, second).into_bytes()),
-        _ => separation::check(show, &fleet, &table)?,
+        "certify" => return separation::certificate(&show, &table),
+        "verify" => return Ok(separation::verified(&show, &table, text).into_bytes()),
+        _ => separation::check(&show, &table)?,
     }
     match command {
-        "compile" => Ok(plans::plan(show, &fleet)),
+        "compile" => Ok(plans::plan(&show)),
         "play" => {
-            let mut drones = played(show, &fleet);
-            rows::write(&mut drones, option.into(), rows::Work::All, &mut io::stdout().lock()).expect("a sink");
+            rows::write(&mut played(&show), option.into(), rows::Work::All, &mut io::stdout().lock()).expect("a sink");
             Ok(Vec::new())
         }
         _ => {
-            let ms: i64 = show.cues.iter().map(|cue| cue.ms).sum();
-            Ok(format!("ok drones {} cues {} duration_ms {ms}\n", fleet.drones, fleet.cues).into_bytes())
+            let (drones, cues, ms) = (show.drones(), show.cues(), show.times.iter().sum::<i64>());
+            Ok(format!("ok drones {drones} cues {cues} duration_ms {ms}\n").into_bytes())
         }
     }
 }
@@ -65,10 +68,7 @@ fn main() -> io::Result<()> {
     let option = words.get(2).map_or(0, |word| word.parse().expect("a number"));
     let mut input = Vec::new();
     io::stdin().read_to_end(&mut input)?;
-    let has_second = matches!(words[0].as_str(), "verify" | "boxes");
-    let marker = if has_second { input.windows(4).position(|it| it == b"\n%%\n") } else { None };
-    let (text, second) = marker.map_or((&input[..], &[][..]), |at| (&input[..at], &input[at + 4..]));
-    match answer(&words[0], option, &Show::read(text), second) {
+    match answer(&words[0], option, Text::new(&input)) {
         Ok(out) => io::stdout().write_all(&out),
         Err(line) => {
             io::stdout().write_all(line.as_bytes())?;
