@@ -146,6 +146,11 @@ impl Block {
         let most = of(&|it| -it.likely, f32::NEG_INFINITY);
         Block { weights: std::array::from_fn(|axis| of(&|it| it.weights[axis] as f32, 0.0)), least, most }
     }
+
+    #[inline(always)]
+    fn weighed(&self, [x, y, z]: [Four; 3]) -> Four {
+        self.weights[0] * x + self.weights[1] * y + self.weights[2] * z
+    }
 }
 
 /// Some directions, by bits: k of `below` is the direction k, and k of `above` its opposite, 97 - k.
@@ -210,13 +215,34 @@ impl Table {
     }
 
     /// The directions that may separate a part with a control value at this place.
-    pub fn likely(&self, [x, y, z]: [Four; 3]) -> Likely {
+    pub fn likely(&self, place: [Four; 3]) -> Likely {
         let mut likely = Likely { below: 0, above: 0 };
         for (k, block) in self.blocks.iter().enumerate() {
-            let sums = block.weights[0] * x + block.weights[1] * y + block.weights[2] * z;
+            let sums = block.weighed(place);
             likely.below |= u64::from(sums.reaches(block.least)) << (4 * k);
             likely.above |= u64::from(block.most.reaches(sums)) << (4 * k);
         }
         likely
+    }
+
+    /// The first direction that passes a test, of those that may separate a part with control values at both places. Four
+    /// and four are weighed in the order of the table, since the first one mostly is among the first.
+    #[inline(always)]
+    pub fn first(&self, places: [[Four; 3]; 2], mut test: impl FnMut(usize) -> bool) -> Option<usize> {
+        for (k, block) in self.blocks.iter().enumerate() {
+            let (first, last) = (block.weighed(places[0]), block.weighed(places[1]));
+            let below = u64::from(first.least(last).reaches(block.least)) << (4 * k);
+            if let Some(found) = (Likely { below, above: 0 }).find(|k| test(*k)) {
+                return Some(found);
+            }
+        }
+        for (k, block) in self.blocks.iter().enumerate().rev() {
+            let (first, last) = (block.weighed(places[0]), block.weighed(places[1]));
+            let above = u64::from(block.most.reaches(first.most(last))) << (4 * k);
+            if let Some(found) = (Likely { below: 0, above }).find(|k| test(*k)) {
+                return Some(found);
+            }
+        }
+        None
     }
 }

@@ -1,5 +1,6 @@
 //! A show as its text says it, and what its drones fly.
 use crate::curves::{raised, Curve};
+use crate::lanes::extent;
 use crate::text::Text;
 
 /// Millimetres on x, y and z. The fourth number is 0, so that four lanes hold a place.
@@ -23,8 +24,8 @@ impl Bounds {
     }
 
     fn of(points: &[Place; 4]) -> Bounds {
-        let [a, b, c, d] = points.map(|low| Bounds { low, high: low });
-        a.with(b).with(c.with(d))
+        let [low, high] = extent(points);
+        Bounds { low, high }
     }
 
     /// Whether they are apart by at least as much as this on some axis.
@@ -120,6 +121,7 @@ const LONGEST_PIECE: i64 = 65_535;
 const MEMORY: usize = 4096;
 
 /// The next number of micrometres in millimetres, halves up.
+#[inline(always)]
 fn millimetres(text: &mut Text) -> i16 {
     // Made positive, so that the quotient is rounded down.
     let micrometres = text.number(-100_000_000, 100_000_000) + 100_000_500;
@@ -127,7 +129,9 @@ fn millimetres(text: &mut Text) -> i16 {
 }
 
 fn place(text: &mut Text) -> Place {
-    [millimetres(text), millimetres(text), millimetres(text), 0]
+    let mut place = [0; 4];
+    place[..3].fill_with(|| millimetres(text));
+    place
 }
 
 fn no_yaw(text: &mut Text) {

@@ -24,6 +24,10 @@ impl Four {
         Four(unsafe { _mm_min_ps(self.0, other.0) })
     }
 
+    pub fn most(self, other: Four) -> Four {
+        Four(unsafe { _mm_max_ps(self.0, other.0) })
+    }
+
     /// Bit k says whether lane k reaches that of the other.
     pub fn reaches(self, other: Four) -> u32 {
         unsafe { _mm_movemask_ps(_mm_cmpge_ps(self.0, other.0)) as u32 }
@@ -62,5 +66,16 @@ impl Mul for Four {
 
     fn mul(self, other: Four) -> Four {
         Four(unsafe { _mm_mul_ps(self.0, other.0) })
+    }
+}
+
+/// The least and the greatest of four places by lane.
+pub fn extent(places: &[[i16; 4]; 4]) -> [[i16; 4]; 2] {
+    unsafe {
+        let [first, last] = std::mem::transmute::<[[i16; 4]; 4], [__m128i; 2]>(*places);
+        let (low, high) = (_mm_min_epi16(first, last), _mm_max_epi16(first, last));
+        let low = _mm_min_epi16(low, _mm_unpackhi_epi64(low, low));
+        let high = _mm_max_epi16(high, _mm_unpackhi_epi64(high, high));
+        std::mem::transmute(_mm_unpacklo_epi64(low, high))
     }
 }

@@ -26,6 +26,11 @@ fn halves_of(part: &Points) -> [Points; 2] {
     [left, right]
 }
 
+/// The places at both ends of a whole cue.
+fn ends_of(rows: &Rows) -> [[Four; 3]; 2] {
+    [rows.map(|row| row[0].spread::<0>()), rows.map(|row| row[1].spread::<255>())]
+}
+
 /// A search over a pair of drones in a cue, and where its nodes go.
 struct Search<'a, F> {
     table: &'a Table,
@@ -37,12 +42,21 @@ impl<F: FnMut(Node)> Search<'_, F> {
     /// Notes the tree of the cue, or finds the first part of the greatest depth that no direction separates.
     fn whole(&mut self) -> Result<(), u32> {
         let rows = &self.pair.rows;
-        let ends = [rows.map(|row| row[0].spread::<0>()), rows.map(|row| row[1].spread::<255>())];
-        let likely = ends.map(|end| self.table.likely(end));
-        if self.is_separated(rows, 0, 0, likely[0].and(likely[1])) {
+        if let Some(k) = self.table.first(ends_of(rows), |k| self.table.directions[k].separates(self.pair, rows, 0, 0)) {
+            (self.note)(Node::Leaf(k));
             return Ok(());
         }
-        self.split(&points_of(rows), 0, 0, likely)
+        self.split(&points_of(rows), 0, 0, ends_of(rows).map(|end| self.table.likely(end)))
+    }
+
+    /// The same where whole cues mostly have no direction: both ends are weighed once, along all directions.
+    fn near(&mut self) -> Result<(), u32> {
+        let rows = &self.pair.rows;
+        let ends = ends_of(rows).map(|end| self.table.likely(end));
+        if self.is_separated(rows, 0, 0, ends[0].and(ends[1])) {
+            return Ok(());
+        }
+        self.split(&points_of(rows), 0, 0, ends)
     }
 
     /// The same for a part, by its depth, its index and the directions that are likely at its ends.
@@ -110,7 +124,7 @@ pub fn check(show: &Show, table: &Table) -> Result<(), String> {
             let pair = Pair::new(&first[cue], &second[cue]);
             if !table.directions[last].separates(&pair, &pair.rows, 0, 0) {
                 let note = |node| if let Node::Leaf(k) = node { last = k };
-                Search { table, pair: &pair, note }.whole().map_err(|index| refusal(show, a, b, cue, index))?;
+                Search { table, pair: &pair, note }.near().map_err(|index| refusal(show, a, b, cue, index))?;
             }
         }
     }

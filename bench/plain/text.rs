@@ -41,11 +41,10 @@ impl<'a> Text<'a> {
     /// The next word of the line, or no bytes where the line has no more.
     pub fn word(&mut self) -> &'a [u8] {
         self.skip_blanks();
-        let begin = self.at;
-        while matches!(self.peek(), b'!'..=b'~') && self.peek() != b'#' {
-            self.at += 1;
-        }
-        &self.bytes[begin..self.at]
+        let rest = &self.bytes[self.at.min(self.bytes.len())..];
+        let length = rest.iter().position(|b| !matches!(b, b'!' | b'"' | b'$'..=b'~')).unwrap_or(rest.len());
+        self.at += length;
+        &rest[..length]
     }
 
     /// Steps over the end of the line, and a comment before it.
@@ -60,38 +59,50 @@ impl<'a> Text<'a> {
         self.at += 1;
     }
 
-    /// The digits that come next, at most eight, as a number, and how many they are. Eight bytes are read at once: bytes
-    /// that aren't digits are shifted out, and pairs, fours and eights of digits become numbers side by side.
-    fn digits(&mut self) -> (u64, u32) {
-        let eight_bytes = match self.bytes.get(self.at..self.at + 8) {
+    /// The eight bytes that come next, the first one in the lowest place, and 0 where the text has ended.
+    fn eight_bytes(&self) -> u64 {
+        match self.bytes.get(self.at..self.at + 8) {
             Some(bytes) => u64::from_le_bytes(bytes.try_into().expect("eight bytes")),
-            None => {
-                let rest = &self.bytes[self.at.min(self.bytes.len())..];
-                rest.iter().rev().fold(0, |sum, byte| 256 * sum + u64::from(*byte))
-            }
-        };
-        let values = eight_bytes ^ eight(b'0');
+            None => self.last_bytes(),
+        }
+    }
+
+    #[cold]
+    fn last_bytes(&self) -> u64 {
+        let rest = self.bytes.get(self.at..).unwrap_or_default();
+        rest.iter().rev().fold(0, |sum, byte| sum << 8 | u64::from(*byte))
+    }
+
+    /// Takes the digits that come next, at most eight, as a number, with how many they are. Bytes that aren't digits are
+    /// shifted out of eight bytes, and pairs, fours and eights of digits become numbers side by side.
+    #[inline(always)]
+    fn digits(&mut self) -> (u64, u32) {
+        let values = self.eight_bytes() ^ eight(b'0');
         let others = (values.wrapping_add(eight(0x76)) | values) & eight(0x80);
         let count = others.trailing_zeros() / 8;
-        if count == 0 {
-            return (0, 0);
-        }
         self.at += count as usize;
-        let digits = values << (64 - 8 * count);
+        let digits = values.checked_shl(64 - 8 * count).unwrap_or(0);
         let pairs = (digits.wrapping_mul(10) + (digits >> 8)) & 0x00FF_00FF_00FF_00FF;
         let fours = (pairs.wrapping_mul(100) + (pairs >> 16)) & 0x0000_FFFF_0000_FFFF;
         ((fours.wrapping_mul(10_000) + (fours >> 32)) & 0xFFFF_FFFF, count)
     }
 
+    /// Takes the digits after eight, which are this number.
+    #[cold]
+    fn long_number(&mut self, size: u64) -> (u64, u32) {
+        let (more, count) = self.digits();
+        (size * 10_u64.pow(count) + more, 8 + count)
+    }
+
     /// The next word as a whole number between two others, of at most twelve digits.
+    #[inline(always)]
     pub fn number(&mut self, low: i64, high: i64) -> i64 {
         self.skip_blanks();
         let is_negative = self.peek() == b'-';
         self.at += usize::from(is_negative);
         let (mut size, mut count) = self.digits();
-        if count == 8 {
-            let (more, length) = self.digits();
-            (size, count) = (size * 10_u64.pow(length) + more, count + length);
+        if count == 8 && self.peek().is_ascii_digit() {
+            (size, count) = self.long_number(size);
         }
         assert!(1 <= count && count <= 12 && matches!(self.peek(), b' ' | b'\n' | b'\t' | b'\r' | b'#'), "a number");
         let value = if is_negative { -(size as i64) } else { size as i64 };
