@@ -217,10 +217,10 @@ impl Table {
     /// The directions that may separate a part with a control value at this place.
     pub fn likely(&self, place: [Four; 3]) -> Likely {
         let mut likely = Likely { below: 0, above: 0 };
-        for (k, block) in self.blocks.iter().enumerate() {
+        for block in self.blocks.iter().rev() {
             let sums = block.weighed(place);
-            likely.below |= u64::from(sums.reaches(block.least)) << (4 * k);
-            likely.above |= u64::from(block.most.reaches(sums)) << (4 * k);
+            likely.below = likely.below << 4 | u64::from(sums.reaches(block.least));
+            likely.above = likely.above << 4 | u64::from(block.most.reaches(sums));
         }
         likely
     }

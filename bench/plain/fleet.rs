@@ -78,10 +78,9 @@ impl Segment {
         }
     }
 
-    /// Its control values on an axis: as many as its degree there and one more.
-    pub fn values(&self, axis: usize) -> impl Iterator<Item = i16> + '_ {
-        let degree = self.degree(axis);
-        (0..=degree).map(move |k| self.points[if degree == 7 { k / 4 * 3 } else { k }][axis])
+    /// A control value on an axis: there are as many as its degree and one more.
+    pub fn value(&self, axis: usize, k: usize) -> i16 {
+        self.points[if self.is_move { k / 4 * 3 } else { k }][axis]
     }
 
     /// Its control values of degree seven on an axis, times 5,040.

@@ -7,25 +7,32 @@ const DIGITS: &[u8; 16] = b"0123456789ABCDEF";
 fn bytes_of(pieces: &[(i64, &Segment)]) -> Vec<u8> {
     let mut out = Vec::with_capacity(4096);
     for v in pieces[0].1.begin() {
-        out.extend(v.to_le_bytes());
+        out.extend_from_slice(&v.to_le_bytes());
     }
     for (ms, segment) in pieces {
+        let degrees = [0, 1, 2].map(|axis| segment.degree(axis));
         // The kinds 0 to 3 have the degrees 0, 1, 3 and 7.
-        out.push((0..3).map(|axis| (segment.degree(axis).count_ones() as u8) << (2 * axis)).sum());
-        out.extend((*ms as u16).to_le_bytes());
+        let [x, y, z] = degrees.map(|degree| degree.count_ones() as u8);
+        out.push(x | y << 2 | z << 4);
+        out.extend_from_slice(&(*ms as u16).to_le_bytes());
         for axis in 0..3 {
-            out.extend(segment.values(axis).skip(1).flat_map(i16::to_le_bytes));
+            for k in 1..=degrees[axis] {
+                out.extend_from_slice(&segment.value(axis, k).to_le_bytes());
+            }
         }
     }
-    out.extend([0; 3]);
+    out.extend_from_slice(&[0; 3]);
     out
 }
 
 /// Adds a line of bytes in hexadecimal digits.
 fn put(word: &str, bytes: &[u8], out: &mut Vec<u8>) {
     out.extend_from_slice(word.as_bytes());
-    for b in bytes {
-        out.extend_from_slice(&[b' ', DIGITS[usize::from(b >> 4)], DIGITS[usize::from(b & 15)]]);
+    let begin = out.len();
+    out.resize(begin + 3 * bytes.len(), b' ');
+    for (places, b) in out[begin..].chunks_exact_mut(3).zip(bytes) {
+        places[1] = DIGITS[usize::from(b >> 4)];
+        places[2] = DIGITS[usize::from(b & 15)];
     }
     out.push(b'\n');
 }
@@ -41,10 +48,9 @@ pub fn plan(show: &Show) -> Vec<u8> {
         out.extend_from_slice(format!(" bytes {} pieces {}\n", data.len(), pieces.len()).as_bytes());
         put("data", &data, &mut out);
         for (k, chunk) in data.chunks(24).enumerate() {
-            let mut packet = vec![0x4E, show.memory];
-            packet.extend((show.offset + 24 * k as u32).to_le_bytes());
-            packet.extend_from_slice(chunk);
-            put("write", &packet, &mut out);
+            let [a, b, c, d] = (show.offset + 24 * k as u32).to_le_bytes();
+            let head = [0x4E, show.memory, a, b, c, d];
+            put("write", &[&head, chunk].concat(), &mut out);
         }
         let [a, b, c, d] = show.offset.to_le_bytes();
         put("define", &[0x8C, 6, 0, 1, 1, a, b, c, d, pieces.len() as u8], &mut out);

@@ -28,7 +28,7 @@ use text::Text;
 /// The drones of a show as `play` flies them.
 fn played(show: &Show) -> Vec<rows::Drone> {
     let segment = |(&ms, it): (&i64, &fleet::Segment)| {
-        let points = |axis: usize| it.values(axis).map(i64::from).collect();
+        let points = |axis: usize| (0..=it.degree(axis)).map(|k| it.value(axis, k).into()).collect();
         rows::Segment { ms: ms as u64, axes: [points(0), points(1), points(2), vec![0]] }
     };
     let flight = |drone| show.times.iter().zip(show.flight(drone)).map(segment).collect();

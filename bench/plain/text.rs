@@ -61,8 +61,8 @@ impl<'a> Text<'a> {
 
     /// The eight bytes that come next, the first one in the lowest place, and 0 where the text has ended.
     fn eight_bytes(&self) -> u64 {
-        match self.bytes.get(self.at..self.at + 8) {
-            Some(bytes) => u64::from_le_bytes(bytes.try_into().expect("eight bytes")),
+        match self.bytes.get(self.at..).and_then(|rest| rest.first_chunk()) {
+            Some(bytes) => u64::from_le_bytes(*bytes),
             None => self.last_bytes(),
         }
     }
@@ -81,8 +81,8 @@ impl<'a> Text<'a> {
         let others = (values.wrapping_add(eight(0x76)) | values) & eight(0x80);
         let count = others.trailing_zeros() / 8;
         self.at += count as usize;
-        let digits = values.checked_shl(64 - 8 * count).unwrap_or(0);
-        let pairs = (digits.wrapping_mul(10) + (digits >> 8)) & 0x00FF_00FF_00FF_00FF;
+        let digits = values.wrapping_shl(64 - 8 * count);
+        let pairs = digits.wrapping_mul(10).wrapping_add(digits >> 8) & 0x00FF_00FF_00FF_00FF;
         let fours = (pairs.wrapping_mul(100) + (pairs >> 16)) & 0x0000_FFFF_0000_FFFF;
         ((fours.wrapping_mul(10_000) + (fours >> 32)) & 0xFFFF_FFFF, count)
     }
