@@ -5,8 +5,8 @@
 //! exactly. Control values of parts lie between those of the whole, so M bounds them too.
 //!
 //! - A difference is exact in 32 bits and rounded once: u M.
-//! - A control value of a half takes at most seven additions of two neighbours. Halving a sum is exact, since nothing is
-//!   near the least exponent. So a halving adds at most 7 u M, and eight of them 56 u M, which makes 57 u M in all.
+//! - A control value of a half takes at most seven additions of two neighbours. Halving a sum is exact, since nothing
+//!   is near the least exponent. So a halving adds at most 7 u M, and eight of them 56 u M, which makes 57 u M in all.
 //! - A weighted sum is off by W times that, and by its own rounding, of at most three operations on the way of each
 //!   product: 3 u M W.
 //!
@@ -114,7 +114,8 @@ fn common(a: i64, b: i64) -> i64 {
     }
 }
 
-/// What weighted sums in millimetres must reach along a way, for drones that reach so far on each axis while one is late.
+/// What weighted sums in millimetres must reach along a way, for drones that move so far on each axis while one is
+/// late.
 fn threshold(show: &Show, way: [i64; 3], weights: [i64; 3], reach: [i64; 3]) -> i64 {
     let (r, h, stray) = (show.r, show.h, show.stray);
     let squares = |row: [i64; 3]| row.iter().map(|v| v * v).sum::<i64>();
@@ -225,8 +226,8 @@ impl Table {
         likely
     }
 
-    /// The first direction that passes a test, of those that may separate a part with control values at both places. Four
-    /// and four are weighed in the order of the table, since the first one mostly is among the first.
+    /// The first direction that passes a test, of those that may separate a part with control values at both places.
+    /// Four and four are weighed in the order of the table, so that most of them needn't be weighed.
     #[inline(always)]
     pub fn first(&self, places: [[Four; 3]; 2], mut test: impl FnMut(usize) -> bool) -> Option<usize> {
         for (k, block) in self.blocks.iter().enumerate() {

@@ -42,8 +42,8 @@ impl Bounds {
     }
 }
 
-/// What a drone flies in a cue: a cubic curve by four points, or a `move`, whose control values of degree seven are four
-/// times the first point and four times the last.
+/// What a drone flies in a cue: a cubic curve by four points, or a `move`, whose control values of degree seven are
+/// four times the first point and four times the last.
 #[derive(Clone, Copy)]
 pub struct Segment {
     points: [Place; 4],
@@ -114,7 +114,8 @@ pub struct Show {
     next: usize,
 }
 
-/// A trajectory as it is sent has at most so many pieces, of at most so many milliseconds each, and memory so many bytes.
+/// A trajectory as it is sent has at most so many pieces, of at most so many milliseconds each; a memory has so many
+/// bytes.
 const MOST_PIECES: usize = 255;
 const LONGEST_PIECE: i64 = 65_535;
 const MEMORY: usize = 4096;
@@ -127,9 +128,12 @@ fn millimetres(text: &mut Text) -> i16 {
     i16::try_from((micrometres as u32 / 1000) as i32 - 100_000).expect("a coordinate that fits")
 }
 
+#[inline(never)]
 fn place(text: &mut Text) -> Place {
     let mut place = [0; 4];
-    place[..3].fill_with(|| millimetres(text));
+    for v in &mut place[..3] {
+        *v = millimetres(text);
+    }
     place
 }
 
@@ -153,7 +157,8 @@ impl Show {
             }
             text.end_line();
         }
-        show.bounds = (0..show.drones()).map(|drone| show.flight(drone).fold(Bounds::NONE, |all, it| all.with(it.bounds))).collect();
+        let bounds = |drone| show.flight(drone).fold(Bounds::NONE, |all, it| all.with(it.bounds));
+        show.bounds = (0..show.drones()).map(bounds).collect();
         assert!((0..show.drones()).all(|drone| show.fits(drone)), "trajectories that fit into the memory");
         show
     }

@@ -9,8 +9,8 @@ const REACH_DEPTH: u32 = 6;
 /// No two positions are farther apart on an axis, in millimetres.
 const FARTHEST: i128 = 65_536;
 
-/// The greatest of a speed that was found and the bound of a segment on an axis by its parts of a depth, in micrometres per
-/// second.
+/// The greatest of a speed that was found and the bound of a segment on an axis by its parts of a depth, in micrometres
+/// per second.
 fn fastest(segment: &Segment, ms: i64, axis: usize, depth: u32, found: i128) -> i128 {
     if !segment.moves(axis) {
         return found;

@@ -14,14 +14,13 @@ enum Node {
 
 /// The halves of a part. Neighbours are added, and sums of so many control values are divided by how many they are.
 fn halves_of(part: &Points) -> [Points; 2] {
-    const SHARES: [f32; 8] = [1.0, 0.5, 0.25, 0.125, 0.0625, 0.03125, 0.015625, 0.0078125];
     let (mut row, mut left, mut right) = (*part, *part, *part);
     for k in 1..8 {
         for j in 0..8 - k {
             row[j] = row[j] + row[j + 1];
         }
-        left[k] = row[0] * Four::all(SHARES[k]);
-        right[7 - k] = row[7 - k] * Four::all(SHARES[k]);
+        let share = Four::all(1.0 / (1 << k) as f32);
+        (left[k], right[7 - k]) = (row[0] * share, row[7 - k] * share);
     }
     [left, right]
 }
@@ -42,7 +41,8 @@ impl<F: FnMut(Node)> Search<'_, F> {
     /// Notes the tree of the cue, or finds the first part of the greatest depth that no direction separates.
     fn whole(&mut self) -> Result<(), u32> {
         let rows = &self.pair.rows;
-        if let Some(k) = self.table.first(ends_of(rows), |k| self.table.directions[k].separates(self.pair, rows, 0, 0)) {
+        let separates = |k: usize| self.table.directions[k].separates(self.pair, rows, 0, 0);
+        if let Some(k) = self.table.first(ends_of(rows), separates) {
             (self.note)(Node::Leaf(k));
             return Ok(());
         }
@@ -106,7 +106,8 @@ fn refusal(show: &Show, a: usize, b: usize, cue: usize, index: u32) -> String {
     format!("error 5 pair {a} {b} cue {cue} part {index} of {parts}\n")
 }
 
-/// Whether all drones are apart at all times, or else where they aren't. Curves are raised where boxes don't tell enough.
+/// Whether all drones are apart at all times, or else where they aren't. Curves are raised where boxes don't tell
+/// enough, and the direction of the last whole cue is asked first.
 pub fn check(show: &Show, table: &Table) -> Result<(), String> {
     let (mut raised, mut last) = (vec![None; show.drones()], 0);
     for (a, b) in pairs(show.drones()) {

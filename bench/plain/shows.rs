@@ -1,8 +1,10 @@
 //! A plain program that does what `check`, `certify`, `verify`, `compile`, `play`, `boxes` and `speed` do for shows of
-//! drones that fly curves or hold, with any half axes, stray and lateness, and the depth that stands where the words set
-//! none: for bench/shows, which compares the two. It stops at lines and trees that it doesn't know. It uses one thread
-//! and no lanes, 64 bits where the numbers fit, boxes of whole flights before those of cues and these before curves, and
-//! weighs a direction once at each end of a part.
+//! drones that hold or fly by `curve` and `move`, with any half axes, stray and lateness, and the depth that stands
+//! where the words set none: for bench/shows, which compares the two. It stops at lines and trees that it doesn't know.
+//!
+//! It has one thread and no more than SSE2. The text is read once. Boxes of whole flights are asked before those of
+//! cues, and these before curves. Directions are weighed four at a time in 32-bit floats, a place between two parts once
+//! for both, and whole numbers decide where a sum is too near to what it must reach.
 //!
 //!     shows check|certify|compile < SHOW
 //!     shows play --step MS < SHOW

@@ -1,5 +1,5 @@
-//! A plain program that does what `boxes`, `speed`, `dynamics` and `explain` do beyond reading a show, from a plan: for bench/studies, which
-//! compares the two. It has no checks of its input beyond what Rust makes it have.
+//! A plain program that does what `boxes`, `speed`, `dynamics` and `explain` do beyond reading a show, from a plan: for
+//! bench/studies, which compares the two. It has no checks of its input beyond what Rust makes it have.
 //!
 //!     studies read < PLAN
 //!     studies boxes R H DEPTH FILE < PLAN
@@ -132,10 +132,12 @@ fn dynamics(drones: &[Drone], depth: u32) {
             sharpest[axis] = sharpest[axis].max(most[axis]);
             farthest[axis] = farthest[axis].max(jumps[axis]);
         }
-        println!("dynamics {} acceleration {} {} {} jump {} cue {} {} cue {} {} cue {} begins {} ends {}", drone.name, most[0], most[1], most[2],
-            jumps[0], cues[0], jumps[1], cues[1], jumps[2], cues[2], at_rest(still[0]), at_rest(still[1]));
+        print!("dynamics {} acceleration {} {} {}", drone.name, most[0], most[1], most[2]);
+        print!(" jump {} cue {} {} cue {} {} cue {}", jumps[0], cues[0], jumps[1], cues[1], jumps[2], cues[2]);
+        println!(" begins {} ends {}", at_rest(still[0]), at_rest(still[1]));
     }
-    println!("greatest acceleration {} {} {} jump {} {} {}", sharpest[0], sharpest[1], sharpest[2], farthest[0], farthest[1], farthest[2]);
+    let ([x, y, z], [u, v, w]) = (sharpest, farthest);
+    println!("greatest acceleration {x} {y} {z} jump {u} {v} {w}");
 }
 
 struct Region {
@@ -185,7 +187,8 @@ fn boxes(drones: &[Drone], r: i128, h: i128, depth: u32, text: &str) {
         for (drone, cues) in drones.iter().zip(&curves) {
             for (cue, part) in cues.iter().enumerate() {
                 if let Some(index) = entering(part, region, &[r, r, h], 5040, depth) {
-                    println!("error 15 region {} drone {} cue {} part {} of {}", k + 1, drone.name, cue + 1, index, 1 << depth);
+                    let (region, name, cue, parts) = (k + 1, &drone.name, cue + 1, 1 << depth);
+                    println!("error 15 region {region} drone {name} cue {cue} part {index} of {parts}");
                     return;
                 }
             }
@@ -230,7 +233,8 @@ fn closest(drones: &[Drone], r: i128, h: i128, fine: u32) {
         }
     }
     let level = 1000 * (best.0 / right) + 1000 * (best.0 % right) / right;
-    println!("closest pair {} {} cue {} at {} of {} level {}", drones[best.3].name, drones[best.4].name, best.1 + 1, best.2, q, level);
+    let (_, cue, at, a, b) = best;
+    println!("closest pair {} {} cue {} at {at} of {q} level {level}", drones[a].name, drones[b].name, cue + 1);
     if let Some((cue, at, a, b)) = touch {
         println!("touch pair {} {} cue {} at {} of {}", drones[a].name, drones[b].name, cue + 1, at, q);
     }

@@ -73,8 +73,8 @@ impl<'a> Text<'a> {
         rest.iter().rev().fold(0, |sum, byte| sum << 8 | u64::from(*byte))
     }
 
-    /// Takes the digits that come next, at most eight, as a number, with how many they are. Bytes that aren't digits are
-    /// shifted out of eight bytes, and pairs, fours and eights of digits become numbers side by side.
+    /// Takes the digits that come next, at most eight, as a number, with how many they are. Bytes that aren't digits
+    /// are shifted out of eight bytes, and pairs, fours and eights of digits become numbers side by side.
     #[inline(always)]
     fn digits(&mut self) -> (u64, u32) {
         let values = self.eight_bytes() ^ eight(b'0');
