@@ -128,7 +128,7 @@ fn threshold(show: &Show, way: [i64; 3], weights: [i64; 3], reach: [i64; 3]) -> 
 const UNREACHED: i64 = (1 << 42) - 1;
 
 const HALF: usize = 49;
-const BLOCKS: usize = HALF.div_ceil(4);
+const BLOCKS: usize = (2 * HALF).div_ceil(4);
 
 /// Four directions: the weights of each axis, and what sums must reach to be likely, for them and for their opposites.
 struct Block {
@@ -138,10 +138,10 @@ struct Block {
 }
 
 impl Block {
-    /// Those of the first 49 directions that are in a block. Lanes beyond them are never likely.
+    /// The directions of a block. Lanes beyond the last one are never likely.
     fn of(directions: &[Direction], block: usize) -> Block {
         let of = |value: &dyn Fn(&Direction) -> f32, other: f32| {
-            Four::new(std::array::from_fn(|k| directions[..HALF].get(4 * block + k).map_or(other, value)))
+            Four::new(std::array::from_fn(|k| directions.get(4 * block + k).map_or(other, value)))
         };
         let least = of(&|it| it.likely, f32::INFINITY);
         let most = of(&|it| -it.likely, f32::NEG_INFINITY);
@@ -218,30 +218,29 @@ impl Table {
     /// The directions that may separate a part with a control value at this place.
     pub fn likely(&self, place: [Four; 3]) -> Likely {
         let mut likely = Likely { below: 0, above: 0 };
-        for block in self.blocks.iter().rev() {
+        for block in self.blocks[..HALF.div_ceil(4)].iter().rev() {
             let sums = block.weighed(place);
             likely.below = likely.below << 4 | u64::from(sums.reaches(block.least));
             likely.above = likely.above << 4 | u64::from(block.most.reaches(sums));
         }
-        likely
+        // The last of these blocks has three directions of the other half.
+        let half = Likely { below: (1 << HALF) - 1, above: (1 << HALF) - 1 };
+        likely.and(half)
     }
 
     /// The first direction that passes a test, of those that may separate a part with control values at both places.
     /// Four and four are weighed in the order of the table, so that most of them needn't be weighed.
     #[inline(always)]
-    pub fn first(&self, places: [[Four; 3]; 2], mut test: impl FnMut(usize) -> bool) -> Option<usize> {
-        for (k, block) in self.blocks.iter().enumerate() {
-            let (first, last) = (block.weighed(places[0]), block.weighed(places[1]));
-            let below = u64::from(first.least(last).reaches(block.least)) << (4 * k);
-            if let Some(found) = (Likely { below, above: 0 }).find(|k| test(*k)) {
-                return Some(found);
-            }
-        }
-        for (k, block) in self.blocks.iter().enumerate().rev() {
-            let (first, last) = (block.weighed(places[0]), block.weighed(places[1]));
-            let above = u64::from(block.most.reaches(first.most(last))) << (4 * k);
-            if let Some(found) = (Likely { below: 0, above }).find(|k| test(*k)) {
-                return Some(found);
+    pub fn first(&self, [first, last]: [[Four; 3]; 2], test: impl Fn(usize) -> bool) -> Option<usize> {
+        for (block, directions) in self.blocks.iter().enumerate() {
+            let lowest = directions.weighed(first).least(directions.weighed(last));
+            let mut likely = lowest.reaches(directions.least);
+            while likely != 0 {
+                let k = 4 * block + likely.trailing_zeros() as usize;
+                if test(k) {
+                    return Some(k);
+                }
+                likely &= likely - 1;
             }
         }
         None

@@ -24,10 +24,6 @@ impl Four {
         Four(unsafe { _mm_min_ps(self.0, other.0) })
     }
 
-    pub fn most(self, other: Four) -> Four {
-        Four(unsafe { _mm_max_ps(self.0, other.0) })
-    }
-
     /// Bit k says whether lane k reaches that of the other.
     pub fn reaches(self, other: Four) -> u32 {
         unsafe { _mm_movemask_ps(_mm_cmpge_ps(self.0, other.0)) as u32 }

@@ -3,8 +3,8 @@
 //! where the words set none: for bench/shows, which compares the two. It stops at lines and trees that it doesn't know.
 //!
 //! It has one thread and no more than SSE2. The text is read once. Boxes of whole flights are asked before those of
-//! cues, and these before curves. Directions are weighed four at a time in 32-bit floats, a place between two parts once
-//! for both, and whole numbers decide where a sum is too near to what it must reach.
+//! cues, and these before curves. Directions are weighed four at a time in 32-bit floats, a place between two parts
+//! once for both, and whole numbers decide where a sum is too near to what it must reach.
 //!
 //!     shows check|certify|compile < SHOW
 //!     shows play --step MS < SHOW
@@ -40,6 +40,7 @@ fn played(show: &Show) -> Vec<rows::Drone> {
 /// What a command writes at status 0, or the line of a refusal. Rows are written as they are made.
 fn answer(command: &str, option: u32, mut text: Text) -> Result<Vec<u8>, String> {
     let show = Show::read(&mut text);
+    assert!(text.is_done() || matches!(command, "verify" | "boxes"), "a show alone");
     if command == "speed" {
         return Ok(motions::speeds(&show, option).into_bytes());
     }
