@@ -107,7 +107,7 @@ fn refusal(show: &Show, a: usize, b: usize, cue: usize, index: u32) -> String {
 }
 
 /// Whether all drones are apart at all times, or else where they aren't. Curves are raised where boxes don't tell
-/// enough, and the direction of the last whole cue is asked first.
+/// enough, and the direction that separated last is asked first.
 pub fn check(show: &Show, table: &Table) -> Result<(), String> {
     let (mut raised, mut last) = (vec![None; show.drones()], 0);
     for (a, b) in pairs(show.drones()) {
