@@ -21,6 +21,30 @@ impl Drone {
     pub fn new(name: &[u8], segments: Vec<Segment>) -> Drone {
         Drone { name: name.to_vec(), segments, at: 0, begin: 0 }
     }
+
+    /// Where it is at an instant that is no earlier than the one before.
+    fn at(&mut self, instant: u64, weights: &mut Weights) -> [i64; 4] {
+        while self.segments[self.at].ms < instant - self.begin {
+            self.begin += self.segments[self.at].ms;
+            self.at += 1;
+        }
+        let segment = &self.segments[self.at];
+        weights.move_to(segment.ms, instant - self.begin);
+        let [x, y, z, yaw] = &segment.axes;
+        [weights.value(x, 1000), weights.value(y, 1000), weights.value(z, 1000), weights.value(yaw, 10)]
+    }
+
+    /// Adds its row.
+    fn put(&self, instant: u64, row: [i64; 4], out: &mut Vec<u8>) {
+        put(out, instant as i64);
+        out.push(b' ');
+        out.extend_from_slice(&self.name);
+        for v in row {
+            out.push(b' ');
+            put(out, v);
+        }
+        out.push(b'\n');
+    }
 }
 
 /// The weights of an instant of a segment by degree, as 64-bit numbers where they fit. They are worked out where a
@@ -136,26 +160,12 @@ pub fn write(drones: &mut [Drone], step: u64, work: Work, sink: &mut impl Write)
     let mut instant = 0;
     loop {
         for drone in &mut *drones {
-            while drone.segments[drone.at].ms < instant - drone.begin {
-                drone.begin += drone.segments[drone.at].ms;
-                drone.at += 1;
-            }
-            let (segment, t) = (&drone.segments[drone.at], instant - drone.begin);
-            weights.move_to(segment.ms, t);
-            let [x, y, z, yaw] = &segment.axes;
-            let row = [weights.value(x, 1000), weights.value(y, 1000), weights.value(z, 1000), weights.value(yaw, 10)];
+            let row = drone.at(instant, &mut weights);
             if work == Work::Positions {
                 mixed = row.iter().fold(mixed, |sum, v| sum.wrapping_mul(31).wrapping_add(*v));
-                continue;
+            } else {
+                drone.put(instant, row, &mut out);
             }
-            put(&mut out, instant as i64);
-            out.push(b' ');
-            out.extend_from_slice(&drone.name);
-            for v in row {
-                out.push(b' ');
-                put(&mut out, v);
-            }
-            out.push(b'\n');
         }
         if out.len() >= BUFFER {
             if work == Work::All {

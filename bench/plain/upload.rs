@@ -140,6 +140,16 @@ fn host_of(plan: &str) -> Host {
     Host { drones, left }
 }
 
+/// How many bytes the next frame has, or none as long as that isn't known. It is an error if none begins so.
+fn size_of(rest: &[u8]) -> Result<usize, ()> {
+    match rest {
+        [] | [0x50] | [0x50, 1..=32] => Ok(0),
+        [0x54, ..] => Ok(1),
+        [0x50, 1..=32, length @ 1..=31, ..] => Ok(3 + *length as usize),
+        _ => Err(()),
+    }
+}
+
 fn main() -> io::Result<()> {
     let path = std::env::args().nth(1).expect("a plan");
     let mut host = host_of(&std::fs::read_to_string(path)?);
@@ -150,12 +160,7 @@ fn main() -> io::Result<()> {
     let (mut begin, mut end, mut frames) = (0, 0, 0);
     let status = loop {
         let rest = &buffer[begin..end];
-        let size = match rest {
-            [] | [0x50] | [0x50, 1..=32] => 0,
-            [0x54, ..] => 1,
-            [0x50, 1..=32, length @ 1..=31, ..] => 3 + *length as usize,
-            _ => break 11,
-        };
+        let Ok(size) = size_of(rest) else { break 11 };
         if size == 0 || size > rest.len() {
             sink.write_all(&out)?;
             sink.flush()?;
