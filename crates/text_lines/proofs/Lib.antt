@@ -5,4 +5,4 @@ pub mod Grouped
 pub mod NumberLaws
 pub mod Alone
 pub mod Digits
-pub mod Solid
+pub mod Blanks

@@ -1,13 +1,13 @@
 -- What the proofs of this crate cite from elsewhere, passed on from one place. Declares nothing.
-pub use Rattle.std.proofs.Common.{Bool, Err, List, None, Ok, Option, Some, [], add-one, ap, append-nil, append_assoc, arith, cond, drop, drop-cons, eq-eqb, eqb-true, false, get_or, inl, inr, length, ltb, ne_eqb, option_map, refl, rules, subst, suc, sym, take, true, zero, ℕ, ◌*◌, ◌++◌, ◌+◌, ◌-◌, ◌<◌, ◌∙◌, ◌∷◌, ◌≡◌, ◌≢◌, ◌≤◌}
+pub use Rattle.std.proofs.Common.{Bool, Err, List, None, Ok, Option, Some, [], add-one, ap, append-nil, append_assoc, arith, cond, drop, drop-cons, eq-eqb, eqb-true, false, get_or, inl, inr, ⊎_elim, length, ltb, ne_eqb, option_map, refl, rules, subst, suc, sym, take, true, zero, ℕ, ◌*◌, ◌++◌, ◌+◌, ◌-◌, ◌<◌, ◌∙◌, ◌∷◌, ◌≡◌, ◌≢◌, ◌≤◌}
 pub use Rattle.std.proofs.lemmas.Bool.{and_parts, cases_lt, false_from_ne_true, le-ltb, lt-ltb}
 pub use Rattle.std.proofs.lemmas.Bool.Decides.{nat_tests}
-pub use Rattle.std.proofs.lemmas.List.{drop-drop, drop_all, length-append, length-drop, length-take, take-append-drop, take_at, take_rest}
+pub use Rattle.std.proofs.lemmas.List.{drop-drop, drop_all, get_or-drop, length-append, length-drop, length-take, take-append-drop, take_at, take_rest}
 pub use Rattle.std.specs.List.{onto_first, position_or_len, slice_split}
 pub use Rattle.std.specs.Prelude.{T, int_le, min, nat_le, not, slice_range, unwrap_or, ℤ, ◌&&◌, ◌==◌, ◌≤ℤ◌}
 pub use Rattle.text_lines.specs.Lines.{between_feeds, is_line_feed, lines_of, without_empty_end}
 pub use Rattle.text_lines.specs.Numbers.{IsNumber, begins_with_minus, digits_after, in_range, is_digit, natural_of, number_in, number_of, signed}
-pub use Rattle.text_lines.specs.Steps.{are_digits_at, number_at}
+pub use Rattle.text_lines.specs.Steps.{IsPut, Marks, NoBlank, are_digits_at, number_at}
 pub use Rattle.text_lines.specs.Tokens.{joined, line_tokens, lines_in, tokens_from, tokens_of, word_in, word_token, words_at, words_in}
 pub use Rattle.text_lines.specs.Words.{Line, is_blank, line_with, numbered, visible, without_empty, words_of}
 pub use Rattle.text_lines.specs.declared.token.Comments.{Comments}

@@ -7,6 +7,7 @@
 #![tactic(auto)]
 
 mod line;
+mod marks;
 mod number;
 mod token;
 

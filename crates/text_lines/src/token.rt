@@ -1,12 +1,13 @@
 //! The words of a text, as places in it.
 
-ghost use Rattle.std.specs.Prelude.{◌≡◌, ℕ, List, [], ◌+◌, ◌<◌, ◌≤◌, ◌++◌, ◌∷◌, length, ◌^◌, drop, take, slice_index, IsTrue, IfOk, OnOk};
-ghost use Rattle.std.specs.List.{position_or_len};
+ghost use Rattle.std.specs.Prelude.{◌≡◌, ℕ, List, [], ◌+◌, ◌<◌, ◌≤◌, ◌++◌, ◌∷◌, length, ◌^◌, drop, take, IfOk, OnOk};
 ghost use Rattle.text_lines.specs.Lines.{between_feeds};
 ghost use Rattle.text_lines.specs.Words.{is_blank as is_blank_of, visible as visible_of};
+ghost use Rattle.text_lines.specs.Steps.{NoBlank, IsPut};
 ghost use Rattle.text_lines.specs.Tokens.{word_in, words_in, word_token, line_tokens, tokens_of, lines_in, first_token};
 
 use crate::line::{len_before, split_line};
+use crate::marks::{low_bytes, lowest, without};
 use std::alloc::{AllocError, Global};
 
 /// A word: the number of its line, from 1, where in the text it begins, and where it ends.
@@ -44,29 +45,6 @@ fn is_blank(byte: u8) -> bool
     matches!(byte, b'\t' | b'\r' | b' ')
 }
 
-// Whether each of the four bytes from a place on is greater than a space, so that none of them is blank.
-fn are_four_solid(bytes: &[u8], at: usize) -> bool
-    requires { at + 4 ≤ length bytes.now }
-    ensures { IsTrue result → (k : ℕ) → at ≤ k → k < at + 4 → 32 < slice_index bytes.now k }
-{
-    bytes[at] > b' ' && bytes[at + 1] > b' ' && bytes[at + 2] > b' ' && bytes[at + 3] > b' '
-}
-
-// How many bytes stand before the first blank. Four at a time are passed where a comparison shows that none is blank.
-fn word_len(bytes: &[u8]) -> usize
-    ensures value { result ≡ position_or_len is_blank_of bytes.now }
-    ensures within { result ≤ length bytes.now }
-{
-    let mut at: usize = 0;
-    'fours: while bytes.len() - at >= 4 && are_four_solid(bytes, at) {
-        at += 4;
-    }
-    'ones: while at < bytes.len() && !is_blank(bytes[at]) {
-        at += 1;
-    }
-    at
-}
-
 // One more word, unless it has no byte.
 fn put_word(tokens: &mut Vec<Token>, line: u32, start: usize, len: usize) -> Result<(), AllocError>
     requires { start + len < 2 ^ 62 }
@@ -83,22 +61,60 @@ fn put_word(tokens: &mut Vec<Token>, line: u32, start: usize, len: usize) -> Res
     Ok(())
 }
 
+// The words that end at blanks among the sixteen bytes from a place on, and where the next word begins. One comparison
+// marks the bytes that may be blank: a show's words are some six bytes long, so most bytes are never looked at alone.
+#[inline(always)]
+fn put_marked(
+    tokens: &mut Vec<Token>,
+    line: u32,
+    at: usize,
+    bytes: &[u8],
+    base: usize,
+    start: usize,
+) -> Result<usize, AllocError>
+    requires small { at + length bytes.now < 2 ^ 61 }
+    requires within { base + 16 ≤ length bytes.now }
+    requires order { start ≤ base }
+    requires passed { NoBlank bytes.now start base }
+    ensures { IfOk result (λ next. IsPut line at bytes.now start next tokens.old.items tokens.new.items
+        × (next ≤ base + 16)
+        × NoBlank bytes.now next (base + 16)) }
+{
+    let mut start = start;
+    let mut marks = low_bytes(bytes, base);
+    'marks: while marks != 0 {
+        let mark = lowest(marks);
+        marks = without(marks, mark);
+        let end = base + mark;
+        if is_blank(bytes[end]) {
+            put_word(tokens, line, at + start, end - start)?;
+            start = end + 1;
+        }
+    }
+    Ok(start)
+}
+
 // The words of what is read of a line, which begins at a place.
 fn put_words(tokens: &mut Vec<Token>, line: u32, at: usize, bytes: &[u8]) -> Result<(), AllocError>
     requires { at + length bytes.now < 2 ^ 61 }
     ensures { OnOk result (tokens.new.items ≡ tokens.old.items ++ line_tokens line at bytes.now) }
 {
-    let mut at = at;
-    let mut rest = bytes;
-    'words: loop {
-        let len = word_len(rest);
-        put_word(tokens, line, at, len)?;
-        if len == rest.len() {
-            return Ok(());
-        }
-        at += len + 1;
-        rest = &rest[len + 1..];
+    let mut start: usize = 0;
+    let mut base: usize = 0;
+    'sixteens: while bytes.len() - base >= 16 {
+        start = put_marked(tokens, line, at, bytes, base, start)?;
+        base += 16;
     }
+    'ones: while base < bytes.len() {
+        let end = base;
+        base += 1;
+        if is_blank(bytes[end]) {
+            put_word(tokens, line, at + start, end - start)?;
+            start = base;
+        }
+    }
+    put_word(tokens, line, at + start, bytes.len() - start)?;
+    Ok(())
 }
 
 /// The words of a text in order, each with its line and its place.

@@ -1,12 +1,18 @@
-use Rattle.text_lines.proofs.Prelude.{ℕ, arith, take_rest, length-take, length-drop}
-use Rattle.text_lines.proofs.Cuts.{word_more, word_last}
+use Rattle.text_lines.proofs.Prelude.{◌≡◌, ◌+◌, refl, sym, ◌∙◌, arith, length}
+use Rattle.text_lines.proofs.Blanks.{put_one, put_last, from_start}
 use Rattle.text_lines.proofs.token.put_words.Goals as goal
 
-pub returns-then-len-rest : goal.returns-then-len-rest
-returns-then-len-rest c = word_last c.args.line c.words.at c.word_len-len.result c.words.rest.now c.words.tokens.items _ _ c.word_len-len.ensures.value (omega arith) c.in_ok-put_word.ensures c.words.invariant.so_far
+pub returns : goal.returns
+returns c =
+    let all : c.ones.base ≡ length c.args.bytes.now = omega (arith, c.ones.invariant.within, c.ones-test.false) in
+    put_last c.args.line c.args.at c.args.bytes.now c.ones.start _ _ _ (omega (arith, c.ones.invariant.order)) (λ k low high. c.ones.invariant.passed k low (omega arith)) c.in_ok-put_word-2.ensures
+    (c.ones.invariant.so_far ∙ c.sixteens.invariant.so_far ∙ from_start c.args.line c.args.at c.args.bytes.now c.args.tokens.now.items)
 
-pub words-preserved : goal.words-preserved
-words-preserved c = record {
-  so_far = rw take_rest (word_more c.args.line c.words.at c.word_len-len.result c.words.rest.now c.words.tokens.items _ _ c.word_len-len.ensures.value (omega arith) c.in_ok-put_word.ensures c.words.invariant.so_far);
-  place = omega (arith, c.words.invariant.place, length-take {A = ℕ}, length-drop {A = ℕ});
+pub ones-preserved-then-is_blank : goal.ones-preserved-then-is_blank
+ones-preserved-then-is_blank c = record {
+  so_far = put_one c.args.line c.args.at c.args.bytes.now c.ones.start c.ones.base (c.ones.base + 1) _ _ _ c.ones.invariant.order (omega arith) refl c.ones.invariant.passed
+      (sym c.if-is_blank.ensures) c.in_ok-put_word.ensures c.ones.invariant.so_far;
+  order = omega arith;
+  within = omega arith;
+  passed = λ k low high. absurd (omega arith);
 }

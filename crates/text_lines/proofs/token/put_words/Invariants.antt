@@ -1,11 +1,24 @@
-use Rattle.text_lines.proofs.Prelude.{◌≡◌, ◌+◌, ◌++◌, length, line_tokens}
+use Rattle.text_lines.proofs.Prelude.{◌-◌, ◌≤◌, length, IsPut, NoBlank}
 use Rattle.text_lines.proofs.token.put_words.Given as goal
 
-abbrev pub invariant-words : goal.invariant-words
-invariant-words l = record {
-  so_far : l.tokens.items ++ line_tokens l.line l.at l.rest ≡ l.initial.tokens.items ++ line_tokens l.line l.initial.at l.initial.rest;
-  place : l.at + length l.rest ≡ l.initial.at + length l.initial.rest;
+abbrev pub invariant-sixteens : goal.invariant-sixteens
+invariant-sixteens l = record {
+  so_far : IsPut l.line l.at l.bytes l.initial.start l.start l.initial.tokens.items l.tokens.items;
+  order : l.start ≤ l.base;
+  within : l.base ≤ length l.bytes;
+  passed : NoBlank l.bytes l.start l.base;
 }
 
-abbrev pub decreases-words : goal.decreases-words
-decreases-words l = length l.rest
+abbrev pub decreases-sixteens : goal.decreases-sixteens
+decreases-sixteens l = length l.bytes - l.base
+
+abbrev pub invariant-ones : goal.invariant-ones
+invariant-ones l = record {
+  so_far : IsPut l.line l.at l.bytes l.initial.start l.start l.initial.tokens.items l.tokens.items;
+  order : l.start ≤ l.base;
+  within : l.base ≤ length l.bytes;
+  passed : NoBlank l.bytes l.start l.base;
+}
+
+abbrev pub decreases-ones : goal.decreases-ones
+decreases-ones l = length l.bytes - l.base
