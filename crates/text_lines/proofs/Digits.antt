@@ -1,5 +1,5 @@
 -- Decimal digits that are read from a place on.
-use Rattle.text_lines.proofs.Prelude.{◌≡◌, ℕ, ◌+◌, ◌-◌, ◌*◌, ◌<◌, ◌≤◌, Bool, true, false, ◌&&◌, List, length, get_or, drop, drop-cons, add-one, refl, ap, ◌∙◌, arith, min, is_digit, digits_after, are_digits_at, number_at}
+use Rattle.text_lines.proofs.Prelude.{◌≡◌, ℕ, ◌+◌, ◌-◌, ◌*◌, ◌<◌, ◌≤◌, Bool, true, false, ◌&&◌, List, [], ◌∷◌, length, get_or, drop, drop-cons, drop_all, add-one, refl, sym, ap, ◌∙◌, arith, min, Option, Some, None, IfSome, option_map, is_digit, digits_after, natural_of, are_digits_at, number_at}
 
 both : (a b : Bool) → (a && b) ≡ true → (a ≡ true) × (b ≡ true)
 both true b h = (refl, h)
@@ -8,6 +8,15 @@ both false b h = absurd (cc)
 -- a digit goes behind those before it
 pub digit_more : (m i j : ℕ) (w : List ℕ) → i < length w → j ≡ i + 1 → is_digit (get_or w i 0) ≡ true → digits_after m (drop i w) ≡ digits_after (10 * m + (get_or w i 0 - 48)) (drop j w)
 digit_more m i j w lt next is = rw (drop-cons w i 0 lt, is, next, add-one) refl
+
+-- after the last byte there are no more digits
+pub digits_end : (m i : ℕ) (w : List ℕ) → length w ≤ i → digits_after m (drop i w) ≡ Some m
+digits_end m i w all = ap (digits_after m) (drop_all i w all)
+
+-- a word without its first byte is read as its first digit and then the others
+pub natural_digits : (w : List ℕ) → 0 < length w → natural_of w ≡ digits_after 0 (drop 0 w)
+natural_digits [] some = absurd (omega arith)
+natural_digits (d ∷ ds) some = refl
 
 -- four digits go behind those before them
 pub four_more : (m k : ℕ) (w : List ℕ) → k + 4 ≤ length w → are_digits_at w k ≡ true → digits_after m (drop k w) ≡ digits_after (10000 * m + number_at w k) (drop (k + 4) w)
@@ -29,8 +38,10 @@ four_more m k w within are =
     sum_of m a b c d = omega arith
 
 -- the same up to a number that stands for all that are greater
-pub capped : (m n e most : ℕ) → n ≡ min m most → min (10000 * n + e) most ≡ min (10000 * m + e) most
-capped m n e most is = omega (arith, is)
-
 pub capped_one : (m n e most : ℕ) → n ≡ min m most → min (10 * n + e) most ≡ min (10 * m + e) most
 capped_one m n e most is = omega (arith, is)
+
+-- a small number is that, and no number stays none
+pub cap_small : (o : Option ℕ) → IfSome o (λ m. m < 100000000) → o ≡ option_map (λ n. min n 1000000000000) o
+cap_small None small = refl
+cap_small (Some m) small = let e : m ≡ min m 1000000000000 = omega (arith, small) in ap (λ (n : ℕ). Some n) e

@@ -4,7 +4,7 @@ pub use Rattle.std.proofs.lemmas.Bool.{and_parts, cases_lt, false_from_ne_true, 
 pub use Rattle.std.proofs.lemmas.Bool.Decides.{nat_tests}
 pub use Rattle.std.proofs.lemmas.List.{drop-drop, drop_all, get_or-drop, length-append, length-drop, length-take, take-append-drop, take_at, take_rest}
 pub use Rattle.std.specs.List.{onto_first, position_or_len, slice_split}
-pub use Rattle.std.specs.Prelude.{T, int_le, min, nat_le, not, slice_range, unwrap_or, ℤ, ◌&&◌, ◌==◌, ◌≤ℤ◌}
+pub use Rattle.std.specs.Prelude.{IfSome, T, int_le, min, nat_le, not, slice_range, unwrap_or, ℤ, ◌&&◌, ◌==◌, ◌≤ℤ◌}
 pub use Rattle.text_lines.specs.Lines.{between_feeds, is_line_feed, lines_of, without_empty_end}
 pub use Rattle.text_lines.specs.Numbers.{IsNumber, begins_with_minus, digits_after, in_range, is_digit, natural_of, number_in, number_of, signed}
 pub use Rattle.text_lines.specs.Steps.{IsPut, Marks, NoBlank, are_digits_at, number_at}

@@ -1,8 +1,8 @@
 //! Decimal numbers.
 
-ghost use Rattle.std.specs.Prelude.{◌≡◌, ℕ, ◌+◌, true, ◌≤◌, ◌≤ℤ◌, ◌<ℤ◌, pos, neg_ℤ, min, option_map, Option, IsTrue, IfOk, ◌<◌, length};
+ghost use Rattle.std.specs.Prelude.{◌≡◌, ℕ, ◌+◌, ◌-◌, ◌*◌, true, ◌≤◌, ◌≤ℤ◌, ◌<ℤ◌, pos, neg_ℤ, min, drop, option_map, Option, Some, None, IsTrue, IfOk, IfSome, ◌<◌, length, if◌then◌else◌};
 ghost use Rattle.text_lines.specs.Steps.{are_digits_at, number_at};
-ghost use Rattle.text_lines.specs.Numbers.{is_digit as is_digit_of, natural_of, signed, begins_with_minus as begins_with_minus_of, in_range as in_range_of, number_in as number_in_of};
+ghost use Rattle.text_lines.specs.Numbers.{is_digit as is_digit_of, digits_after, natural_of, signed, begins_with_minus as begins_with_minus_of, in_range as in_range_of, number_in as number_in_of};
 
 /// Why a word isn't a number that is wanted.
 #[derive(Clone, Copy, Debug, PartialEq, Eq)]
@@ -44,28 +44,95 @@ fn four_digits(word: &[u8], at: usize) -> u64
         + (word[at + 3] as u64 - 48)
 }
 
-/// The number that a word of decimal digits spells, or [`LARGE`] where it is greater. There may be any number of digits,
-/// at least one; leading zeros are allowed.
-pub fn natural(word: &[u8]) -> Option<u64>
-    ensures { result ≡ option_map (λ n. min n LARGE) (natural_of word.now) }
+// One more digit after those of a number, if this is one.
+#[inline(always)]
+fn with_digit(n: u64, digit: u8) -> Option<u64>
+    requires { n < 1_000_000_000_000_000 }
+    ensures value { result ≡ (if is_digit_of digit then Some (10 * n + (digit - 48)) else None) }
+    ensures small { IfSome result (λ m. m < 10 * n + 10) }
 {
-    if word.is_empty() {
+    if is_digit(digit) {
+        Some(10 * n + (digit as u64 - 48))
+    } else {
+        None
+    }
+}
+
+// The number whose last digits, at most three, stand from a place on after those of another.
+#[inline(always)]
+fn last_digits(word: &[u8], at: usize, n: u64) -> Option<u64>
+    requires within { at ≤ length word.now }
+    requires few { length word.now < at + 4 }
+    requires small { n < 10_000 }
+    ensures value { result ≡ digits_after n (drop at word.now) }
+    ensures small { IfSome result (λ m. m < 10_000_000) }
+{
+    if at == word.len() {
+        return Some(n);
+    }
+    let n = with_digit(n, word[at])?;
+    if at + 1 == word.len() {
+        return Some(n);
+    }
+    let n = with_digit(n, word[at + 1])?;
+    if at + 2 == word.len() {
+        return Some(n);
+    }
+    with_digit(n, word[at + 2])
+}
+
+// The same of a word of at most eight digits, as most numbers are: no digit of it needs a bound, and no loop goes over it.
+#[inline(always)]
+fn short_natural(word: &[u8]) -> Option<u64>
+    requires some { 0 < length word.now }
+    requires short { length word.now ≤ 8 }
+    ensures value { result ≡ natural_of word.now }
+    ensures small { IfSome result (λ m. m < 100_000_000) }
+{
+    if word.len() < 4 {
+        return last_digits(word, 0, 0);
+    }
+    if !are_four_digits(word, 0) {
         return None;
     }
-    let mut n: u64 = 0;
-    let mut at: usize = 0;
-    // Most numbers are micrometres, of six digits and more: four of them are bounded once.
-    'fours: while word.len() - at >= 4 && are_four_digits(word, at) {
-        n = (10_000 * n + four_digits(word, at)).min(LARGE);
-        at += 4;
+    let n = four_digits(word, 0);
+    if word.len() < 8 {
+        return last_digits(word, 4, n);
     }
-    for digit in &word[at..] {
+    if !are_four_digits(word, 4) {
+        return None;
+    }
+    Some(10_000 * n + four_digits(word, 4))
+}
+
+// The same of a word of any length. Numbers above `LARGE` are that.
+fn long_natural(word: &[u8]) -> Option<u64>
+    requires { 0 < length word.now }
+    ensures { result ≡ option_map (λ n. min n LARGE) (natural_of word.now) }
+{
+    let mut n: u64 = 0;
+    for digit in word {
         if !is_digit(*digit) {
             return None;
         }
         n = (10 * n + (*digit as u64 - 48)).min(LARGE);
     }
     Some(n)
+}
+
+/// The number that a word of decimal digits spells, or [`LARGE`] where it is greater. There may be any number of digits,
+/// at least one; leading zeros are allowed.
+#[inline(always)]
+pub fn natural(word: &[u8]) -> Option<u64>
+    ensures { result ≡ option_map (λ n. min n LARGE) (natural_of word.now) }
+{
+    if word.is_empty() {
+        None
+    } else if word.len() <= 8 {
+        short_natural(word)
+    } else {
+        long_natural(word)
+    }
 }
 
 fn begins_with_minus(word: &[u8]) -> bool
