@@ -1,5 +1,5 @@
 -- Decimal digits that are read from a place on.
-use Rattle.text_lines.proofs.Prelude.{◌≡◌, ℕ, ◌+◌, ◌-◌, ◌*◌, ◌<◌, ◌≤◌, Bool, true, false, ◌&&◌, List, [], ◌∷◌, length, get_or, drop, drop-cons, drop_all, add-one, refl, sym, ap, ◌∙◌, arith, min, Option, Some, None, IfSome, option_map, is_digit, digits_after, natural_of, are_digits_at, number_at}
+use Rattle.text_lines.proofs.Prelude.{◌≡◌, ℕ, ◌+◌, ◌-◌, ◌*◌, ◌<◌, ◌≤◌, Bool, true, false, ◌&&◌, List, [], ◌∷◌, length, get_or, drop, drop-cons, drop_all, add-one, refl, ap, ◌∙◌, arith, min, Option, Some, None, IfSome, option_map, is_digit, digits_after, natural_of, are_digits_at, number_at}
 
 both : (a b : Bool) → (a && b) ≡ true → (a ≡ true) × (b ≡ true)
 both true b h = (refl, h)

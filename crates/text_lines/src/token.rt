@@ -147,6 +147,16 @@ pub fn put_line(tokens: &mut Vec<Token>, line: &[u8], comments: Comments) -> Res
     put_words(tokens, 1, 0, visible(line, comments))
 }
 
+// No bytes. It is a call, so that a word in its text is found by two tests that come out the same each time. Else the
+// compiler would choose between two slices at each word.
+#[cold]
+#[inline(never)]
+fn no_word() -> &'static [u8]
+    ensures { result.now ≡ [] }
+{
+    &[]
+}
+
 /// The bytes of a word, and none where it stands outside the text.
 pub fn word_at<'a>(text: &'a [u8], token: &Token) -> &'a [u8]
     ensures { result.now ≡ word_in text.now token.now }
@@ -154,7 +164,7 @@ pub fn word_at<'a>(text: &'a [u8], token: &Token) -> &'a [u8]
     if token.start <= token.end && token.end <= text.len() {
         &text[token.start..token.end]
     } else {
-        &[]
+        no_word()
     }
 }
 
