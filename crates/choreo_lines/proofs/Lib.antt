@@ -4,3 +4,4 @@ pub mod Collected
 pub mod Reading
 pub mod Saying
 pub mod Rows
+pub mod Acts

@@ -11,12 +11,12 @@ ghost use Rattle.choreo_lines.specs.Steps.{IsNatural};
 ghost use Rattle.choreo_lines.specs.Says.{Says, may_say};
 ghost use Rattle.choreo_lines.specs.declared.line.Keyword.TheVariants as by;
 
+use crate::act::act_by;
 use crate::field::{copy_of, name, nth, value};
 use crate::line::{Entry, Keyword, LineError, LineKind, Place};
 use crate::parts::{Act, Frame, Mirror, Name, Point};
 use crate::table::{
-    ActWord, Form, MOST_PLACES, Value, Want, act_places, act_word, as_read, may_stand, names,
-    places,
+    Form, MOST_PLACES, Value, Want, act_places, act_word, as_read, may_stand, names, places,
 };
 use crate::word::keyword;
 use arrayvec::ArrayVec;
@@ -81,28 +81,6 @@ fn point_at(values: &[Value], k: usize) -> Point
     }
 }
 
-// The three coordinates of which the first stands at a place.
-fn triple_at(values: &[Value], k: usize) -> [i64; 3]
-    requires { k ≤ MOST_PLACES }
-    ensures { result ≡ spec.triple_at values.now k }
-{
-    [
-        number_at(values, k),
-        number_at(values, k + 1),
-        number_at(values, k + 2),
-    ]
-}
-
-// Whether the sense at a place is counter-clockwise.
-fn ccw_at(values: &[Value], k: usize) -> bool
-    ensures { result ≡ spec.ccw_at values.now k }
-{
-    match values.get(k) {
-        Some(Value::Ccw(ccw)) => *ccw,
-        _ => false,
-    }
-}
-
 // Whether the manner at a place is from rest to rest.
 fn smooth_at(values: &[Value], k: usize) -> bool
     ensures { result ≡ spec.smooth_at values.now k }
@@ -140,42 +118,6 @@ fn natural_at(values: &[Value], k: usize, most: u32) -> u32
     ensures small { result ≤ most }
 {
     number_at(values, k) as u32
-}
-
-// What the values of an act's places denote.
-fn act_with(act: ActWord, values: &[Value]) -> Act
-    ensures { result ≡ spec.act_with act values.now }
-{
-    match act {
-        ActWord::Hold => Act::Hold,
-        ActWord::Line => Act::Line {
-            to: point_at(values, 0),
-        },
-        ActWord::Move => Act::Move {
-            to: point_at(values, 0),
-        },
-        ActWord::Turn => Act::Turn {
-            yaw: number_at(values, 0),
-        },
-        ActWord::Arc => Act::Arc {
-            ccw: ccw_at(values, 0),
-            cx: number_at(values, 1),
-            cy: number_at(values, 2),
-            yaw: number_at(values, 3),
-        },
-        ActWord::Eased(ease) => Act::Eased {
-            ease,
-            ccw: ccw_at(values, 0),
-            cx: number_at(values, 1),
-            cy: number_at(values, 2),
-            yaw: number_at(values, 3),
-        },
-        ActWord::Curve => Act::Curve {
-            p1: triple_at(values, 0),
-            p2: triple_at(values, 3),
-            to: point_at(values, 6),
-        },
-    }
 }
 
 // What the values of a `memory` line denote.
@@ -289,13 +231,10 @@ fn act_in(form: Form, text: &[u8], words: &[Token]) -> Result<Act, LineKind>
         return Err(LineKind::BadWord);
     };
     let words = &words[1..];
-    let places = act_places(act);
-    if words.len() != places.len() {
+    if words.len() != act_places(act).len() {
         return Err(LineKind::BadCount);
     }
-    let mut values = ArrayVec::new();
-    values_in(form, text, places, words, &mut values)?;
-    Ok(act_with(act, values.as_slice()))
+    act_by(form, act, text, words)
 }
 
 // What all words of an act line say: its name is judged first, and then that it has an act.

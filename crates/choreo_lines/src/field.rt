@@ -25,6 +25,7 @@ fn judged(read: Result<i64, NumberFault>) -> Result<i64, LineKind>
 }
 
 /// The number that a word spells, in a range.
+#[inline(always)]
 pub fn number(word: &[u8], low: i64, high: i64) -> Result<i64, LineKind>
     requires low { neg_ℤ (pos LARGE) <ℤ low }
     requires high { high <ℤ pos LARGE }
@@ -32,6 +33,25 @@ pub fn number(word: &[u8], low: i64, high: i64) -> Result<i64, LineKind>
     ensures within { IfOk result (λ v. (low ≤ℤ v) × (v ≤ℤ high)) }
 {
     judged(text_lines::number_in(word, low, high))
+}
+
+/// The length, time or angle that a word is, in a text of this form and in a range.
+#[inline(always)]
+pub fn quantity(
+    form: Form,
+    counts: Counts,
+    word: &[u8],
+    low: i64,
+    high: i64,
+) -> Result<i64, LineKind>
+    requires low { neg_ℤ (pos LARGE) <ℤ low }
+    requires high { high <ℤ pos LARGE }
+    ensures { result ≡ spec.quantity_in form counts low high word.now }
+{
+    match form {
+        Form::Whole => number(word, low, high),
+        Form::Units => judged(quantity_in(counts, word, low, high)),
+    }
 }
 
 /// The name of these bytes, which are at most 16.
@@ -52,6 +72,8 @@ pub fn copy_of(name: &Name) -> Name
 }
 
 /// The name that a word is.
+// Each line of a show has one.
+#[inline(always)]
 pub fn name(word: &[u8]) -> Result<Name, LineKind>
     ensures { result ≡ spec.name_in word.now }
 {
@@ -88,7 +110,8 @@ fn smooth(word: &[u8]) -> Result<bool, LineKind>
     }
 }
 
-fn ccw(word: &[u8]) -> Result<bool, LineKind>
+/// Whether a sense is counter-clockwise.
+pub fn ccw(word: &[u8]) -> Result<bool, LineKind>
     ensures { result ≡ spec.ccw_in word.now }
 {
     if word == b"ccw".as_slice() {
@@ -104,23 +127,17 @@ fn ccw(word: &[u8]) -> Result<bool, LineKind>
 pub fn value(form: Form, want: Want, word: &[u8]) -> Result<Value, LineKind>
     ensures { result ≡ spec.value_in form want word.now }
 {
-    // One call of `number`: so it is compiled into the loop over a line's words.
-    let (unit, low, high) = match want {
+    let number = match want {
         Want::Name => return Ok(Value::Name(name(word)?)),
         Want::Mirror => return Ok(Value::Mirror(mirror(word)?)),
         Want::Manner => return Ok(Value::Smooth(smooth(word)?)),
         Want::Sense => return Ok(Value::Ccw(ccw(word)?)),
-        Want::Number { low, high } => (None, low, high),
-        Want::Quantity { counts, low, high } => match form {
-            Form::Whole => (None, low, high),
-            Form::Units => (Some(counts), low, high),
-        },
+        Want::Number { low, high } => number(word, low as i64, high as i64)?,
+        Want::Quantity { counts, low, high } => {
+            quantity(form, counts, word, low as i64, high as i64)?
+        }
     };
-    let read = match unit {
-        None => number(word, low as i64, high as i64)?,
-        Some(counts) => judged(quantity_in(counts, word, low as i64, high as i64))?,
-    };
-    Ok(Value::Number(read))
+    Ok(Value::Number(number))
 }
 
 /// The word at a place.

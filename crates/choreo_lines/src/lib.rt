@@ -6,6 +6,7 @@
 //! together to a show.
 #![tactic(auto)]
 
+mod act;
 mod entry;
 mod field;
 mod line;
