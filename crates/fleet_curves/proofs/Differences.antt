@@ -1,5 +1,5 @@
 -- The differences of raised curves.
-use Rattle.fleet_curves.proofs.Prelude.{common_steps, ◌≡◌, ℕ, zero, suc, ◌^◌, ◌<◌, ◌≤◌, ◌-◌, ℤ, pos, ◌-ℤ◌, arith, refl, ◌∙◌, ap, List, [], ◌∷◌, length, get_or, All, lit<, ints, All-from_get_or, at, last_value, Bez, IsBelow, controls, eight, at-eight, controls_below, less}
+use Rattle.fleet_curves.proofs.Prelude.{◌≡◌, ℕ, zero, suc, ◌^◌, ◌<◌, ◌≤◌, ◌-◌, ℤ, pos, ◌-ℤ◌, arith, refl, ◌∙◌, ap, List, [], ◌∷◌, length, get_or, All, lit<, ints, All-from_get_or, at, Bez, IsBelow, controls, eight, at-eight, controls_below, less}
 
 below_less : (x y : ℤ) → IsBelow (2 ^ 28) x → IsBelow (2 ^ 28) y → IsBelow (2 ^ 30) (x -ℤ y)
 below_less x y first second = (omega (arith, ints), omega (arith, ints))
@@ -68,10 +68,3 @@ three_axes P x y z zero near = x
 three_axes P x y z (suc zero) near = y
 three_axes P x y z (suc (suc zero)) near = z
 three_axes P x y z (suc (suc (suc k))) near = absurd (omega arith)
-
--- the last value of some numbers is the last of them
-pub last_is : (xs : List ℤ) (first : ℤ) → 0 < length xs → last_value first xs ≡ get_or xs (length xs - 1) (pos 0)
-last_is [] first some = absurd (omega arith)
-last_is (x ∷ []) first some = refl
-last_is (x ∷ y ∷ rest) first some =
-    let e : length (x ∷ y ∷ rest) - 1 ≡ suc (length (y ∷ rest) - 1) = omega arith in rw e (last_is (y ∷ rest) x (omega arith))

@@ -2,13 +2,12 @@
 
 ghost use Rattle.std.specs.Prelude.{◌≡◌, ℕ, ◌+◌, ◌*◌, ◌^◌, ◌≤◌, ◌<◌, ℤ, ◌-ℤ◌, ◌++◌, ◌∷◌, [], All, IfOk, OnOk, length};
 ghost use Rattle.fleet_math.specs.Numbers.{IsBelow};
-ghost use Rattle.fleet_math.specs.Decoded.{last_value};
 ghost use Rattle.bezier_core.specs.Curves.{IsLength};
 ghost use Rattle.fleet_math.specs.Bernstein.{at};
 ghost use Rattle.bezier_core.specs.Raised.{eight, raised};
 ghost use Rattle.fleet_math.specs.Limits.{most_cues, most_drones};
 ghost use Rattle.traj_codec.specs.Spelling.{stored};
-ghost use Rattle.traj_codec.specs.Positions.{element_on, value_after};
+ghost use Rattle.traj_codec.specs.Positions.{element_on};
 ghost use Rattle.fleet_curves.specs.Raised.{CurvesStandFor, IsOneShow, curves_at, curves_of, difference, less, raised_element, raised_traj, raised_of};
 ghost use Rattle.fleet_curves.specs.Steps.{AreSmallCurves, IsFormed, all_curves};
 
@@ -17,7 +16,7 @@ use crate::widths::{narrowed, widened_rows};
 use bezier_core::Bez;
 use std::alloc::{AllocError, Global};
 use std::marker::Model;
-use traj_codec::{Element, Segment, Traj};
+use traj_codec::{Element, Segment, Traj, value_after};
 
 /// The raised curves of a fleet: of each drone in each cue the three on x, y and z, each as the eight control values of
 /// degree seven of 5,040 times the curve, in millimetres. A control value is below 2^28, so they are kept in 32 bits.
@@ -219,27 +218,6 @@ pub fn raised_segment(x: i16, y: i16, z: i16, s: &Segment) -> [Bez<8>; 3]
         raised(y, s.elements[1]),
         raised(z, s.elements[2]),
     ]
-}
-
-/// The value with which an element ends that begins with the first one, in millimetres or, of yaw, in tenths of a
-/// degree.
-pub fn value_after(first: i16, element: Element) -> i16
-    ensures { result ≡ value_after first element }
-{
-    match element {
-        Element::Constant => first,
-        Element::Linear { v } => v,
-        Element::Cubic { v } => last_of(&v),
-        Element::Seven { v } => last_of(&v),
-    }
-}
-
-// The last of some numbers, whatever stood before them.
-fn last_of(v: &[i16]) -> i16
-    requires { 0 < length v.now }
-    ensures { (first : ℤ) → result ≡ last_value first v.now }
-{
-    v[v.len() - 1]
 }
 
 /// The raised curve of an element that begins with this value: one of the three that [`raised_segment`] returns.

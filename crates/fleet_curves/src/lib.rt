@@ -10,6 +10,7 @@ mod difference;
 mod formed;
 mod widths;
 
-pub use curves::{Curves, raised, raised_segment, row_of_four, value_after};
+pub use curves::{Curves, raised, raised_segment, row_of_four};
 pub use difference::Difference;
 pub use formed::formed_law;
+pub use traj_codec::value_after;

@@ -14,7 +14,6 @@ pub use Rattle.fleet_math.proofs.RingLemmas.{add_mul_ℤ, le_mul_pos, linear, mu
 unfoldable pub use Rattle.fleet_math.specs.Bernstein.{bernstein}
 pub use Rattle.fleet_math.specs.Bernstein.{at, bern, choose, weight}
 unfoldable pub use Rattle.fleet_math.specs.Decoded.{decoded}
-pub use Rattle.fleet_math.specs.Decoded.{last_value}
 unfoldable pub use Rattle.fleet_math.specs.Moments.{moment}
 pub use Rattle.fleet_math.specs.Moments.{Moment, moment_from, time_before}
 pub use Rattle.fleet_math.specs.Numbers.{IsBelow}

@@ -24,6 +24,7 @@ mod row;
 mod show;
 mod weights;
 
-pub use player::{at, last_values};
+pub use player::at;
 pub use row::put_row;
 pub use show::{Name, play};
+pub use traj_codec::last_values;

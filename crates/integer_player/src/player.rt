@@ -3,16 +3,14 @@
 ghost use Rattle.std.specs.Prelude.{◌≡◌, ℕ, ◌+◌, ◌^◌, ◌<◌, ◌≤◌, ◌∷◌, All, length, nat_lt};
 ghost use Rattle.fleet_math.specs.Bernstein.{at};
 ghost use Rattle.fleet_math.specs.Numbers.{IsBelow};
-ghost use Rattle.fleet_math.specs.Decoded.{last_value as last_number};
 ghost use Rattle.traj_codec.specs.declared.traj.Traj.{Traj};
 ghost use Rattle.traj_codec.specs.Spelling.{HasDuration, stored};
-ghost use Rattle.traj_codec.specs.Positions.{element_on, value_after};
 ghost use Rattle.integer_player.specs.Played.{curve_floor, played_at, played, duration_of, IsPlayable};
 ghost use Rattle.integer_player.specs.Places.{IsPlaceIn, IsPlaceAt, IsNotPast, part_of};
 
 use crate::instant::Instant;
 use std::marker::Model;
-use traj_codec::{Element, Segment, Traj};
+use traj_codec::{Element, Segment, Traj, last_values};
 
 // Micrometres in a millimetre.
 const POSITION_SCALE: u64 = 1000;
@@ -174,40 +172,6 @@ fn axis_at(first: i16, element: &Element, i: &Instant, scale: u64) -> i64
         Element::Cubic { v } => i.on_cubic(&cubic_points(first, &v), scale),
         Element::Seven { v } => i.on_seven(&seven_points(first, &v), scale),
     }
-}
-
-// The last of some numbers.
-fn last_of<const N: usize>(first: i16, v: &[i16; N]) -> i16
-    requires { 1 ≤ N }
-    ensures { result ≡ last_number first v.now }
-{
-    v[N - 1]
-}
-
-// The value with which an element ends that begins with `first`.
-fn last_value(first: i16, element: &Element) -> i16
-    ensures { result ≡ value_after first element.now }
-{
-    match *element {
-        Element::Constant => first,
-        Element::Linear { v } => v,
-        Element::Cubic { v } => last_of(first, &v),
-        Element::Seven { v } => last_of(first, &v),
-    }
-}
-
-/// The values with which a segment ends that begins with these: x, y and z in millimetres, and yaw in
-/// tenths of a degree (docs/TRAJECTORY.md).
-pub fn last_values(first: &[i16; 4], s: &Segment) -> [i16; 4]
-    ensures { (axis : ℕ) → axis < 4 → at result axis ≡ value_after (at first.now axis) (element_on s.now axis) }
-{
-    let [x, y, z, yaw] = &s.elements;
-    [
-        last_value(first[0], x),
-        last_value(first[1], y),
-        last_value(first[2], z),
-        last_value(first[3], yaw),
-    ]
 }
 
 impl Default for Player {
