@@ -19,8 +19,8 @@ pub told_short : (x y : ℤ) → IsBelow 32769 x → FitsSigned w16 y → x ≡ 
 told_short x y small fits is = told x (to_z w16 (of_z w16 y)) small is ∙ to_z-of_z w16 y fits
 
 -- the difference of two numbers below 2^28
-pub told_gap : (g x y : ℤ) → IsBelow (2 ^ 28) x → IsBelow (2 ^ 28) y → g ≡ to_z w32 (of_z w32 x) -ℤ to_z w32 (of_z w32 y) → to_z w32 (of_z w32 g) ≡ x -ℤ y
-told_gap g x y upper lower is =
+pub told_less : (g x y : ℤ) → IsBelow (2 ^ 28) x → IsBelow (2 ^ 28) y → g ≡ to_z w32 (of_z w32 x) -ℤ to_z w32 (of_z w32 y) → to_z w32 (of_z w32 g) ≡ x -ℤ y
+told_less g x y upper lower is =
     let x_fits : FitsSigned w32 x = omega (arith, ints, upper.0, upper.1) in
     let y_fits : FitsSigned w32 y = omega (arith, ints, lower.0, lower.1) in
     let fits : FitsSigned w32 (x -ℤ y) = omega (arith, ints, upper.0, upper.1, lower.0, lower.1) in

@@ -132,7 +132,7 @@ fn differences(second: &[[i32; 8]; 3], first: &[[i32; 8]; 3]) -> Difference
 }
 
 // One control value less another.
-fn gap(second: i32, first: i32) -> i32
+fn value_less(second: i32, first: i32) -> i32
     requires second { IsBelow (2 ^ 28) second }
     requires first { IsBelow (2 ^ 28) first }
     ensures { result ≡ second -ℤ first }
@@ -148,7 +148,7 @@ fn row_less(second: &[i32; 8], first: &[i32; 8]) -> [i32; 8]
 {
     let mut row = [0; 8];
     for k in 0..8 {
-        row[k] = gap(second[k], first[k]);
+        row[k] = value_less(second[k], first[k]);
     }
     row
 }
