@@ -48,7 +48,8 @@ pub record AreRaised (curves : List (Bez 8)) : Type 0 where
 -- the three raised curves of a trajectory in a cue: those of its control points on x, y and z
 abbrev pub raised_in : Traj → ℕ → List (Bez 8)
 raised_in t cue =
-    record { b = raised (points t cue 0) } ∷ record { b = raised (points t cue 1) } ∷ record { b = raised (points t cue 2) } ∷ []
+    record { b = raised (points t cue 0) } ∷ record { b = raised (points t cue 1) }
+    ∷ record { b = raised (points t cue 2) } ∷ []
 
 -- Trajectories of one show: 1 to 32, each of the same 1 to 1,000 durations, none of them 0.
 pub record AreOneShow (times : List ℕ) (trajs : List Traj) : Type 0 where
@@ -75,7 +76,8 @@ pub record CurvesStandFor (c : Raised) (trajs : List Traj) : Type 0 where
   pub few_points : All (HasFewPoints (length times)) trajs
   pub drones : c.drones ≡ length trajs
   pub cues : c.cues ≡ length times
-  pub curves : (drone cue : ℕ) (t : Traj) → slice_get trajs drone ≡ Some t → cue < length times → curves_at c drone cue ≡ raised_in t cue
+  pub curves : (drone cue : ℕ) (t : Traj) → slice_get trajs drone ≡ Some t → cue < length times →
+      curves_at c drone cue ≡ raised_in t cue
 
 -- ---- the curves of trajectories
 -- the raised curve of an element, from the value before it
