@@ -23,10 +23,6 @@ time-snoc xs e = let h = time-append xs (e ∷ []) in omega (arith, h)
 
 -- ---- the last sample of a drone
 
-abbrev pub of_track : Option Track → Option Sample
-of_track None = None
-of_track (Some t) = t.seen
-
 abbrev pub seen_of : List Track → ℕ → Option Sample
 seen_of [] d = None
 seen_of (t ∷ ts) zero = t.seen
