@@ -162,7 +162,8 @@ falls_silent silence ms seen = not (is_silent silence seen) && is_silent silence
 
 abbrev pub silent_from : ℕ → ℕ → ℕ → List Track → List Note
 silent_from silence ms d [] = []
-silent_from silence ms d (t ∷ ts) = note_if (falls_silent silence ms t.seen) d Silent ++ silent_from silence ms (suc d) ts
+silent_from silence ms d (t ∷ ts) =
+    note_if (falls_silent silence ms t.seen) d Silent ++ silent_from silence ms (suc d) ts
 
 abbrev pub is_lost : Option Sample → Bool
 is_lost None = false
@@ -176,7 +177,8 @@ is_astray (Some ms) = nat_le 300 ms
 -- a drone becomes lost or astray with a sample: its track before and after it
 abbrev pub sample_notes : ℕ → Track → Track → List Note
 sample_notes d t u =
-    note_if (not (is_lost t.seen) && is_lost u.seen) d Lost ++ note_if (not (is_astray t.off) && is_astray u.off) d Astray
+    note_if (not (is_lost t.seen) && is_lost u.seen) d Lost
+    ++ note_if (not (is_astray t.off) && is_astray u.off) d Astray
 
 abbrev pub seen_notes : Flight → State → ℕ → Sample → Option Track → List Note
 seen_notes f s d x None = []
@@ -208,7 +210,8 @@ is_stop e = false
 abbrev pub is_due_step : Flight → State → Event → Option Step → Bool
 is_due_step f s e None = false
 is_due_step f s e (Some step) =
-    (not step.asked || is_go e) && nat_le step.after s.waited && nat_le step.settle s.steady && all_fit f.silence step.conditions s.tracks
+    (not step.asked || is_go e) && nat_le step.after s.waited && nat_le step.settle s.steady
+    && all_fit f.silence step.conditions s.tracks
 
 unfoldable pub is_due : Flight → State → Event → Bool
 is_due f s e = is_due_step f s e (next_step f s)

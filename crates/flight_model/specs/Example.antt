@@ -67,7 +67,8 @@ flight flies_on = record {
 -- ---- its events
 
 abbrev pub sample : ℤ → ℤ → ℤ → Bool → Bool → Sample
-sample x y z armed down = record { age = 0; x = x; y = y; z = z; ready = true; armed = armed; lost = false; down = down }
+sample x y z armed down =
+    record { age = 0; x = x; y = y; z = z; ready = true; armed = armed; lost = false; down = down }
 
 -- both drones are heard, y mm aside and z mm high
 abbrev pub both : ℤ → ℤ → Bool → Bool → List Event
@@ -85,20 +86,24 @@ abbrev pub lift_off : List Event
 lift_off = both (pos 0) (pos 0) false true ++ go ++ both (pos 0) (pos 0) true true
 
 abbrev pub rising : List Event
-rising = half (pos 500) true false ++ half (pos 500) true false ++ half (pos 500) true false ++ half (pos 1000) true false
+rising =
+    half (pos 500) true false ++ half (pos 500) true false ++ half (pos 500) true false ++ half (pos 1000) true false
 
 abbrev pub hovering : List Event
 hovering = half (pos 1000) true false ++ half (pos 1000) true false ++ half (pos 1000) true false
 
 abbrev pub show : List Event
-show = both (pos 0) (pos 1000) true false ++ (Clock 500 ∷ both (pos 225) (pos 1000) true false) ++ half (pos 1000) true false
+show =
+    both (pos 0) (pos 1000) true false ++ (Clock 500 ∷ both (pos 225) (pos 1000) true false)
+    ++ half (pos 1000) true false
 
 abbrev pub sinking : List Event
 sinking = half (pos 500) true false ++ half (pos 500) true false
 
 abbrev pub way_down : List Event
 way_down =
-    half (pos 1000) true false ++ half (pos 1000) true false ++ sinking ++ sinking ++ half (pos 0) true true ++ half (pos 0) true true
+    half (pos 1000) true false ++ half (pos 1000) true false ++ sinking ++ sinking ++ half (pos 0) true true
+    ++ half (pos 0) true true
     ++ half (pos 0) true true ++ both (pos 0) (pos 0) false true
 
 -- from pad to pad
@@ -108,7 +113,8 @@ whole = lift_off ++ rising ++ hovering ++ go ++ show ++ way_down
 -- What is said at them: each drone is told its five orders, and the flight was flown and kept.
 abbrev pub said : List Frame
 said =
-    To 0 order.Arm ∷ To 1 order.Arm ∷ To 0 (order.Rise (pos 1000) 2000) ∷ To 1 (order.Rise (pos 1000) 2000) ∷ ToAll order.Start
+    To 0 order.Arm ∷ To 1 order.Arm ∷ To 0 (order.Rise (pos 1000) 2000) ∷ To 1 (order.Rise (pos 1000) 2000)
+    ∷ ToAll order.Start
     ∷ To 0 (order.Land (pos 0) 2500) ∷ To 1 (order.Land (pos 0) 2500) ∷ ToAll order.Disarm ∷ Over true true ∷ []
 
 -- The three ways are a flight, nothing is wrong with these events, and so the laws of flown, kept and quiet flights say

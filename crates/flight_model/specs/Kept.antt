@@ -39,14 +39,17 @@ pub record IsKeptShow (f : Flight) (events : List Event) : Type 0 where
   pub are : events ≡ before ++ Said signal.Go ∷ (during ++ last ∷ rest)
   -- at this go each drone was told to start, and up to the end of `during` nothing else
   pub started : (d : ℕ) →
-      orders_to d (sent f (start f) (before ++ Said signal.Go ∷ during)) ≡ orders_to d (sent f (start f) before) ++ order.Start ∷ []
+      orders_to d (sent f (start f) (before ++ Said signal.Go ∷ during))
+      ≡ orders_to d (sent f (start f) before) ++ order.Start ∷ []
   -- the next event ends the show, or comes after it
   pub whole : f.show_ms ≤ time (during ++ last ∷ [])
   -- each sample that was taken in the show was at its drone's curve; times are counted up to twelve days
   pub at_curve : (earlier since : List Event) (d : ℕ) (x : Sample) → during ≡ earlier ++ Seen d x ∷ since →
-      time earlier ≤ most_ms → x.age ≤ time earlier → time earlier - x.age ≤ f.show_ms → is_kept f d (time earlier - x.age) x ≡ true
+      time earlier ≤ most_ms → x.age ≤ time earlier → time earlier - x.age ≤ f.show_ms →
+      is_kept f d (time earlier - x.age) x ≡ true
   -- no drone was silent, from the start to the show's end
-  pub heard : (d ms : ℕ) → d < drones f → ms ≤ f.show_ms → IsHeard f.silence (before ++ Said signal.Go ∷ during) d (time before + ms)
+  pub heard : (d ms : ℕ) → d < drones f → ms ≤ f.show_ms →
+      IsHeard f.silence (before ++ Said signal.Go ∷ during) d (time before + ms)
 
 -- The steps of f fly its show: one starts it at the operator's go, and asks something of each drone; the next one waits
 -- for the show's end. Show and silence are shorter than twelve days.
@@ -65,9 +68,12 @@ pub record HasShow (f : Flight) : Type 0 where
 
 pub record KeptLaw : Type 0 where
   -- Where the end says that the show was kept, it was.
-  pub kept : (f : Flight) (events : List Event) → HasShow f → Contains (sent f (start f) events) (Over true true) → IsKeptShow f events
+  pub kept : (f : Flight) (events : List Event) → HasShow f → Contains (sent f (start f) events) (Over true true) →
+      IsKeptShow f events
   -- Nothing is said to be kept that wasn't flown.
-  pub flown : (f : Flight) (events : List Event) (flown : Bool) → Contains (sent f (start f) events) (Over flown true) → flown ≡ true
+  pub flown : (f : Flight) (events : List Event) (flown : Bool) → Contains (sent f (start f) events) (Over flown true) →
+      flown ≡ true
   -- The steps of a flight fly its show.
-  pub has_show : (f : Flight) (w : Routes) → IsFlight w → f.steps ≡ steps_of w → f.curves ≡ w.show → f.show_ms ≡ lasts w.show →
+  pub has_show : (f : Flight) (w : Routes) → IsFlight w → f.steps ≡ steps_of w → f.curves ≡ w.show →
+      f.show_ms ≡ lasts w.show →
       f.show_ms ≤ most_ms → f.silence < most_ms → HasShow f

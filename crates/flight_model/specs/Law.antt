@@ -92,7 +92,8 @@ pub data IsOnward : Order → Type 0 where
 -- In every state an event that tells a drone to arm, rise, go or start begins a step that may begin; and no other event
 -- begins one.
 pub record DueLaw : Type 0 where
-  pub orders : (f : Flight) (s : State) (e : Event) (d : ℕ) (o : Order) → IsOnward o → Contains (orders_to d (says f s e)) o → MayBegin f s e
+  pub orders : (f : Flight) (s : State) (e : Event) (d : ℕ) (o : Order) → IsOnward o →
+      Contains (orders_to d (says f s e)) o → MayBegin f s e
   pub steps : (f : Flight) (s : State) (e : Event) → ((happens f s e).next ≡ s.next) ⊎ MayBegin f s e
 
 -- ---- land, fault and halt: at once
@@ -100,7 +101,8 @@ pub record DueLaw : Type 0 where
 -- The operator's land, and a fault that lands, at once: in every state on the way, what goes out at the event ends with
 -- the landing of each drone that has risen, and the director has left the way.
 abbrev pub Lands : Flight → State → Event → Type 0
-Lands f s e = (says f s e ≡ map Noted (notes f s e) ++ frames_from 0 (landings f s.next)) × ((happens f s e).phase ≡ Landing)
+Lands f s e =
+    (says f s e ≡ map Noted (notes f s e) ++ frames_from 0 (landings f s.next)) × ((happens f s e).phase ≡ Landing)
 
 -- disarm or halt
 abbrev pub IsLast : Order → Type 0
@@ -109,18 +111,22 @@ IsLast o = (o ≡ order.Disarm) ⊎ (o ≡ order.Halt)
 pub record LandLaw : Type 0 where
   pub now : (f : Flight) (s : State) → s.phase ≡ Steps → Lands f s (Said signal.Land)
   -- off the way a drone is told nothing but disarm and halt, whatever comes
-  pub afterwards : (f : Flight) (s : State) → s.phase ≢ Steps → (events : List Event) (d : ℕ) → All IsLast (orders_to d (sent f s events))
+  pub afterwards : (f : Flight) (s : State) → s.phase ≢ Steps → (events : List Event) (d : ℕ) →
+      All IsLast (orders_to d (sent f s events))
   -- the landing reaches each drone that has risen
-  pub each : (f : Flight) (n d : ℕ) → has_risen f n d ≡ true → d < drones f → orders_to d (frames_from 0 (landings f n)) ≡ land_order f ∷ []
+  pub each : (f : Flight) (n d : ℕ) → has_risen f n d ≡ true → d < drones f →
+      orders_to d (frames_from 0 (landings f n)) ≡ land_order f ∷ []
 
 abbrev pub FaultLaw : Type 0
-FaultLaw = (f : Flight) (s : State) (e : Event) → s.phase ≡ Steps → e ≢ Said signal.Stop → is_fault f s e ≡ true → Lands f s e
+FaultLaw =
+    (f : Flight) (s : State) (e : Event) → s.phase ≡ Steps → e ≢ Said signal.Stop → is_fault f s e ≡ true → Lands f s e
 
 -- The operator's stop goes out at once, in every phase before a halt or the end; and after it nothing does.
 pub record HaltLaw : Type 0 where
   pub now : (f : Flight) (s : State) → (s.phase ≡ Steps) ⊎ ((s.phase ≡ Landing) ⊎ (s.phase ≡ Off)) →
       (d : ℕ) → orders_to d (says f s (Said signal.Stop)) ≡ order.Halt ∷ []
-  pub afterwards : (f : Flight) (s : State) (events : List Event) (d : ℕ) → orders_to d (sent f (happens f s (Said signal.Stop)) events) ≡ []
+  pub afterwards : (f : Flight) (s : State) (events : List Event) (d : ℕ) →
+      orders_to d (sent f (happens f s (Said signal.Stop)) events) ≡ []
 
 -- ---- over: the end
 
@@ -128,7 +134,8 @@ pub record HaltLaw : Type 0 where
 -- else.
 abbrev pub OverLaw : Type 0
 OverLaw =
-    (f : Flight) → 1 ≤ length f.steps → (events : List Event) (kept : Bool) → Contains (sent f (start f) events) (Over true kept) →
+    (f : Flight) → 1 ≤ length f.steps → (events : List Event) (kept : Bool) →
+    Contains (sent f (start f) events) (Over true kept) →
     (d : ℕ) → orders_to d (sent f (start f) events) ≡ ordered d f.steps
 
 -- ---- quiet: no false alarm
@@ -152,7 +159,8 @@ pub record IsQuiet (f : Flight) (slack : ℕ) (s : State) (e : Event) : Type 0 w
   pub no_stop : e ≢ Said signal.Stop
   pub sample : (d : ℕ) (x : Sample) → e ≡ Seen d x → (x.lost ≡ false) × (is_off f s d x ≡ false)
   pub fresh : list_any (λ (t : Track). is_silent f.silence t.seen) (heard f s e).tracks ≡ false
-  pub in_time : (step : Step) → next_step f s ≡ Some step → step.asked ≡ false → step.after + slack ≤ (heard f s e).waited →
+  pub in_time : (step : Step) → next_step f s ≡ Some step → step.asked ≡ false →
+      step.after + slack ≤ (heard f s e).waited →
       all_fit f.silence step.conditions (heard f s e).tracks ≡ true
 
 abbrev pub AllQuiet : Flight → ℕ → State → List Event → Type 0
@@ -171,10 +179,15 @@ is_on_course Ended = true
 -- the show is kept, and no step is held up: one that waits for no go begins once its time is over and the drones have
 -- settled.
 pub record QuietLaw : Type 0 where
-  pub noted : (f : Flight) (slack : ℕ) (events : List Event) → slack ≤ 8000 → AllQuiet f slack (start f) events → notes_in (sent f (start f) events) ≡ []
-  pub goes_on : (f : Flight) (slack : ℕ) (events : List Event) → slack ≤ 8000 → AllQuiet f slack (start f) events → is_on_course (after f (start f) events).phase ≡ true
-  pub kept : (f : Flight) (slack : ℕ) (events : List Event) → slack ≤ 8000 → AllQuiet f slack (start f) events → (after f (start f) events).kept ≡ true
-  pub prompt : (f : Flight) (slack : ℕ) (events : List Event) (e : Event) (step : Step) → slack ≤ 8000 → AllQuiet f slack (start f) (events ++ e ∷ []) →
-      (after f (start f) events).phase ≡ Steps → next_step f (after f (start f) events) ≡ Some step → step.asked ≡ false →
+  pub noted : (f : Flight) (slack : ℕ) (events : List Event) → slack ≤ 8000 → AllQuiet f slack (start f) events →
+      notes_in (sent f (start f) events) ≡ []
+  pub goes_on : (f : Flight) (slack : ℕ) (events : List Event) → slack ≤ 8000 → AllQuiet f slack (start f) events →
+      is_on_course (after f (start f) events).phase ≡ true
+  pub kept : (f : Flight) (slack : ℕ) (events : List Event) → slack ≤ 8000 → AllQuiet f slack (start f) events →
+      (after f (start f) events).kept ≡ true
+  pub prompt : (f : Flight) (slack : ℕ) (events : List Event) (e : Event) (step : Step) → slack ≤ 8000 →
+      AllQuiet f slack (start f) (events ++ e ∷ []) →
+      (after f (start f) events).phase ≡ Steps → next_step f (after f (start f) events) ≡ Some step →
+      step.asked ≡ false →
       step.after + slack + step.settle ≤ (heard f (after f (start f) events) e).waited →
       (after f (start f) (events ++ e ∷ [])).next ≡ suc (after f (start f) events).next

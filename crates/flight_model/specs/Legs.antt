@@ -36,7 +36,8 @@ after_segment here s =
 -- the legs of segments from here on, one a segment
 abbrev pub legs_from : List ℤ → List Segment → List Leg
 legs_from here [] = []
-legs_from here (s ∷ rest) = record { from = here; to = after_segment here s; ms = s.ms } ∷ legs_from (after_segment here s) rest
+legs_from here (s ∷ rest) =
+    record { from = here; to = after_segment here s; ms = s.ms } ∷ legs_from (after_segment here s) rest
 
 -- the legs of a way: in each cue from where the drone is to where its segment ends
 abbrev pub legs_of : Traj → List Leg
@@ -141,7 +142,8 @@ pub record IsFlight (w : Routes) : Type 0 where
   pub return : All IsWayDown w.down
   -- a rise begins where the drone stands, which is up to `near` from its pad
   pub strays : w.near ≤ w.stray
-  pub joined : (d : ℕ) (u s n : Traj) → slice_get w.up d ≡ Some u → slice_get w.show d ≡ Some s → slice_get w.down d ≡ Some n →
+  pub joined : (d : ℕ) (u s n : Traj) → slice_get w.up d ≡ Some u → slice_get w.show d ≡ Some s →
+      slice_get w.down d ≡ Some n →
       (way_ends u ≡ way_begins s) × (way_ends s ≡ way_begins n) × (way_ends n ≡ way_begins u)
 
 -- ---- the steps

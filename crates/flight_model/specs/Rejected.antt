@@ -61,12 +61,15 @@ alone up show down = record { up = up ∷ []; show = show ∷ []; down = down �
 
 -- a metre up, a hold and a metre down
 abbrev pub hop : Routes
-hop = alone (way_from (pos 0) (pos 0) (ascent ∷ [])) (held_at (pos 0) (pos 1000)) (way_from (pos 0) (pos 1000) (descent ∷ []))
+hop =
+    alone (way_from (pos 0) (pos 0) (ascent ∷ [])) (held_at (pos 0) (pos 1000))
+    (way_from (pos 0) (pos 1000) (descent ∷ []))
 
 -- up, then aside; a hold; back, then down
 abbrev pub bent_hop : Routes
 bent_hop =
-    alone (way_from (pos 0) (pos 0) (ascent ∷ aside ∷ [])) (held_at (pos 1) (pos 1000)) (way_from (pos 1) (pos 1000) (back ∷ descent ∷ []))
+    alone (way_from (pos 0) (pos 0) (ascent ∷ aside ∷ [])) (held_at (pos 1) (pos 1000))
+    (way_from (pos 1) (pos 1000) (back ∷ descent ∷ []))
 
 -- Each has one thing in another way than `hop` or `bent_hop`.
 pub record FlightRows : Type 0 where
@@ -76,18 +79,26 @@ pub record FlightRows : Type 0 where
   pub none_up : IsFlight (record hop { up = [] }) → ⊥
   pub none_down : IsFlight (record hop { down = [] }) → ⊥
   -- the ends are a millimetre apart: before the show, after it, and at the pad
-  pub high_show : IsFlight (alone (way_from (pos 0) (pos 0) (ascent ∷ [])) (held_at (pos 0) (pos 1001)) (way_from (pos 0) (pos 1001) (leg_by Constant (rest (pos 1001) (pos 0)) ∷ []))) → ⊥
-  pub low_return : IsFlight (alone (way_from (pos 0) (pos 0) (ascent ∷ [])) (held_at (pos 0) (pos 1000)) (way_from (pos 0) (pos 999) (leg_by Constant (rest (pos 999) (pos 0)) ∷ []))) → ⊥
-  pub high_pad : IsFlight (alone (way_from (pos 0) (pos 0) (ascent ∷ [])) (held_at (pos 0) (pos 1000)) (way_from (pos 0) (pos 1000) (leg_by Constant (rest (pos 1000) (pos 1)) ∷ []))) → ⊥
+  pub high_show : IsFlight (alone (way_from (pos 0) (pos 0) (ascent ∷ [])) (held_at (pos 0) (pos 1001))
+      (way_from (pos 0) (pos 1001) (leg_by Constant (rest (pos 1001) (pos 0)) ∷ []))) → ⊥
+  pub low_return : IsFlight (alone (way_from (pos 0) (pos 0) (ascent ∷ [])) (held_at (pos 0) (pos 1000))
+      (way_from (pos 0) (pos 999) (leg_by Constant (rest (pos 999) (pos 0)) ∷ []))) → ⊥
+  pub high_pad : IsFlight (alone (way_from (pos 0) (pos 0) (ascent ∷ [])) (held_at (pos 0) (pos 1000))
+      (way_from (pos 0) (pos 1000) (leg_by Constant (rest (pos 1000) (pos 1)) ∷ []))) → ⊥
   -- from rest to rest
   pub restless_up : IsFlight (record hop { up = way_from (pos 0) (pos 0) (restless ∷ []) ∷ [] }) → ⊥
-  pub restless_down : IsFlight (alone (way_from (pos 0) (pos 0) (ascent ∷ [])) (held_at (pos 0) (pos 1000)) (way_from (pos 0) (pos 1000) (leg_by Constant (Cubic (pos 1000 ∷ pos 0 ∷ pos 0 ∷ [])) ∷ []))) → ⊥
+  pub restless_down : IsFlight (alone (way_from (pos 0) (pos 0) (ascent ∷ [])) (held_at (pos 0) (pos 1000))
+      (way_from (pos 0) (pos 1000) (leg_by Constant (Cubic (pos 1000 ∷ pos 0 ∷ pos 0 ∷ [])) ∷ []))) → ⊥
   -- each drone moves
-  pub still_up : IsFlight (alone (held_at (pos 0) (pos 1000)) (held_at (pos 0) (pos 1000)) (way_from (pos 0) (pos 1000) (leg_by Constant (rest (pos 1000) (pos 0)) ∷ ascent ∷ []))) → ⊥
-  pub still_down : IsFlight (alone (way_from (pos 0) (pos 1000) (descent ∷ ascent ∷ [])) (held_at (pos 0) (pos 1000)) (held_at (pos 0) (pos 1000))) → ⊥
+  pub still_up : IsFlight (alone (held_at (pos 0) (pos 1000)) (held_at (pos 0) (pos 1000))
+      (way_from (pos 0) (pos 1000) (leg_by Constant (rest (pos 1000) (pos 0)) ∷ ascent ∷ []))) → ⊥
+  pub still_down : IsFlight (alone (way_from (pos 0) (pos 1000) (descent ∷ ascent ∷ [])) (held_at (pos 0) (pos 1000))
+      (held_at (pos 0) (pos 1000))) → ⊥
   -- at first straight up, at last straight down
-  pub slant_up : IsFlight (alone (way_from (pos 0) (pos 0) (slanted_up ∷ [])) (held_at (pos 1) (pos 1000)) (way_from (pos 1) (pos 1000) (back ∷ descent ∷ []))) → ⊥
-  pub slant_down : IsFlight (alone (way_from (pos 0) (pos 0) (ascent ∷ aside ∷ [])) (held_at (pos 1) (pos 1000)) (way_from (pos 1) (pos 1000) (slanted_down ∷ []))) → ⊥
+  pub slant_up : IsFlight (alone (way_from (pos 0) (pos 0) (slanted_up ∷ [])) (held_at (pos 1) (pos 1000))
+      (way_from (pos 1) (pos 1000) (back ∷ descent ∷ []))) → ⊥
+  pub slant_down : IsFlight (alone (way_from (pos 0) (pos 0) (ascent ∷ aside ∷ [])) (held_at (pos 1) (pos 1000))
+      (way_from (pos 1) (pos 1000) (slanted_down ∷ []))) → ⊥
   -- drones may stand as far from their pads as they may stray from their ways up, and no farther
   pub narrow : IsFlight (record hop { stray = 99 }) → ⊥
 
@@ -95,14 +106,16 @@ pub record FlightRows : Type 0 where
 
 -- the drone near to where its show begins
 abbrev pub hovering : Condition
-hovering = record { position = record { x = pos 0; y = pos 0; z = pos 1000 }; bound = 300; ready = false; armed = false }
+hovering =
+    record { position = record { x = pos 0; y = pos 0; z = pos 1000 }; bound = 300; ready = false; armed = false }
 
 -- A show of one drone, for a second: the start, and then the end. It may be 30 mm and a millisecond off.
 abbrev pub brief : Flight
 brief = record {
   steps =
       record { asked = true; after = 0; settle = 0; conditions = hovering ∷ []; orders = ToEach order.Start }
-      ∷ record { asked = false; after = 1000; settle = 0; conditions = hovering ∷ []; orders = ToEach order.Disarm } ∷ [];
+      ∷ record { asked = false; after = 1000; settle = 0; conditions = hovering ∷ []; orders = ToEach order.Disarm }
+      ∷ [];
   curves = show_at (pos 0) ∷ [];
   show_ms = 1000;
   stray = 30;
@@ -115,7 +128,8 @@ brief = record {
 
 -- the drone y mm aside
 abbrev pub sample_at : ℕ → ℤ → Bool → Sample
-sample_at age y armed = record { age = age; x = pos 0; y = y; z = pos 1000; ready = true; armed = armed; lost = false; down = not armed }
+sample_at age y armed =
+    record { age = age; x = pos 0; y = y; z = pos 1000; ready = true; armed = armed; lost = false; down = not armed }
 
 -- it is heard there
 abbrev pub heard_at : ℕ → ℤ → Bool → Event

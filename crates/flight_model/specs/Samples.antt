@@ -23,7 +23,8 @@ is_at bound p x = differ_by bound x.x p.x && differ_by bound x.y p.y && differ_b
 -- for that.
 unfoldable pub is_fit_by : ℕ → Condition → Sample → Bool
 is_fit_by silence w x =
-    nat_le x.age silence && is_at w.bound w.position x && not x.lost && (not w.ready || x.ready) && (not w.armed || x.armed)
+    nat_le x.age silence && is_at w.bound w.position x && not x.lost && (not w.ready || x.ready)
+    && (not w.armed || x.armed)
 
 -- a drone's last sample meets it; without one the drone doesn't
 abbrev pub is_fit : ℕ → Condition → Option Sample → Bool
