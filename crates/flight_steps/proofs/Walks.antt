@@ -1,9 +1,10 @@
 -- Walks over what is left of a list.
-use Rattle.std.proofs.Common.{◌≡◌, ◌<◌, ◌≤◌, ◌+◌, ◌∷◌, ◌++◌, ◌∙◌, [], List, Bool, false, cond, true, ◌||◌, refl, sym, ap, None, Some, Option, ℕ, zero, suc, drop, length, map, arith}
+use Rattle.std.proofs.Common.{◌≡◌, ◌<◌, ◌≤◌, ◌+◌, ◌∷◌, ◌++◌, ◌∙◌, [], List, Bool, false, cond, true, ◌||◌, refl, sym, ap, None, Some, Option, ℕ, zero, suc, ℤ, drop, length, map, arith}
 use Rattle.std.specs.List.{range_with_len, list_any, flat_map}
 use Rattle.std.proofs.lemmas.List.{append-nil, append_assoc}
 use Rattle.std.proofs.lemmas.List.FromFn.{map-range_with_len_more}
 use Rattle.arrayvec.specs.ArrayVec.{ArrayVec}
+use Rattle.fleet_math.specs.Bernstein.{at}
 use Rattle.traj_codec.specs.declared.traj.Traj.{Traj}
 use Rattle.flight_model.specs.declared.flights.Leg.{Leg}
 use Rattle.flight_model.specs.declared.flights.Step.{Step}
@@ -111,3 +112,12 @@ put_pair f g old steps mid new k s t before is_s is_t put_s put_t =
     ∙ (append_assoc old (flat_map h (range_with_len 0 k)) (s ∷ t ∷ [])
     ∙ (ap (λ (xs : List Step). old ++ (flat_map h (range_with_len 0 k) ++ xs)) last
     ∙ ap (λ (xs : List Step). old ++ xs) (sym more))))
+
+-- four values are these, if each is
+pub four-are : (f : ℕ → ℤ) (v : List ℤ) → length v ≡ 4 → ((k : ℕ) → k < 4 → at v k ≡ f k) → v ≡ f 0 ∷ f 1 ∷ f 2 ∷ f 3 ∷ []
+four-are f (a ∷ b ∷ c ∷ d ∷ []) size is =
+    let first : a ≡ f 0 = is 0 (omega arith) in
+    let second : b ≡ f 1 = is 1 (omega arith) in
+    let third : c ≡ f 2 = is 2 (omega arith) in
+    let fourth : d ≡ f 3 = is 3 (omega arith) in cc
+four-are f xs size is = absurd (omega arith)

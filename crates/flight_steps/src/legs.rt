@@ -1,48 +1,18 @@
 //! The legs of a way.
 
 ghost use Rattle.std.specs.Prelude.{◌≡◌, map, IfOk};
-ghost use Rattle.fleet_math.specs.Decoded.{last_value};
-ghost use Rattle.traj_codec.specs.Positions.{value_after as word_value};
 ghost use Rattle.flight_model.specs.Legs.{after_segment, legs_of as word_legs, way_ends as word_ends};
 
 use flight_model::Leg;
 use listed::Listed;
 use std::alloc::{AllocError, Global};
-use traj_codec::{Element, Segment, Traj};
-
-// The last of these values, or the first one where there is none.
-fn last_of(first: i16, values: &[i16]) -> i16
-    ensures { result ≡ last_value first values.now }
-{
-    let mut last = first;
-    for v in values {
-        last = *v;
-    }
-    last
-}
-
-// The value with which an element ends that begins with this one.
-fn value_after(here: i16, e: &Element) -> i16
-    ensures { result ≡ word_value here e.now }
-{
-    match e {
-        Element::Constant => here,
-        Element::Linear { v } => *v,
-        Element::Cubic { v } => last_of(here, v),
-        Element::Seven { v } => last_of(here, v),
-    }
-}
+use traj_codec::{Segment, Traj, last_values};
 
 /// Where a segment ends that begins here.
 pub fn after(here: &[i16; 4], s: &Segment) -> [i16; 4]
     ensures { result ≡ after_segment here.now s.now }
 {
-    [
-        value_after(here[0], &s.elements[0]),
-        value_after(here[1], &s.elements[1]),
-        value_after(here[2], &s.elements[2]),
-        value_after(here[3], &s.elements[3]),
-    ]
+    last_values(here, s)
 }
 
 /// Where a way ends.

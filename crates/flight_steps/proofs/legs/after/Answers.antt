@@ -1,0 +1,10 @@
+use Rattle.std.proofs.Common.{◌≡◌, length, rules}
+use Rattle.fleet_math.specs.Bernstein.{at}
+use Rattle.traj_codec.specs.Positions.{element_on, value_after}
+use Rattle.flight_steps.proofs.Walks.{four-are}
+use Rattle.flight_steps.proofs.legs.after.Goals as goal
+
+pub returns : goal.returns
+returns c =
+    let size : length c.last_values.result ≡ 4 = search rules in
+    four-are (λ axis. value_after (at c.args.here.now axis) (element_on c.args.s.now axis)) c.last_values.result size c.last_values.ensures
