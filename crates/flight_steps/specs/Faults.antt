@@ -81,7 +81,8 @@ rests_in here s =
 -- the first cue, from this one on, in which it doesn't
 abbrev pub restless_from : ℕ → List ℤ → List Segment → Option ℕ
 restless_from cue here [] = None
-restless_from cue here (s ∷ rest) = if rests_in here s then restless_from (suc cue) (after_segment here s) rest else Some cue
+restless_from cue here (s ∷ rest) =
+    if rests_in here s then restless_from (suc cue) (after_segment here s) rest else Some cue
 
 abbrev pub restless : Traj → Option ℕ
 restless t = restless_from 0 t.start t.segments
