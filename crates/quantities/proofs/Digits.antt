@@ -101,9 +101,6 @@ digit_by ds i false is lt h = let e = list_all_at is_digit ds i 0 lt is in cc
 pub digit_at : (ds : List ℕ) (i : ℕ) → i < length ds → AreDigits ds → is_digit (get_or ds i 0) ≡ true
 digit_at ds i lt h = digit_by ds i (is_digit (get_or ds i 0)) refl lt h
 
-pub digit_least : (d : ℕ) → is_digit d ≡ true → 48 ≤ d
-digit_least d h = grind (arith, nat_tests)
-
 -- no digits are the number 0
 pub number_or : (ds : List ℕ) → AreDigits ds → unwrap_or (option_map capped (natural_of ds)) 0 ≡ capped (number_after 0 ds)
 number_or [] h = refl
