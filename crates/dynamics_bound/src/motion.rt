@@ -75,7 +75,7 @@ impl Extremes {
 }
 
 // How long segments last together, in milliseconds.
-fn lasting(segments: &[Segment]) -> u32
+fn milliseconds_of(segments: &[Segment]) -> u32
     requires { length segments.now ≤ most_segments }
     ensures { result ≡ sum (durations segments.now) }
 {
@@ -113,7 +113,7 @@ pub fn cue_of(cues: &[Segment], t: &Traj, segment: usize) -> u16
     ensures value { result ≡ cue_of (durations cues.now) t.now segment }
     ensures few { result ≤ most_cues }
 {
-    cue_from(cues, lasting(&t.segments.as_slice()[..segment]))
+    cue_from(cues, milliseconds_of(&t.segments.as_slice()[..segment]))
 }
 
 // Three numbers that are none below 0.

@@ -1,5 +1,5 @@
 use Rattle.dynamics_bound.proofs.Prelude.{◌≡◌, ◌*◌, ◌≤◌, take, sum, durations}
-use Rattle.dynamics_bound.proofs.motion.lasting.Given as goal
+use Rattle.dynamics_bound.proofs.motion.milliseconds_of.Given as goal
 
 -- the milliseconds so far
 abbrev pub invariant-loop-segment : goal.invariant-loop-segment
