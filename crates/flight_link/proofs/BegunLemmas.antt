@@ -9,7 +9,7 @@ use Rattle.byteorder.specs.Endian.{little_number}
 use Rattle.flight_model.specs.declared.events.Signal.TheVariants as signal
 use Rattle.flight_frames.specs.declared.events.FrameFault.TheVariants as fault
 use Rattle.flight_frames.specs.Frames.{answer_in, clock_in, sample_in, said_in, seen_of, signal_in}
-use Rattle.flight_link.proofs.EventLemmas.{by_cond, head, longer, same_size, short, sized}
+use Rattle.flight_link.proofs.EventLemmas.{by_cond, head, longer, same_size, short}
 
 -- ---- smaller bytes are read too
 
@@ -133,12 +133,6 @@ size_more law d byte n (k ∷ bytes) b is =
     let size = same_size law b.event n [] (event_bytes b.event) (sym (append-nil (event_bytes b.event)))
     (ap (λ (l : List ℕ). length_of (slice_index l 0)) b.cut ∙ is) in
     omega (arith, size, b.some, ap (λ (l : List ℕ). length l) b.cut, length-append (k ∷ bytes) b.more)
-
--- no event begins with a byte that begins none
-pub none_begins : FrameLaw → (d : ℕ) (front later : List ℕ) → 1 ≤ length front → length_of (slice_index front 0) ≡ None → BeginsNoEvent d (front ++ later)
-none_begins law d [] later some none x after formed cut = absurd (omega (arith, some))
-none_begins law d (k ∷ front) later some none x after formed cut =
-    let size = sized law x after (k ∷ (front ++ later)) cut in cc
 
 -- no event begins with bytes that aren't one with zeros after them
 pub none_reads : FrameLaw → (d n m : ℕ) (front later : List ℕ) (why : FrameFault) → 1 ≤ length front → length_of (slice_index front 0) ≡ Some n → n ≡ length front + m →
