@@ -1,5 +1,5 @@
 -- One leaf: a separated part is apart at each of its instants.
-use Rattle.sep_parts.proofs.Prelude.{◌≡◌, ℕ, zero, suc, ◌+◌, ◌*◌, ◌^◌, ℤ, pos, ◌+ℤ◌, ◌-ℤ◌, ◌*ℤ◌, ◌≤ℤ◌, ◌<ℤ◌, arith, refl, sym, ◌∙◌, ap, power, bernstein, ring, linear, le_from_mul_ℤ, one_mul_ℤ, add_mul_ℤ, power-mul, power_positive, bernstein-zero, bernstein-suc, bernstein-at_least, pow-suc, pow-add, pow_pos, linear_sum, part_value, bernstein-blossom, part-instant, power_seven}
+use Rattle.sep_parts.proofs.Prelude.{◌≡◌, ℕ, ◌+◌, ◌*◌, ◌^◌, ℤ, pos, ◌+ℤ◌, ◌-ℤ◌, ◌*ℤ◌, ◌≤ℤ◌, ◌<ℤ◌, arith, refl, sym, ◌∙◌, ap, power, bernstein, ring, linear, le_from_mul_ℤ, add_mul_ℤ, power_positive, bernstein-at_least, pow_pos, linear_sum, part_value, part-instant, power_seven}
 use Rattle.sep_parts.proofs.Directed.{Cue, Direction, IsSeparatedBy, along_part}
 
 -- the weighted sums of the three curves are at least t 5040 c^7

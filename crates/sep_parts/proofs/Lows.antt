@@ -1,5 +1,5 @@
 -- The first control value below a number.
-use Rattle.sep_parts.proofs.Prelude.{common_steps, ◌≡◌, ℕ, zero, suc, ◌+◌, ◌^◌, ◌≤◌, ◌<◌, ℤ, pos, ◌≤ℤ◌, Bool, true, false, cond, not, int_le, int_lt, nat_lt, arith, refl, ap, subst, List, [], ◌∷◌, length, get_or, Option, Some, None, IsTrue, ◌↔◌, list_all, position, position_or_len, ints, All-from_get_or, nat_tests, at, IsBelow, Bez, along_value, eight, at-eight, same_eight, first_low}
+use Rattle.sep_parts.proofs.Prelude.{common_steps, ◌≡◌, ℕ, zero, suc, ◌+◌, ◌^◌, ◌≤◌, ◌<◌, ℤ, pos, ◌≤ℤ◌, Bool, true, false, cond, not, int_le, int_lt, nat_lt, arith, refl, ap, List, [], ◌∷◌, length, get_or, Option, Some, None, IsTrue, ◌↔◌, list_all, position, position_or_len, ints, All-from_get_or, nat_tests, at, IsBelow, eight, at-eight, same_eight, first_low}
 use Rattle.std.proofs.lemmas.List.Sums.{AllPass-from_list_all, list_all-from_AllPass, position_or_len_is}
 use Rattle.std.proofs.lemmas.List.Quantifiers.{position-Some}
 
@@ -58,25 +58,16 @@ wider x small = (omega (arith, ints), omega (arith, ints))
 pub wide_enough : (x : ℤ) → IsBelow (2 ^ 86) x → IsBelow (2 ^ 118) x
 wide_enough x small = (omega (arith, ints), omega (arith, ints))
 
--- eight values, the two ends before the others, are at least so much
-pub ends_and_others : (f : ℕ → ℤ) (least : ℤ) → least ≤ℤ f 0 → least ≤ℤ f 7 → least ≤ℤ f 1 → least ≤ℤ f 2 → least ≤ℤ f 3 → least ≤ℤ f 4 → least ≤ℤ f 5 → least ≤ℤ f 6 →
-    (k : ℕ) → k ≤ 7 → least ≤ℤ f k
-ends_and_others f least zeroth last first second third fourth fifth sixth zero small = zeroth
-ends_and_others f least zeroth last first second third fourth fifth sixth (suc zero) small = first
-ends_and_others f least zeroth last first second third fourth fifth sixth (suc (suc zero)) small = second
-ends_and_others f least zeroth last first second third fourth fifth sixth (suc (suc (suc zero))) small = third
-ends_and_others f least zeroth last first second third fourth fifth sixth (suc (suc (suc (suc zero)))) small = fourth
-ends_and_others f least zeroth last first second third fourth fifth sixth (suc (suc (suc (suc (suc zero))))) small = fifth
-ends_and_others f least zeroth last first second third fourth fifth sixth (suc (suc (suc (suc (suc (suc zero)))))) small = sixth
-ends_and_others f least zeroth last first second third fourth fifth sixth (suc (suc (suc (suc (suc (suc (suc zero))))))) small = last
-ends_and_others f least zeroth last first second third fourth fifth sixth (suc (suc (suc (suc (suc (suc (suc (suc k)))))))) small = absurd (omega arith)
-
--- the same of an equal number and of equal weights
-pub reach_same : (diff : List (Bez 8)) (w v : List ℤ) (x y : ℤ) (b : Bool) → w ≡ v → x ≡ y → IsTrue b ↔ ((k : ℕ) → k ≤ 7 → x ≤ℤ along_value diff w k) → IsTrue b ↔ ((k : ℕ) → k ≤ 7 → y ≤ℤ along_value diff v k)
-reach_same diff w v x y b p q same =
-    subst (λ (z : ℤ). IsTrue b ↔ ((k : ℕ) → k ≤ 7 → z ≤ℤ along_value diff v k)) q (subst (λ (u : List ℤ). IsTrue b ↔ ((k : ℕ) → k ≤ 7 → x ≤ℤ along_value diff u k)) p same)
-
--- where one of eight values is below a number, not each of them reaches it
-pub one_refuses : (f : ℕ → ℤ) (least told : ℤ) (k : ℕ) → told ≡ least → k ≤ 7 → (told ≤ℤ f k → IsTrue false)
-    → IsTrue false ↔ ((k : ℕ) → k ≤ 7 → least ≤ℤ f k)
-one_refuses f least told k is small low = (λ no k small. absurd (cc no), λ above. low (rw is (above k small)))
+-- A question asked at eight places, of which a yes says that a value is at least a number and a no that it isn't: all are
+-- answered with yes exactly where each value is.
+pub each_place : (f : ℕ → ℤ) (least : ℤ) (b : Bool) (Yes No : ℕ → Type 0)
+    → ((k : ℕ) → k ≤ 7 → Yes k → least ≤ℤ f k)
+    → ((k : ℕ) → k ≤ 7 → No k → least ≤ℤ f k → false ≡ true)
+    → (IsTrue b → (k : ℕ) → k ≤ 7 → Yes k)
+    → (b ≡ false → (k : ℕ) × (k ≤ 7) × No k)
+    → IsTrue b ↔ ((k : ℕ) → k ≤ 7 → least ≤ℤ f k)
+each_place f least b Yes No on_yes on_no all one = (λ ok k small. on_yes k small (all ok k small), λ above. go b refl above)
+  where
+    go : (r : Bool) → b ≡ r → ((k : ℕ) → k ≤ 7 → least ≤ℤ f k) → IsTrue b
+    go true is above = is
+    go false is above = let low : (k : ℕ) × (k ≤ 7) × No k = one is in absurd (cc (on_no low.0 low.1 low.2 (above low.0 low.1)))

@@ -8,10 +8,6 @@ narrow_product w x small below =
     let m : unsigned_abs (w *ℤ x) ≤ 4000 * (2 ^ 46) = rw (unsigned_abs-mul w x) (mul-le (unsigned_abs w) (unsigned_abs x) 4000 (2 ^ 46) (omega (arith, ints)) (omega (arith, ints))) in
     (omega (arith, ints), omega (arith, ints))
 
--- and so is its product with a number of 32 bits
-pub row_product : (w x : ℤ) → IsBelow 4001 w → FitsSigned w32 x → IsBelow (2 ^ 58) (w *ℤ x)
-row_product w x small fits = narrow_product w x small (omega (arith, ints), omega (arith, ints))
-
 pub row_fits : (x : ℤ) → FitsSigned w32 x → FitsSigned w64 x
 row_fits x fits = omega (arith, ints)
 
@@ -33,6 +29,10 @@ narrow_value_fits x below = omega (arith, ints)
 
 pub narrow_value : (x : ℤ) → IsBelow (2 ^ 46) x → FitsSigned w64 x
 narrow_value x below = omega (arith, ints)
+
+-- a value that 64 bits hold, told by 128
+pub narrow_told : (x : ℤ) → IsBelow (2 ^ 46) x → to_z w64 (of_z w64 (to_z w128 (of_z w128 x))) ≡ x
+narrow_told x below = rw (to_z-of_z w128 x (narrow_value_fits x below)) (to_z-of_z w64 x (narrow_value x below))
 
 -- a threshold at the scale of a depth up to 2
 pub narrow_least : (t : ℤ) (depth : ℕ) → pos 0 ≤ℤ t → t <ℤ pos (2 ^ 30) → depth ≤ 2 → FitsSigned w64 (least_value t depth)

@@ -1,7 +1,6 @@
 -- The parts of the curves at a place: how large they are, their halves, and their values along a direction.
-use Rattle.sep_parts.proofs.Prelude.{common_steps, ◌≡◌, ℕ, suc, ◌+◌, ◌-◌, ◌*◌, ◌^◌, ◌≤◌, ◌<◌, ℤ, pos, ◌+ℤ◌, ◌*ℤ◌, arith, sym, ◌∙◌, ap, List, [], length, All, lit<, ints, pow-le-pow_right, pow-suc, All-from_get_or, All-get_or, power, power-add, at, bernstein, mul_assoc_ℤ, Bez, IsBelow, along_value, controls, eight, at-eight, same_eight, list_of_eight, controls_below, part_value, polar, IsPlace, polar-same, part-part, part-whole, AreRaised, Level, weights, first_low, part_along, IsLevel, left_half, right_half, root, part-within}
+use Rattle.sep_parts.proofs.Prelude.{common_steps, ◌≡◌, ℕ, suc, ◌+◌, ◌-◌, ◌*◌, ◌^◌, ◌≤◌, ◌<◌, ℤ, pos, ◌+ℤ◌, ◌*ℤ◌, arith, ◌∙◌, ap, List, [], length, All, lit<, ints, pow-le-pow_right, pow-suc, All-from_get_or, All-get_or, at, Bez, IsBelow, along_value, controls, eight, at-eight, same_eight, list_of_eight, controls_below, part_value, IsPlace, polar-same, part-part, part-whole, AreRaised, Level, weights, first_low, part_along, IsLevel, left_half, right_half, root, part-within}
 use Rattle.bezier_core.specs.Steps.{IsWithin}
-use Rattle.halving.proofs.HalfLemmas.{bernstein-within}
 use Rattle.sep_parts.proofs.Lows.{first_low-same}
 
 -- ---- how large the values of a part are

@@ -8,7 +8,7 @@ ghost use Rattle.fleet_curves.specs.Raised.{curves_of};
 ghost use Rattle.sep_parts.specs.Directions.{AreSmall, IsAxis, weights};
 ghost use Rattle.sep_parts.specs.Separates.{least_value};
 
-use crate::part::scaled;
+use crate::part::{all_places, scaled};
 use bezier_core::Bez;
 use fleet_math::Depth;
 
@@ -38,11 +38,9 @@ pub(crate) fn separates_narrow(
     requires depth { depth ≤ NARROW_DEPTH }
     ensures { IsTrue result ↔ ((k : ℕ) → k ≤ 7 → least_value threshold depth ≤ℤ along_value diff.now (weights n r h) k) }
 {
-    all_reach(
-        diff,
-        narrow_weights(n, r, h),
-        scaled(threshold, depth) as i64,
-    )
+    let w = narrow_weights(n, r, h);
+    let least = scaled(threshold, depth) as i64;
+    all_places(|k| reaches(diff, w, least, k))
 }
 
 /// The weights of the three curves along a direction.
@@ -70,27 +68,6 @@ fn narrow_weight(entry: i8, axis: u16) -> i64
     i64::from(entry) * i64::from(axis)
 }
 
-// The places are written out, so that each is a test of its own.
-macro_rules! each_reaches {
-    ($diff:expr, $w:expr, $least:expr; $($k:literal)*) => {
-        $(
-            if !reaches($diff, $w, $least, $k) {
-                return false;
-            }
-        )*
-    };
-}
-
-// Whether each weighted sum is at least so much, the ends of the curves first.
-fn all_reach(diff: &[Bez<8>; 3], w: [i64; 3], least: i64) -> bool
-    requires values { All (λ curve. All (IsBelow (2 ^ 46)) curve.b) diff.now }
-    requires weights { All (IsBelow 4001) w }
-    ensures { IsTrue result ↔ ((k : ℕ) → k ≤ 7 → least ≤ℤ along_value diff.now w k) }
-{
-    each_reaches!(diff, w, least; 0 7 1 2 3 4 5 6);
-    true
-}
-
 // Whether one weighted sum is at least so much.
 fn reaches(diff: &[Bez<8>; 3], w: [i64; 3], least: i64, k: usize) -> bool
     requires place { k < 8 }
@@ -98,20 +75,37 @@ fn reaches(diff: &[Bez<8>; 3], w: [i64; 3], least: i64, k: usize) -> bool
     requires weights { All (IsBelow 4001) w }
     ensures { IsTrue result ↔ (least ≤ℤ along_value diff.now w k) }
 {
-    let x = weighted(w[0], diff[0].b[k]);
-    let y = weighted(w[1], diff[1].b[k]);
-    let z = weighted(w[2], diff[2].b[k]);
-    least <= x + y + z
+    sum_reaches(
+        w,
+        diff[0].b[k] as i64,
+        diff[1].b[k] as i64,
+        diff[2].b[k] as i64,
+        least,
+    )
 }
 
-// A value times a weight.
-fn weighted(weight: i64, value: i128) -> i64
+// Whether the weighted sum of three numbers is at least so much.
+fn sum_reaches(w: [i64; 3], x: i64, y: i64, z: i64, least: i64) -> bool
+    requires weights { All (IsBelow 4001) w }
+    requires x { IsBelow (2 ^ 46) x }
+    requires y { IsBelow (2 ^ 46) y }
+    requires z { IsBelow (2 ^ 46) z }
+    ensures { IsTrue result ↔ (least ≤ℤ (at w 0 *ℤ x +ℤ at w 1 *ℤ y +ℤ at w 2 *ℤ z)) }
+{
+    let a = weighted(w[0], x);
+    let b = weighted(w[1], y);
+    let c = weighted(w[2], z);
+    least <= a + b + c
+}
+
+// A number times a weight.
+fn weighted(weight: i64, value: i64) -> i64
     requires weight { IsBelow 4001 weight }
     requires value { IsBelow (2 ^ 46) value }
     ensures product { result ≡ weight *ℤ value }
     ensures small { IsBelow (2 ^ 58) result }
 {
-    weight * (value as i64)
+    weight * value
 }
 
 /// What `separates` returns, of a part that is halved at most four times. Its control values are below 2^58, so that 64
@@ -133,27 +127,9 @@ pub(crate) fn separates_short(
     requires small { threshold <ℤ pos (2 ^ 30) }
     ensures { IsTrue result ↔ ((k : ℕ) → k ≤ 7 → least_value threshold depth ≤ℤ along_value diff.now (weights n r h) k) }
 {
-    all_reach_short(diff, narrow_weights(n, r, h), scaled(threshold, depth))
-}
-
-macro_rules! each_reaches_short {
-    ($diff:expr, $w:expr, $least:expr; $($k:literal)*) => {
-        $(
-            if !reaches_short($diff, $w, $least, $k) {
-                return false;
-            }
-        )*
-    };
-}
-
-// Whether each weighted sum is at least so much, the ends of the curves first.
-fn all_reach_short(diff: &[Bez<8>; 3], w: [i64; 3], least: i128) -> bool
-    requires values { All (λ curve. All (IsBelow (2 ^ 58)) curve.b) diff.now }
-    requires weights { All (IsBelow 4001) w }
-    ensures { IsTrue result ↔ ((k : ℕ) → k ≤ 7 → least ≤ℤ along_value diff.now w k) }
-{
-    each_reaches_short!(diff, w, least; 0 7 1 2 3 4 5 6);
-    true
+    let w = narrow_weights(n, r, h);
+    let least = scaled(threshold, depth);
+    all_places(|k| reaches_short(diff, w, least, k))
 }
 
 // Whether one weighted sum is at least so much.
@@ -195,7 +171,9 @@ pub(crate) fn separates_rows(
     requires small { threshold <ℤ pos (2 ^ 30) }
     ensures { IsTrue result ↔ ((k : ℕ) → k ≤ 7 → least_value threshold 0 ≤ℤ along_value (curves_of rows.now) (weights n r h) k) }
 {
-    all_reach_rows(rows, narrow_weights(n, r, h), whole_least(threshold))
+    let w = narrow_weights(n, r, h);
+    let least = whole_least(threshold);
+    all_places(|k| reaches_rows(rows, w, least, k))
 }
 
 // What each weighted sum of a whole cue is to be at least.
@@ -207,50 +185,17 @@ fn whole_least(threshold: i128) -> i64
     threshold as i64 * 5040
 }
 
-macro_rules! each_reaches_rows {
-    ($rows:expr, $w:expr, $least:expr; $($k:literal)*) => {
-        $(
-            if !reaches_rows($rows, $w, $least, $k) {
-                return false;
-            }
-        )*
-    };
-}
-
-// Whether each weighted sum is at least so much, the ends of the curves first.
-fn all_reach_rows(rows: &[[i32; 8]; 3], w: [i64; 3], least: i64) -> bool
-    requires weights { All (IsBelow 4001) w }
-    ensures { IsTrue result ↔ ((k : ℕ) → k ≤ 7 → least ≤ℤ along_value (curves_of rows.now) w k) }
-{
-    each_reaches_rows!(rows, w, least; 0 7 1 2 3 4 5 6);
-    true
-}
-
 // Whether one weighted sum is at least so much.
 fn reaches_rows(rows: &[[i32; 8]; 3], w: [i64; 3], least: i64, k: usize) -> bool
     requires place { k < 8 }
     requires weights { All (IsBelow 4001) w }
     ensures { IsTrue result ↔ (least ≤ℤ along_value (curves_of rows.now) w k) }
 {
-    sum_reaches(w, rows[0][k], rows[1][k], rows[2][k], least)
-}
-
-// Whether the weighted sum of three numbers is at least so much.
-fn sum_reaches(w: [i64; 3], x: i32, y: i32, z: i32, least: i64) -> bool
-    requires weights { All (IsBelow 4001) w }
-    ensures { IsTrue result ↔ (least ≤ℤ (at w 0 *ℤ x +ℤ at w 1 *ℤ y +ℤ at w 2 *ℤ z)) }
-{
-    let a = weighted_row(w[0], x);
-    let b = weighted_row(w[1], y);
-    let c = weighted_row(w[2], z);
-    least <= a + b + c
-}
-
-// A number of 32 bits times a weight.
-fn weighted_row(weight: i64, value: i32) -> i64
-    requires { IsBelow 4001 weight }
-    ensures product { result ≡ weight *ℤ value }
-    ensures small { IsBelow (2 ^ 58) result }
-{
-    weight * i64::from(value)
+    sum_reaches(
+        w,
+        i64::from(rows[0][k]),
+        i64::from(rows[1][k]),
+        i64::from(rows[2][k]),
+        least,
+    )
 }

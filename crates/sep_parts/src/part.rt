@@ -1,6 +1,6 @@
 //! One part of three curves against one direction, and its halves.
 
-ghost use Rattle.std.specs.Prelude.{◌≡◌, ℕ, ◌+◌, ◌*◌, ◌^◌, ◌≤◌, ◌<◌, ℤ, pos, ◌+ℤ◌, ◌*ℤ◌, ◌≤ℤ◌, ◌<ℤ◌, int_lt, position, All, IsTrue, ◌↔◌, length};
+ghost use Rattle.std.specs.Prelude.{◌≡◌, ℕ, ◌+◌, ◌*◌, ◌^◌, ◌≤◌, ◌<◌, ℤ, pos, ◌+ℤ◌, ◌*ℤ◌, ◌≤ℤ◌, ◌<ℤ◌, int_lt, position, All, IsTrue, true, false, ◌↔◌, length};
 ghost use Rattle.fleet_math.specs.Numbers.{IsBelow};
 ghost use Rattle.fleet_math.specs.Bernstein.{at};
 ghost use Rattle.bezier_core.specs.Along.{along_value, controls};
@@ -33,28 +33,31 @@ pub fn separates(
     requires small { threshold <ℤ pos (2 ^ 30) }
     ensures { IsTrue result ↔ IsAbove threshold depth (along_value diff.now (weights n r h)) }
 {
-    all_reach(diff, weights(n, r, h), scaled(threshold, depth))
+    let w = weights(n, r, h);
+    let least = scaled(threshold, depth);
+    all_places(|k| reaches(diff, w, least, k))
 }
 
 // The places are written out, so that each is a test of its own.
-macro_rules! each_reaches {
-    ($diff:expr, $w:expr, $least:expr; $($k:literal)*) => {
+macro_rules! each_passes {
+    ($passes:expr; $($k:literal)*) => {
         $(
-            if !reaches($diff, $w, $least, $k) {
+            if !$passes($k) {
                 return false;
             }
         )*
     };
 }
 
-// Whether each weighted sum is at least so much. The ends of the curves come first: where a direction fails, it mostly
-// fails there.
-fn all_reach(diff: &[Bez<8>; 3], w: [i128; 3], least: i128) -> bool
-    requires values { All (λ curve. All (IsBelow (2 ^ 86)) curve.b) diff.now }
-    requires weights { All (IsBelow 4001) w }
-    ensures { IsTrue result ↔ ((k : ℕ) → k ≤ 7 → least ≤ℤ along_value diff.now w k) }
+// Whether a question is answered with yes at each of the eight places. The ends of the curves come first: where a
+// direction fails, it mostly fails there.
+#[inline(always)]
+pub(crate) fn all_places<F: Fn(usize) -> bool>(passes: F) -> bool
+    requires { (k : ℕ) → k < 8 → F.pre passes k }
+    ensures all { IsTrue result → (k : ℕ) → k ≤ 7 → F.post passes k true }
+    ensures one { result ≡ false → (k : ℕ) × (k ≤ 7) × F.post passes k false }
 {
-    each_reaches!(diff, w, least; 0 7 1 2 3 4 5 6);
+    each_passes!(passes; 0 7 1 2 3 4 5 6);
     true
 }
 

@@ -1,60 +1,26 @@
-use Rattle.sep_parts.proofs.Prelude.{common_steps, ◌≡◌, ◌^◌, ℤ, ◌+ℤ◌, ◌*ℤ◌, FitsSigned, lit<, arith, to_z-of_z, at, IsBelow, along_value, controls, below_at, controls_below, w64, w128}
-use Rattle.sep_parts.proofs.NarrowLemmas.{narrow_sum as sum_fits, narrow_weight_fits as weight_fits, narrow_fits as product_fits, narrow_value_fits as value_fits, reach_told}
+use Rattle.sep_parts.proofs.Prelude.{◌^◌, FitsSigned, List, All, ℕ, lit<, to_z-of_z, w64, w128, at, Bez, IsBelow, controls, controls_below}
+use Rattle.sep_parts.proofs.NarrowLemmas.{narrow_told, narrow_value, narrow_value_fits}
 use Rattle.sep_parts.proofs.narrow.reaches.Goals as goal
 
-pub weighted-x-requires : goal.weighted-x-requires
-weighted-x-requires c = grind (arith, common_steps, below_at, lit<, controls_below, weight_fits, value_fits, to_z-of_z)
+value : (diff : List (Bez 8)) (axis k : ℕ) → All (λ (curve : Bez 8). All (IsBelow (2 ^ 46)) curve.b) diff → IsBelow (2 ^ 46) (at (controls diff axis) k)
+value diff axis k small = controls_below (2 ^ 46) diff axis k (lit< tt) small
 
-pub weighted-y-requires : goal.weighted-y-requires
-weighted-y-requires c = grind (arith, common_steps, below_at, lit<, controls_below, weight_fits, value_fits, to_z-of_z)
+pub sum_reaches-requires-clause-x : goal.sum_reaches-requires-clause-x
+sum_reaches-requires-clause-x c = let small = value c.args.diff.now 0 c.args.k c.requires.values in rw (narrow_told _ small) small
 
-pub weighted-z-requires : goal.weighted-z-requires
-weighted-z-requires c =
-    let weight : IsBelow 4001 (at c.args.w 2) = below_at 4001 c.args.w 2 (lit< tt) c.requires.weights in
-    let value : IsBelow (2 ^ 46) (at (controls c.args.diff.now 2) c.args.k) = controls_below (2 ^ 46) c.args.diff.now 2 c.args.k (lit< tt) c.requires.values in
-    let weight_fit : FitsSigned w64 (at c.args.w 2) = weight_fits _ weight in
-    let value_fit : FitsSigned w128 (at (controls c.args.diff.now 2) c.args.k) = value_fits _ value in
-    record { weight = simp to_z-of_z weight; value = simp to_z-of_z value }
+pub sum_reaches-requires-clause-y : goal.sum_reaches-requires-clause-y
+sum_reaches-requires-clause-y c = let small = value c.args.diff.now 1 c.args.k c.requires.values in rw (narrow_told _ small) small
 
-pub overflow_add-result : goal.overflow_add-result
-overflow_add-result c = grind (arith, common_steps, product_fits, to_z-of_z, sum_fits)
-
-pub overflow_add-result-2 : goal.overflow_add-result-2
-overflow_add-result-2 c =
-    let x_fit : FitsSigned w64 c.weighted-x.result = product_fits _ c.weighted-x.ensures.small in
-    let y_fit : FitsSigned w64 c.weighted-y.result = product_fits _ c.weighted-y.ensures.small in
-    let z_fit : FitsSigned w64 c.weighted-z.result = product_fits _ c.weighted-z.ensures.small in
-    let fits : FitsSigned w64 (c.weighted-x.result +ℤ c.weighted-y.result) × FitsSigned w64 (c.weighted-x.result +ℤ c.weighted-y.result +ℤ c.weighted-z.result) =
-    sum_fits _ _ _ c.weighted-x.ensures.small c.weighted-y.ensures.small c.weighted-z.ensures.small in
-    let first_fit : FitsSigned w64 (c.weighted-x.result +ℤ c.weighted-y.result) = fits.0 in
-    simp to_z-of_z fits.1
+pub sum_reaches-requires-clause-z : goal.sum_reaches-requires-clause-z
+sum_reaches-requires-clause-z c = let small = value c.args.diff.now 2 c.args.k c.requires.values in rw (narrow_told _ small) small
 
 pub returns : goal.returns
 returns c =
-    let x_fit : FitsSigned w64 c.weighted-x.result = product_fits _ c.weighted-x.ensures.small in
-    let y_fit : FitsSigned w64 c.weighted-y.result = product_fits _ c.weighted-y.ensures.small in
-    let z_fit : FitsSigned w64 c.weighted-z.result = product_fits _ c.weighted-z.ensures.small in
-    let fits : FitsSigned w64 (c.weighted-x.result +ℤ c.weighted-y.result) × FitsSigned w64 (c.weighted-x.result +ℤ c.weighted-y.result +ℤ c.weighted-z.result) =
-    sum_fits _ _ _ c.weighted-x.ensures.small c.weighted-y.ensures.small c.weighted-z.ensures.small in
-    let first_fit : FitsSigned w64 (c.weighted-x.result +ℤ c.weighted-y.result) = fits.0 in
-    let second_fit : FitsSigned w64 (c.weighted-x.result +ℤ c.weighted-y.result +ℤ c.weighted-z.result) = fits.1 in
-    let weight_x : IsBelow 4001 (at c.args.w 0) = below_at 4001 c.args.w 0 (lit< tt) c.requires.weights in
-    let value_x : IsBelow (2 ^ 46) (at (controls c.args.diff.now 0) c.args.k) = controls_below (2 ^ 46) c.args.diff.now 0 c.args.k (lit< tt) c.requires.values in
-    let weight_fit_x : FitsSigned w64 (at c.args.w 0) = weight_fits _ weight_x in
-    let value_fit_x : FitsSigned w128 (at (controls c.args.diff.now 0) c.args.k) = value_fits _ value_x in
-    let x_is : c.weighted-x.result ≡ at c.args.w 0 *ℤ at (controls c.args.diff.now 0) c.args.k = simp to_z-of_z at c.weighted-x.ensures.product in
-    let weight_y : IsBelow 4001 (at c.args.w 1) = below_at 4001 c.args.w 1 (lit< tt) c.requires.weights in
-    let value_y : IsBelow (2 ^ 46) (at (controls c.args.diff.now 1) c.args.k) = controls_below (2 ^ 46) c.args.diff.now 1 c.args.k (lit< tt) c.requires.values in
-    let weight_fit_y : FitsSigned w64 (at c.args.w 1) = weight_fits _ weight_y in
-    let value_fit_y : FitsSigned w128 (at (controls c.args.diff.now 1) c.args.k) = value_fits _ value_y in
-    let y_is : c.weighted-y.result ≡ at c.args.w 1 *ℤ at (controls c.args.diff.now 1) c.args.k = simp to_z-of_z at c.weighted-y.ensures.product in
-    let weight_z : IsBelow 4001 (at c.args.w 2) = below_at 4001 c.args.w 2 (lit< tt) c.requires.weights in
-    let value_z : IsBelow (2 ^ 46) (at (controls c.args.diff.now 2) c.args.k) = controls_below (2 ^ 46) c.args.diff.now 2 c.args.k (lit< tt) c.requires.values in
-    let weight_fit_z : FitsSigned w64 (at c.args.w 2) = weight_fits _ weight_z in
-    let value_fit_z : FitsSigned w128 (at (controls c.args.diff.now 2) c.args.k) = value_fits _ value_z in
-    let z_is : c.weighted-z.result ≡ at c.args.w 2 *ℤ at (controls c.args.diff.now 2) c.args.k = simp to_z-of_z at c.weighted-z.ensures.product in
-    let least_fit : FitsSigned w64 c.args.least = c.ranges.least in
-    simp to_z-of_z (reach_told c.args.least (c.weighted-x.result +ℤ c.weighted-y.result +ℤ c.weighted-z.result) (along_value c.args.diff.now c.args.w c.args.k) (sums x_is y_is z_is))
-  where
-    sums : {x y z u v w : ℤ} → x ≡ u → y ≡ v → z ≡ w → x +ℤ y +ℤ z ≡ u +ℤ v +ℤ w
-    sums {x} {y} {z} {u} {v} {w} p q r = cc
+    let x : FitsSigned w128 (at (controls c.args.diff.now 0) c.args.k) = narrow_value_fits _ (value c.args.diff.now 0 c.args.k c.requires.values) in
+    let y : FitsSigned w128 (at (controls c.args.diff.now 1) c.args.k) = narrow_value_fits _ (value c.args.diff.now 1 c.args.k c.requires.values) in
+    let z : FitsSigned w128 (at (controls c.args.diff.now 2) c.args.k) = narrow_value_fits _ (value c.args.diff.now 2 c.args.k c.requires.values) in
+    let x_short : FitsSigned w64 (at (controls c.args.diff.now 0) c.args.k) = narrow_value _ (value c.args.diff.now 0 c.args.k c.requires.values) in
+    let y_short : FitsSigned w64 (at (controls c.args.diff.now 1) c.args.k) = narrow_value _ (value c.args.diff.now 1 c.args.k c.requires.values) in
+    let z_short : FitsSigned w64 (at (controls c.args.diff.now 2) c.args.k) = narrow_value _ (value c.args.diff.now 2 c.args.k c.requires.values) in
+    let least : FitsSigned w64 c.args.least = c.ranges.least in
+    simp to_z-of_z at c.sum_reaches.ensures

@@ -1,6 +1,9 @@
 use Rattle.sep_parts.proofs.Prelude.{common_steps, arith, to_z-of_z}
-use Rattle.sep_parts.proofs.NarrowLemmas.{narrow_fits, narrow_product, narrow_value}
+use Rattle.sep_parts.proofs.NarrowLemmas.{narrow_fits, narrow_product, narrow_value, narrow_weight_fits}
 use Rattle.sep_parts.proofs.narrow.weighted.Goals as goal
 
+pub returns-clause-product : goal.returns-clause-product
+returns-clause-product c = grind (arith, common_steps, narrow_value, narrow_weight_fits, narrow_fits, narrow_product, to_z-of_z)
+
 pub returns-clause-small : goal.returns-clause-small
-returns-clause-small c = grind (arith, common_steps, narrow_value, narrow_fits, narrow_product, to_z-of_z)
+returns-clause-small c = rw (returns-clause-product c) (narrow_product c.args.weight c.args.value c.requires.weight c.requires.value)
