@@ -9,6 +9,7 @@ pub mod CutLemmas
 pub mod MarkLemmas
 pub mod WaitingLemmas
 pub mod CopiedLemmas
+pub mod PlaceLemmas
 pub mod WordLaws
 pub mod AskingLemmas
 pub mod AloneLemmas

@@ -1,10 +1,10 @@
 -- What the proofs of this crate cite from elsewhere, passed on from one place. Declares nothing.
-pub use Rattle.std.proofs.Common.{Bool, List, None, Option, Some, [], ap, append-nil, append_assoc, arith, cond, drop, eqb, false, flat_map, get_or, inl, inr, length, length-append, ltb, map, min, negsuc, pos, refl, subst, suc, sym, take, true, zero, ℕ, ℤ, ◌%◌, ◌&&◌, ◌++◌, ◌+◌, ◌-◌, ◌<◌, ◌^◌, ◌||◌, ◌∙◌, ◌∷◌, ◌≡◌, ◌≤◌, ◌⊎◌}
+pub use Rattle.std.proofs.Common.{Bool, List, None, Option, Some, [], ap, append-nil, append_assoc, arith, cond, drop, eqb, false, flat_map, get_or, inl, inr, length, length-append, map, min, negsuc, pos, refl, subst, suc, sym, take, true, zero, ℕ, ℤ, ◌%◌, ◌&&◌, ◌++◌, ◌+◌, ◌-◌, ◌<◌, ◌^◌, ◌||◌, ◌∙◌, ◌∷◌, ◌≡◌, ◌≤◌, ◌⊎◌}
 pub use Rattle.std.proofs.KnownBytes.{Consumes-kept, Keeps-refl, Keeps-trans}
 pub use Rattle.std.proofs.Math.Seq.{take-append-add}
 pub use Rattle.std.proofs.lemmas.Bool.{cases_Bool, cases_lt, eqb-true, ne_eqb}
-pub use Rattle.std.proofs.lemmas.Grind.{common_steps, fold-append}
-pub use Rattle.std.proofs.lemmas.List.{drop-append-le, drop-drop, drop-take, drop_all, get_or-append-add, length-drop, length-take, length-take-le, take-append-drop, take-append-le, take-take, take_all, take_at, take_min, take_more, take_rest}
+pub use Rattle.std.proofs.lemmas.Grind.{common_steps}
+pub use Rattle.std.proofs.lemmas.List.{drop-append-le, drop-drop, drop-take, drop_all, get_or-append-add, length-drop, length-take, length-take-le, take-append-drop, take-append-le, take-take, take_all, take_at, take_min, take_rest}
 pub use Rattle.std.proofs.lemmas.List.Splits.{join_with_byte-slice_split}
 pub use Rattle.std.proofs.lemmas.Slice.Eq.{bytes_eq-Decides}
 pub use Rattle.std.specs.Io.KnownBytes.{Appends, Consumes, IsAtEnd, Keeps, prepend_known}
@@ -19,6 +19,6 @@ pub use Rattle.fleet_io.specs.Parts.{MarkerLaw, TakesFewAfter, TakesPart, TookMa
 pub use Rattle.fleet_io.specs.Steps.{Goes, Runs}
 pub use Rattle.fleet_io.specs.Told.{Gives, IsInput, MayGive, Reads, Told, Took, Went, gave, to_come}
 unfoldable pub use Rattle.fleet_io.specs.Words.{with_word}
-pub use Rattle.fleet_io.specs.Words.{AreWords, IsWord, hex_digit, hex_word, is_line_empty, line, with_hex, with_words}
+pub use Rattle.fleet_io.specs.Words.{AreWords, IsWord, filled, hex_word, is_line_empty, line, with_words, word_bytes, words_room}
 pub use Rattle.fleet_io.specs.declared.parts.IoFault.{IoFault}
 pub use Rattle.fleet_io.specs.declared.parts.Part.{Part}

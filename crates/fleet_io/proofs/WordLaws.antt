@@ -1,5 +1,5 @@
 -- Texts are made of words, one by one. These laws say which lines the words make.
-use Rattle.fleet_io.proofs.Prelude.{common_steps, ◌≡◌, ℕ, suc, ◌+◌, ◌≤◌, ◌-◌, ◌%◌, ◌^◌, ◌<◌, true, false, cond, eqb, List, [], ◌∷◌, ◌++◌, length, map, ltb, refl, sym, ap, ◌∙◌, append_assoc, append-nil, length-append, arith, ℤ, pos, negsuc, flat_map, ne_eqb, get_or-append-add, is_line_empty, with_word, with_words, with_hex, hex_word, hex_digit, IsWord, AreWords, line}
+use Rattle.fleet_io.proofs.Prelude.{common_steps, ◌≡◌, ℕ, suc, ◌+◌, ◌≤◌, ◌-◌, ◌%◌, ◌^◌, ◌<◌, true, false, cond, eqb, List, [], ◌∷◌, ◌++◌, length, refl, sym, ap, ◌∙◌, append_assoc, append-nil, length-append, arith, ℤ, pos, negsuc, flat_map, ne_eqb, get_or-append-add, is_line_empty, with_word, with_words, IsWord, AreWords, line}
 use lib.Signed.{mag}
 use Rattle.std.specs.Fmt.{decimal, signed_decimal}
 use Rattle.std.proofs.lemmas.Fmt.{decimal_by_steps, length-decimal-le, length_signed_le}
@@ -20,16 +20,6 @@ word_has_bytes (b ∷ bytes) is = omega arith
 -- words, each after a space
 abbrev spaced : List (List ℕ) → List ℕ
 spaced words = flat_map (λ (word : List ℕ). 32 ∷ word) words
-
--- after a line feed the last line is empty
-pub fresh_after_feed : (text : List ℕ) → is_line_empty (text ++ 10 ∷ []) ≡ true
-fresh_after_feed text = is_line_empty-append text (10 ∷ []) (omega arith)
-
--- after a line the last line is empty
-pub fresh_after_line : (text first : List ℕ) (others : List (List ℕ)) → is_line_empty (text ++ line first others) ≡ true
-fresh_after_line text first others =
-    let whole : text ++ line first others ≡ (text ++ (first ++ spaced others)) ++ 10 ∷ [] = sym (append_assoc text (first ++ spaced others) (10 ∷ [])) in
-    rw whole (fresh_after_feed (text ++ (first ++ spaced others)))
 
 -- after a word the last line is not empty
 pub going_after_word : (text word : List ℕ) → IsWord word → is_line_empty (text ++ word) ≡ false
@@ -64,30 +54,6 @@ words_next text (word ∷ words) going are =
 -- The line law: on an empty line, a word, further words and a line feed make the line of these words.
 pub words_make_line : (text first : List ℕ) (others : List (List ℕ)) → is_line_empty text ≡ true → IsWord first → AreWords others → with_words text (first ∷ others) ++ 10 ∷ [] ≡ text ++ line first others
 words_make_line text first others fresh is are = grind (arith, common_steps, word_first, words_next, going_after_word, append_assoc, spaced)
-
--- ---- bytes as words
-
--- a hexadecimal digit is no line feed
-hex_digit_is_none : (n : ℕ) → eqb (hex_digit n) 10 ≡ false
-hex_digit_is_none n = grind (arith, common_steps, ltb, eqb, cond, ne_eqb)
-
--- two hexadecimal digits are a word
-pub hex_is_word : (byte : ℕ) → IsWord (hex_word byte)
-hex_is_word byte = hex_digit_is_none (byte % 16)
-
--- the digits of bytes are words
-hex_are_words : (bytes : List ℕ) → AreWords (map hex_word bytes)
-hex_are_words [] = tt
-hex_are_words (byte ∷ bytes) = (hex_is_word byte, hex_are_words bytes)
-
--- bytes after a text are the words of their digits
-pub hex_as_words : (text bytes : List ℕ) → with_hex text bytes ≡ with_words text (map hex_word bytes)
-hex_as_words text [] = refl
-hex_as_words text (byte ∷ bytes) = hex_as_words (with_word text (hex_word byte)) bytes
-
--- The hex row: on an empty line, a word, bytes and a line feed make the line of the word and the bytes' digits.
-pub hex_makes_line : (text first bytes : List ℕ) → is_line_empty text ≡ true → IsWord first → with_hex (with_word text first) bytes ++ 10 ∷ [] ≡ text ++ line first (map hex_word bytes)
-hex_makes_line text first bytes fresh is = rw (hex_as_words (with_word text first) bytes) (words_make_line text first (map hex_word bytes) fresh is (hex_are_words bytes))
 
 -- ---- numbers as words
 

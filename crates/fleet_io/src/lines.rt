@@ -1,13 +1,13 @@
-//! A text that grows in memory, word by word.
-ghost use Rattle.std.specs.Prelude.{◌≡◌, ◌<◌, [], ◌∷◌, ◌++◌, length, take, IfOk, OnOk, OnErr};
-ghost use Rattle.std.specs.Fmt.{signed_decimal};
-ghost use Rattle.fleet_io.specs.Words.{is_line_empty, with_word, with_hex, hex_digit, hex_word};
+//! A text that grows in memory, line by line.
+ghost use Rattle.std.specs.Prelude.{◌≡◌, ℕ, List, ◌<◌, ◌≤◌, [], ◌∷◌, ◌++◌, drop, length, map, take, IfOk, OnOk, OnErr};
+ghost use Rattle.fleet_io.specs.Words.{filled, filled_line, line, hex_digit, hex_word, word_bytes};
 
+use crate::words::{Word, bytes_of};
 use itoa::Buffer;
 use std::alloc::{AllocError, Global};
 use std::marker::Model;
 
-/// A text that grows by words and lines.
+/// A text that grows by lines.
 #[derive(Drop)]
 pub struct Lines {
     text: Vec<u8>,
@@ -40,38 +40,30 @@ impl Lines {
         })
     }
 
-    /// Adds a word, after a space unless the line is empty. An `Err` changes nothing.
-    pub fn word(&mut self, w: &[u8]) -> Result<(), AllocError>
-        ensures ok { OnOk result (self.new ≡ with_word self.old w.now) }
+    /// Adds the line of a template, with a word at each question mark, in their order. An `Err` changes nothing.
+    pub fn line(&mut self, template: &[u8], words: &[Word]) -> Result<(), AllocError>
+        ensures ok { OnOk result (self.new ≡ self.old ++ filled_line template.now words.now) }
         ensures err { OnErr result (self.new ≡ self.old) }
     {
-        put_word(&mut self.text, w)
+        let len = self.text.len();
+        let put = put_line(&mut self.text, template, words);
+        if put.is_err() {
+            self.text.truncate(len);
+        }
+        put
     }
 
-    /// Adds the digits of a number as a word. An `Err` changes nothing.
-    pub fn decimal(&mut self, v: i64) -> Result<(), AllocError>
-        ensures ok { OnOk result (self.new ≡ with_word self.old (signed_decimal v)) }
+    /// Adds a line of a word and of these bytes, each in two upper-case digits after a space. An `Err` changes nothing.
+    pub fn hex_line(&mut self, word: &[u8], bytes: &[u8]) -> Result<(), AllocError>
+        ensures ok { OnOk result (self.new ≡ self.old ++ line word.now (map hex_word bytes.now)) }
         ensures err { OnErr result (self.new ≡ self.old) }
     {
-        let mut digits = Buffer::new();
-        put_word(&mut self.text, digits.format(v).as_bytes())
-    }
-
-    /// Adds each byte as a word of two upper-case digits. An `Err` changes nothing.
-    pub fn hex(&mut self, bytes: &[u8]) -> Result<(), AllocError>
-        ensures ok { OnOk result (self.new ≡ with_hex self.old bytes.now) }
-        ensures err { OnErr result (self.new ≡ self.old) }
-    {
-        put_hex(&mut self.text, bytes)
-    }
-
-    /// Ends the line. An `Err` changes nothing.
-    pub fn end(&mut self) -> Result<(), AllocError>
-        ensures ok { OnOk result (self.new ≡ self.old ++ 10 ∷ []) }
-        ensures err { OnErr result (self.new ≡ self.old) }
-    {
-        self.text.push(b'\n')?;
-        Ok(())
+        let len = self.text.len();
+        let put = put_hex_line(&mut self.text, word, bytes);
+        if put.is_err() {
+            self.text.truncate(len);
+        }
+        put
     }
 
     /// The text so far.
@@ -82,34 +74,64 @@ impl Lines {
     }
 }
 
-// Whether nothing stands on the last line.
-pub(crate) fn is_line_empty(text: &[u8]) -> bool
-    ensures { result ≡ is_line_empty text.now }
+// The line of a template, with a word at each question mark. An `Err` keeps what stood there, and may leave more behind it.
+fn put_line(text: &mut Vec<u8>, template: &[u8], words: &[Word]) -> Result<(), AllocError>
+    ensures ok { OnOk result (text.new.items ≡ text.old.items ++ filled_line template.now words.now) }
+    ensures err { OnErr result (take (length text.old.items) text.new.items ≡ text.old.items) }
 {
-    match text.last() {
-        None => true,
-        Some(last) => *last == b'\n',
+    let mut left = words;
+    for byte in template {
+        let taken = put_next(text, *byte, left)?;
+        left = &left[taken..];
     }
+    text.push(b'\n')?;
+    Ok(())
 }
 
-// One word more. An `Err` changes nothing.
-#[tactic(auto, unfolding(crate::specs::Words::with_word))]
-fn put_word(text: &mut Vec<u8>, w: &[u8]) -> Result<(), AllocError>
-    ensures ok { OnOk result (text.new.items ≡ with_word text.old.items w.now) }
-    ensures err { OnErr result (text.new.items ≡ text.old.items) }
+// A byte of a template, or at a question mark the next of these words. Returns how many of them that took. An `Err`
+// changes nothing.
+fn put_next(text: &mut Vec<u8>, byte: u8, words: &[Word]) -> Result<usize, AllocError>
+    ensures one { IfOk result (λ taken. taken ≤ 1) }
+    ensures few { IfOk result (λ taken. taken ≤ length words.now) }
+    ensures filled { IfOk result (λ taken. (rest : List ℕ) → text.new.items ++ filled rest (map word_bytes (drop taken words.now))
+        ≡ text.old.items ++ filled (byte ∷ rest) (map word_bytes words.now)) }
+    ensures longer { length text.old.items ≤ length text.new.items }
+    ensures keeps { take (length text.old.items) text.new.items ≡ text.old.items }
 {
-    if is_line_empty(text) {
-        return text.extend_from_slice(w);
-    }
-    let len = text.len();
-    text.push(b' ')?;
-    match text.extend_from_slice(w) {
-        Ok(()) => Ok(()),
-        Err(error) => {
-            text.truncate(len);
-            Err(error)
+    if byte == b'?' {
+        if let Some(word) = words.first() {
+            let mut digits = Buffer::new();
+            text.extend_from_slice(bytes_of(word, &mut digits))?;
+            return Ok(1);
         }
     }
+    text.push(byte)?;
+    Ok(0)
+}
+
+// A line of a word and bytes. An `Err` keeps what stood there, and may leave more behind it.
+fn put_hex_line(text: &mut Vec<u8>, word: &[u8], bytes: &[u8]) -> Result<(), AllocError>
+    ensures ok { OnOk result (text.new.items ≡ text.old.items ++ line word.now (map hex_word bytes.now)) }
+    ensures err { OnErr result (take (length text.old.items) text.new.items ≡ text.old.items) }
+{
+    text.extend_from_slice(word)?;
+    for byte in bytes {
+        put_spaced_hex(text, *byte)?;
+    }
+    text.push(b'\n')?;
+    Ok(())
+}
+
+// A space and a byte in two digits. It is pushed digit by digit: a call that copies a slice takes longer than two digits do.
+// An `Err` keeps what stood there, and may leave a front of the word behind it.
+fn put_spaced_hex(text: &mut Vec<u8>, byte: u8) -> Result<(), AllocError>
+    ensures ok { OnOk result (text.new.items ≡ text.old.items ++ 32 ∷ hex_word byte) }
+    ensures err { OnErr result (take (length text.old.items) text.new.items ≡ text.old.items) }
+{
+    text.push(b' ')?;
+    text.push(hex_digit(byte / 16))?;
+    text.push(hex_digit(byte % 16))?;
+    Ok(())
 }
 
 /// An upper-case hexadecimal digit.
@@ -118,37 +140,4 @@ pub fn hex_digit(n: u8) -> u8
     ensures { result ≡ hex_digit n }
 {
     if n < 10 { b'0' + n } else { b'A' - 10 + n }
-}
-
-// A byte as a word. It is pushed digit by digit: a call that copies a slice takes longer than two digits do. An `Err` keeps
-// what stood there, and may leave a front of the word behind it.
-#[tactic(auto, unfolding(crate::specs::Words::with_word))]
-fn put_hex_word(text: &mut Vec<u8>, byte: u8) -> Result<(), AllocError>
-    ensures ok { OnOk result (text.new.items ≡ with_word text.old.items (hex_word byte)) }
-    ensures err { OnErr result (take (length text.old.items) text.new.items ≡ text.old.items) }
-{
-    if !is_line_empty(text) {
-        text.push(b' ')?;
-    }
-    text.push(hex_digit(byte / 16))?;
-    text.push(hex_digit(byte % 16))?;
-    Ok(())
-}
-
-// Each byte as a word. An `Err` changes nothing.
-fn put_hex(text: &mut Vec<u8>, bytes: &[u8]) -> Result<(), AllocError>
-    ensures ok { OnOk result (text.new.items ≡ with_hex text.old.items bytes.now) }
-    ensures err { OnErr result (text.new.items ≡ text.old.items) }
-{
-    let len = text.len();
-    for byte in bytes {
-        match put_hex_word(text, *byte) {
-            Ok(()) => {}
-            Err(error) => {
-                text.truncate(len);
-                return Err(error);
-            }
-        }
-    }
-    Ok(())
 }

@@ -1,9 +1,9 @@
 //! One line of text that takes no memory.
-ghost use Rattle.std.specs.Prelude.{◌≡◌, ◌+◌, ◌≤◌, ◌<◌, [], ◌∷◌, ◌++◌, decimal, length};
+ghost use Rattle.std.specs.Prelude.{◌≡◌, ℕ, List, ◌+◌, ◌≤◌, ◌<◌, [], ◌∷◌, ◌++◌, decimal, length, map};
 ghost use Rattle.std.specs.Fmt.{signed_decimal};
-ghost use Rattle.fleet_io.specs.Words.{with_word, short_line_bytes};
+ghost use Rattle.fleet_io.specs.Words.{filled, filled_line, is_line_empty, with_word, word_bytes, words_room, short_line_bytes};
 
-use crate::lines::is_line_empty;
+use crate::words::{Word, bytes_of};
 use arrayvec::ArrayVec;
 use itoa::Buffer;
 use std::marker::Model;
@@ -34,6 +34,40 @@ impl ShortLine {
         ShortLine {
             text: ArrayVec::new(),
         }
+    }
+
+    /// The line of a template, with a word at each question mark, in their order.
+    pub fn of(template: &[u8], words: &[Word]) -> ShortLine
+        requires { length template.now + words_room words.now < short_line_bytes }
+        ensures { result ≡ filled_line template.now words.now }
+    {
+        let mut line = ShortLine::make();
+        let mut left = words;
+        for byte in template {
+            left = line.step(*byte, left);
+        }
+        line.end();
+        line
+    }
+
+    // A byte of a template, or at a question mark the next of these words. Returns what is left of them.
+    fn step<'a, 'b>(&mut self, byte: u8, words: &'b [Word<'a>]) -> &'b [Word<'a>]
+        requires { length self.old + 1 + words_room words.now < short_line_bytes }
+        ensures filled { (rest : List ℕ) → self.new ++ filled rest (map word_bytes result.now)
+            ≡ self.old ++ filled (byte ∷ rest) (map word_bytes words.now) }
+        ensures room { length self.new + words_room result.now ≤ length self.old + 1 + words_room words.now }
+    {
+        if byte == b'?' {
+            if let Some((word, others)) = words.split_first() {
+                let mut digits = Buffer::new();
+                self.text
+                    .try_extend_from_slice(bytes_of(word, &mut digits))
+                    .unwrap();
+                return others;
+            }
+        }
+        self.text.push(byte);
+        words
     }
 
     /// Adds a word, after a space unless the line is empty.
@@ -83,5 +117,15 @@ impl ShortLine {
         ensures { result.now ≡ self.now }
     {
         self.text.as_slice()
+    }
+}
+
+// Whether nothing stands on the last line.
+fn is_line_empty(text: &[u8]) -> bool
+    ensures { result ≡ is_line_empty text.now }
+{
+    match text.last() {
+        None => true,
+        Some(last) => *last == b'\n',
     }
 }

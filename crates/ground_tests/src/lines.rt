@@ -1,16 +1,17 @@
-//! Texts that grow word by word.
+//! Texts that grow line by line.
+use fleet_io::Word::{Bytes, Decimal, Large, Number};
 use fleet_io::{Lines, ShortLine};
 use std::test::Fail;
 
 #[test]
 fn texts(rt: HostRuntime) -> Result<(), Fail> {
     let mut lines = Lines::make(rt.alloc());
-    lines.word(b"data")?;
-    lines.hex(&[0, 31, 255])?;
-    lines.end()?;
-    lines.decimal(-12)?;
-    lines.word(b"x")?;
-    assert!(rt; lines.bytes() == b"data 00 1F FF\n-12 x".as_slice());
+    lines.hex_line(b"data", &[0, 31, 255])?;
+    lines.line(
+        b"? to ?: ??",
+        &[Decimal(-12), Large(4_294_967_296), Bytes(b"x?")],
+    )?;
+    assert!(rt; lines.bytes() == b"data 00 1F FF\n-12 to 4294967296: x??\n".as_slice());
     Ok(())
 }
 
@@ -18,8 +19,7 @@ fn texts(rt: HostRuntime) -> Result<(), Fail> {
 fn text_with_room(rt: HostRuntime) -> Result<(), Fail> {
     let mut lines = Lines::with_room(rt.alloc(), 3)?;
     let empty = lines.bytes().is_empty();
-    lines.word(b"longer")?;
-    lines.end()?;
+    lines.line(b"longer", &[])?;
     assert!(rt; empty && lines.bytes() == b"longer\n".as_slice());
     Ok(())
 }
@@ -34,6 +34,16 @@ fn short_line(rt: HostRuntime) {
     line.number(0);
     line.end();
     assert!(rt; line.bytes() == b"at -12 4294967295 0\n".as_slice());
+}
+
+// A line of words stands in its template.
+#[test]
+fn template(rt: HostRuntime) {
+    let line = ShortLine::of(
+        b"at ? ? ?",
+        &[Decimal(-12), Number(4_294_967_295), Bytes(b"x")],
+    );
+    assert!(rt; line.bytes() == b"at -12 4294967295 x\n".as_slice());
 }
 
 // A line is full with its 160th byte, and not before it.
