@@ -1,7 +1,6 @@
 //! The words that name what is wrong.
 
 ghost use Rattle.std.specs.Prelude.{◌≡◌, ◌≤◌, length};
-ghost use Rattle.fleet_io.specs.Words.{IsWord};
 ghost use Rattle.cue_grid.specs.Faults.{line_of};
 ghost use Rattle.refusals.specs.KindWords.{kind_word, grid_word, axis_word};
 
@@ -11,7 +10,6 @@ use cue_grid::GridFault;
 // The word of a kind of faulty lines.
 pub(crate) fn kind_word(kind: LineKind) -> &'static [u8]
     ensures word { result.now ≡ kind_word kind }
-    ensures is_word { IsWord result.now }
     ensures short { length result.now ≤ 15 }
 {
     match kind {
@@ -33,7 +31,6 @@ pub(crate) fn kind_word(kind: LineKind) -> &'static [u8]
 pub(crate) fn line_and_word(fault: GridFault) -> (u32, &'static [u8])
     ensures line { result.0 ≡ line_of fault }
     ensures word { result.1.now ≡ grid_word fault }
-    ensures is_word { IsWord result.1.now }
     ensures short { length result.1.now ≤ 15 }
 {
     match fault {
@@ -52,7 +49,6 @@ pub(crate) fn line_and_word(fault: GridFault) -> (u32, &'static [u8])
 pub(crate) fn axis_word(axis: u8) -> &'static [u8]
     requires { axis ≤ 3 }
     ensures word { result.now ≡ axis_word axis }
-    ensures is_word { IsWord result.now }
     ensures short { length result.now ≤ 3 }
 {
     match axis {

@@ -9,11 +9,9 @@
 //! show, on `halving` for the parts of a cue, and on `sep_parts` for the versions of certificates.
 #![tactic(auto)]
 
-mod builder;
 mod kinds;
-mod pairs;
+mod lines;
 mod refusal;
-mod singles;
-mod studies;
+mod words;
 
 pub use refusal::{Pair, Refusal};

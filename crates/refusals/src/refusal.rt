@@ -1,19 +1,10 @@
 //! Why the program refuses, as a value.
 
-ghost use Rattle.std.specs.Prelude.{◌≡◌, false, MatchOption};
-ghost use Rattle.refusals.specs.Refusals.{IsSayable, line_of, status_of};
-ghost use Rattle.refusals.specs.Steps.{is_of_certificate, is_of_show, is_of_study, is_of_upload};
+ghost use Rattle.std.specs.Prelude.{◌≡◌};
+ghost use Rattle.refusals.specs.Refusals.{status_of};
 
-use crate::pairs::{blocked_line, fails_line, missing_line, too_deep_line};
-use crate::singles::{
-    differs_line, ended_line, extra_line, faulty_line, gave_up_line, grid_line, range_line,
-    read_line, refused_line, room_line, second_line, second_too_large_line, segments_line,
-    too_large_line, usage_line,
-};
-use crate::studies::{accelerates_line, enters_line, jumps_line, too_fast_line};
 use choreo_lines::{LineKind, Name};
 use cue_grid::GridFault;
-use fleet_io::ShortLine;
 use fleet_io::status::{
     BLOCKED, DIFFERS, ENDED, ENTERS, FAULTY, GAVE_UP, NO_ROOM, NO_SHOW, NOT_VALID, READ_FAILED,
     REFUSED, TOO_ABRUPT, TOO_FAST, USAGE,
@@ -179,120 +170,6 @@ impl Refusal {
             Refusal::Enters { .. } => ENTERS,
             Refusal::TooFast { .. } => TOO_FAST,
             Refusal::Accelerates { .. } | Refusal::Jumps { .. } => TOO_ABRUPT,
-        }
-    }
-
-    /// The line that the program writes (docs/COMMANDS.md, "Fault lines"). It takes no memory.
-    pub fn line(&self) -> ShortLine
-        requires { IsSayable self.now }
-        ensures { result ≡ line_of self.now }
-    {
-        if let Some(line) = self.show_line() {
-            return line;
-        }
-        if let Some(line) = self.upload_line() {
-            return line;
-        }
-        if let Some(line) = self.certificate_line() {
-            return line;
-        }
-        if let Some(line) = self.study_line() {
-            return line;
-        }
-        // What is left is that the words are no command.
-        usage_line()
-    }
-
-    // The line, if it is of a show or of a failed read.
-    fn show_line(&self) -> Option<ShortLine>
-        requires { IsSayable self.now }
-        ensures { MatchOption result (is_of_show self.now ≡ false) (λ line. line ≡ line_of self.now) }
-    {
-        match self {
-            Refusal::TooLarge => Some(too_large_line()),
-            Refusal::Line { line, kind } => Some(faulty_line(*line, *kind)),
-            Refusal::Grid { fault } => Some(grid_line(*fault)),
-            Refusal::Range { line, axis, value } => Some(range_line(*line, *axis, *value)),
-            Refusal::Room { drone, bytes, room } => Some(room_line(drone, *bytes, *room)),
-            Refusal::Segments { drone, segments } => Some(segments_line(drone, *segments)),
-            Refusal::Blocked { pair, index, depth } => Some(blocked_line(pair, *index, *depth)),
-            Refusal::Read => Some(read_line()),
-            _ => None,
-        }
-    }
-
-    // The line, if it is of an upload.
-    fn upload_line(&self) -> Option<ShortLine>
-        requires { IsSayable self.now }
-        ensures { MatchOption result (is_of_upload self.now ≡ false) (λ line. line ≡ line_of self.now) }
-    {
-        match self {
-            Refusal::Ended => Some(ended_line()),
-            Refusal::GaveUp { drone, packet } => Some(gave_up_line(drone, *packet)),
-            Refusal::Refused {
-                drone,
-                packet,
-                status,
-            } => Some(refused_line(drone, *packet, *status)),
-            Refusal::Differs {
-                drone,
-                address,
-                wanted,
-                got,
-            } => Some(differs_line(drone, *address, *wanted, *got)),
-            _ => None,
-        }
-    }
-
-    // The line, if it is of the second text or of its certificate.
-    fn certificate_line(&self) -> Option<ShortLine>
-        requires { IsSayable self.now }
-        ensures { MatchOption result (is_of_certificate self.now ≡ false) (λ line. line ≡ line_of self.now) }
-    {
-        match self {
-            Refusal::SecondLine { line } => Some(second_line(*line)),
-            Refusal::SecondTooLarge => Some(second_too_large_line()),
-            Refusal::Missing { pair } => Some(missing_line(pair)),
-            Refusal::Extra { version, tree } => Some(extra_line(*version, *tree)),
-            Refusal::TooDeep { pair } => Some(too_deep_line(pair)),
-            Refusal::Fails {
-                pair,
-                place,
-                version,
-                dir,
-                control,
-            } => Some(fails_line(pair, *place, *version, *dir, *control)),
-            _ => None,
-        }
-    }
-
-    // The line, if it is of a study of regions, speeds or accelerations.
-    fn study_line(&self) -> Option<ShortLine>
-        requires { IsSayable self.now }
-        ensures { MatchOption result (is_of_study self.now ≡ false) (λ line. line ≡ line_of self.now) }
-    {
-        match self {
-            Refusal::Enters {
-                region,
-                drone,
-                cue,
-                index,
-                depth,
-            } => Some(enters_line(*region, drone, *cue, *index, *depth)),
-            Refusal::TooFast { drone, axis, speed } => Some(too_fast_line(drone, *axis, *speed)),
-            Refusal::Accelerates {
-                drone,
-                cue,
-                axis,
-                acceleration,
-            } => Some(accelerates_line(drone, *cue, *axis, *acceleration)),
-            Refusal::Jumps {
-                drone,
-                cue,
-                axis,
-                speed,
-            } => Some(jumps_line(drone, *cue, *axis, *speed)),
-            _ => None,
         }
     }
 }
