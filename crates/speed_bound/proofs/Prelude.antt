@@ -1,5 +1,5 @@
 -- What the proofs of this crate cite from elsewhere, passed on from one place. Declares nothing.
-pub use Rattle.std.proofs.Common.{All, FitsSigned, List, OnOk, [], ap, arith, decimal, drop, get_or, length, lit<, map, max, min, neg_ℤ, negsuc, of_z, pos, refl, rules, subst, suc, sum, sym, take, to_z, unsigned_abs, zero, zero-add, ℕ, ℤ, ◌*ℤ◌, ◌*◌, ◌++◌, ◌+ℤ◌, ◌+◌, ◌-ℤ◌, ◌-◌, ◌/◌, ◌<ℤ◌, ◌<◌, ◌^◌, ◌∙◌, ◌∷◌, ◌≡◌, ◌≢◌, ◌≤ℤ◌, ◌≤◌}
+pub use Rattle.std.proofs.Common.{All, FitsSigned, List, [], ap, arith, drop, get_or, length, lit<, map, max, min, neg_ℤ, negsuc, pos, refl, rules, subst, suc, sum, sym, take, to_z, unsigned_abs, zero, zero-add, ℕ, ℤ, ◌*ℤ◌, ◌*◌, ◌++◌, ◌+ℤ◌, ◌+◌, ◌-ℤ◌, ◌-◌, ◌/◌, ◌<ℤ◌, ◌<◌, ◌^◌, ◌∙◌, ◌∷◌, ◌≡◌, ◌≢◌, ◌≤ℤ◌, ◌≤◌}
 pub use Rattle.std.proofs.Math.Nat.{pow-le-pow_right, pow-suc, pow-zero}
 pub use Rattle.std.proofs.lemmas.Grind.{common_steps, div_ceil_times}
 pub use Rattle.std.proofs.lemmas.Int.{by_lt_z, ints, to_z-of_z, to_z_pos}
@@ -7,7 +7,6 @@ pub use Rattle.std.proofs.lemmas.List.{drop_all, get_or_past, length-map, take_a
 pub use Rattle.std.proofs.lemmas.List.Elements.{All-cons, All-from_get_or, All-get_or, All-head, All-nil, All-tail}
 pub use Rattle.std.proofs.lemmas.Nat.{mul-le, pow-add, pow_pos}
 unfoldable pub use Rattle.std.specs.Fmt.{digits}
-pub use Rattle.std.specs.Fmt.{signed_decimal}
 pub use Rattle.std.specs.Int.{div_ceil}
 pub use Rattle.std.specs.Prelude.{codes}
 pub use Rattle.bezier_core.proofs.BlendLemmas.{bound_positive, within_mul}
@@ -15,8 +14,6 @@ pub use Rattle.bezier_core.proofs.CurveLemmas.{at-eight, raise, raised-level}
 pub use Rattle.bezier_core.specs.Raised.{eight, raised}
 pub use Rattle.bezier_core.specs.Steps.{IsWithin}
 pub use Rattle.fleet_curves.specs.Steps.{IsFormed}
-pub use Rattle.fleet_io.proofs.WordLaws.{signed_is_word, words_make_line}
-pub use Rattle.fleet_io.specs.Words.{IsWord, with_word}
 pub use Rattle.fleet_math.proofs.BernsteinLemmas.{bernstein-same, bernstein-zero, by_lt}
 pub use Rattle.fleet_math.proofs.EdgeLemmas.{decoded-at_end, decoded-at_start, points-count, points-joined}
 pub use Rattle.fleet_math.proofs.Instants.{Lies, moment-lies, time_before-suc}
