@@ -6,9 +6,10 @@ ghost use Rattle.keepout_boxes.specs.Steps.{Covers, CoverAll, IsWider};
 
 use bezier_core::Bez;
 use fleet_curves::Curves;
+use fleet_math::MOST_DRONES;
 
-/// Of each drone of a show its flight's box. There are at most 32 drones.
-pub type Boxes = [[Bez<8>; 3]; 32];
+/// Of each drone of a show its flight's box.
+pub type Boxes = [[Bez<8>; 3]; MOST_DRONES];
 
 // Two control values.
 #[derive(Clone, Copy)]
@@ -22,7 +23,7 @@ pub struct Ends {
 pub fn boxes_of(curves: &Curves) -> Boxes
     ensures { CoverAll curves.now result curves.now.drones }
 {
-    let mut boxes = [[Bez { b: [0; 8] }; 3]; 32];
+    let mut boxes = [[Bez { b: [0; 8] }; 3]; MOST_DRONES];
     for drone in 0..curves.drones() {
         boxes[drone] = box_of(curves, drone);
     }
