@@ -81,7 +81,7 @@ fn last_digits(word: &[u8], at: usize, n: u64) -> Option<u64>
     with_digit(n, word[at + 2])
 }
 
-// The same of a word of at most eight digits, as most numbers are: no digit of it needs a bound, and no loop goes over it.
+// The same of a word of at most eight digits, as most numbers are: no digit needs a bound, and no loop goes over them.
 #[inline(always)]
 fn short_natural(word: &[u8]) -> Option<u64>
     requires some { 0 < length word.now }
