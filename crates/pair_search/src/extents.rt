@@ -2,6 +2,7 @@
 
 ghost use Rattle.std.specs.Prelude.{◌≡◌, ℕ, ◌+◌, ◌*◌, ◌^◌, ◌≤◌, ◌<◌, ℤ, pos, ◌-ℤ◌, ◌≤ℤ◌, ◌⊎◌, All, IfOk, OnOk, IsTrue, length};
 ghost use Rattle.fleet_math.specs.Bernstein.{at};
+ghost use Rattle.fleet_math.specs.Limits.{most_cues, most_drones};
 ghost use Rattle.fleet_math.specs.Numbers.{IsBelow};
 ghost use Rattle.fleet_curves.specs.Raised.{curves_at, curves_of};
 ghost use Rattle.sep_parts.specs.Directions.{IsAxis, IsClearance, reach_on};
@@ -9,6 +10,7 @@ ghost use Rattle.pair_search.specs.Extents.{AreExtents, AreFlights, HasAxes, Has
 
 use crate::lanes::greater;
 use fleet_curves::Curves;
+use fleet_math::MOST_DRONES;
 use sep_parts::{Clearance, Ruler};
 use std::alloc::{AllocError, Global};
 
@@ -88,15 +90,15 @@ fn lesser(a: i32, b: i32) -> i32
     if a < b { a } else { b }
 }
 
-/// The extents of whole flights, by drone: of each all cues. There are at most 32 drones.
-pub fn flights_of(curves: &Curves, all: &[Extent]) -> [Extent; 32]
+/// The extents of whole flights, by drone: of each all cues.
+pub fn flights_of(curves: &Curves, all: &[Extent]) -> [Extent; MOST_DRONES]
     requires extents { AreExtents curves.now all.now }
     ensures { AreFlights curves.now result }
 {
     let mut flights = [Extent {
         low: [0; 3],
         high: [0; 3],
-    }; 32];
+    }; MOST_DRONES];
     for drone in 0..curves.drones() {
         flights[drone] = flight_of(curves, all, drone);
     }
@@ -172,8 +174,8 @@ pub fn extent_at(curves: &Curves, all: &[Extent], drone: usize, cue: usize) -> E
 
 // Where the extent of a drone and a cue stands.
 fn place_of(drones: usize, cues: usize, drone: usize, cue: usize) -> usize
-    requires drones { drones ≤ 32 }
-    requires cues { cues ≤ 1000 }
+    requires drones { drones ≤ most_drones }
+    requires cues { cues ≤ most_cues }
     requires drone { drone < drones }
     requires cue { cue < cues }
     ensures exact { result ≡ drone * cues + cue }

@@ -17,7 +17,7 @@ use crate::opposites::{Opposites, opposites_of};
 use crate::shape::count_with;
 use crate::walk::{Found, search_by};
 use fleet_curves::{Curves, Difference};
-use fleet_math::Depth;
+use fleet_math::{Depth, MOST_DRONES};
 use sep_parts::{Forest, Node, Ruler, Slot, Waiting};
 use std::alloc::{AllocError, Global};
 
@@ -118,7 +118,7 @@ fn is_far<const M: usize>(curves: &Curves, extents: &[Extent], ruler: &Ruler<M>,
 // direction separates each of these cues. `axes` says that the ruler has the directions of the axes.
 fn is_pair_far<const M: usize>(
     curves: &Curves,
-    flights: &[Extent; 32],
+    flights: &[Extent; MOST_DRONES],
     axes: bool,
     ruler: &Ruler<M>,
     slot: Slot,
@@ -134,7 +134,7 @@ fn is_pair_far<const M: usize>(
     if !axes {
         return false;
     }
-    // there are at most 32 drones, and some cue
+    // there are at most MOST_DRONES drones, and some cue
     let _drones = curves.drones();
     let _cues = curves.cues();
     let clearance = ruler.clearance();
