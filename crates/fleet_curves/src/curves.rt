@@ -84,6 +84,17 @@ impl Curves {
         self.cues as usize
     }
 
+    /// Where a drone in a cue stands in a list by drone and then by cue, all counted from 0.
+    #[inline(always)]
+    pub fn place(&self, drone: usize, cue: usize) -> usize
+        requires drone { drone < self.now.drones }
+        requires cue { cue < self.now.cues }
+        ensures exact { result ≡ drone * self.now.cues + cue }
+        ensures inside { result < self.now.drones * self.now.cues }
+    {
+        drone * self.cues as usize + cue
+    }
+
     /// The raised curves of drone `b` less those of drone `a`, in a cue, all counted from 0. Takes no memory.
     pub fn diff(&self, a: usize, b: usize, cue: usize) -> Difference
         requires order { a < b }
@@ -102,7 +113,7 @@ impl Curves {
         ensures exact { curves_of result.now ≡ curves_at self.now drone cue }
         ensures small { All (λ curve. All (IsBelow (2 ^ 28)) curve.b) (curves_at self.now drone cue) }
     {
-        &self.all[place_of(self.drones, self.cues, drone, cue)]
+        &self.all[self.place(drone, cue)]
     }
 
     /// The raised curves of a drone in a cue, both counted from 0: on x, y and z 5,040 times the curve in millimetres.
@@ -162,16 +173,6 @@ fn one_less(second: &[[i32; 8]; 3], first: &[[i32; 8]; 3], axis: usize) -> [i32;
     ensures small { All (IsBelow (2 ^ 30)) result }
 {
     row_less(&second[axis], &first[axis])
-}
-
-// Where the curves of a drone and a cue stand.
-fn place_of(drones: u8, cues: u16, drone: usize, cue: usize) -> usize
-    requires drone { drone < drones }
-    requires cue { cue < cues }
-    ensures exact { result ≡ drone * cues + cue }
-    ensures inside { result < drones * cues }
-{
-    drone * cues as usize + cue
 }
 
 // The raised curves of one trajectory, after others.

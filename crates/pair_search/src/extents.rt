@@ -2,7 +2,6 @@
 
 ghost use Rattle.std.specs.Prelude.{◌≡◌, ℕ, ◌+◌, ◌*◌, ◌^◌, ◌≤◌, ◌<◌, ℤ, pos, ◌-ℤ◌, ◌≤ℤ◌, ◌⊎◌, All, IfOk, OnOk, IsTrue, length};
 ghost use Rattle.fleet_math.specs.Bernstein.{at};
-ghost use Rattle.fleet_math.specs.Limits.{most_cues, most_drones};
 ghost use Rattle.fleet_math.specs.Numbers.{IsBelow};
 ghost use Rattle.fleet_curves.specs.Raised.{curves_at, curves_of};
 ghost use Rattle.sep_parts.specs.Directions.{IsAxis, IsClearance, reach_on};
@@ -169,19 +168,7 @@ pub fn extent_at(curves: &Curves, all: &[Extent], drone: usize, cue: usize) -> E
     requires cue { cue < curves.now.cues }
     ensures { IsExtent (curves_at curves.now drone cue) result }
 {
-    all[place_of(curves.drones(), curves.cues(), drone, cue)]
-}
-
-// Where the extent of a drone and a cue stands.
-fn place_of(drones: usize, cues: usize, drone: usize, cue: usize) -> usize
-    requires drones { drones ≤ most_drones }
-    requires cues { cues ≤ most_cues }
-    requires drone { drone < drones }
-    requires cue { cue < cues }
-    ensures exact { result ≡ drone * cues + cue }
-    ensures inside { result < drones * cues }
-{
-    drone * cues + cue
+    all[curves.place(drone, cue)]
 }
 
 /// Whether two extents are so far apart on an axis that its direction separates the drones in the whole cue.
