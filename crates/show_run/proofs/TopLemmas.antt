@@ -1,6 +1,9 @@
 -- A run of the program, from that of its command.
-use Rattle.std.proofs.Common.{◌≡◌, ◌⊎◌, inl, inr, ℕ, ◌≤◌, Bool, Contains, Option, Some, None, ap, refl, subst, arith}
-use Rattle.std.proofs.lemmas.List.Elements.{All-contains, All-from_recursion}
+use Rattle.std.proofs.Common.{◌≡◌, ◌⊎◌, inl, inr, ℕ, ◌≤◌, ◌==◌, nat_le, Bool, true, not, Contains, Option, Some, None, ap, refl, subst, arith}
+use Rattle.std.proofs.lemmas.Bool.Decides.{nat_tests}
+use Rattle.std.proofs.lemmas.List.Elements.{All-contains}
+use Rattle.std.proofs.lemmas.List.Sums.{AllPass-from_list_all}
+use Rattle.std.specs.List.{list_all}
 use Rattle.fleet_io.specs.Causes.{Rose}
 use Rattle.command_words.specs.declared.command.Command.{Command}
 use Rattle.command_words.specs.declared.command.Command.TheVariants.{Direct}
@@ -32,20 +35,17 @@ pub never_seven : (words : Option Command) (r : Run) (status : ℕ) → (words �
 never_seven None r status usage runs quiet seven = quiet (usage refl seven)
 never_seven (Some c) r status usage runs quiet seven = quiet ((runs c refl).runs.seven seven).0
 
+-- a test that each status of a command passes is passed by one among them
+passes : (test : ℕ → Bool) (n : ℕ) → list_all test statuses ≡ true → Contains statuses n → test n ≡ true
+passes test n each among = All-contains (λ (k : ℕ). test k ≡ true) statuses n (AllPass-from_list_all test statuses each) among
+
 -- no status is above 20
 pub known_small : (n : ℕ) → Contains statuses n → n ≤ 20
-known_small n among = All-contains (λ (k : ℕ). k ≤ 20) statuses n (All-from_recursion (λ (k : ℕ). k ≤ 20) statuses
-    (omega arith, (omega arith, (omega arith, (omega arith, (omega arith, (omega arith, (omega arith, (omega arith, (omega arith, (omega arith, (omega arith, (omega arith, (omega arith, (omega arith, (omega arith, (omega arith, (omega arith, (omega arith, (omega arith, tt)))))))))))))))))))) among
+known_small n among = let few : nat_le n 20 ≡ true = passes (λ k. nat_le k 20) n refl among in grind (arith, nat_tests)
 
--- no status of a command is 2
-pub never_two : (n : ℕ) → Contains statuses n → n ≡ 2 → ⊥
-never_two n among = All-contains (λ (k : ℕ). k ≡ 2 → ⊥) statuses n (All-from_recursion (λ (k : ℕ). k ≡ 2 → ⊥) statuses
-    ((λ e. omega (arith, e)), ((λ e. omega (arith, e)), ((λ e. omega (arith, e)), ((λ e. omega (arith, e)), ((λ e. omega (arith, e)), ((λ e. omega (arith, e)), ((λ e. omega (arith, e)), ((λ e. omega (arith, e)), ((λ e. omega (arith, e)), ((λ e. omega (arith, e)), ((λ e. omega (arith, e)), ((λ e. omega (arith, e)), ((λ e. omega (arith, e)), ((λ e. omega (arith, e)), ((λ e. omega (arith, e)), ((λ e. omega (arith, e)), ((λ e. omega (arith, e)), ((λ e. omega (arith, e)), ((λ e. omega (arith, e)), tt)))))))))))))))))))) among
-
--- and none is 17
-pub never_seventeen : (n : ℕ) → Contains statuses n → n ≡ 17 → ⊥
-never_seventeen n among = All-contains (λ (k : ℕ). k ≡ 17 → ⊥) statuses n (All-from_recursion (λ (k : ℕ). k ≡ 17 → ⊥) statuses
-    ((λ e. omega (arith, e)), ((λ e. omega (arith, e)), ((λ e. omega (arith, e)), ((λ e. omega (arith, e)), ((λ e. omega (arith, e)), ((λ e. omega (arith, e)), ((λ e. omega (arith, e)), ((λ e. omega (arith, e)), ((λ e. omega (arith, e)), ((λ e. omega (arith, e)), ((λ e. omega (arith, e)), ((λ e. omega (arith, e)), ((λ e. omega (arith, e)), ((λ e. omega (arith, e)), ((λ e. omega (arith, e)), ((λ e. omega (arith, e)), ((λ e. omega (arith, e)), ((λ e. omega (arith, e)), ((λ e. omega (arith, e)), tt)))))))))))))))))))) among
+-- no command ends with a number that is none of the statuses
+pub never : (k n : ℕ) → list_all (λ s. not (s == k)) statuses ≡ true → Contains statuses n → n ≡ k → ⊥
+never k n each among is = let other : not (n == k) ≡ true = passes (λ s. not (s == k)) n each among in grind (arith, nat_tests)
 
 -- a run of a command is one of the same command by another name
 pub behaves_as : (c d : Command) (r : Run) (status : ℕ) → c ≡ d → Behaves (verb_of c) r status → Behaves (verb_of d) r status

@@ -1,4 +1,4 @@
-use Rattle.std.proofs.Common.{Some, ap, sym, ◌∙◌}
+use Rattle.std.proofs.Common.{Some, ap, refl, sym, ◌∙◌}
 use Rattle.fleet_io.proofs.ToldLemmas.{IsInput-now, comes}
 use Rattle.command_words.specs.declared.command.Command.TheVariants.{Boxes, Compile, Direct, Drill, Dynamics, Explain, Speed, Upload}
 use Rattle.drill_show.specs.Drill.{drill_text}
@@ -8,13 +8,13 @@ use Rattle.show_looks.specs.Drilled.{drill_of}
 use Rattle.show_looks.specs.Reports.{report_of}
 use Rattle.show_looks.proofs.CompileLemmas.{headline_of}
 use Rattle.show_run.specs.Verbs.{verb_of}
-use Rattle.show_run.proofs.TopLemmas.{behaves_as, does_as, known_small, never_seventeen, never_two, one_command}
+use Rattle.show_run.proofs.TopLemmas.{behaves_as, does_as, known_small, never, one_command}
 use Rattle.show_run.proofs.NameLemmas.{compiles, uploads}
 use Rattle.show_run.proofs.VerbLaws.{laws}
 use Rattle.show_run.proofs.top.run.Goals as goal
 
 pub returns-in-Some-clause-two : goal.returns-in-Some-clause-two
-returns-in-Some-clause-two g c = λ two. absurd (never_two _ (c.run_command.ensures.behaves.behaves (g.S.Source.told c.run_command.new.source).given (IsInput-now (g.S.Source.told c.run_command.new.source))).runs.known two)
+returns-in-Some-clause-two g c = λ two. absurd (never 2 _ refl (c.run_command.ensures.behaves.behaves (g.S.Source.told c.run_command.new.source).given (IsInput-now (g.S.Source.told c.run_command.new.source))).runs.known two)
 
 pub returns-in-Some-clause-behaves : goal.returns-in-Some-clause-behaves
 returns-in-Some-clause-behaves g c = λ d is.
@@ -87,7 +87,7 @@ returns-in-Some-clause-motions g c = λ depth accel jump input is left done.
     rw (comes (g.S.Source.told c.args.source.now) (g.S.Source.told c.run_command.new.source).given input left) at (behaves.headline done)
 
 pub returns-in-Some-clause-given : goal.returns-in-Some-clause-given
-returns-in-Some-clause-given g c = λ seventeen. never_seventeen _ (c.run_command.ensures.behaves.behaves (g.S.Source.told c.run_command.new.source).given (IsInput-now (g.S.Source.told c.run_command.new.source))).runs.known seventeen
+returns-in-Some-clause-given g c = λ seventeen. never 17 _ refl (c.run_command.ensures.behaves.behaves (g.S.Source.told c.run_command.new.source).given (IsInput-now (g.S.Source.told c.run_command.new.source))).runs.known seventeen
 
 pub returns-in-Some-clause-known : goal.returns-in-Some-clause-known
 returns-in-Some-clause-known g c = known_small _ (c.run_command.ensures.behaves.behaves (g.S.Source.told c.run_command.new.source).given (IsInput-now (g.S.Source.told c.run_command.new.source))).runs.known
