@@ -1,6 +1,6 @@
 -- What status 0 says, from what a run promises.
 use Rattle.fleet_io.proofs.ToldLemmas.{left_to_come, met_end}
-use Rattle.show_judge.proofs.Prelude.{◌++◌, sym, to_come, run_of, ap, told_to_come, told_input, comes, IsInput-now, run_on, Span, Does, common_steps, ◌≡◌, ℕ, Bool, true, false, cond, List, Option, Some, None, IfSome, refl, subst, ◌∙◌, arith, Appends, option_or, between_feeds, has_marker, part_of, ShowLaw, PlainShow, Refusal, Ways, IsSafe, IsSafeBy, IsSafeOutcome, IsVerb, show_refusal, Behaves, Runs, StopsAtMarker, TakesLittle, told, Cut, cut_of, FliesApart, Judges, Outcome, Run, Verb, of_own, outcome, the_input}
+use Rattle.show_judge.proofs.Prelude.{◌++◌, sym, to_come, run_of, ap, told_to_come, told_input, Span, Does, common_steps, ◌≡◌, ℕ, Bool, true, false, cond, List, Option, Some, None, IfSome, refl, subst, ◌∙◌, arith, Appends, option_or, between_feeds, has_marker, part_of, ShowLaw, PlainShow, Refusal, Ways, IsSafe, IsSafeBy, IsSafeOutcome, IsVerb, show_refusal, Behaves, Runs, StopsAtMarker, TakesLittle, told, Cut, cut_of, FliesApart, Judges, Outcome, Run, Verb, of_own, outcome, the_input}
 use Rattle.std.specs.Prelude.{IsTrue}
 use Rattle.std.specs.Io.KnownBytes.{IsAtEnd}
 use Rattle.show_judge.specs.Runs.{reads_all}
@@ -64,20 +64,6 @@ pub flies_own : (depth : ℕ) (own : List ℕ) (text : PlainShow → List ℕ) (
 flies_own depth own text r status runs done =
     let came : (o : Outcome) × IsSafe (of_own depth own text) (cut_of own) o × Appends r.written r.written_after o.output = runs.safe done in
     flies_text (of_own depth own text) own came.0 came.1 came.1.promised
-
--- ---- of what a source gave, whichever source it is
-
--- status 0 of a command that promises of the show of its input that it flies apart: so it is of what its source gave during the run
-pub uploads_given : (v : Verb) → v.ways.reads ≡ true → v.judges ≡ the_input → ((s : PlainShow) (cut : Cut) → v.promises s cut → FliesApart s) → (m : Span) (status : ℕ) (given : List ℕ) →
-    Does v m status → m.tells.given ≡ m.told.given ++ given → status ≡ 0 → UploadsText (part_of given)
-uploads_given v reads judges promised m status given does is done =
-    uploads_of v reads judges promised given (run_on m m.tells.given) status (does.behaves m.tells.given (IsInput-now m.tells)).runs (ap Some (comes m.told m.tells.given given is)) done
-
--- and of the bytes that a source told that it had left
-pub uploads_left : (v : Verb) → v.ways.reads ≡ true → v.judges ≡ the_input → ((s : PlainShow) (cut : Cut) → v.promises s cut → FliesApart s) → (m : Span) (status : ℕ) (input : List ℕ) →
-    Does v m status → m.told.left ≡ Some input → (IsTrue m.told.ended → IsAtEnd m.told.left) → status ≡ 0 → UploadsText (part_of input)
-uploads_left v reads judges promised m status input does told at_end done =
-    uploads_of v reads judges promised input (run_on m (m.told.given ++ input)) status (does.behaves (m.told.given ++ input) (told_input m.told m.tells input does.gives told at_end)).runs (told_to_come m.told input) done
 
 -- ---- the end, and bytes that are known beforehand
 

@@ -1,7 +1,7 @@
 -- How much a run reads.
 use Rattle.std.specs.Prelude.{IsTrue}
 use Rattle.show_judge.proofs.FewLemmas.{at_new}
-use Rattle.show_judge.proofs.Prelude.{common_steps, ◌≡◌, ◌∙◌, ◌++◌, ap, Bool, [], Held, stream, IsReadWhole, IsUnmarked, IsWithin, ReadsShow, ℕ, ◌<◌, List, Option, Some, None, Result, Ok, Err, IfOk, IfSome, length, sym, subst, arith, TakesFewAfter, TakesAtMost, Answer, Failure, Read, Memory, Responds, part_of, rest_of, Text, TooLarge, Whole, Input, GoesOn, IsNextText, IsReadBoth, IsWholeText, ReadsTwo, TakesOneText, most_text, IsJudged, refl, ◌≤◌, Rose, IsInput, Told, to_come, IsPastTwo, OneTextRead, TwoTextsRead}
+use Rattle.show_judge.proofs.Prelude.{common_steps, ◌≡◌, ◌∙◌, ◌++◌, ap, Bool, [], Held, stream, IsReadWhole, IsUnmarked, IsWithin, ReadsShow, ℕ, ◌<◌, List, Option, Some, None, Result, Ok, Err, IfOk, IfSome, length, sym, subst, arith, TakesFewAfter, TakesAtMost, Answer, Failure, Read, Memory, Responds, part_of, rest_of, Text, TooLarge, Whole, Input, GoesOn, IsNextText, IsReadBoth, IsWholeText, ReadsTwo, TakesOneText, most_text, IsJudged, ◌≤◌, Rose, IsInput, Told, to_come, IsPastTwo, OneTextRead, TwoTextsRead}
 
 -- where an answer was judged, it is there
 pub judged_answer : (answer : Result Answer Failure) (old new : Option (List ℕ)) (before after status : ℕ) (P : Type 0) → Responds answer old new before after status →
@@ -88,17 +88,6 @@ one_made Fact Made old new text made reads sure gives = record {
   gives = reads.gives;
 }
 
--- No text was read, and its call gave the same reason.
-pub one_failed : {T U : Type 0} (Fact Made : Option (List ℕ) → Option (List ℕ) → Type 0) (old new : Told) (why : Failure) → OneTextRead {T = T} Fact old new (Err why) →
-    ((all : List ℕ) → IsInput new all → Made (to_come all old) (to_come all new)) → OneTextRead {T = U} Made old new (Err why)
-one_failed Fact Made old new why reads gives = record {
-  fact = gives;
-  failed = failed_as (Err why) (Err why) why _ refl refl reads.failed;
-  few = reads.few;
-  after = λ all is. tt;
-  gives = reads.gives;
-}
-
 -- Two texts were read, and their call went on to this result without reading.
 pub two_made : {U : Type 0} (limit : ℕ) (Made : Option (List ℕ) → Option (List ℕ) → Type 0) (old new : Told) (input : Input) (made : Result U Failure) →
     TwoTextsRead (λ left left_after. ReadsTwo limit left left_after input) IsPastTwo old new (Ok input) →
@@ -107,17 +96,6 @@ two_made limit Made old new input made reads sure gives = record {
   fact = gives;
   past = λ all is. at_ok made _ (two_read limit _ _ input (reads.fact all is) (reads.past all is));
   failed = λ is. absurd (sure is);
-  few = reads.few;
-  gives = reads.gives;
-}
-
--- The texts weren't read, and their call gave the same reason.
-pub two_failed : {T U : Type 0} (Fact Made : Option (List ℕ) → Option (List ℕ) → Type 0) (Past : T → Option (List ℕ) → Option (List ℕ) → Type 0) (After : U → Option (List ℕ) → Option (List ℕ) → Type 0)
-    (old new : Told) (why : Failure) → TwoTextsRead Fact Past old new (Err why) → ((all : List ℕ) → IsInput new all → Made (to_come all old) (to_come all new)) → TwoTextsRead Made After old new (Err why)
-two_failed Fact Made Past After old new why reads gives = record {
-  fact = gives;
-  past = λ all is. tt;
-  failed = failed_as (Err why) (Err why) why _ refl refl reads.failed;
   few = reads.few;
   gives = reads.gives;
 }
