@@ -1,5 +1,5 @@
 -- What a call answers, from the run of its command.
-use Rattle.std.proofs.Common.{◌≡◌, ◌⊎◌, inl, inr, ℕ, ◌<◌, ◌≤◌, List, [], ◌++◌, length, take, drop, Option, Some, None, refl, sym, ap, ◌∙◌, arith}
+use Rattle.std.proofs.Common.{◌≡◌, ◌⊎◌, inl, inr, ℕ, ◌≤◌, List, [], ◌++◌, length, take, drop, Option, Some, None, refl, sym, ap, ◌∙◌, arith}
 use Rattle.std.proofs.lemmas.Bool.{cases_lt}
 use Rattle.std.proofs.lemmas.Bool.Decides.{nat_tests}
 use Rattle.std.proofs.lemmas.List.{take_all}
@@ -85,20 +85,9 @@ said_as room bytes status result n other says is = elim (cases_lt (length room) 
   | inr le ↦ (grind (arith, nat_tests), le)
 ]
 
--- 7 where the command didn't end so: there was no room for all
-pub said_seven : (room bytes : List ℕ) (status result : ℕ) → (status ≡ 7 → ⊥) → result ≡ said_in room bytes status → result ≡ 7 → length room < length bytes
-said_seven room bytes status result other says is = elim (cases_lt (length room) (length bytes)) [
-  | inl lt ↦ lt
-  | inr le ↦ absurd (other (grind (arith, nat_tests)))
-]
-
 -- where there is room for all, all stands in front
 pub whole_put : (room bytes : List ℕ) → length bytes ≤ length room → take (length bytes) (put_in room bytes) ≡ bytes
 whole_put room bytes le = ap (λ (front : List ℕ). take (length bytes) (front ++ drop (length bytes) room)) (take_all (length room) bytes le) ∙ take-append_seam bytes (drop (length bytes) room)
 
 pub whole_of : (room bytes : List ℕ) (size : ℕ) → size ≡ length bytes → length bytes ≤ length room → take size (put_in room bytes) ≡ bytes
 whole_of room bytes size all le = ap (λ (n : ℕ). take n (put_in room bytes)) all ∙ whole_put room bytes le
-
--- where nothing is put, the room stays as it was
-pub none_put : (room bytes : List ℕ) → bytes ≡ [] → put_in room bytes ≡ room
-none_put room bytes none = rw none (ap (λ (front : List ℕ). front ++ room) (take_all (length room) [] (omega arith)))
