@@ -1,12 +1,10 @@
 //! Tests of the crates of curves, against values from outside: `fleet_math`, `bezier_core`, `halving`, `traj_codec`,
-//! `fleet_curves`, `dynamics_bound` and `integer_player`. They stand in a crate of their own, so that each of these is
-//! proved once. It hands nothing out.
+//! `fleet_curves` and `integer_player`. They stand in a crate of their own, so that each of these is proved once. It
+//! hands nothing out.
 #![tactic(auto)]
 
 #[cfg(test)]
 mod curves_of_degrees;
-#[cfg(test)]
-mod dynamics;
 #[cfg(test)]
 mod halves;
 #[cfg(test)]

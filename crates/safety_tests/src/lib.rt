@@ -1,10 +1,12 @@
-//! Tests of the crates that judge separation, against values from outside: `sep_parts`, `sep_certificate`,
-//! `certificate_checker`, `pair_search`, `keepout_boxes`, `touch_witness` and `speed_bound`. They stand in a crate of
-//! their own, so that each of these is proved once. It hands nothing out.
+//! Tests of the crates that judge separation and motion, against values from outside: `sep_parts`, `speed_bound`,
+//! `dynamics_bound`, `sep_certificate`, `certificate_checker`, `pair_search`, `keepout_boxes` and `touch_witness`. They
+//! stand in a crate of their own, so that each of these is proved once. It hands nothing out.
 #![tactic(auto)]
 
 #[cfg(test)]
 mod certificates;
+#[cfg(test)]
+mod dynamics;
 #[cfg(test)]
 mod flights;
 #[cfg(test)]
