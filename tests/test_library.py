@@ -16,7 +16,7 @@ sys.dont_write_bytecode = True
 sys.path.insert(0, os.path.dirname(os.path.abspath(__file__)))
 from common import PROGRAM, TOP, wants_program
 from hemtoghai import answering
-from hemtoghai.launching import built
+from hemtoghai.launching import records
 
 OUT = os.path.join(TOP, "library", "out")
 CALLING = os.path.join(TOP, "docs", "CALLING.md")
@@ -84,8 +84,7 @@ def is_made():
             record = json.load(file)
     except (OSError, ValueError):
         return False
-    show = built.launcher()
-    return record.get("stamp") == show.stamp(show.crates_below("hemtoghai"))
+    return record.get("stamp") == records.stamp(records.crates_below("hemtoghai"))
 
 
 class Room(unittest.TestCase):

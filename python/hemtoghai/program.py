@@ -69,7 +69,6 @@ def digest_of(data: bytes) -> str:
 
 
 def record_path(path: str = PROGRAM) -> str:
-    """Where a program's record is."""
     return MANIFEST if path == PROGRAM and os.path.exists(MANIFEST) else path + RECORD
 
 
@@ -102,15 +101,8 @@ def in_memory(data: bytes) -> str | None:
     return path if os.access(path, os.X_OK) else None
 
 
-def fault_of_machine(path: str) -> str | None:
-    """Why this machine isn't one for the program of a release, or None."""
-    from hemtoghai import machine
-    return machine.fault() if path == PROGRAM else None
-
-
 def fault(path: str | None = None) -> str | None:
-    """Why a program can't be run, or None: it isn't built, it isn't the one of its record, or this machine isn't one
-    for the release's."""
+    """Why a program can't be run, or None: it isn't built, not as recorded, or of a release for other machines."""
     try:
         runs(path)
     except Unusable as why:
@@ -127,7 +119,8 @@ def runs(path: str | None = None) -> str:
         if _demanded[0]:
             raise Unusable("%s isn't the proved program, and --proved runs no other" % path)
         return path
-    fault = fault_of_machine(path)
+    from hemtoghai import machine
+    fault = machine.fault()
     if fault:
         raise Unusable(fault)
     file, proved = copy_of(path)
@@ -182,11 +175,6 @@ def copy_of(path: str) -> tuple[str, str | None]:
 def words_of(*words: str) -> list[str]:
     """What starts a command of this package in a process of its own, over the same files."""
     return [sys.executable, "-IS", os.path.join(PACKAGE, "__main__.py"), *["--proved"] * _demanded[0], *words]
-
-
-def is_recorded(path: str | None = None) -> bool:
-    """Whether a record says how a program was built."""
-    return os.path.exists(record_path(os.path.abspath(path) if path else PROGRAM))
 
 
 def ask(words: list[str], text: bytes, path: str | None = None, seconds: float | None = None) -> tuple[int, bytes]:

@@ -26,6 +26,7 @@ import hashlib
 import io
 import json
 import os
+import pathlib
 import re
 import sys
 import tarfile
@@ -54,7 +55,7 @@ def judged_record(changed: bool) -> Record:
         stop("this is a release: another one is made in the repository")
     if not records.is_current(records.crates_below(records.LAST)):
         stop("the program isn't the one of these sources: ./show check FILE builds it")
-    record = records.read_record(program.PROGRAM + program.RECORD)
+    record = program.record_of(program.PROGRAM + program.RECORD)
     if not re.match("logic=proved ", record["rests_on"]):
         stop("the record of the build hasn't its last line: remove %s, and build it anew" % PROGRAM)
     if git("status", "--porcelain") and not changed:
@@ -77,7 +78,7 @@ def is_library(record: Record) -> bool:
 
 def library_files() -> list[str]:
     """The files of the library, where it is good enough for a release."""
-    record = records.read_record(os.path.join(TOP, LIBRARY, "MANIFEST.json"))
+    record = program.record_of(os.path.join(TOP, LIBRARY, "MANIFEST.json"))
     if not is_library(record):
         stop("the library isn't the one of these sources: ./show library builds it")
     if not re.match("logic=proved ", record.get("rests_on", "")):
@@ -86,8 +87,7 @@ def library_files() -> list[str]:
 
 
 def contents_of() -> Contents:
-    """The files of a release as (path, bytes, mode): those of the commit, the program, the library, manual page and
-    completion."""
+    """The files of a release as (path, bytes, mode): of the commit, the program, the library, page and completion."""
     found = [(PROGRAM, 0o755)] + [(path, 0o644) for path in library_files()]
     for line in git("ls-files", "-s", "-z", "--", *SHIPPED).split("\0"):
         parts = re.fullmatch(r"(100644|100755) [0-9a-f]+ 0\t([^\n]*)", line)
@@ -95,13 +95,9 @@ def contents_of() -> Contents:
             stop("no release has such a file: %s" % line.partition("\t")[2][:100])
         if parts and parts[2] != README:
             found.append((parts[2], int(parts[1][3:], 8)))
-    out = []
-    for path, mode in found:
-        with open(os.path.join(TOP, path), "rb") as file:
-            out.append((path, file.read(), mode))
-    with open(os.path.join(TOP, README), encoding="utf-8") as file:
-        out.append(("README.md", file.read().replace("@VERSION@", records.version()).encode(), 0o644))
-    out += [("share/show.1", manual.page(records.version()).encode(), 0o644),
+    out = [(path, pathlib.Path(TOP, path).read_bytes(), mode) for path, mode in found]
+    readme = pathlib.Path(TOP, README).read_bytes().replace(b"@VERSION@", records.version().encode())
+    out += [("README.md", readme, 0o644), ("share/show.1", manual.page(records.version()).encode(), 0o644),
             ("share/show.bash", manual.completion().encode(), 0o644)]
     return sorted(out)
 
@@ -139,7 +135,6 @@ def archive(name: str, contents: Contents, links: Links, when: int) -> bytes:
 
 
 def print_made(path: str, count: int, data: bytes) -> None:
-    """Says what a file is that was made."""
     print("%s: %d files, %d bytes, sha256 %s" % (path, count, len(data), hashlib.sha256(data).hexdigest()))
 
 
@@ -151,12 +146,10 @@ def make_wheel(record: Record, contents: Contents, changed: bool, out: str) -> N
             sys.executable, " and no ".join(lacking)))
     own = wheels.contents_of(contents, PROGRAM)
     own.append(("MANIFEST.json", manifest_of(record, own, [], changed).encode(), 0o644))
-    with open(os.path.join(TOP, "pyproject.toml"), "rb") as file:
-        project = file.read()
+    project = pathlib.Path(TOP, "pyproject.toml").read_bytes()
     path = wheels.make(out, records.version() + ("+changed" if changed else ""), own, project,
                        int(git("log", "-1", "--format=%ct")))
-    with open(path, "rb") as file:
-        return print_made(path, len(own), file.read())
+    return print_made(path, len(own), pathlib.Path(path).read_bytes())
 
 
 def main(words: list[str]) -> int:

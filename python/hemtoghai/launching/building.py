@@ -193,7 +193,6 @@ def build() -> None:
 
 
 def build_all(below: Crates) -> None:
-    """Proves and builds the program."""
     most, before = side_by_side(), stamp(below)
     say("proving and building the program; the first time takes many minutes, %d crates at a time" % most)
     for file in (PROGRAM, PROGRAM + RECORD):  # so that the last line of the proof is written, even of one that was kept
@@ -214,7 +213,6 @@ def build_all(below: Crates) -> None:
 
 
 def need_rt() -> None:
-    """Ends the launcher where there is no `rt`."""
     if not any(os.access(os.path.join(folder, "rt"), os.X_OK) for folder in os.get_exec_path()):
         stop("no rt on the PATH: the Rattle toolchain is needed to build the program")
 
@@ -261,8 +259,7 @@ def try_on(words: list[str], source: int | IO[bytes], below: Crates) -> int:
 
 
 def link_programs(folder: str, room: str, seen: dict[int, str]) -> None:
-    """Gives each program in a folder a second name in `room`, noted by its inode, so that it stays when the folder
-    goes."""
+    """Gives each program in a folder a second name in `room`, noted by its inode, so that it outlives the folder."""
     for inside, _, names in os.walk(folder):
         for path in (os.path.join(inside, name) for name in names):
             with contextlib.suppress(OSError):

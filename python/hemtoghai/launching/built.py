@@ -2,22 +2,13 @@
 from __future__ import annotations
 
 import subprocess
-from types import ModuleType
-
 from hemtoghai import program
 from hemtoghai.companion import stop
-from hemtoghai.launching import records
 
 TOP = program.TOP
 
 
-def launcher() -> ModuleType:
-    """What ./show knows of builds, as a module."""
-    return records
-
-
 def git(*words: str) -> str:
-    """What git says."""
     try:
         done = subprocess.run(["git", *words], cwd=TOP, stdout=subprocess.PIPE, stderr=subprocess.PIPE)
     except OSError as error:

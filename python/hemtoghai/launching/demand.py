@@ -8,16 +8,11 @@ import os
 from hemtoghai import program
 
 
-def names_another(word: str) -> bool:
-    """Whether a word is a tool's option that names a program, or what short form of it a tool takes."""
-    option = word.partition("=")[0]
-    return len(option) > 2 and "--program".startswith(option)
-
-
 def fault_of(words: list[str]) -> str | None:
     """Demands a proof; why the words after --proved aren't carried out, or None. What asks for help runs nothing."""
     program.demand_proof()
-    if words[:1] == ["--unproved"] or any(map(names_another, words)):
+    options = [word.partition("=")[0] for word in words]  # a tool takes a short form of --program too
+    if words[:1] == ["--unproved"] or any(len(option) > 2 and "--program".startswith(option) for option in options):
         return "--proved runs the proved program alone: it goes with neither --unproved nor --program"
     if not words or words == ["--version"] or {"-h", "--help"} & set(words):
         return None

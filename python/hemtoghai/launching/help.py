@@ -55,17 +55,11 @@ PURPOSES = {
 
 
 def help_text() -> str:
-    """The text of the help."""
     return (USAGE % ("\n".join("%-44s  %s" % row for row in words.known("COMMANDS")),
                     "\n".join(textwrap.fill("%-13s %s. Without it: %s." % tuple(row), 108, subsequent_indent=" " * 14)
                               for row in words.known("OPTIONS")),
-                    "\n".join("%-45s %s" % (word, PURPOSES[word]) for word in ordered()))).replace("./show", COMMAND)
-
-
-def ordered() -> list[str]:
-    """The words that aren't the program's own, in the order of PURPOSES."""
-    words_ = {word for word in COMMANDS if "_" not in word}
-    return [word for word in PURPOSES if word in words_]
+                    "\n".join("%-45s %s" % it for it in PURPOSES.items() if it[0] in COMMANDS))).replace(
+                        "./show", COMMAND)
 
 
 def usage_of(command: str) -> str:

@@ -19,7 +19,6 @@ def near_files(file: str) -> list[str]:
 
 
 def fault_of_file(file: str) -> str | None:
-    """What is wrong with a file, or None."""
     if "\0" in file or os.path.isdir(file):
         return "%s is a directory" % file
     if not os.path.exists(file):
@@ -31,12 +30,10 @@ def has_regions(file: str) -> bool:
     """Whether a text has a marker line, as far as it may be long; also where it isn't a file whose bytes stay."""
     if not os.path.isfile(file):
         return True
-    lines = texts.front_of(file, 2 * texts.SHOW).split(b"\n")
-    return any(line in (b"%%", b"%%\r") for line in lines)
+    return any(line in (b"%%", b"%%\r") for line in texts.front_of(file, 2 * texts.SHOW).split(b"\n"))
 
 
 def fault_of_files(words: list[str], files: list[str]) -> str | None:
-    """What is wrong with the files, or None."""
     command, second = words[0], commands.SECOND.get(words[0])
     for file in files:
         fault = fault_of_file(file) if file != "-" else None
@@ -63,13 +60,11 @@ def refuse(words: list[str], fault: str) -> int:
     found = file_for(False) if os.path.exists(program.MANIFEST) else file_if_current(program.PROGRAM)
     if found is None:
         return 2
-    null = os.open(os.devnull, os.O_RDONLY)
-    return running.ended(running.started(found, words, null))
+    return running.ended(running.started(found, words, os.open(os.devnull, os.O_RDONLY)))
 
 
 def explain(found: str, text: bytes, status: int, files: list[str]) -> None:
-    """Says what helps after a refusal. The line that is faulty is asked for once more: the program's own output went
-    where it should."""
+    """Says what helps after a refusal. The faulty line is asked for once more: the output went where it should."""
     if status == 3:
         output = running.said(found, ["check"], text)[1].split()
         if len(output) >= 5 and output[2] == b"line":

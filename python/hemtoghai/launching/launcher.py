@@ -20,7 +20,6 @@ STARTS = 3  # how often a program that is exchanged meanwhile is looked at anew
 
 
 def say(text: str) -> None:
-    """Says a line of the launcher's own."""
     streams.tell(program.NAME, text)
 
 
@@ -85,16 +84,10 @@ def file_for(unproved: bool) -> str | None:
 
 # ---- words and files
 
-def are_usual(words: list[str], files: list[str]) -> bool:
-    """Whether nothing is wrong with the files, by a short look at those of a command that reads a show alone."""
-    if len(files) > 1 or words[0] in ("upload", "boxes") or words[0] in commands.known("NO_INPUT"):
-        return False
-    return all(file == "-" or os.path.isfile(file) and os.access(file, os.R_OK) for file in files)
-
-
 def fault_of_files(words: list[str], files: list[str]) -> str | None:
-    """What is wrong with the files, or None."""
-    if are_usual(words, files):
+    """What is wrong with the files, or None; by a short look where a command reads a show alone, and all is usual."""
+    if not (len(files) > 1 or words[0] in ("upload", "boxes") or words[0] in commands.known("NO_INPUT")) and all(
+            file == "-" or os.path.isfile(file) and os.access(file, os.R_OK) for file in files):
         return None
     from hemtoghai.launching import helping
     return helping.fault_of_files(words, files)
@@ -117,9 +110,7 @@ def text_of(number: int | None, begin: int, files: list[str]) -> bytes | None:
     """The show's text once more, to its limit, where it lies in a file whose bytes stay; else None."""
     if number is None:
         return texts.front_of(files[0], texts.SHOW + 1) if os.path.isfile(files[0]) else None
-    if not texts.is_plain(number):
-        return None
-    return os.pread(number, texts.SHOW + 1, begin)
+    return os.pread(number, texts.SHOW + 1, begin) if texts.is_plain(number) else None
 
 
 def answer(found: str | None, words: list[str], files: list[str]) -> int:
@@ -158,7 +149,6 @@ def warn(found: str, text: bytes) -> None:
 
 
 def main(words: list[str]) -> int:
-    """Reads the words, and runs the program."""
     running.watch_signals()
     unproved = words[:1] == ["--unproved"]
     words = words[1:] if unproved else words

@@ -56,7 +56,6 @@ def roff(text: str) -> str:
 
 
 def page(version: str) -> str:
-    """The text of the manual page."""
     out = ['.TH SHOW 1 "" "hemtoghai %s" "Hemtoghai"' % version, ".SH NAME",
            "show \\- compiles and judges shows of drones", ".SH SYNOPSIS"]
     for form in commands.FORMS.values():

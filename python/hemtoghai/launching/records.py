@@ -11,8 +11,6 @@ import sys
 TYPE_CHECKING = False  # of a reader of types, for which `typing` needn't be imported
 if TYPE_CHECKING:
     from collections.abc import Iterator
-    from typing import Any
-
 from hemtoghai import program
 from hemtoghai.program import MANIFEST, PROGRAM, RECORD, TOP
 
@@ -81,21 +79,15 @@ def stamp(below: dict[str, list[str]]) -> str:
 
 # ---- which build it is
 
-def read_record(path: str) -> dict[str, Any]:
-    """What was noted of a build; nothing where there is no note."""
-    return program.record_of(path)
-
-
 def is_current(below: dict[str, list[str]], path: str = PROGRAM) -> bool:
     """Whether a program is there that was built from the sources as they are now, whatever the times of files."""
-    record = read_record(path + RECORD)
+    record = program.record_of(path + RECORD)
     if not os.access(path, os.X_OK) or record.get("sha256") != sha256(path):
         return False
     return record.get("stamp") == stamp(below)
 
 
 def version() -> str:
-    """The version of these files."""
     with open(VERSION, encoding="utf-8") as file:
         return file.read().strip()
 
@@ -158,10 +150,9 @@ def all_files(top: str) -> Iterator[str]:
 
 
 def print_version() -> int:
-    """Says which build this is."""
     print("hemtoghai " + version())
     released = os.path.exists(MANIFEST)
-    record = read_record(MANIFEST if released else PROGRAM + RECORD)
+    record = program.record_of(MANIFEST if released else PROGRAM + RECORD)
     if not os.access(PROGRAM, os.X_OK):
         sys.stdout.flush()
         print("show: the program isn't built", file=sys.stderr)

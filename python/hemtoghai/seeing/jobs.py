@@ -1,11 +1,11 @@
 """Processes that are ended when their answer isn't wanted any more: for ./show studio."""
 from __future__ import annotations
 
+import contextlib
 import os
 import signal
 import subprocess
 import threading
-from typing import Any
 
 LIMIT = 120  # seconds for one process
 
@@ -23,7 +23,6 @@ class Job:
 
     @property
     def cancelled(self) -> bool:
-        """Whether a newer text came."""
         return self.over.is_set()
 
     def adopt(self, process: subprocess.Popen[bytes]) -> subprocess.Popen[bytes]:
@@ -34,26 +33,6 @@ class Job:
                 return process
         end(process)
         raise Cancelled
-
-    def start(self, words: list[str], **more: Any) -> subprocess.Popen[bytes]:
-        """Starts a process in a group of its own, with pipes."""
-        if self.cancelled:
-            raise Cancelled
-        return self.adopt(begin(words, **more))
-
-    def answer(self, words: list[str], text: bytes, **more: Any) -> tuple[int | None, bytes, bytes]:
-        """The status and both outputs of a process, on this input."""
-        process = self.start(words, **more)
-        try:
-            said, told = process.communicate(text, timeout=LIMIT)
-        except subprocess.TimeoutExpired:
-            end(process)
-            return None, b"", b"it took more than %d seconds" % LIMIT
-        finally:
-            self.leave(process)
-        if self.cancelled:
-            raise Cancelled
-        return process.returncode, said, told
 
     def leave(self, process: subprocess.Popen[bytes]) -> None:
         """Forgets a process, which is ended where it still runs."""
@@ -70,17 +49,15 @@ class Job:
             end(process)
 
 
-def begin(words: list[str], **more: Any) -> subprocess.Popen[bytes]:
+def begin(words: list[str]) -> subprocess.Popen[bytes]:
     """A process in a group of its own, with pipes."""
     return subprocess.Popen(words, stdin=subprocess.PIPE, stdout=subprocess.PIPE, stderr=subprocess.PIPE,
-                            start_new_session=True, **more)
+                            start_new_session=True)
 
 
 def end(process: subprocess.Popen[bytes]) -> None:
     """Ends a process and all that it started."""
     if process.poll() is None:
-        try:
+        with contextlib.suppress(ProcessLookupError, PermissionError):
             os.killpg(process.pid, signal.SIGKILL)
-        except (ProcessLookupError, PermissionError):
-            pass
     process.wait()

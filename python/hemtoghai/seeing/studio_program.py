@@ -25,8 +25,7 @@ class Answer(NamedTuple):
 
 
 class Program:
-    """The program at a path. `state` says whether it can be run, whether it is known to be proved, and what is known or
-    why nothing is; `runs` is the path of the file that is run."""
+    """The program at a path."""
 
     def __init__(self, path: str) -> None:
         self.path = os.path.abspath(path)
@@ -35,7 +34,7 @@ class Program:
         """The state and the path to run, both of the same file."""
         try:
             path, proof = program.runs(self.path), None
-            if program.is_recorded(self.path):
+            if os.path.exists(program.record_path(self.path)):
                 path, proof = program.copy_of(self.path)
         except program.Unusable as why:
             return {"program": False, "proved": False, "why": str(why)}, self.path
@@ -45,10 +44,6 @@ class Program:
         """Whether the program can be run (`program`), whether it is known to be proved (`proved`), and what is known of
         it, or why nothing is (`why`)."""
         return self.now()[0]
-
-    def runs(self) -> str:
-        """The path of the file that is run."""
-        return self.now()[1]
 
 
 def answer(job: Job, words: list[str], text: bytes) -> Answer:
