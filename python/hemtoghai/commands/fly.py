@@ -66,7 +66,6 @@ NUMBERS = [
 # ---- words
 
 def options_of(words: list[str]) -> argparse.Namespace:
-    """The tool's words."""
     reader = parser(__doc__)
     reader.add_argument("--radio", metavar="DRONES", help="a text with a line `NAME URI` for each drone")
     reader.add_argument("--simulate", action="store_true", help="fly simulated drones")
@@ -205,7 +204,7 @@ def fly(radio: crazyradio.Radio, flown: Flown, text: bytes, pads: Sequence[legs.
         if bridge:
             bridge.director.kill()
         if ways:
-            ways.end()
+            ways.over = True
         fleet.end_logs()
         log.close()
         if options.log and log.fault is None:
@@ -214,12 +213,12 @@ def fly(radio: crazyradio.Radio, flown: Flown, text: bytes, pads: Sequence[legs.
 
 def only(radio: crazyradio.Radio, floors: Dict[str, float], options: argparse.Namespace, watch: Watch,
          answers: Answers) -> int:
-    """Lands all drones, and stays until they are down, or stops their motors; the status. Broadcasts go to those too
-    that aren't heard."""
+    """Lands all drones and stays until they are down, or stops their motors; the status. Some may not be heard."""
     names, fleet = radio.names, Fleet(radio, Log(None, say))
     heard = [k for k in range(len(names)) if radio.last[k] is not None]
     mute = [name for name, last in zip(names, radio.last) if last is None]
-    say("heard: %s%s" % (", ".join(names[k] for k in heard) or "NONE", "; not heard: " + ", ".join(mute) if mute else ""))
+    quiet_words = "; not heard: " + ", ".join(mute) if mute else ""
+    say("heard: %s%s" % (", ".join(names[k] for k in heard) or "NONE", quiet_words))
     descent = Descent(fleet, [floors.get(name, 0.0) for name in names], options.silence, watch, answers)
     try:
         if options.only == "stop":
@@ -259,8 +258,8 @@ def opened(names: Sequence[str], uris: Sequence[str], all_wanted: bool) -> crazy
 
 
 def emergency(options: argparse.Namespace, watch: Watch, answers: Answers, radios: List[crazyradio.Radio]) -> int:
-    """Lands drones or stops their motors: those of a text of addresses, whatever the show is. The status; the radio that
-    was opened is added to a list, to be closed."""
+    """Lands drones or stops their motors: those of a text of addresses, whatever the show is; the status. The radio
+    that was opened is added to a list, to be closed."""
     if options.simulate:
         flown = flown_of(options.show)[1]
         pads = pads_of(flown, options)

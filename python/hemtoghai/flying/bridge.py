@@ -100,7 +100,6 @@ class Bridge(Home):
         self.director.hear(frames)
 
     def tell_answers(self) -> None:
-        """Tells the director what drones answered."""
         while not self.came.empty():
             drone, words, seconds, stage = self.came.get()
             if words is None:
@@ -141,7 +140,6 @@ class Bridge(Home):
     # ---- what the director says
 
     def take(self, said: Said) -> None:
-        """Does what the director says."""
         if isinstance(said, To) and said.drone is None:
             self.carry_to_all(said.order)
         elif isinstance(said, To) and said.drone is not None:
@@ -178,7 +176,6 @@ class Bridge(Home):
         return "%s %s" % (name, "isn't armed" if lacks & director.ARMED else "can't be armed") if lacks else None
 
     def carry_to_all(self, order: Order) -> None:
-        """Carries an order to all."""
         if order.kind == director.START:
             self.start()
         elif order.kind == director.DISARM:
@@ -186,7 +183,6 @@ class Bridge(Home):
             self.due_by = clock.now() + PATIENCE
 
     def carry(self, k: int, order: Order) -> None:
-        """Carries an order to its drone."""
         if self.is_landing(order):
             raise Trouble("the flight director lands all")
         elif order.kind == director.ARM:
@@ -235,8 +231,7 @@ class Bridge(Home):
             say("landing, %s: %s, %.1f s" % (many(len(stage.to), "drone"), names, seconds))
 
     def give(self, k: int, ask: Callable[[int], object]) -> None:
-        """Has an order go to a drone by a thread, until it is answered; it goes nowhere once all questions are
-        dropped."""
+        """Has an order go to a drone by a thread, until it is answered; nowhere once all questions are dropped."""
         since, begin, stage = self.fleet.radio.asked, clock.now(), self.begun
 
         def run() -> None:
@@ -320,7 +315,7 @@ class Bridge(Home):
         rows = self.fleet.start(trajectory, self.options.copies, not self.options.unicast)
         begin, end = min(row[0] for row in rows.values()), max(row[1] for row in rows.values())
         self.zero = begin
-        self.fleet.log.start(begin)
+        self.fleet.log.zero = begin
         # Drones start within `late` after it went out: the show's time begins in the middle of that.
         self.told_at += (begin + end + self.ways.rules.show_late / 1000) / 2 - self.went
         for k, row in rows.items():
@@ -361,7 +356,6 @@ class Bridge(Home):
             "%s %.0f mm" % it for it in zip(self.names, self.strays))))
 
     def tell_crew(self, seconds: float) -> None:
-        """A line on how it goes."""
         names, states = self.names, self.fleet.states
         far, low = max(zip(self.strays, names)), min((state.volts or 0.0, name) for state, name in zip(states, names))
         quiet = max(zip(self.quiet, names))
@@ -430,8 +424,7 @@ class Bridge(Home):
         return status if self.land_all(words) else EARLY
 
     def down_after_all(self) -> str:
-        """After a fault that was flown on with to the end of the show: has all come down; words for a landing of who
-        isn't down."""
+        """After a fault with which the show was flown to its end: has all come down; words to land who isn't down."""
         try:
             self.leave_show()
             self.come_down()

@@ -19,15 +19,17 @@ What it does besides carrying packets byte for byte:
   packets; --repeat-starts sends them).
 The library's own classes (Crazyflie, its memories and parameters) stay out of it, since they would write too.
 """
+import contextlib
 import queue
 import random
 import re
 import threading
 import time
+from collections import Counter
 from typing import Any, Callable, Dict, Iterable, List, Optional, Sequence, Set, Tuple
 
 from hemtoghai.flying import clock, firmware
-from hemtoghai.flying.links import COMMAND, Heard, Key, key_of, Link as AnyLink, MEMORY, READ, WRITE
+from hemtoghai.flying.links import COMMAND, Heard, Key, key_of, Link as AnyLink, MEMORY
 
 ANSWER, PATIENCE = 0.3, 5.0  # seconds until a question is put again, and until a drone that is heard counts as mute
 QUIET = 2.0  # seconds without any packet until a drone counts as silent
@@ -111,15 +113,13 @@ class Dongle:
             done.set()
 
     def send(self, raw: bytes, copies: int) -> Tuple[Sent, threading.Event]:
-        """Has a packet sent; a list that gets when the first copy went and when the last had, and an event once it
-        has."""
+        """Has a packet sent; a list that gets when the first copy went and the last had, and an event once it has."""
         row: Sent = []
         done = threading.Event()
         self.jobs.put((raw, copies, row, done))
         return row, done
 
     def close(self) -> None:
-        """Closes it."""
         self.jobs.put(None)
         self.thread.join(LIMIT)
         if self.shared is not None and not self.thread.is_alive():
@@ -189,17 +189,16 @@ class Radio:
                 thread.start()
 
     def wait_for_all(self, all_wanted: bool = True) -> None:
-        """Waits until each drone was heard, but not for longer than two seconds; raises where all are wanted, and names
-        those that weren't."""
+        """Waits two seconds at most until each drone was heard; raises where all are wanted, and names the others."""
         silence = Silence(len(self.names), LOOK)
         while None in self.last:
-            quiet = silence.look(self.last)
-            self.nudge([drone for drone, last in enumerate(self.last) if last is None])
-            if max(quiet) > QUIET:
-                dead = [name for name, last in zip(self.names, self.last) if last is None]
+            dead = [drone for drone, last in enumerate(self.last) if last is None]
+            self.nudge(dead)
+            if max(silence.look(self.last)) > QUIET:
                 if not all_wanted:
                     return
-                raise Dead("no answer from %s: on, charged, in reach, on its channel?" % ", ".join(dead))
+                raise Dead("no answer from %s: on, charged, in reach, on its channel?" % ", ".join(
+                    self.names[drone] for drone in dead))
             clock.wait(LOOK)
 
     def nudge(self, drones: Iterable[int]) -> None:
@@ -209,7 +208,6 @@ class Radio:
                 self.send(drone, firmware.packet(firmware.MEMORY, 0, firmware.COUNT_MEMORIES))
 
     def send_all(self, drone: int) -> None:
-        """Sends what waits for a drone."""
         while True:
             work = self.waiting[drone].get()
             if work is None:
@@ -223,7 +221,6 @@ class Radio:
                 self.faults[drone] = "its packets can't be sent: %s" % error
 
     def hear_all(self, drone: int) -> None:
-        """Hands on what comes from a drone."""
         while self.open:
             try:
                 came = self.drivers[drone].receive_packet(0.05)
@@ -285,16 +282,13 @@ class Radio:
             self.names[drone], port, self.faults.get(drone, "packets are lost")))
 
     def drop(self) -> None:
-        """Has all questions end that are still put again: what they ask isn't wanted any more. Nothing of them goes out
-        after this."""
+        """Has all questions end that are still put again, and nothing of them go out any more: they aren't wanted."""
         with self.changed:
             self.asked += 1
             for waiting in self.waiting:
-                try:
+                with contextlib.suppress(queue.Empty):
                     while True:
                         waiting.get_nowait()
-                except queue.Empty:
-                    pass
             self.changed.notify_all()
 
     def each(self, work: Callable[[int], Any], look: Optional[Work] = None) -> List[Any]:
@@ -342,14 +336,11 @@ class Radio:
 
     def crowded(self) -> List[Tuple[str, int]]:
         """The dongles with more drones than are usual, and how many these are."""
-        counts: Dict[str, int] = {}
-        for uri in self.uris:
-            counts[uri.split("/")[2]] = counts.get(uri.split("/")[2], 0) + 1
+        counts = Counter(uri.split("/")[2] for uri in self.uris)
         return [(number, count) for number, count in sorted(counts.items()) if count > MANY]
 
     def broadcast_beside(self, raw: bytes, copies: int = 1) -> List[Tuple[Dongle, Sent, threading.Event]]:
-        """Has a packet sent to all drones at once, so many times, by each dongle, and returns at once: for each dongle
-        its row and its event."""
+        """Has a packet sent to all drones, so many times, by each dongle, and returns at once its row and its event."""
         return [(dongle, *dongle.send(raw, copies)) for dongle in self.dongles()]
 
     def broadcast(self, raw: bytes, copies: int = 1) -> Tuple[float, float]:
@@ -387,7 +378,6 @@ class Radio:
 
     @staticmethod
     def close_one(driver: Any) -> None:
-        """Closes a driver."""
         try:
             driver.close()
         except Exception as error:
@@ -395,9 +385,8 @@ class Radio:
 
 
 class Link(AnyLink):
-    """The link of ./show bridge and ./show fly over a radio, to drones whose trajectory memory has this id. `fault`
-    says why it sends no more, or is None. `starts` has by drone when its start went out first and was answered
-    last."""
+    """The link of ./show bridge and ./show fly over a radio, to drones whose trajectory memory has this id. `fault` is
+    why it sends no more, or None. `starts` has by drone when its start went out first and was answered last."""
     answer_time = 0.1
 
     def __init__(self, names: Sequence[str], heard: Heard, radio: Radio, memory: int,
@@ -469,11 +458,9 @@ class Link(AnyLink):
         """Why the upload can't go on, or None."""
         silent = self.silence.look(self.radio.last)
         self.radio.nudge([drone for drone, quiet in enumerate(silent) if quiet > QUIET / 2])
-        for drone, quiet in enumerate(silent):
-            if quiet > QUIET:
-                return "%s is silent for %.0f s: %s" % (
-                    self.names[drone], QUIET, self.radio.faults.get(drone, "no packet came"))
-        return self.fault
+        return next(("%s is silent for %.0f s: %s" % (
+            self.names[drone], QUIET, self.radio.faults.get(drone, "no packet came"))
+            for drone, quiet in enumerate(silent) if quiet > QUIET), self.fault)
 
     def close(self) -> None:
         if self.came in self.radio.listeners:

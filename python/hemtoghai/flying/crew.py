@@ -1,9 +1,10 @@
 """The crew at a terminal: lines for it, its answers, and Ctrl-C. For ./show fly.
 
-Nothing here holds up a flight: lines are written by a thread of their own, so that a terminal that stands still (Ctrl-S,
-a pager) or is gone keeps nothing from landing.
+Nothing here holds up a flight: lines are written by a thread of their own, so that a terminal that stands still
+(Ctrl-S, a pager) or is gone keeps nothing from landing.
 """
 import atexit
+import contextlib
 import os
 import queue
 import select
@@ -43,17 +44,15 @@ class Watch:
             signal.signal(number, signal.SIG_IGN)
 
     def pressed(self, number: int, _: object) -> None:
-        """A signal came."""
         if self.over:
             return
-        if self.flies:
-            self.presses += number == signal.SIGINT
-            if self.presses == 2 and number == signal.SIGINT:
+        before, self.was_pressed = self.was_pressed, True
+        if self.flies and number == signal.SIGINT:
+            self.presses += 1
+            if self.presses == 2:
                 os.write(self.pipe[1], b"!")
-        elif not self.was_pressed:
-            self.was_pressed = True
+        elif not self.flies and not before:
             raise Interrupted
-        self.was_pressed = True
 
     def wait_for_cut(self) -> None:
         """Stops the motors at the second Ctrl-C."""
@@ -70,11 +69,10 @@ class Watch:
             self.is_answered = True
             raise Interrupted
         if not self.is_answered:
-            self.is_answered = True
             say("the landing goes on; %s" % self.stops())
+        self.is_answered = True
 
     def stops(self) -> str:
-        """How the crew stops the motors."""
         return "Ctrl-C%s stops all motors" % ("" if self.presses else " twice")
 
     def take_off(self) -> None:
@@ -109,11 +107,9 @@ class Teller:
         """Writes what comes; a terminal that is gone loses it."""
         while True:
             data = self.lines.get().encode(errors="replace")
-            try:
+            with contextlib.suppress(OSError):
                 while data:
                     data = data[os.write(1, data):]
-            except OSError:
-                pass
             self.lines.task_done()
 
     def finish(self, seconds: float = 2.0) -> None:
@@ -128,7 +124,6 @@ atexit.register(TELLER.finish)
 
 
 def say(text: str) -> None:
-    """A line for the crew."""
     TELLER.lines.put(text + "\n")
 
 
@@ -141,12 +136,10 @@ class Answers:
 
     def flush(self) -> None:
         """Forgets what was typed before."""
-        try:
+        with contextlib.suppress(OSError, termios.error):
             if os.isatty(0):
                 self.waiting = b""
                 termios.tcflush(0, termios.TCIFLUSH)
-        except (OSError, termios.error):
-            pass
 
     def line(self, text: str, look: Callable[[], object], every: float = 0.05) -> Optional[str]:
         """The answer to a question, while what flies is looked after; None where nobody answers any more, or where the

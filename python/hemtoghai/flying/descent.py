@@ -15,9 +15,9 @@ LANDING = "landing"  # the words of a landing without a fault
 
 
 class Descent:
-    """Drones that are brought down. `floors` are the heights, in metres, of what they land on, and `silence` the seconds
-    without a sample after which nothing is known of a drone. Only what a drone says counts: one is down where its last
-    sample, no older than that, says so."""
+    """Drones that are brought down. `floors` are the heights, in metres, of what they land on, and `silence` the
+    seconds without a sample after which nothing is known of a drone. Only what a drone says counts: one is down where
+    its last sample, no older than that, says so."""
 
     def __init__(self, fleet: Fleet, floors: Sequence[float], silence: float, watch: Watch, answers: Answers) -> None:
         self.fleet, self.floors, self.longest, self.watch, self.answers = fleet, floors, silence, watch, answers
@@ -42,7 +42,6 @@ class Descent:
         return [k for k in drones if not self.is_down(k)]
 
     def words_of(self, drones: Iterable[int]) -> str:
-        """Drones' names."""
         return ", ".join(self.names[k] for k in sorted(drones))
 
     def seconds_down(self, drones: Iterable[int]) -> float:
@@ -54,9 +53,8 @@ class Descent:
     def account(self) -> None:
         """Says of each drone what is known of it in the end."""
         for k, (name, state) in enumerate(zip(self.names, self.fleet.states)):
-            at, age = "(%.2f, %.2f, %.2f) m" % tuple(state.place) if state.place else "", 0.0
-            if state.measured is not None:
-                age = clock.now() - state.measured
+            at = "(%.2f, %.2f, %.2f) m" % tuple(state.place) if state.place else ""
+            age = 0.0 if state.measured is None else clock.now() - state.measured
             if not state.place:
                 words = "NOT KNOWN: no sample of it came: WHERE IT IS NOBODY KNOWS"
             elif not self.is_fresh(k) and state.senseless is not None:
@@ -84,8 +82,7 @@ class Descent:
         """Waits as long as a landing takes, and longer where not all are down then, but not for long; who isn't."""
         begin = clock.now()
         while clock.now() < begin + seconds or self.up(drones) and clock.now() < begin + seconds + STAYS:
-            self.fleet.revive()
-            self.watch.look()
+            self.attend()
             clock.wait(0.05)
         return self.up(drones)
 
@@ -147,7 +144,8 @@ class Descent:
         again and again. It goes on until all are down, until somebody leaves them, or until those who aren't seen to
         be down can't be in the air any more; who isn't down then."""
         while up and not self.answers.ended:
-            answer = self.answers.line("%s: type land, stop or leave: " % self.words_of(up), lambda: self.look_after(up))
+            text = "%s: type land, stop or leave: " % self.words_of(up)
+            answer = self.answers.line(text, lambda: self.look_after(up))
             if answer == "stop":
                 raise Cut
             if answer == "leave":
@@ -167,14 +165,18 @@ class Descent:
 
     def may_fly(self, k: int) -> bool:
         """Whether a drone that isn't seen to be down may still be in the air."""
-        last = max([at for at in (self.fleet.radio.last[k], self.fleet.states[k].heard) if at is not None], default=None)
-        return last is not None and clock.now() - last < AIRBORNE
+        return any(at is not None and clock.now() - at < AIRBORNE
+                   for at in (self.fleet.radio.last[k], self.fleet.states[k].heard))
 
     def look_after(self, up: List[int]) -> Optional[str]:
         """Looks whether drones are down now, and what is pressed."""
-        self.fleet.revive()
-        self.watch.look()
+        self.attend()
         return None if len(self.up(up)) == len(up) else "down"
+
+    def attend(self) -> None:
+        """Hears the crew, and has drones that lost their logs send again."""
+        self.watch.look()
+        self.fleet.revive()
 
     def down_now(self, up: List[int]) -> List[int]:
         """Disarms those of these drones that are down now; the others."""

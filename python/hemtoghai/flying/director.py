@@ -3,6 +3,7 @@
 Its frames are those of docs/PROMISES.md, 'Its frames'. Nothing is decided here: what is written and what is read is
 handed on. The process has a group of its own, since Ctrl-C at a terminal ends all that the terminal's group has.
 """
+import contextlib
 import fcntl
 import os
 import queue
@@ -140,8 +141,8 @@ def signal(word: int) -> bytes:
 
 
 class Director:
-    """The process over its pipes. `is_well` is whether it still takes what is written, and `since` when it last had read
-    all of it; what it says waits in a queue."""
+    """The process over its pipes. `is_well` is whether it still takes what is written, and `since` when it last had
+    read all of it; what it says waits in a queue."""
 
     def __init__(self, words: Sequence[str], texts: Sequence[bytes]) -> None:
         """Raises program.Unusable or OSError where it can't be started."""
@@ -207,27 +208,22 @@ class Director:
             return None
 
     def listen(self) -> None:
-        """Reads frames until the end, and keeps them."""
         assert self.process.stdout
         with open(self.process.stdout.fileno(), "rb", closefd=False) as stream:
-            said: Said = Ended(None)
-            try:
-                while True:
+            said: Optional[Said] = None
+            while not isinstance(said, Ended):
+                try:
                     said = said_by(stream)
-                    self.said.put(said)
-                    if isinstance(said, Ended):
-                        return
-            except (ValueError, OSError):
-                self.said.put(Ended(None))
+                except (ValueError, OSError):
+                    said = Ended(None)
+                self.said.put(said)
 
     def close(self) -> None:
         """Ends its input: it lands nobody then, and ends."""
         self.is_well = False
-        try:
+        with contextlib.suppress(OSError):
             if self.process.stdin:
                 self.process.stdin.close()
-        except OSError:
-            pass
 
     def kill(self) -> None:
         """Ends the process where it still runs."""

@@ -81,16 +81,9 @@ def write_parameter(number: int, kind: int, value: float) -> bytes:
     return struct.pack("<H" + PARAMETER_TYPES[kind], number, value)
 
 
-def parameter_of(data: bytes, kind: int) -> float:
-    """The value of a read parameter."""
-    value: float = struct.unpack_from("<" + PARAMETER_TYPES[kind], bytes(data), 3)[0]
-    return value
-
-
 # ---- logs, port 5: settings on channel 1, data on channel 2 (90 %)
 
 RESET_LOGS = bytes([5])
-MOST_LOGGED = 26  # bytes of one block's values
 
 
 def create_block(block: int, items: Iterable[Tuple[int, int]]) -> bytes:

@@ -2,6 +2,7 @@
 
 As firmware.py it is from memory, and was run with simulated drones alone.
 """
+import contextlib
 import csv
 import math
 import random
@@ -97,20 +98,16 @@ class State:
         self.heard, self.measured = heard, self.stamp / 1000 + self.least
 
     def says_it_flies(self) -> bool:
-        """Whether the drone says that it flies."""
         return self.info is not None and bool(self.info & firmware.IS_FLYING)
 
     def speed(self) -> float:
         """Its speed in metres a second by its last two samples, by its own clock."""
-        if len(self.places) < 2 or self.between <= 0:
-            return 0.0
-        return 1000 * math.dist(*self.places[-2:]) / self.between
+        return 1000 * math.dist(*self.places[-2:]) / self.between if len(self.places) > 1 and self.between > 0 else 0.0
 
 
 class Log:
-    """The file to which places go, as ./show flown reads it; before the start rows wait. A thread of its own writes it,
-    so that a slow or full disk holds up nobody: what can't be written is said once, and lost. Opening it raises
-    OSError."""
+    """The file to which places go, as ./show flown reads it; before the start, at `zero`, rows wait. A thread writes,
+    so that a slow disk holds up nobody: what can't be written is said once, and lost. Opening it raises OSError."""
 
     def __init__(self, path: Optional[str], tell: Callable[[str], None]) -> None:
         self.path, self.tell, self.lock, self.over = path, tell, threading.Lock(), threading.Event()
@@ -125,14 +122,9 @@ class Log:
             self.thread.start()
 
     def put(self, at: float, name: str, place: Sequence[float], stamp: int) -> None:
-        """A sample."""
         if self.path and self.fault is None:
             with self.lock:
                 self.waiting.append((at, name, place, stamp))
-
-    def start(self, zero: float) -> None:
-        """The instant of the start."""
-        self.zero = zero
 
     @staticmethod
     def put_rows(file: TextIO, rows: Iterable[Sequence[object]]) -> None:
@@ -164,7 +156,7 @@ class Log:
     def close(self) -> None:
         """Has all written that waits, by the time of its last sample where nothing was started, but not for long."""
         if self.zero is None and self.waiting:
-            self.start(self.waiting[-1][0])
+            self.zero = self.waiting[-1][0]
         self.over.set()
         if self.thread:
             self.thread.join(2.0)
@@ -252,28 +244,23 @@ class Fleet:
         now = clock.now()
         for drone, state in enumerate(self.states):
             last = self.radio.last[drone]
-            if last is None or now - last > REVIVE or state.heard is None or now - state.heard < REVIVE:
-                continue
-            if now - self.revived[drone] < 3 * REVIVE:
-                continue
-            self.revived[drone] = now
-            threading.Thread(target=self.try_logs, args=(drone,), daemon=True).start()
+            if (last is not None and now - last <= REVIVE and state.heard is not None and now - state.heard >= REVIVE
+                    and now - self.revived[drone] >= 3 * REVIVE):
+                self.revived[drone] = now
+                threading.Thread(target=self.try_logs, args=(drone,), daemon=True).start()
 
     def try_logs(self, drone: int) -> None:
         """Makes a drone's logs anew, if it lets that be done."""
-        try:
+        with contextlib.suppress(Exception):
             self.begin_logs(drone, self.every, (FLIGHT,))
-        except Exception:
-            pass
 
     def begin_logs(self, drone: int, milliseconds: int, blocks: Sequence[int] = (FLIGHT, SETTLING)) -> None:
         """Has a drone send its places, battery and estimator's variances."""
         self.every = milliseconds
         table = self.table(drone, firmware.LOGS)
         self.radio.ask(drone, firmware.LOGS, 1, firmware.RESET_LOGS, 1)
-        for block, names in LOGGED.items():
-            if block not in blocks:
-                continue
+        for block in blocks:
+            names = LOGGED[block]
             missing = [name for name in names if name not in table and name not in OPTIONAL]
             if missing:
                 raise Trouble("%s has no log %s: another firmware or estimator?" % (
@@ -368,15 +355,11 @@ class Fleet:
         after the start and not the start didn't take it."""
         with self.lock:
             self.started = {}
-        raw = firmware.packet(firmware.COMMANDER, 0, firmware.start(trajectory))
-        if by_broadcast:
-            sent = dict.fromkeys(range(len(self.names)), self.radio.broadcast(raw, copies))
-        else:
-            sent = {}
-            for drone in range(len(self.names)):
-                now = clock.now()
-                sent[drone] = now, now
-                self.radio.send(drone, raw)
+        raw, drones = firmware.packet(firmware.COMMANDER, 0, firmware.start(trajectory)), range(len(self.names))
+        sent = dict.fromkeys(drones, self.radio.broadcast(raw, copies)) if by_broadcast else {}
+        for drone in [] if by_broadcast else drones:
+            sent[drone] = (clock.now(),) * 2
+            self.radio.send(drone, raw)
         self.radio.each(self.pass_by)
         nothing: Tuple[Optional[float], Optional[int]] = (None, None)
         with self.lock:
@@ -386,20 +369,16 @@ class Fleet:
         """Waits until a drone has answered all commands before, but not for long. The question has a mark by chance, so
         that no answer to an earlier one is taken for its own."""
         mark = firmware.group() + bytes([0x80 | random.randrange(0x80)])
-        try:
+        with contextlib.suppress(Dead):
             self.radio.ask(drone, firmware.COMMANDER, 0, mark, 3, seconds=1)
-        except Dead:
-            pass
 
     def beside(self, raw: bytes, copies: int) -> None:
         """A broadcast that goes out beside commands to each drone, so that nothing rests on it, nor waits for it."""
-        try:
+        with contextlib.suppress(Exception):
             self.radio.broadcast_beside(raw, copies)
-        except Exception:
-            pass
 
     def land(self, floors: Sequence[float], drones: List[int], seconds: float,
-             look: Optional[Callable[[], None]] = None) -> Tuple[float, List[str], List[str]]:
+             look: Optional[Look] = None) -> Tuple[float, List[str], List[str]]:
         """Lands drones where they are within so many seconds, each by a command of its own, and beside that by a
         broadcast where all land on floors of one height: the seconds until the last one that answers did, who didn't
         answer, and who refused, with the status."""
@@ -430,9 +409,8 @@ class Fleet:
     def cut(self) -> None:
         """Stops all motors, at once and for good: each drone falls, and has to be started anew."""
         self.radio.drop()
-        for port, channel, data in ((firmware.PLACES, 1, firmware.EMERGENCY_STOP),
-                                    (firmware.COMMANDER, 0, firmware.STOP)):
-            raw = firmware.packet(port, channel, data)
+        for raw in (firmware.packet(firmware.PLACES, 1, firmware.EMERGENCY_STOP),
+                    firmware.packet(firmware.COMMANDER, 0, firmware.STOP)):
             for drone in range(len(self.names)):
                 self.radio.send(drone, raw)
             self.beside(raw, 2)

@@ -3,8 +3,8 @@
 Landings straight down are judged by `check`, for each instant of the show and of the ways, before anybody takes off.
 Where a fault comes at an instant at which such a landing isn't shown apart, all fly on: in the show until it is, on the
 ways to the end of the stage that is flown, and then home by a way that is judged. The flight director is told no more
-of what happens from the first fault on, so that it gives no orders any more: but for its landing, where that is what was
-judged (flying/bridge.py).
+of what happens from the first fault on, so that it gives no orders any more: but for its landing, where that was judged
+(flying/bridge.py).
 """
 import math
 import time
@@ -30,8 +30,8 @@ NO_ANSWER = "`check` didn't answer in time"
 
 
 class Home(Watched):
-    """Brings all home. `doubt` is why a landing that begins now isn't shown apart, `is_said` whether the fault was said,
-    and `takes` the milliseconds that `check` takes."""
+    """Brings all home. `doubt` is why a landing that begins now isn't shown apart, `is_said` whether the fault was
+    said, and `takes` the milliseconds that `check` takes."""
     director: Director
     doubt: Optional[str] = None
     is_said = False
@@ -39,24 +39,18 @@ class Home(Watched):
 
     # ---- the flight director, which isn't told any more of what happens
 
-    def dismiss(self) -> None:
-        """Ends the director's input: what follows is none of its flight."""
-        self.director.close()
-
     def is_landing(self, order: Order) -> bool:
         """Whether an order is of the director's landing of all, and not of its way down."""
         return order.kind == SINK and order.milliseconds == self.ways.descent
 
     def landing_ordered(self) -> Optional[float]:
         """Has the director order the landing of all, where that is what was judged: from where all are, at once, to one
-        height. Its seconds, or None where the director isn't asked, or doesn't answer. It has one time for every height,
-        and isn't asked where that is much longer than it takes."""
+        height. Its seconds, or None where the director isn't asked, or doesn't answer. It has one time for every
+        height, and isn't asked where that is much longer than it takes."""
         floors, is_landing = self.ways.floors, self.begun and self.leg.stages[self.begun - 1].kind == legs.LAND
-        if not self.director.is_well or is_landing or max(floors) - min(floors) > legs.SAME_FLOOR:
-            return None
-        if len(self.up(self.all)) < len(self.all) or self.silent or self.out:
-            return None
-        if self.ways.descent / 1000 > self.seconds_down(self.all) + SLOWER:
+        if (not self.director.is_well or is_landing or max(floors) - min(floors) > legs.SAME_FLOOR
+                or len(self.up(self.all)) < len(self.all) or self.silent or self.out
+                or self.ways.descent / 1000 > self.seconds_down(self.all) + SLOWER):
             return None
         left, until = set(self.all), time.monotonic() + ORDERED
         self.director.hear(signal(LAND))
@@ -72,8 +66,7 @@ class Home(Watched):
     # ---- in the show
 
     def refusal(self) -> Optional[str]:
-        """Why not all may land at this instant of the show, or None; where some are silent, after a wait for the
-        instant that was looked at."""
+        """Why not all may land now in the show, or None; after a wait for the instant looked at if some are silent."""
         t, off = 1000 * (clock.now() - self.began()), self.off()
         if not self.silent and not off:
             return self.ways.landings.now(t) or self.ways.landings.now(t + LEAD)
@@ -128,9 +121,8 @@ class Home(Watched):
         """The same after a start that not all took: each is somewhere on its curve up to this instant."""
         t, far = 1000 * (clock.now() - self.began()), self.ways.rules.stray
         for k, (curve, state) in enumerate(zip(self.curves, self.fleet.states)):
-            if k in self.out or not self.is_fresh(k):
-                return NO_ANSWER
-            if curve.nearest([1000 * v for v in state.where()], 0, t + 50, far)[0] > far:
+            if k in self.out or not self.is_fresh(k) or (
+                    curve.nearest([1000 * v for v in state.where()], 0, t + 50, far)[0] > far):
                 return NO_ANSWER
         return self.ways.after_start(t)
 
@@ -141,11 +133,9 @@ class Home(Watched):
         if lost and clock.now() < self.stage_ends:
             return "%s may not have heard where to go" % self.words_of(lost)
         at = self.places_here()
-        for places in (self.aims, self.unheard) if lost else (at,):
-            why = self.refusal_from({**at, **{k: places[k] for k in lost}})
-            if why:
-                return why
-        return None
+        whys = (self.refusal_from({**at, **{k: places[k] for k in lost}})
+                for places in ((self.aims, self.unheard) if lost else (at,)))
+        return next(filter(None, whys), None)
 
     def refusal_from(self, at: Dict[int, legs.Place]) -> Optional[str]:
         """The same, with drones at these places: who isn't heard stays where it is, or is told to land as all are."""
@@ -154,8 +144,8 @@ class Home(Watched):
         if moving:
             return "%s silent on the way" % self.words_of(moving)
         mute = {k for k in self.mute() if at[k] != self.ways.pads[k]}
-        cases = [land, land | mute] if mute else [land]
-        return next((why for why in (self.refusal_of(at, drones) for drones in cases) if why), None)
+        whys = (self.refusal_of(at, drones) for drones in ([land, land | mute] if mute else [land]))
+        return next(filter(None, whys), None)
 
     def refusal_of(self, at: Dict[int, legs.Place], drones: Set[int]) -> Optional[str]:
         """The same, where some land and all others stay."""
@@ -194,7 +184,7 @@ class Home(Watched):
         why = self.refusal_soon()
         if why is None:
             return None
-        self.dismiss()
+        self.director.close()  # what follows is none of its flight
         self.is_said = True
         gone_back = self.zero is not None and self.leg is self.ways.up
         if gone_back:
@@ -281,11 +271,6 @@ class Home(Watched):
             say("NOT JUDGED beside %s: nothing leads clear of where it lies" % self.words_of(wrecks))
         return rest
 
-    def go_to_rows(self, stage: legs.Stage) -> Dict[int, bytes]:
-        """The commands of a stage in which drones go to places, with the yaws of the show's begin."""
-        return {k: firmware.go_to(x / 1000, y / 1000, z / 1000, math.radians(self.ways.yaws[k] / 10),
-                                  stage.milliseconds / 1000) for k, (x, y, z) in stage.to.items()}
-
     def home_stage(self, stage: legs.Stage, look: Callable[[], None] = lambda: None) -> List[str]:
         """A stage of the way home: it is flown whatever is wrong, but for what a look raises, and a second Ctrl-C stops
         all motors. Who didn't answer, or isn't down, in words."""
@@ -296,7 +281,9 @@ class Home(Watched):
             up = self.bring_down(list(stage.to), seconds, self.ways.rules.late / 1000)
             self.unheard = {k: before[k] for k in up}
             return ["%s isn't down" % self.names[k] for k in up]
-        rows, self.unheard = self.go_to_rows(stage), before
+        rows = {k: firmware.go_to(x / 1000, y / 1000, z / 1000, math.radians(self.ways.yaws[k] / 10), seconds)
+                for k, (x, y, z) in stage.to.items()}
+        self.unheard = before
 
         def go(drone: int) -> None:
             try:
@@ -321,7 +308,7 @@ class Home(Watched):
     def come_down(self) -> None:
         """Flies the way down, which the director isn't led by any more; where some are silent, and hover at the end of
         their curves as is assumed, or don't fly any more, one that keeps clear of them. Raises what is new on it."""
-        self.dismiss()
+        self.director.close()
         hold = self.silent | self.out
         self.leg = self.way_beside(hold) if hold else self.ways.down
         for number, whole in enumerate(self.leg.stages, 1):
@@ -350,10 +337,9 @@ class Home(Watched):
             say("landing, %s: %s, %.1f s" % (many(len(stage.to), "drone"), " ".join(self.names[k] for k in stage.to),
                                             stage.milliseconds / 1000))
         wrong = [*self.home_stage(stage, self.guard), *self.noted()]
-        if stage.kind != legs.LAND:
-            wrong += ["%s isn't at the next place" % name for name in self.far_from(stage.to, self.options.at_start)]
-        if wrong:
-            raise Trouble("; ".join(wrong))
+        far = [] if stage.kind == legs.LAND else self.far_from(stage.to, self.options.at_start)
+        if wrong or far:
+            raise Trouble("; ".join([*wrong, *("%s isn't at the next place" % name for name in far)]))
 
     # ---- landing
 
@@ -382,8 +368,7 @@ class Home(Watched):
         return self.ways.landings.told if self.in_show and len(self.up(self.all)) == len(self.all) else legs.LATE
 
     def near_pairs(self, t: float) -> Iterator[Tuple[str, str]]:
-        """The pairs that are nearer to each other from above than their ellipsoids, with how far they may be carried
-        on."""
+        """The pairs that are nearer from above than their ellipsoids, with how far they may be carried on."""
         places, carried = [in_mm(state.where()) for state in self.fleet.states], [0.0] * len(self.names)
         for k in self.all if self.in_show else ():
             carried[k] = landings.carried(math.hypot(*self.ways.landings.speed(k, min(t, self.flown.milliseconds))))
@@ -396,8 +381,7 @@ class Home(Watched):
                     yield self.names[j], self.names[i]
 
     def words_after(self, why: BaseException) -> Optional[str]:
-        """Does what a fault or a Ctrl-C wants; the words for the landing that follows, or None where the show went on
-        to its end."""
+        """Does what a fault or a Ctrl-C wants; the words for the landing that follows, or None after the whole show."""
         if isinstance(why, Interrupted):
             words, front = "Ctrl-C: landing all; once more stops the motors", "Ctrl-C, once more stops the motors"
         else:

@@ -17,10 +17,10 @@ from itertools import combinations
 from math import ceil, dist, hypot
 from typing import Dict, Iterable, Iterator, List, Optional, Protocol, Sequence, Set, Tuple
 
-from hemtoghai.companion import value
-from hemtoghai.flying.legs import (apart, ask_all, LAND, LATE, Leg, LIFT, Place, place_of, refusal_of, Rules, SAME_FLOOR, Stage,
-                                   stage_texts, standing_apart, text_of)
-from hemtoghai.geometry.curves import curves_of
+from hemtoghai.companion import begins, value
+from hemtoghai.flying.legs import (apart, ask_all, LAND, LATE, Leg, LIFT, Place, place_of, refusal_of, Rules,
+                                   SAME_FLOOR, Stage, stage_texts, standing_apart, text_of)
+from hemtoghai.geometry.curves import curves_of, ease
 from hemtoghai.language.choreo import Flown
 
 BRAKE, REACT = 5.0, 0.1  # m/s^2 with which a drone brakes at least, and seconds until it does
@@ -75,10 +75,8 @@ class Landings:
         self.end, self.stray, self.before, self.told = (
             flown.milliseconds, rules.show_stray, rules.show_late, told_within(floors))
         self.step = step or max(100, 50 * ceil(self.end / 60000))
-        self.cues, t = [], 0
-        for cue in flown.cues:
-            self.cues.append((t, t + cue.milliseconds))
-            t += cue.milliseconds
+        edges = begins(flown)
+        self.cues = list(zip(edges, edges[1:]))
         self.rows: Optional[List[Tuple[int, Optional[str]]]] = None
 
     # ---- what drones may reach
@@ -152,10 +150,10 @@ class Landings:
             part = {k: rows[k] for k in drones}
             if self.ask(part, max((rows[i][1] + rows[j][1]) / 2 for i, j in pairs), told) is None:
                 continue
-            for i, j in pairs:
-                line = self.ask({i: rows[i], j: rows[j]}, (rows[i][1] + rows[j][1]) / 2, told)
-                if line:
-                    return line
+            whys = (self.ask({i: rows[i], j: rows[j]}, (rows[i][1] + rows[j][1]) / 2, told) for i, j in pairs)
+            line = next(filter(None, whys), None)
+            if line:
+                return line
         return None
 
     def sets_of(self, rows: Dict[int, Reach]) -> List[List[int]]:
@@ -168,14 +166,12 @@ class Landings:
         for pair in sorted(combinations(rows, 2), key=lambda it: far[it]):
             if pair in have:
                 continue
-            for drones in sets:
-                new = [k for k in pair if k not in drones]
-                if all(far[k, other] > wide for k in new for other in drones if other not in pair):
-                    drones.extend(new)
-                    break
-            else:
-                drones = list(pair)
+            drones = next((it for it in sets if all(
+                far[k, other] > wide for k in pair for other in it if k not in it and other not in pair)), None)
+            if drones is None:
+                drones = []
                 sets.append(drones)
+            drones += [k for k in pair if k not in drones]
             have.update((i, j) for i in drones for j in drones)
         return sets
 
@@ -223,16 +219,12 @@ class Landings:
 
     def words(self, begin: int, end: int, bad: Sequence[Tuple[int, str]]) -> str:
         """What to do in a cue at some of whose instants not all may land."""
-        free, share = self.next(bad[-1][0]), self.share_good(bad)
+        free, rows = self.next(bad[-1][0]), [row for row in self.table() if bad[0][0] <= row[0] <= bad[-1][0]]
+        share = sum(row[1] is None for row in rows) / len(rows)
         return "land now, but from %.1f to %.1f s fly on to %s: %s%s" % (
             max(begin, bad[0][0] - self.step / 2) / 1000, min(end, bad[-1][0] + self.step / 2) / 1000,
             "the way down" if free is None else "%.1f s" % (free / 1000), short(bad[0][1]),
             "; there %d %% is apart" % round(100 * share) if share else "")
-
-    def share_good(self, bad: Sequence[Tuple[int, str]]) -> float:
-        """The share of instants between the first and the last bad one that are good."""
-        rows = [row for row in self.table() if bad[0][0] <= row[0] <= bad[-1][0]]
-        return sum(row[1] is None for row in rows) / len(rows)
 
     # ---- where some fly on
 
@@ -357,13 +349,10 @@ class Mover:
         self.begin, (self.first, self.last, self.milliseconds) = begin, way
 
     def holds(self) -> bool:
-        """Whether it stays where it is."""
         return self.first == self.last
 
     def at(self, t: float) -> List[float]:
-        """The place at a time."""
-        u = min(1.0, max(0.0, (t - self.begin) / self.milliseconds))
-        s = u ** 4 * (35 - 84 * u + 70 * u ** 2 - 20 * u ** 3)
+        s = ease((t - self.begin) / self.milliseconds)
         return [v + (w - v) * s for v, w in zip(self.first, self.last)]
 
 

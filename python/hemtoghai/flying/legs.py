@@ -18,7 +18,8 @@ __all__ = ["AIM", "GO_TO", "GROUND", "LAND", "LATE", "LIFT", "Leg", "NoWay", "Pl
            "standing_apart", "text_of", "top_of", "way_down", "way_up"]
 
 
-def way_up(names: Sequence[str], pads: Sequence[Place], firsts: Sequence[Place], yaws: Sequence[int], rules: Rules) -> Leg:
+def way_up(names: Sequence[str], pads: Sequence[Place], firsts: Sequence[Place], yaws: Sequence[int],
+           rules: Rules) -> Leg:
     """The leg from pads to first places; raises NoWay."""
     return Planner(names, pads, firsts, yaws, rules).plan()
 
@@ -37,14 +38,13 @@ def way_down(names: Sequence[str], pads: Sequence[Place], lasts: Sequence[Place]
 
 def down(names: Sequence[str], pads: Sequence[Place], lasts: Sequence[Place], yaws: Sequence[int], rules: Rules,
          is_below: bool = False, fixed: Iterable[int] = ()) -> Leg:
-    """The leg from last places to the pads, or straight down below them where that is wanted or nothing else is
-    accepted; raises NoWay."""
+    """The leg from last places to the pads, or below them if that is wanted or nothing else accepted; raises NoWay."""
     why: Optional[NoWay] = None
-    if not is_below:
-        try:
+    try:
+        if not is_below:
             return way_down(names, pads, lasts, yaws, rules, fixed)
-        except NoWay as refusal:
-            why = refusal
+    except NoWay as refusal:
+        why = refusal
     try:
         leg = way_down(names, [(*last[:2], pad[2]) for pad, last in zip(pads, lasts)], lasts, yaws, rules, fixed)
     except NoWay as refusal:

@@ -69,8 +69,7 @@ class Link:
 
 
 class Drone:
-    """A drone: its memory's id and bytes, its table of trajectories as (offset, pieces) or None, and the one that it
-    has started."""
+    """A drone: its memory's id and bytes, its table of trajectories, (offset, pieces) or None, and what it started."""
 
     def __init__(self, memory_id: int) -> None:
         self.memory_id, self.memory = memory_id, bytearray(b"\xFF" * MEMORY)

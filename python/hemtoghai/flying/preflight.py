@@ -4,6 +4,7 @@ import math
 from typing import List, Sequence
 
 from hemtoghai.flying import clock, firmware
+from hemtoghai.flying.crazyradio import trajectory_memories
 from hemtoghai.flying.crew import say
 from hemtoghai.flying.fleet import Fleet, HISTORY, State, Trouble
 from hemtoghai.flying.legs import Place, place_of
@@ -31,8 +32,7 @@ def looked_over(fleet: Fleet, drone: int, options: argparse.Namespace, memory: i
     if report.protocol < OLDEST:
         report.faults.append("protocol %d is older than this tool knows" % report.protocol)
         return report
-    report.memories = [k for k, (kind, size) in enumerate(fleet.radio.memories(drone))
-                       if kind == firmware.TRAJECTORY_MEMORY and size >= choreo.MEMORY]
+    report.memories = trajectory_memories(fleet.radio.memories(drone))
     if memory not in report.memories:
         report.faults.append("its trajectory memory is %s, and the show's line `memory` names %d" % (
             " ".join(map(str, report.memories)) or "missing", memory))
@@ -47,7 +47,6 @@ def wander_of(state: State) -> float:
 
 
 def is_settled(state: State, options: argparse.Namespace) -> bool:
-    """Whether a drone's estimator is settled."""
     return bool(state.senseless is None and state.place and state.variances and len(state.places) >= HISTORY
                 and max(state.variances) <= options.variance and wander_of(state) <= options.wander / 1000)
 
@@ -109,7 +108,6 @@ def judge_place(state: State, report: Report, pad: Sequence[int], yaw: float, op
 
 
 def print_report(name: str, state: State, report: Report, pad: Sequence[int]) -> None:
-    """Prints a drone's line of the table."""
     if state.place:
         x, y, z = state.place
         say("%-16s %-16s %6s %7.2f %9.5f %9.0f  (%.2f, %.2f, %.2f)" % (

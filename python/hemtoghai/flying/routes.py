@@ -2,8 +2,8 @@
 
 First all go at once. Where that is refused they go in groups, each drone straight up from its pad, over its place, and
 down to it. It crosses at the height of its place, or in a layer above all places. Who stands below the place of another
-goes before it. Where that goes round in a circle one of them is parked: it waits above its own pad, over all layers, and
-comes to its place last.
+goes before it. Where that goes round in a circle one of them is parked: it waits above its own pad, over all layers,
+and comes to its place last.
 
 Groups are looked for by distances that are computed here, and prove nothing: `check` judges each leg that is found.
 Where it refuses all of them, they are looked for anew with more room. No search is ended by a clock: every machine
@@ -33,8 +33,7 @@ def place_of(values: Iterable[float]) -> Place:
 
 
 def nearest(one: Sequence[Sequence[float]], two: Sequence[Sequence[float]], sizes: Sequence[float]) -> float:
-    """How near two come that go straight in step, each from its first place to its second: 1 where the scaled
-    distance is that of the sizes."""
+    """How near two come that go straight in step, each from its first place to its second: 1 is at the sizes."""
     begin = [(v - w) / size for v, w, size in zip(one[0], two[0], sizes)]
     step = [(v - w) / size - a for v, w, size, a in zip(one[1], two[1], sizes, begin)]
     square = sum(v * v for v in step)
@@ -84,9 +83,7 @@ class Planner:
     def way(self, k: int, height: Optional[int] = None) -> Way:
         """A drone's way from above its pad: at the height of its place, or at another one and then down."""
         pad, first = self.pads[k], self.firsts[k]
-        if height is None:
-            return [(*pad[:2], first[2]), first]
-        return [(*pad[:2], height), (*first[:2], height), first]
+        return [(*pad[:2], first[2]), first] if height is None else [(*pad[:2], height), (*first[:2], height), first]
 
     def stages_of(self, group: Dict[int, Way], at: Dict[int, Place], kind: str = TAKE_OFF) -> List[Stage]:
         """The stages of drones that go together by their ways, from where they are; the first is of a kind."""

@@ -10,8 +10,8 @@ from hemtoghai.language.choreo import Flown
 from hemtoghai.program import PACKAGE
 
 # What --sim can set, and its greatest number.
-SETTINGS = {"stray": 1e4, "late": 1e4, "loss": 100, "seed": 1e9, "speed": 100, "rate": 1e6, "dongles": 32, "blocks": 1e6,
-            "dies": 1e6}
+SETTINGS = {"stray": 1e4, "late": 1e4, "loss": 100, "seed": 1e9, "speed": 100, "rate": 1e6, "dongles": 32,
+            "blocks": 1e6, "dies": 1e6}
 
 
 def set_simulation(flown: Flown, pads: Sequence[Tuple[int, int, int]], options: argparse.Namespace) -> List[str]:

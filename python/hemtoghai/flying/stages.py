@@ -1,8 +1,8 @@
 """The stages of a way up or down, as shows that the proved program's `check` judges. For ./show legs and ./show fly.
 
 In a stage some drones fly one command of the firmware's planner, from rest to rest, which is the act `move`: a take-off
-straight up, a go-to, or a landing straight down. All others hold, and a stage begins when the one before has ended. So a
-leg is a show in the project's language, and `check` judges it, with the show's own ellipsoid. To the show's `stray`
+straight up, a go-to, or a landing straight down. All others hold, and a stage begins when the one before has ended. So
+a leg is a show in the project's language, and `check` judges it, with the show's own ellipsoid. To the show's `stray`
 comes how far a drone may have moved since its place was measured, and `late` is at least that of commands that go out
 drone by drone.
 
@@ -13,6 +13,7 @@ with each other: their pads have to be PADS mm apart. Millimetres and millisecon
 """
 import concurrent.futures
 import subprocess
+from itertools import chain, combinations
 from math import ceil, dist
 from typing import Dict, Iterable, Iterator, List, Mapping, Optional, Sequence, Tuple
 
@@ -59,7 +60,6 @@ class Rules:
         self.stray, self.late = stray + self.aim, min(MOST, max(late, LATE))
 
     def words(self) -> str:
-        """All of it, for people."""
         return "ellipsoid %d %d, stray %d (the show's %d, and %d for the pads), late %d (the show's %d)" % (
             self.radius, self.height, self.stray, self.show_stray, self.aim, self.late, self.show_late)
 
@@ -89,9 +89,8 @@ ASKED: Dict[bytes, Tuple[int, str]] = {}
 
 
 def judged(text: bytes) -> Tuple[int, str]:
-    """The status and the line of `check` on a text, which is asked once. Where it can't be asked, or doesn't answer, the
-    status isn't 0 and the line says why. It has a process group of its own, since Ctrl-C at a terminal ends all that
-    the terminal's group has."""
+    """The status and the line of `check` on a text, which is asked once. Where it can't be asked, or doesn't answer,
+    the status isn't 0 and the line says why. It has a process group of its own: Ctrl-C ends the terminal's."""
     if text in ASKED:
         return ASKED[text]
     if no_program():
@@ -150,7 +149,6 @@ class Leg:
         return sum(stage.milliseconds for stage in self.stages)
 
     def text(self, head: Sequence[str] = ()) -> bytes:
-        """The leg as a show."""
         return text_of(self.names, self.begin, self.yaws, self.stages, self.rules, late=self.late, head=head,
                        begin=self.first_yaws)
 
@@ -184,7 +182,6 @@ class Leg:
         return max(place[2] for at in [self.begin, *(stage.to for stage in self.stages)] for place in at.values())
 
     def lines(self) -> Iterator[str]:
-        """The stages, for people."""
         for number, stage in enumerate(self.stages, 1):
             at = self.places(number - 1)
             rows = ["%s to (%.2f, %.2f, %.2f)" % (self.names[k], x / 1000, y / 1000, z / 1000)
@@ -196,20 +193,12 @@ def classes_of(standing: Iterable[int], at: Dict[int, Place], side: float) -> Li
     """The drones that stand, in lists in each of which all are farther apart than this."""
     out: List[List[int]] = []
     for k in standing:
-        for row in out:
-            if all(apart(at[k], at[other]) > side for other in row):
-                row.append(k)
-                break
-        else:
+        row = next((row for row in out if all(apart(at[k], at[other]) > side for other in row)), None)
+        if row is None:
             out.append([k])
+        else:
+            row.append(k)
     return out or [[]]
-
-
-def texts_of(leg: Leg, stage: Stage, pads: Dict[int, Place], at: Dict[int, Place]) -> List[bytes]:
-    """The texts by which a stage of a leg is judged by itself, from places, with those who stand as their rule says.
-    Where one drone moves, nobody is late."""
-    late = leg.rules.late if sum(place != at[k] for k, place in stage.to.items()) > 1 else 0
-    return stage_texts(leg.names, leg.yaws, stage, standing_of(stage, pads, at), at, leg.rules, leg.rules.stray, late)
 
 
 def stage_texts(names: Sequence[str], yaws: Sequence[int], stage: Stage, standing: Iterable[int],
@@ -223,49 +212,41 @@ def stage_texts(names: Sequence[str], yaws: Sequence[int], stage: Stage, standin
     def text(rows: Dict[int, Place], to: Dict[int, Place], late: int) -> bytes:
         cue = Stage(stage.kind, stage.milliseconds, to)
         return text_of(names, {k: rows[k] for k in at if k in rows}, yaws, [cue], rules, stray=stray, late=late)
-    texts = [text({**move, **{k: at[k] for k in row}}, stage.to, late)
-             for row in standing_apart(hold, rules, stray, late)] if move else []
     hover = {k: place for k, place in hold.items() if k not in stand}
-    if hover:
-        texts += [text({**hover, **{k: at[k] for k in row}}, {}, 0) for row in standing_apart(stand, rules, stray, 0)]
-    return texts
+    moved, held = standing_apart(hold, rules, stray, late) if move else [], standing_apart(stand, rules, stray, 0)
+    return [*(text({**move, **{k: at[k] for k in row}}, stage.to, late) for row in moved),
+            *(text({**hover, **{k: at[k] for k in row}}, {}, 0) for row in (held if hover else []))]
 
 
 def standing_apart(standing: Dict[int, Place], rules: Rules, stray: int, late: int) -> List[List[int]]:
-    """Those who hold, in lists in each of which `check` refuses no two of them: it adds to all pairs what the fastest
-    flies in that time."""
+    """Those who hold, in lists in which `check` refuses no two: it adds to all what the fastest flies in that time."""
     side = 2.12 * (rules.radius + stray) + PEAK * late * max(CLIMB, GO, SINK) / 1000 + 10
     return classes_of(standing, standing, side)
 
 
 def standing_of(stage: Stage, pads: Dict[int, Place], at: Dict[int, Place]) -> List[int]:
-    """Who stands on its pad in a stage."""
     return [k for k in at if k in pads and k not in stage.to and at[k] == tuple(pads[k])]
 
 
-def pads_refusal(leg: Leg, stage: Stage, pads: Dict[int, Place], at: Dict[int, Place]) -> Optional[str]:
-    """The first two that stand in a stage on pads that are too near to each other, or None."""
-    standing = standing_of(stage, pads, at)
-    for number, i in enumerate(standing):
-        for j in standing[number + 1:]:
-            if dist(at[i], at[j]) < PADS:
-                return "pads of %s and %s are %.0f mm apart, and %d are wanted" % (
-                    leg.names[i], leg.names[j], dist(at[i], at[j]), PADS)
-    return None
+def pads_refusal(leg: Leg, standing: Iterable[int], at: Dict[int, Place]) -> Optional[str]:
+    """The first two of those who stand whose pads are too near to each other, or None."""
+    return next(("pads of %s and %s are %.0f mm apart, and %d are wanted" % (
+        leg.names[i], leg.names[j], dist(at[i], at[j]), PADS)
+        for i, j in combinations(standing, 2) if dist(at[i], at[j]) < PADS), None)
 
 
 def judge_stages(leg: Leg, stages: Iterable[Stage], pads: Dict[int, Place], at: Dict[int, Place]) -> Optional[str]:
     """Judges stages that follow each other from places, each by itself; the first refusal, or None."""
     rows, at = [], dict(at)
     for stage in stages:
-        rows.append((pads_refusal(leg, stage, pads, at), texts_of(leg, stage, pads, at)))
+        standing, late = standing_of(stage, pads, at), leg.rules.late
+        if sum(place != at[k] for k, place in stage.to.items()) < 2:
+            late = 0  # where one drone moves, nobody is late
+        rows.append((pads_refusal(leg, standing, at), stage_texts(
+            leg.names, leg.yaws, stage, standing, at, leg.rules, leg.rules.stray, late)))
         at.update(stage.to)
     ask_all(text for _, texts in rows for text in texts)
-    for refusal, texts in rows:
-        for why in (refusal, *map(refusal_of, texts)):
-            if why:
-                return why
-    return None
+    return next(filter(None, chain.from_iterable([refusal, *map(refusal_of, texts)] for refusal, texts in rows)), None)
 
 
 def milliseconds_for(kind: str, ways: Sequence[float]) -> int:

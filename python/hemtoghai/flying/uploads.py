@@ -1,6 +1,7 @@
 """An upload by the proved program, over pipes: its process, what goes by, the pace of its ticks, and the loop that
 carries packets between it and a link. Shared by ./show bridge and ./show fly; nothing here is proved.
 """
+import contextlib
 import os
 import queue
 import subprocess
@@ -48,14 +49,11 @@ class Host:
     def write(self, data: bytes) -> None:
         """Writes to the program; where it has ended, its end frame is under way."""
         assert self.process.stdin
-        try:
+        with contextlib.suppress(BrokenPipeError, ValueError):
             while data:
                 data = data[self.process.stdin.write(data):]
-        except (BrokenPipeError, ValueError):
-            pass
 
     def tick(self) -> None:
-        """A tick."""
         self.write(bytes([TICK]))
 
     def hear(self, drone: int, packet: bytes) -> None:
@@ -87,10 +85,8 @@ class Host:
     def close_input(self) -> None:
         """Ends the program's input: an upload that is still going ends with 8."""
         assert self.process.stdin
-        try:
+        with contextlib.suppress(OSError):
             self.process.stdin.close()
-        except OSError:
-            pass
 
     def end(self) -> int:
         """Ends the program's input and waits for it; its status."""
@@ -110,8 +106,7 @@ class Host:
 class Traffic:
     """What went by in an upload: each drone's packets by their keys, in the order in which the program first sent
     them, which is that of their numbers; how often each was sent; and which had a good answer. `wanted` is how many
-    packets each drone is to have, for people. `refused` is the first answer that ended the upload with 10, `differs`
-    the one with 14."""
+    each is to have, for people. `refused` is the first answer that ended the upload with 10, `differs` that with 14."""
 
     def __init__(self, names: Sequence[str], wanted: Sequence[int]) -> None:
         self.names, self.wanted = names, wanted
@@ -125,7 +120,6 @@ class Traffic:
         self.ended: Optional[float] = None
 
     def sent(self, drone: int, packet: bytes) -> None:
-        """The program sends a packet."""
         self.begun = self.begun or time.monotonic()
         key = key_of(packet, False)
         if key is None:
@@ -160,16 +154,11 @@ class Traffic:
         """The keys of a drone's packets that have no good answer yet, in the order of their numbers."""
         return [key for key in self.packets[drone] if key not in self.good[drone]]
 
-    def count_open(self, drone: int) -> int:
-        """How many these are."""
-        return len(self.packets[drone]) - len(self.good[drone])
-
     def seconds(self) -> float:
         """How long it took from the first packet to the end, or now."""
         return 0.0 if self.begun is None else (self.ended or time.monotonic()) - self.begun
 
     def line(self) -> str:
-        """How far each drone is."""
         return "%.0f s: %s" % (self.seconds(), ", ".join(
             "%s %d/%d" % row for row in zip(self.names, map(len, self.good), self.wanted)))
 
@@ -197,12 +186,8 @@ class Traffic:
             late = [row for row in rows if self.times[row[0]][row[1]] >= GIVES_UP]
             row = late[0] if late else max(rows, key=lambda it: self.times[it[0]][it[1]])
             return ["%s had no good answer, %s" % (self.about(*row), self.times_of(*row))]
-        if status == 8:
-            firsts: Dict[int, Key] = {}
-            for drone, key in rows:
-                firsts.setdefault(drone, key)
-            return ["%s is open, %s" % (self.about(*row), self.times_of(*row)) for row in firsts.items()]
-        return []
+        firsts = dict(reversed(rows)) if status == 8 else {}  # the first of each drone
+        return ["%s is open, %s" % (self.about(*row), self.times_of(*row)) for row in sorted(firsts.items())]
 
 
 class Pace:
@@ -225,12 +210,10 @@ class Pace:
         return max(0.001, self.answer_time / 5)
 
     def gives(self, drone: int) -> None:
-        """A packet was handed to the link."""
         self.handed += 1
         self.last[drone], self.since[drone] = self.handed, None
 
     def hears(self, drone: int) -> None:
-        """A drone was heard."""
         if self.since[drone] is not None:
             self.since[drone] = time.monotonic()
 
@@ -248,7 +231,8 @@ class Pace:
     def is_due(self, left: int) -> bool:
         """Whether it is time for a tick, where this many packets have left the link."""
         self.look(left)
-        now, counts = time.monotonic(), [self.traffic.count_open(k) for k in range(len(self.since))]
+        now = time.monotonic()
+        counts = [len(packets) - len(good) for packets, good in zip(self.traffic.packets, self.traffic.good)]
         wait = self.answer_time if any(counts) else self.STUCK * self.answer_time
         still = [0.0 if since is None else now - since for since in self.since]
         rows = [it for it, count in zip(still, counts) if count] or still
@@ -261,9 +245,8 @@ class Pace:
 
 
 class Carrying:
-    """Carries packets between the program and a link until the program ends. `status` is that of its end frame, or
-    None where it ended without one, `rest` what else it wrote, and `fault` why the upload was stopped from here, or
-    None."""
+    """Carries packets between the program and a link until the program ends. `status` is that of its end frame, if it
+    ended with one, `rest` what else it wrote, and `fault` why the upload was stopped from here, or None."""
 
     def __init__(self, host: Host, link: Link, events: Events, tick: Optional[float], traffic: Traffic,
                  tell: Optional[Tell] = None) -> None:
@@ -282,13 +265,10 @@ class Carrying:
 
     def step(self) -> None:
         """Waits for what happens next, and handles it."""
-        what: str
-        rest: List[Any]
-        try:
+        what, rest = "nothing", list[Any]()
+        with contextlib.suppress(queue.Empty):
             what, *rest = self.events.get(timeout=self.pace.step() if self.traffic.begun else None)
-        except queue.Empty:
-            what, rest = "nothing", []
-        if what == "end" or what == "closed":
+        if what in ("end", "closed"):
             self.status, self.rest = (rest[0], b"") if what == "end" else (None, rest[0])
             self.traffic.ended, self.done = time.monotonic(), True
         elif self.fault:
@@ -302,7 +282,6 @@ class Carrying:
         self.look()
 
     def give(self, drone: int, packet: bytes) -> None:
-        """Hands a packet of the program to the link."""
         if drone >= len(self.link.names):
             stop("the program sends to drone %d, and the show has %d" % (drone + 1, len(self.link.names)))
         self.traffic.sent(drone, packet)
@@ -338,6 +317,5 @@ def carry(host: Host, link: Link, events: Events, tick: Optional[float], traffic
 
 
 def wanted_packets(flown: Flown, start: bool, readback: bool) -> List[int]:
-    """How many packets each drone is to have: writes, a define, with read-back its reads, and a start where it is
-    wanted."""
+    """How many packets each drone is to have: writes, a define, with read-back its reads, and maybe a start."""
     return [-(-len(data) // 24) + 1 + (-(-len(data) // 20) if readback else 0) + bool(start) for data in flown.data()]

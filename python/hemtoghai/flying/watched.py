@@ -24,7 +24,6 @@ Found = TypeVar("Found")
 
 
 def in_mm(place: Sequence[float]) -> legs.Place:
-    """A place in whole mm."""
     return legs.place_of(1000 * v for v in place)
 
 
@@ -116,7 +115,6 @@ class Watched(Descent):
         return [*self.listen(), *self.faults()]
 
     def measure(self) -> None:
-        """Looks how far each drone is from its curve."""
         late, now, promised = self.options.late, clock.now(), self.ways.rules.show_stray
         for k, (state, curve) in enumerate(zip(self.fleet.states, self.curves)):
             if k in self.silent or state.heard is None or state.measured is None or now - state.heard > 1:
@@ -140,12 +138,10 @@ class Watched(Descent):
     # ---- where drones are
 
     def began(self) -> float:
-        """When the show was started."""
         assert self.zero is not None
         return self.zero
 
     def ends(self) -> float:
-        """When the show is over."""
         return self.began() + self.flown.milliseconds / 1000 + 0.5
 
     def far_from(self, places: Dict[int, legs.Place], limit: float) -> List[str]:
@@ -154,8 +150,7 @@ class Watched(Descent):
                 if math.dist(in_mm(self.fleet.states[k].where()), place) > limit]
 
     def places_here(self) -> Dict[int, legs.Place]:
-        """Where drones are: on their pads, where they say that they are, or, where they say nothing, where they were
-        told to go."""
+        """Where drones are: on their pads, where they say that they are, or, if they say nothing, were told to go."""
         out = {}
         for k in self.all:
             place = self.aims[k] if not self.is_fresh(k) else in_mm(self.fleet.states[k].where())
@@ -188,9 +183,8 @@ class Watched(Descent):
     def pause(self, until: float, look: Callable[[], None] = lambda: None) -> None:
         """Waits until an instant; a second Ctrl-C ends it, and what a look raises."""
         while clock.now() < until:
-            self.watch.look()
+            self.attend()
             look()
-            self.fleet.revive()
             clock.wait(min(0.05, max(0.0, until - clock.now())))
 
     def meanwhile(self, work: Callable[[], Found]) -> Found:
@@ -211,8 +205,7 @@ class Watched(Descent):
         thread.start()
         while thread.is_alive() and time.monotonic() < until:
             thread.join(0.02)
-            self.watch.look()
-            self.fleet.revive()
+            self.attend()
         if failed:
             raise failed[0]
         return out

@@ -28,7 +28,6 @@ CAUSES = (("isn't the drone of the way up", "isn't the drone of the way down"),
 
 
 def words_of(cause: director.Cause, names: Sequence[str]) -> str:
-    """A cause in words."""
     places: Sequence[str] = CAUSES[cause.number] if cause.number < len(CAUSES) else ()
     words = places[cause.where] if cause.where < len(places) else "cause %d" % cause.number
     return "%s %s" % (names[cause.drone] if cause.drone < len(names) else "a drone",
@@ -134,10 +133,6 @@ class Ways:
         if not self.is_prepared:
             say("LANDINGS ON THE WAYS AREN'T ALL JUDGED: at a fault there the stage that is flown goes to its end")
 
-    def end(self) -> None:
-        """Ends the thread, soon."""
-        self.over = True
-
     def landings_at(self, leg: legs.Leg, number: int) -> Optional[landings.StageLandings]:
         """The landings from a stage of a leg, by its number from 1, as far as they are judged; 0 is before them all."""
         rows = self.rows.get(id(leg), ())
@@ -164,12 +159,9 @@ class Ways:
 
     def rest_judged(self, leg: legs.Leg, count: int, at: Dict[int, Place], hold: Iterable[int]) -> Optional[legs.Leg]:
         """What is left of a leg after so many stages, from where drones are, while some hold; None where that isn't
-        accepted, or nothing is left. It is judged stage by stage, as it is flown: so it was before take-off, where all
-        are where they should be."""
+        accepted, or nothing is left. It is judged stage by stage, as it is flown, and was before take-off."""
         rest = leg.rest(count, at, hold)
-        if not rest.stages or legs.judge_stages(rest, rest.stages, self.standing(), rest.begin):
-            return None
-        return rest
+        return None if not rest.stages or legs.judge_stages(rest, rest.stages, self.standing(), rest.begin) else rest
 
     def new_judged(self, at: Dict[int, Place], hold: Iterable[int]) -> Optional[legs.Leg]:
         """A new way down from where drones are, while some hold; None where none is found."""

@@ -28,7 +28,6 @@ class Curve:
         self.table = [self.at(k * self.STEP) for k in range(t // self.STEP + 2)]
 
     def at(self, t: float) -> list[float]:
-        """The place at a time."""
         t = min(max(t, 0), self.end)
         begin, length, rows = self.pieces[max(0, bisect.bisect_right(self.begins, t) - 1)]
         u, out = (t - begin) / length, []
@@ -55,6 +54,12 @@ class Curve:
             best = min(best, (near, p), (far, q))
             a, b = (a, q) if near < far else (p, b)
         return best
+
+
+def ease(u: float) -> float:
+    """From 0 to 1, from rest to rest, as `move` does."""
+    u = min(1, max(0, u))
+    return u ** 4 * (35 - 84 * u + 70 * u ** 2 - 20 * u ** 3)
 
 
 def halves(row: Sequence[int]) -> tuple[list[int], list[int]]:

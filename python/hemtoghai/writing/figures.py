@@ -10,7 +10,7 @@
     print(show.text(), end="")
 
 Lengths are in metres, times in seconds, angles in degrees. A place is (x, y, z). A path is a function from the part u
-of its time, 0 to 1, to a place; those of this module begin and end at rest. `Show.fly` cuts a path into a number of cues,
+of its time, 0 to 1, to a place; those of this module begin and end at rest. `Show.fly` cuts a path into several cues,
 writes each piece as the cubic with the path's place and velocity at both ends, and returns by how much the cubics
 leave the paths, in metres. The text is in `choreo 2`, or with `form=1` in `choreo 1`. Nothing is proved of what it
 writes: ./show check judges it as any other show.
@@ -20,6 +20,7 @@ from __future__ import annotations
 from collections.abc import Callable, Mapping, Sequence
 from math import cos, dist, pi, radians, sin
 
+from hemtoghai.geometry.curves import ease
 from hemtoghai.language.lines import header, line_in, NEWEST
 
 Place = Sequence[float]  # x, y, z
@@ -80,12 +81,6 @@ def least(cost: Sequence[Sequence[int]]) -> dict[int, int]:
 
 
 # ---- paths
-
-def ease(u: float) -> float:
-    """From 0 to 1, from rest to rest, as `move` does."""
-    u = min(1, max(0, u))
-    return u ** 4 * (35 - 84 * u + 70 * u ** 2 - 20 * u ** 3)
-
 
 def stay(place: Place) -> Path:
     """Stays."""
@@ -187,8 +182,7 @@ class Show:
 
     def fly(self, seconds: float, paths: Mapping[str, Path], cuts: int = 1,
             yaws: Mapping[str, float] | None = None) -> float:
-        """Drones fly their paths, by name; the others hold. A drone's yaw turns evenly to that in `yaws`, if it is
-        there."""
+        """Drones fly their paths, by name; the others hold. A drone's yaw turns evenly to that in `yaws`, if any."""
         worst, yaws = 0.0, yaws or {}
         for name, path in paths.items():
             if dist(path(0), self.places[name]) > 0.001:
@@ -221,8 +215,7 @@ def slope(path: Path, u: float) -> list[float]:
 
 
 def piece(path: Path, u: float, v: float) -> tuple[list[Place], float]:
-    """The four control points of the cubic with a path's places and velocities at u and v, and how far it leaves the
-    path."""
+    """The four control points of the cubic with a path's places and velocities at u and v, and how far it is off."""
     first, last = path(u), path(v)
     out = [first, [a + s * (v - u) / 3 for a, s in zip(first, slope(path, u))],
            [b - s * (v - u) / 3 for b, s in zip(last, slope(path, v))], last]

@@ -2,10 +2,10 @@
 they are.
 
 A drone stands on its pad, takes off, goes to places, flies the trajectory that its own memory decodes to, lands,
-and keeps a small way off all the while. Time is that of flying/clock.py. Of a drone's dynamics one thing is simulated: a
-landing begins at the setpoint with speed 0, and what flew at speed is carried on and comes back. Else a drone is where
-its commander has it, but for the stray that it is given. The commander takes off from idle alone, and refuses a landing
-while it is idle or lands; at the end of a landing it is idle, and motors stop, at whatever height.
+and keeps a small way off all the while. Time is that of flying/clock.py. Of a drone's dynamics one thing is simulated:
+a landing begins at the setpoint with speed 0, and what flew at speed is carried on and comes back. Else a drone is
+where its commander has it, but for the stray that it is given. The commander takes off from idle alone, and refuses a
+landing while it is idle or lands; at the end of a landing it is idle, and motors stop, at whatever height.
 """
 import math
 import random
@@ -16,6 +16,7 @@ from typing import Any, Callable, Dict, Iterator, List, Optional, Sequence, Tupl
 
 from hemtoghai.companion import value
 from hemtoghai.flying import clock, firmware
+from hemtoghai.geometry.curves import ease as smooth
 
 EBUSY, EIO, ENOEXEC, EACCES = 16, 5, 8, 13
 MEMORIES = [(0x00, 8192), (0x10, 36), (0x12, 4096), (0x15, 4096)]
@@ -68,12 +69,6 @@ FAULTS = {
     "volts": "says that its voltage is no number",
     "short": "gives answers that are cut off to questions on its memories and tables",
 }
-
-
-def smooth(u: float) -> float:
-    """From 0 to 1 from rest to rest."""
-    u = min(1.0, max(0.0, u))
-    return u ** 4 * (35 - 84 * u + 70 * u ** 2 - 20 * u ** 3)
 
 
 def carried_on(speed: float, seconds: float) -> float:
@@ -150,7 +145,6 @@ class Drone:
         return self.is_due(fault) and (self.flown() or 0.0) < self.faults[fault] + seconds
 
     def is_gone(self) -> bool:
-        """Whether its link is gone."""
         if "reboots" in self.faults and self.is_read and self.table[0] is not None:
             self.reboot()
         gap = self.is_in("gap", 3)
@@ -307,7 +301,6 @@ class Drone:
         return data[:5] + bytes([0 if good else EIO])
 
     def table_answer(self, data: bytes, items: Sequence[Sequence[Any]], checksum: int) -> bytes:
-        """The answer to a question for a table or an item of it."""
         if data[0] == 3:
             return struct.pack("<BHI", 3, len(items) + PADDING, checksum)
         number = int.from_bytes(data[1:3], "little")

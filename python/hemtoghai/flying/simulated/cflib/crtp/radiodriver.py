@@ -39,9 +39,7 @@ class RadioDriver:
 
     def receive_packet(self, wait: float = 0) -> Optional[CRTPPacket]:
         try:
-            if wait == 0:
-                return self.in_queue.get(False)
-            return self.in_queue.get(True, None if wait < 0 else wait)
+            return self.in_queue.get(wait != 0, None if wait < 0 else wait)
         except queue.Empty:
             return None
 
@@ -72,7 +70,8 @@ class _RadioDriverThread(threading.Thread):
             time.sleep(0.05)
         if not self.safelink:
             return air.WORLD.transfer(self.link.uri, data)
-        ack, came = air.WORLD.transfer(self.link.uri, bytes([data[0] & 0xF3 | self.up << 3 | self.down << 2]) + data[1:])
+        head = bytes([data[0] & 0xF3 | self.up << 3 | self.down << 2])
+        ack, came = air.WORLD.transfer(self.link.uri, head + data[1:])
         if ack and came and (came[0] >> 2 & 1) == self.down:
             self.down = 1 - self.down
         if ack:
