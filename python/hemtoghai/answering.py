@@ -10,6 +10,7 @@ ones that are loaded. In a release the manifest has to be the released one.
 """
 from __future__ import annotations
 
+import contextlib
 import json
 import os
 import threading
@@ -48,7 +49,6 @@ class Process:
     """The program, started for each question."""
 
     def run(self, words: list[str], text: bytes) -> Answer:
-        """The answer to a command."""
         status, output = program.ask(words, text)
         return Answer(status, output, program.proof(), "process")
 
@@ -76,7 +76,6 @@ class Library:
         self.proof, self.rooms = proof, threading.local()
 
     def run(self, words: list[str], text: bytes) -> Answer:
-        """The answer to a command."""
         import ctypes
         line, size = line_of(words), ctypes.c_size_t()
         # Taken away for the call: a handler of signals that asks meanwhile finds none, and makes its own.
@@ -151,8 +150,7 @@ _chosen: Optional[Runner] = None
 
 
 def choose() -> Runner:
-    """The library where it can be taken and has its proof, and else the program; or the one of HEMTOGHAI_BY. Raises
-    Unusable."""
+    """The library where it can be taken and has its proof, or the program; or that of HEMTOGHAI_BY. Raises Unusable."""
     by = os.environ.get(CHOICE)
     if by == "library":
         return library()
@@ -160,13 +158,11 @@ def choose() -> Runner:
         return Process()
     if by:
         raise Unusable("%s is library or process, and not %r" % (CHOICE, by))
-    try:
+    with contextlib.suppress(Unusable):
         found = library()
-    except Unusable:
-        return Process()
-    if found.proof is None:
-        return Process()
-    return found
+        if found.proof is not None:
+            return found
+    return Process()
 
 
 def runner() -> Runner:

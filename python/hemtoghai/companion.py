@@ -2,6 +2,7 @@
 from __future__ import annotations
 
 import argparse
+import itertools
 import re
 import sys
 from collections.abc import Sequence
@@ -22,12 +23,10 @@ _running = ["hemtoghai"]  # the command, as its messages begin
 
 
 def set_tool(name: str) -> None:
-    """Notes which command runs."""
     _running[0] = name
 
 
 def tool_name() -> str:
-    """The command that runs."""
     return _running[0]
 
 
@@ -45,12 +44,10 @@ def parser(text: str | None) -> argparse.ArgumentParser:
 
 
 def add_depth(words: argparse.ArgumentParser, text: str = "as for check: 0 to 8, without it 6") -> None:
-    """Adds the option --depth."""
     words.add_argument("--depth", type=depth, default=choreo.DEPTH, metavar="D", help=text)
 
 
 def depth(word: str) -> int:
-    """A depth from 0 to 8."""
     if not word.isdigit() or len(word) > 9 or int(word) > 8:
         raise argparse.ArgumentTypeError("the depth is 0 to 8, not %s" % word)
     return int(word)
@@ -70,13 +67,7 @@ def read_file(path: str, most: int = texts.LOG) -> bytes:
     return data if len(data) <= most else stop("%s: more than %d bytes" % (path, most))
 
 
-def read_show(path: str) -> bytes:
-    """The bytes of a show's text, to one more than it may have."""
-    return read_front(path, choreo.LONGEST_TEXT)
-
-
 def write_file(path: str, data: bytes) -> None:
-    """Writes a file."""
     try:
         with open(path, "wb") as file:
             file.write(data)
@@ -86,7 +77,7 @@ def write_file(path: str, data: bytes) -> None:
 
 def flown_of(path: str) -> tuple[bytes, Flown]:
     """What the drones of a show's file fly; a faulty show ends the tool with the program's status and line."""
-    text = read_show(path)
+    text = read_front(path, choreo.LONGEST_TEXT)
     try:
         if len(text) <= choreo.LONGEST_TEXT and choreo.parts_of(text)[2]:
             stop("%s: a tool reads a show alone, without a marker line" % path)
@@ -97,9 +88,15 @@ def flown_of(path: str) -> tuple[bytes, Flown]:
         return stop("%s: %s" % (path, refusal), refusal.status)
 
 
+def words_and_show(reader: argparse.ArgumentParser, words: list[str]) -> tuple[argparse.Namespace, bytes, Flown]:
+    """Reads a tool's words, of which the last is the file of a show, and that show."""
+    reader.add_argument("show", metavar="SHOW", help="a file with a show, or - for standard input")
+    options = reader.parse_args(words)
+    return (options, *flown_of(options.show))
+
+
 def no_program(program: str | None = None) -> str | None:
-    """Why the program can't be run, or None: it isn't built, it isn't the one of its record, or this machine isn't one
-    for the release's."""
+    """Why the program can't be run, or None: it isn't built, not as recorded, or of a release for other machines."""
     return proved.fault(program)
 
 
@@ -122,7 +119,7 @@ def ask_dynamics(text: bytes, program: str | None = None) -> dict[str, Motion] |
     try:
         status, output = proved.ask(["dynamics"], text, program)
     except proved.Unusable:
-        return None
+        status, output = NO_ANSWER, b""
     if status:
         return None
     found = {}
@@ -151,10 +148,7 @@ def place(flown: Flown, drone: int, cue: int, u: float) -> list[float]:
 
 def begins(flown: Flown) -> list[int]:
     """The milliseconds at which each cue begins, and the end of the show."""
-    out = [0]
-    for cue in flown.cues:
-        out.append(out[-1] + cue.milliseconds)
-    return out
+    return list(itertools.accumulate((cue.milliseconds for cue in flown.cues), initial=0))
 
 
 def seconds(milliseconds: float) -> str:

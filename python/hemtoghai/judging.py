@@ -10,7 +10,7 @@ import json
 import operator
 import re
 from collections.abc import Iterator, Mapping
-from dataclasses import dataclass, field
+from dataclasses import dataclass, field, replace
 from functools import cached_property
 from typing import Any, Optional, Union
 
@@ -146,10 +146,7 @@ class Plan(Mapping[str, DronePlan]):
     verdict: Verdict = field(repr=False)
 
     def __getitem__(self, name: str) -> DronePlan:
-        for drone in self.drones:
-            if drone.name == name:
-                return drone
-        raise KeyError(name)
+        return {drone.name: drone for drone in self.drones}[name]
 
     def __iter__(self) -> Iterator[str]:
         return (drone.name for drone in self.drones)
@@ -170,8 +167,7 @@ def blocked_in(flown: Any, deep: int, found: tuple[int, int, int, int], named: b
     """What is known of two drones in a cue whose part of this number is blocked."""
     i, j, cue, index = found
     begin, lasts, parts = companion.begins(flown)[cue], flown.cues[cue].milliseconds, 2 ** deep
-    part = separation.difference(flown.by_cue[i][cue][1], flown.by_cue[j][cue][1])
-    near = separation.Nearest(part, *flown.show.settings["ellipsoid"])
+    near = separation.nearest_in(flown, i, j, cue)
     acts, names = flown.cues[cue].acts, (flown.names[i], flown.names[j])
     lines = {flown.cues[cue].number, *(acts[name][0] for name in names if name in acts)}
     return Blocked(*names, cue + 1, begin + lasts * index / parts, begin + lasts * (index + 1) / parts,
@@ -237,7 +233,6 @@ def accepted(verdict: Verdict) -> Verdict:
 
 
 def depth_words(depth: int) -> list[str]:
-    """The words of a depth."""
     if not 0 <= operator.index(depth) <= 8:
         raise ValueError("the depth is 0 to 8, not %r" % depth)
     return ["--depth", "%d" % depth]
@@ -301,10 +296,9 @@ def compile(text: Text, depth: int = DEPTH) -> Plan:
             name, _, _, _, pieces = rest.split(" ")
             drones.append(DronePlan(name, b"", int(pieces), ()))
         elif kind == "data":
-            drones[-1] = DronePlan(drones[-1].name, bytes.fromhex(rest), drones[-1].pieces, ())
+            drones[-1] = replace(drones[-1], data=bytes.fromhex(rest))
         elif kind in ("write", "define", "start"):
-            last = drones[-1]
-            drones[-1] = DronePlan(last.name, last.data, last.pieces, (*last.packets, (kind, bytes.fromhex(rest))))
+            drones[-1] = replace(drones[-1], packets=(*drones[-1].packets, (kind, bytes.fromhex(rest))))
     return Plan(verdict.output, tuple(drones), verdict)
 
 
@@ -343,8 +337,7 @@ def dynamics(text: Text, accel: Optional[int] = None, jump: Optional[int] = None
 
 
 def speed(text: Text, limit: Optional[int] = None, depth: int = DEPTH) -> dict[str, tuple[int, int, int]]:
-    """By drone a bound on its speed on x, y and z, in micrometres per second. Raises Refused, also where a limit is
-    passed."""
+    """By drone a bound on its speed on x, y and z, in micrometres per second. Raises Refused, also above a limit."""
     words = ["speed", *depth_words(depth), *option("--limit", limit)]
     return speeds_in(accepted(asked(words, text, depth=depth)).output.decode())
 

@@ -36,11 +36,6 @@ def put(command: str, verdict: judging.Verdict, **more: Any) -> int:
 
 # ---- commands of the program
 
-def depth_of(front: list[str]) -> int:
-    """The depth among the program's words, or the usual one."""
-    return int(front[front.index("--depth") + 1]) if "--depth" in front else judging.DEPTH
-
-
 def input_of(files: list[str]) -> bytes:
     """The program's input."""
     if len(files) == 2:
@@ -49,7 +44,6 @@ def input_of(files: list[str]) -> bytes:
 
 
 def numbers_of(command: str, verdict: judging.Verdict) -> dict[str, Any]:
-    """The numbers of an answer."""
     if command == "check":
         return {**(judging.counts_in(verdict.line) if verdict.ok else {}),
                 "cautions": [dict(vars(caution)) for caution in verdict.cautions]}
@@ -65,7 +59,8 @@ def by_program(words: list[str]) -> int:
         return helping.refuse(front, fault)
     launcher.file_for(False)
     whole = input_of(files)
-    verdict = judging.asked(front, choreo.parts_of(whole)[0], whole, depth_of(front))
+    depth = int(front[front.index("--depth") + 1]) if "--depth" in front else judging.DEPTH
+    verdict = judging.asked(front, choreo.parts_of(whole)[0], whole, depth)
     return put(front[0], verdict, **numbers_of(front[0], verdict))
 
 
@@ -96,9 +91,7 @@ def by_why(words: list[str]) -> int:
     companion.add_depth(reader)
     reader.add_argument("--most", type=int, default=20, metavar="N",
                         help="remedies for at most N places, without it 20")
-    reader.add_argument("show", metavar="SHOW", help="a file with a show, or - for standard input")
-    options = reader.parse_args(words)
-    text, flown = companion.flown_of(options.show)
+    options, text, flown = companion.words_and_show(reader, words)
     verdict = verdict_of(text, options.depth)
     places = [{**vars(place), **(helped(flown, place, options.depth) if number < options.most else {})}
               for number, place in enumerate(verdict.blocked)]
@@ -110,7 +103,6 @@ def by_why(words: list[str]) -> int:
 # ---- summary
 
 def drone_data(flown: choreo.Flown, drone: int, motions: dict[str, dict[str, Any]]) -> dict[str, Any]:
-    """The numbers of a drone."""
     fastest, box = summary.look(flown, drone)
     return {"name": flown.names[drone], "bytes": len(flown.data()[drone]), "room": flown.room(),
             "pieces": len(flown.sent[drone]), "top_speed": round(1e6 * fastest),
@@ -139,13 +131,10 @@ def margin_data(flown: choreo.Flown, text: bytes, depth: int) -> dict[str, Any]:
 
 
 def by_summary(words: list[str]) -> int:
-    """Sums a show up."""
     reader = companion.parser(__doc__)
     companion.add_depth(reader)
     reader.add_argument("--margin", action="store_true", help="how far ellipsoid, stray and lateness can grow")
-    reader.add_argument("show", metavar="SHOW", help="a file with a show, or - for standard input")
-    options = reader.parse_args(words)
-    text, flown = companion.flown_of(options.show)
+    options, text, flown = companion.words_and_show(reader, words)
     verdict, times = verdict_of(text, options.depth), companion.begins(flown)
     try:
         motions = judging.dynamics(text)

@@ -14,12 +14,13 @@ line names the drone, the packet and the address. The status is that of the uplo
 5 the show is refused; 6 a read failed; 8 stopped before its end, by Ctrl-C or since a drone went silent; 9 given up; 10
 refused by a drone; 11 a faulty frame; 13 too many frames; 14 a memory holds something else. 70: no answer.
 """
+import contextlib
 import importlib.util
 import os
 import queue
 import sys
 from argparse import ArgumentTypeError, Namespace
-from collections.abc import Iterator, Sequence
+from collections.abc import Callable, Iterator, Sequence
 
 from hemtoghai import program
 from hemtoghai.companion import add_depth, decoded, flown_of, many, no_program, parser, stop
@@ -56,8 +57,7 @@ def flight(drone: links.Drone, entry: tuple[int, int]) -> str:
 
 
 def end_of(memory: bytearray, offset: int, pieces: int) -> int:
-    """Where the bytes of a trajectory of so many segments end: its start, its segments by their headers, three bytes
-    more."""
+    """Where the bytes of a trajectory end: its start, so many segments by their headers, three bytes more."""
     at = offset + 8
     for _ in range(pieces):
         if at >= len(memory):
@@ -79,35 +79,27 @@ def write_memories(folder: str, names: Sequence[str], drones: Sequence[links.Dro
 
 # ---- words
 
-def share(word: str) -> float:
-    """A share in percent."""
-    try:
-        if 0 <= float(word) <= 100:
-            return float(word)
-    except ValueError:
-        pass
-    raise ArgumentTypeError("a share is 0 to 100 percent, not %s" % word)
+def number(is_good: Callable[[float], bool], words: str) -> Callable[[str], float]:
+    """A reader of numbers that are good; any other word is refused with these words."""
+    def read(word: str) -> float:
+        with contextlib.suppress(ValueError):
+            if is_good(float(word)):
+                return float(word)
+        raise ArgumentTypeError(words % word)
+    return read
 
 
-def positive(word: str) -> float:
-    """A number above 0."""
-    try:
-        if 0 < float(word) <= 1000000:
-            return float(word)
-    except ValueError:
-        pass
-    raise ArgumentTypeError("a number above 0 and up to 1000000 is wanted, not %s" % word)
+share = number(lambda v: 0 <= v <= 100, "a share is 0 to 100 percent, not %s")
+positive = number(lambda v: 0 < v <= 1000000, "a number above 0 and up to 1000000 is wanted, not %s")
 
 
 def byte(word: str) -> int:
-    """A number of one byte."""
     if not word.isdigit() or len(word) > 3 or int(word) > 255:
         raise ArgumentTypeError("a memory's id is 0 to 255, not %s" % word)
     return int(word)
 
 
 def options_of(words: list[str]) -> Namespace:
-    """The tool's words."""
     reader = parser(__doc__)
     add_depth(reader)
     reader.add_argument("--start", action="store_true", help="start the drones once all have all their bytes")
@@ -147,7 +139,6 @@ def options_of(words: list[str]) -> Namespace:
 
 
 def link_of(path: str, names: Sequence[str], heard: links.Heard) -> links.Link:
-    """The link of a Python file."""
     try:
         spec = importlib.util.spec_from_file_location("link_of_the_bridge", path)
         sys.modules.setdefault("links", links)  # for a release, as a link's file may still have it
@@ -196,15 +187,6 @@ def print_end(options: Namespace, done: Carrying, ended: int) -> int:
     return status
 
 
-def link_for(options: Namespace, flown: Flown, drones: Sequence[links.Drone], heard: links.Heard) -> links.Link:
-    """The link that the words ask for."""
-    if options.radio:
-        return radio_of(options, flown, heard)
-    if options.link:
-        return link_of(options.link, flown.names, heard)
-    return links.SimulatedLink(flown.names, heard, drones, options)
-
-
 def uploaded(options: Namespace, text: bytes, flown: Flown,
              drones: Sequence[links.Drone]) -> tuple[Carrying, int, list[str]]:
     """Uploads; what was carried, the program's own status, and what the link says of itself."""
@@ -212,7 +194,9 @@ def uploaded(options: Namespace, text: bytes, flown: Flown,
 
     def heard(drone: int, packet: bytes) -> None:
         events.put(("heard", drone, packet))
-    link = link_for(options, flown, drones, heard)
+    link = (radio_of(options, flown, heard) if options.radio else
+            link_of(options.link, flown.names, heard) if options.link else
+            links.SimulatedLink(flown.names, heard, drones, options))
     words = ["--start"] * options.start + ["--readback"] * options.readback
     traffic = Traffic(flown.names, wanted_packets(flown, options.start, options.readback))
     host = None

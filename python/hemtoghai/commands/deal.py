@@ -16,7 +16,7 @@ import re
 import sys
 from collections.abc import Callable
 
-from hemtoghai.companion import add_depth, ask_check, flown_of, missing, parser, stop, tool_name
+from hemtoghai.companion import add_depth, ask_check, missing, parser, stop, tool_name, words_and_show
 from hemtoghai.geometry import separation
 from hemtoghai.language import choreo
 from hemtoghai.language.lines import free_name, with_words
@@ -26,7 +26,6 @@ NOBODY_MOVES = 71
 
 
 def say(words: str) -> None:
-    """Writes a line to standard error."""
     print("%s: %s" % (tool_name(), words), file=sys.stderr)
 
 
@@ -54,8 +53,7 @@ def report(made: Dealt, before: list[State]) -> None:
 
 def block(lines: list[bytes], written: choreo.Line, dealt: choreo.Line, name: str,
           form: int) -> tuple[int, list[bytes]]:
-    """The lines of a formation's block as it is dealt, under this name, and the index of its last line; in a form of
-    the language."""
+    """The lines of a formation's block as it is dealt, under this name and in this form, and its last line's index."""
     last = next(k for k in range(written.body[-1].number, len(lines)) if lines[k].split(b"#")[0].split() == [b"end"])
     out = lines[written.number - 1:last + 1]
     if name != written.values[0]:
@@ -78,9 +76,8 @@ def with_names(line: bytes, names: list[str], kind: str) -> bytes:
 
 
 def rewritten(text: bytes, made: Dealt) -> tuple[bytes, Callable[[int], int]]:
-    """The show's text with the places as they are dealt, a further block for each way in which a formation is formed
-    that isn't its first one, and the acts that go with their places; and by the number of a line in the old text the
-    one in the new text."""
+    """The show's text with the places as they are dealt, a further block for each further way in which a formation is
+    formed, and the acts that go with their places; and by the number of a line in the old text that in the new one."""
     flown, lines = made.flown, text.split(b"\n")
     names = {line.values[0] for line in flown.show.top.body if line.kind == "formation"}
     new = list(lines)
@@ -136,7 +133,6 @@ def say_carried(made: Dealt, new_line: Callable[[int], int]) -> None:
 
 
 def dealt_text(text: bytes, flown: choreo.Flown, keep: list[str]) -> tuple[bytes, Dealt]:
-    """The show's text as it is dealt, and what was done."""
     on_their_own(flown)
     before, made = state(flown), deal(flown, keep)
     new, new_line = rewritten(text, made)
@@ -150,9 +146,7 @@ def main(words: list[str]) -> int:
     add_depth(reader)
     reader.add_argument("--keep", action="append", default=[], metavar="NAME",
                        help="a formation whose places stay as they are; may be given several times")
-    reader.add_argument("show", metavar="SHOW", help="a file with a show, or - for standard input")
-    options = reader.parse_args(words)
-    text, flown = flown_of(options.show)
+    options, text, flown = words_and_show(reader, words)
     for name in options.keep:
         if name not in flown.show.formations:
             stop("--keep %s: the show has no formation of this name" % name)

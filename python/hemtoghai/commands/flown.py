@@ -69,8 +69,7 @@ def read_log(path: str) -> Dict[str, List[Tuple[float, List[float], Optional[flo
 
 
 def by_own_clock(samples: Sequence[Tuple[float, List[float], Optional[float]]]) -> List[Sample]:
-    """The samples as (milliseconds, place), by the drone's own clock where it is known: set so that no packet came
-    early."""
+    """The samples as (milliseconds, place), by the drone's own clock if known: set so that no packet came early."""
     own = [stamp for _, _, stamp in samples if stamp is not None]
     if not samples or len(own) < len(samples):
         return [(1000 * t, place) for t, place, _ in samples]
@@ -121,8 +120,7 @@ def offset_of(samples: Sequence[Sample], curve: Curve) -> Optional[int]:
 
 
 def edge(samples: Sequence[Sample], curve: Curve, best: Tuple[float, int], way: int) -> int:
-    """How far an offset may go one way from the best one, to a millisecond, until the greatest distance is more than
-    FLAT above the least."""
+    """How far an offset may go one way from the best, to a millisecond, until the distance is FLAT above the least."""
     def is_good(by: int) -> bool:
         return farthest(samples, curve, best[1] + way * by, best[0] + FLAT) <= best[0] + FLAT
     near, far = 0, 1
@@ -179,7 +177,6 @@ def judge_all(judged: Dict[str, Judged], offsets: Sequence[int], options: argpar
 
 
 def print_table(judged: Dict[str, Judged]) -> None:
-    """Prints a line for each drone."""
     print("%-16s %7s %7s %9s  %-24s %-24s %s" % (
         "drone", "samples", "gap ms", "late ms", "greatest mm, so late", "greatest mm in window", "outside"))
     for name, it in judged.items():
@@ -205,7 +202,6 @@ def print_verdict(judged: Dict[str, Judged], options: argparse.Namespace) -> boo
 
 
 def options_of(words: list[str]) -> argparse.Namespace:
-    """The tool's words."""
     reader = parser(__doc__)
     reader.add_argument("--stray", type=finite.option(0, 100000), metavar="R",
                        help="millimetres from the curve; without it the show's")

@@ -56,7 +56,6 @@ def grown(wanted: Axes, bound: Fraction) -> tuple[Fraction, Axes]:
 
 
 def ask(text: str, deep: int) -> tuple[int, str]:
-    """The status and the line of `check`."""
     try:
         status, output = program.ask(["check", "--depth", str(deep)], text.encode())
     except program.Unusable as fault:
@@ -131,9 +130,8 @@ def print_why(fit: fitting.Fit, text: str, wanted: Axes, deep: int) -> None:
     if len(found) > 1:
         print("  and %s blocked, of this or other pairs" % many(len(found) - 1, "more place"))
     print("./show why, of the import: its cues and lines, and its larger ellipsoids")
-    near = separation.Nearest(separation.difference(*(flown.by_cue[k][cue][1] for k in (i, j))),
-                              *flown.show.settings["ellipsoid"])
-    why.print_place(flown, text.encode().split(b"\n"), why.Place(near, i, j, cue, index), deep, [])
+    blocked = why.Place(separation.nearest_in(flown, i, j, cue), i, j, cue, index)
+    why.print_place(flown, text.encode().split(b"\n"), blocked, deep, [])
 
 
 # ---- limits
@@ -146,7 +144,6 @@ class TooMuch(NamedTuple):
 
 
 def too_much(fit: fitting.Fit, head: list[str], form: int) -> TooMuch | None:
-    """What is too much of an import, or None."""
     if fit.crowded or len(fit.cues) > choreo.MOST_CUES:
         return TooMuch(FAULTY, "more than %d cues" % choreo.MOST_CUES, max(1, len(fit.cues) / choreo.MOST_CUES))
     try:
@@ -179,10 +176,7 @@ def tolerance_for(paths: Paths, options: argparse.Namespace, head: list[str], ti
     low, high = 0, len(steps) - 1
     while low < high:
         middle = (low + high) // 2
-        if fits(paths, options, head, steps[middle]):
-            high = middle
-        else:
-            low = middle + 1
+        low, high = (low, middle) if fits(paths, options, head, steps[middle]) else (middle + 1, high)
     return steps[high]
 
 
@@ -214,7 +208,6 @@ def numbers(*limits: tuple[int, int]) -> Callable[[str], Any]:
 
 
 def amount(most: float) -> Callable[[str], float]:
-    """A reader of a number above 0."""
     def read(word: str) -> float:
         if not foreign.NUMBER.fullmatch(word) or not 0 < float(word) <= most:
             raise argparse.ArgumentTypeError("%r isn't above 0 and at most %d" % (word, most))
@@ -223,7 +216,6 @@ def amount(most: float) -> Callable[[str], float]:
 
 
 def options_of(words: list[str]) -> argparse.Namespace:
-    """The tool's words."""
     reader = parser(__doc__)
     reader.add_argument("--waypoints", action="store_true", help="the files are waypoints, joined by lines")
     reader.add_argument("--smooth", action="store_true", help="the files are waypoints, joined by a smooth spline")
@@ -268,7 +260,6 @@ def is_show(files: Sequence[str]) -> bool:
 
 
 def paths_of(options: argparse.Namespace) -> Paths:
-    """The paths in the files."""
     try:
         options.skyc = options.skyc or is_show(options.files)
         if options.skyc:
@@ -315,8 +306,8 @@ def say_left_out(options: argparse.Namespace, paths: Paths) -> None:
         say("LEFT OUT: %s, of %s%s" % (what, many(count, "drone"), (
             "; drones turn by the setpoints alone, which the file may not mean" if what == foreign.AUTOMATIC else "")))
     if not (options.skyc or options.waypoints or options.smooth or options.starts) and foreign.is_one_place(paths):
-        say("all %d drones begin in one place: polynomials may count from each drone's start. --starts FILE adds it, by "
-            "a row name,x,y,z in metres for each file" % len(paths))
+        say("all %d drones begin in one place: polynomials may count from each drone's start. --starts FILE adds it, "
+            "by a row name,x,y,z in metres for each file" % len(paths))
 
 
 def head_of(options: argparse.Namespace, bound: Fraction, turned: Fraction, factor: Fraction,

@@ -152,7 +152,6 @@ def starts_of(show: Rows) -> list[tuple[str, list[int]]]:
 
 
 def trajectory(data: bytes, pieces: int) -> list[Segment]:
-    """A trajectory's segments."""
     def number(at: int) -> int:
         return int.from_bytes(data[at:at + 2], "little", signed=True)
     last, at, time, out = [number(k) for k in (0, 2, 4, 6)], 8, 0, []
@@ -227,8 +226,7 @@ def plan_of(path: str, starts: list[tuple[str, list[int]]]) -> list[Drone]:
 
 
 def intervals_of(drones: list[Drone]) -> list[tuple[list[list[Curve]], bool]]:
-    """The stretches between which no drone has an edge; for each the three curves of each drone, and whether all
-    hold."""
+    """The stretches between which no drone has an edge; for each all drones' three curves, and whether all hold."""
     edges = sorted({0, *(segment.end for drone in drones for segment in drone.segments)})
     at, out = [0] * len(drones), []
     for begin, end in zip(edges, edges[1:]):
@@ -295,7 +293,6 @@ def tokens(line: str, width: int) -> list[str] | None:
 
 
 def certificate_of(path: str) -> Certificate:
-    """The certificate of a file."""
     lines = read(path, "certificate").decode("latin-1").split("\n")
     lines = [line[:-1] if line.endswith("\r") and k < len(lines) - 1 else line for k, line in enumerate(lines)]
     lines = lines[:-1] if lines[-1] == "" else lines
@@ -357,7 +354,6 @@ def judge(drones: list[Drone], given: Certificate, rulers: dict[str, Ruler]) -> 
 
 
 def main(words: list[str]) -> int:
-    """Judges a certificate; the status."""
     if len(words) != 3 or words[0] in ("-h", "--help"):
         is_help = words[:1] in (["-h"], ["--help"])
         print((__doc__ or "").strip(), file=sys.stdout if is_help else sys.stderr)

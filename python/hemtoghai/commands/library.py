@@ -198,7 +198,6 @@ def stamps() -> dict[str, str]:
 
 
 def main(words: list[str]) -> int:
-    """Makes the library; the status."""
     reader = parser(__doc__)
     reader.add_argument("--out", default=os.path.join(SOURCES, "out"), metavar="FOLDER",
                         help="the folder of the library; without it library/out")

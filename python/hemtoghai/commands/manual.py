@@ -14,7 +14,6 @@ from hemtoghai.launching import manual, records
 
 
 def main(words: list[str]) -> int:
-    """Writes the one or the other."""
     reader = parser(__doc__)
     reader.add_argument("kind", choices=("page", "completion"), help="the manual page, or the completion")
     options = reader.parse_args(words)

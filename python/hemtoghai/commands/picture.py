@@ -19,11 +19,12 @@ import sys
 from typing import Any
 
 from hemtoghai import program
-from hemtoghai.companion import add_depth, ask_dynamics, begins, cue_words, flown_of, missing, parser, read_file
+from hemtoghai.companion import add_depth, ask_dynamics, missing, parser, read_file, words_and_show
 from hemtoghai.geometry import separation
 from hemtoghai.language.choreo import Flown
 from hemtoghai.seeing import drawing
-from hemtoghai.seeing.sampling import ask, blocked_marks, boxes_said, played, regions_of, shares, step_of, worked_out
+from hemtoghai.seeing.sampling import (ask, blocked_marks, boxes_said, flight_of, regions_of, rows_of_play, shares,
+                                       step_of, worked_out)
 
 PAGE, VIEW = [os.path.join(program.PACKAGE, "seeing", name) for name in ("picture.html", "view.js")]
 
@@ -59,33 +60,19 @@ def picture_of(options: argparse.Namespace, text: bytes, flown: Flown) -> dict[s
     """What the page shows, as data."""
     line, status, judge = judged(text, options)
     step, marks = step_of(flown, options.step), blocked_marks(flown, options.depth) if status == 5 else []
-    answer = None
-    if status == 0:
-        answer = ask(options.program, ["play", "--depth", str(options.depth), "--step", str(step)], text)
-    if answer and answer[0] == 0:
-        source, (times, places) = "play", played(answer[1].splitlines(), flown.names)
-    else:
-        source = "tool"
-        times, places = worked_out(flown, step, {round(mark["nearest"]) for mark in marks})
+    rows = rows_of_play(text, options.program, options.depth, step) if status == 0 else None
+    regions = regions_of(options.regions) if options.regions else []
+    drawn, places = flight_of(flown, step, rows, {round(mark["nearest"]) for mark in marks}, regions)
     nearest, pairs = shares(flown, places)
-    (r, h), (stray,), (late,) = [flown.show.settings[word] for word in ("ellipsoid", "stray", "late")]
-    columns = list(zip(*places))
     return {
         "title": "standard input" if options.show == "-" else os.path.basename(options.show), "line": line,
-        "status": status, "judge": judge, "source": source, "step": step, "depth": options.depth, "r": r, "h": h,
-        "stray": stray, "late": late, "regions": regions_of(options.regions) if options.regions else [],
+        "status": status, "judge": judge, "depth": options.depth, **drawn,
         "boxes": boxes_said(options.program, text, options.regions, options.depth) if options.regions else "",
-        "motion": motion_said(options, text, flown),
-        "names": flown.names, "times": times, "end": flown.milliseconds,
-        "xyz": [[round(number) for sample in column for number in sample[:3]] for column in columns],
-        "yaw": [[round(sample[3]) for sample in column] for column in columns],
-        "cues": [[begin, cue_words(cue)] for begin, cue in zip(begins(flown), flown.cues)],
-        "nearest": nearest, "pairs": pairs, "marks": marks,
+        "motion": motion_said(options, text, flown), "nearest": nearest, "pairs": pairs, "marks": marks,
     }
 
 
 def step(word: str) -> int:
-    """Milliseconds from one sample to the next."""
     if not word.isdigit() or len(word) > 9 or not 1 <= int(word) <= 60000:
         raise ValueError
     return int(word)
@@ -100,9 +87,7 @@ def main(words: list[str]) -> int:
     reader.add_argument("--svg", action="store_true", help="one drawing in place of a page")
     reader.add_argument("--program", default=program.PROGRAM, metavar="FILE",
                         help="the program to ask; without it that of ./show")
-    reader.add_argument("show", metavar="SHOW", help="a file with a show, or - for standard input")
-    options = reader.parse_args(words)
-    text, flown = flown_of(options.show)
+    options, text, flown = words_and_show(reader, words)
     if options.svg:
         step_ = step_of(flown, options.step)
         sys.stdout.write(drawing.drawing_of(flown, *worked_out(flown, step_)))

@@ -104,7 +104,6 @@ class Studio:
         return job.adopt(ready)
 
     def new_worker(self) -> subprocess.Popen[bytes]:
-        """A process that waits for a text."""
         return begin(program.words_of("studio_work", str(self.depth), *self.regions))
 
     def make_ready(self) -> None:
@@ -130,7 +129,6 @@ class Studio:
         return answer(job, [path, command, "--depth", str(self.depth)], text), state
 
     def close(self) -> None:
-        """Ends all that runs."""
         self.ending.set()
         with self.lock:
             jobs, spare = [job for _, job in self.pages.values()], self.spare
@@ -174,7 +172,6 @@ class Studio:
 # ---- the words
 
 def port(word: str) -> int:
-    """A port."""
     if not re.fullmatch("[0-9]{1,5}", word) or not 1 <= int(word) <= 65535:
         raise argparse.ArgumentTypeError("a port is 1 to 65535, not %s" % word)
     return int(word)
@@ -188,16 +185,13 @@ def usual_port(path: str) -> int:
 
 def server_of(options: argparse.Namespace) -> Server:
     """The server, on the port that is wanted, else on the usual one or one that is free."""
-    wanted = options.port or usual_port(options.show)
-    try:
-        return Server(("127.0.0.1", wanted), Handler)
-    except OSError as error:
-        if options.port:
-            stop("port %d: %s" % (wanted, error.strerror))
-    try:
-        return Server(("127.0.0.1", 0), Handler)
-    except OSError as error:
-        return stop("no port is free: %s" % error.strerror)
+    why = ""
+    for wanted in [options.port] if options.port else [usual_port(options.show), 0]:
+        try:
+            return Server(("127.0.0.1", wanted), Handler)
+        except OSError as error:
+            why = "%s: %s" % ("port %d" % wanted if wanted else "no port is free", error.strerror)
+    return stop(why)
 
 
 def look_at(path: str) -> None:

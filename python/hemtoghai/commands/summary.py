@@ -12,8 +12,8 @@ from collections.abc import Iterable, Sequence
 from itertools import combinations
 from math import hypot, inf
 
-from hemtoghai.companion import (add_depth, ask_check, ask_dynamics, begins, flown_of, many, missing, Motion,
-                                 no_program, parser, place, seconds, value)
+from hemtoghai.companion import (add_depth, ask_check, ask_dynamics, begins, many, missing, Motion, no_program,
+                                 parser, place, seconds, value, words_and_show)
 from hemtoghai.flying import legs
 from hemtoghai.geometry import separation
 from hemtoghai.language.choreo import Flown
@@ -49,7 +49,6 @@ def triple(numbers: Iterable[float]) -> str:
 
 
 def print_drones(flown: Flown, motions: dict[str, Motion] | None) -> None:
-    """Prints a line for each drone."""
     room = flown.room()
     print("%-16s %6s %6s %6s %8s  %-19s %-19s %-8s %s" % (
         "drone", "bytes", "of", "pieces", "m/s", "m/s2: x, y, z", "jump m/s: x, y, z", "in cues", "box in mm: x, y, z"))
@@ -72,7 +71,6 @@ def print_drones(flown: Flown, motions: dict[str, Motion] | None) -> None:
 
 
 def print_cues(flown: Flown) -> None:
-    """Prints the cue sheet."""
     print("%5s %12s %12s  %-12s %s" % ("cue", "from", "to", "line", "who does what"))
     times = begins(flown)
     for k, cue in enumerate(flown.cues):
@@ -86,20 +84,19 @@ def print_cues(flown: Flown) -> None:
 
 
 def nearest_of(flown: Flown, i: int, j: int) -> tuple[float, int, int, int, float]:
-    """Where two drones come nearest, measured by their ellipsoids: their share of the distance at which these touch, the
-    two, the cue and the fraction of it."""
+    """Where two drones come nearest, measured by their ellipsoids: their share of the distance at which these touch,
+    the two, the cue and the fraction of it."""
     (r, h), best = flown.show.settings["ellipsoid"], (inf, i, j, 0, 0.0)
     for cue in range(len(flown.cues)):
         first, second = flown.by_cue[i][cue][1], flown.by_cue[j][cue][1]
         gap = [max(0, min(b) - max(a), min(a) - max(b)) for a, b in zip(first[:3], second[:3])]
         if hypot(gap[0] / r, gap[1] / r, gap[2] / h) / 2 < best[0]:
-            near = separation.Nearest(separation.difference(first, second), r, h)
+            near = separation.nearest_in(flown, i, j, cue)
             best = (near.share, i, j, cue, near.at) if near.share < best[0] else best
     return best
 
 
 def print_nearest(flown: Flown, most: int) -> None:
-    """Prints the pairs that come nearest."""
     times = begins(flown)
     rows = [nearest_of(flown, i, j) for i, j in combinations(range(len(flown.names)), 2)]
     for share, i, j, cue, u in sorted(rows)[:most]:
@@ -117,8 +114,7 @@ def in_words(flown: Flown, word: str, *numbers: int) -> str:
 
 
 def print_margin(flown: Flown, text: bytes, deep: int) -> None:
-    """Prints by how much the ellipsoid can grow, in whole percent, and the stray and the lateness, in whole millimetres
-    and milliseconds."""
+    """Prints by how much the ellipsoid can grow, in percent, and stray and lateness, in whole mm and ms."""
     (r, h), (stray,), (late,) = [flown.show.settings[word] for word in ("ellipsoid", "stray", "late")]
     share, above = greatest(deep, 100 * 2000 // max(r, h) + 1, lambda k: with_setting(
         text, "ellipsoid", max(1, r * k // 100), max(1, h * k // 100)))
@@ -168,9 +164,7 @@ def main(words: list[str]) -> int:
     reader.add_argument("--cues", action="store_true",
                         help="the cue sheet: the time of each cue, its line, and the drones that move")
     reader.add_argument("--program", metavar="PATH", help="the program to ask, if not the one that is built here")
-    reader.add_argument("show", metavar="SHOW", help="a file with a show, or - for standard input")
-    options = reader.parse_args(words)
-    text, flown = flown_of(options.show)
+    options, text, flown = words_and_show(reader, words)
     settings = flown.show.settings
     print("%s, %s, %s" % (many(len(flown.names), "drone"), many(len(flown.cues), "cue"), seconds(flown.milliseconds)))
     print("memory %d at offset %d, trajectory %d, ellipsoid %d mm to the side and %d mm up and down" % (

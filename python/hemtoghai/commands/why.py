@@ -10,10 +10,11 @@ from collections.abc import Iterable, Iterator
 from dataclasses import dataclass
 from math import hypot
 
-from hemtoghai.companion import (add_depth, ask_check, begins, cue_words, flown_of, many, missing, parser, place,
-                                 seconds, stop, write_file)
+from hemtoghai.companion import (add_depth, ask_check, begins, cue_words, many, missing, parser, place, seconds, stop,
+                                 words_and_show, write_file)
 from hemtoghai.geometry import separation
-from hemtoghai.geometry.causes import cause_of, is_clear, reach_with, ruler_of
+from hemtoghai.geometry.causes import cause_of, is_clear
+from hemtoghai.geometry.separation import ruler_of
 from hemtoghai.language import choreo
 from hemtoghai.language.choreo import Flown
 from hemtoghai.writing.dealing import costs, dealt, form_lines, total
@@ -25,8 +26,7 @@ MOST_CURES = 40
 
 @dataclass(frozen=True)
 class Place:
-    """Two drones that are blocked in a cue, where they come nearest in it, and the first of its parts that is
-    blocked."""
+    """Two drones that are blocked in a cue, where they come nearest in it, and the first blocked one of its parts."""
     near: separation.Nearest
     i: int
     j: int
@@ -56,10 +56,9 @@ def both_words(flown: Flown, i: int, j: int, cue: int, u: float) -> tuple[str, f
 
 
 def axes_of(flown: Flown) -> tuple[float, float]:
-    """The half axes of what is kept clear around a drone, with the show's stray and half of the way that it may fly
-    while it is late."""
-    (r, h), (stray,), (late,) = [flown.show.settings[word] for word in ("ellipsoid", "stray", "late")]
-    x, y, z = reach_with(flown, late)
+    """The half axes of what is kept clear around a drone, with the stray and half of its way while it is late."""
+    (r, h), (stray,) = [flown.show.settings[word] for word in ("ellipsoid", "stray")]
+    x, y, z = separation.reach_of(flown)
     return r + stray + max(x, y) / 2, h + stray + z / 2
 
 
@@ -97,28 +96,19 @@ def helps(flown: Flown, drones: Iterable[int], cue: int, deep: int) -> list[tupl
     ruler, found = ruler_of(flown), []
     for drone in drones:
         for remedy in remedies(flown, drone, cue):
-            left = []
-            for other, name in enumerate(flown.names):
-                theirs = flown.by_cue[other][cue][1]
-                if other != drone and not all(is_clear(mine, become(theirs), ruler, deep)
-                                              for mine, become in remedy.stages):
-                    left.append(name)
-            found.append((remedy, left))
+            found.append((remedy, [name for other, name in enumerate(flown.names) if other != drone and not all(
+                is_clear(mine, become(flown.by_cue[other][cue][1]), ruler, deep) for mine, become in remedy.stages)]))
     return sorted(found, key=lambda row: (len(row[1]), row[0].takes))
 
 
 def standing(flown: Flown, i: int, j: int, cue: int, deep: int) -> list[str]:
     """At which ends of a cue two drones would be blocked if they stood there: the words."""
-    ruler, out = ruler_of(flown), []
     first, second = flown.by_cue[i][cue][1], flown.by_cue[j][cue][1]
-    for word, become in (("begins", first_of), ("ends", last_of)):
-        if not is_clear(become(first), become(second), ruler, deep):
-            out.append(word)
-    return out
+    return [word for word, become in (("begins", first_of), ("ends", last_of))
+            if not is_clear(become(first), become(second), ruler_of(flown), deep)]
 
 
 def print_help(flown: Flown, i: int, j: int, cue: int, deep: int) -> None:
-    """Prints what helps two drones in a cue."""
     ends = standing(flown, i, j, cue, deep)
     for word in ends:
         words, side, up = both_words(flown, i, j, cue, 0 if word == "begins" else 1)
@@ -197,11 +187,8 @@ def print_counts(flown: Flown, deep: int, found: list[Place]) -> None:
 
 def explain_separation(flown: Flown, lines: list[bytes], deep: int, most: int) -> int:
     """Prints each pair and cue that is blocked, in the order of time; the number of them."""
-    r, h = flown.show.settings["ellipsoid"]
-    found = []
-    for i, j, cue, index in separation.blocked_places(flown, deep):
-        part = separation.difference(flown.by_cue[i][cue][1], flown.by_cue[j][cue][1])
-        found.append(Place(separation.Nearest(part, r, h), i, j, cue, index))
+    found = [Place(separation.nearest_in(flown, i, j, cue), i, j, cue, index)
+             for i, j, cue, index in separation.blocked_places(flown, deep)]
     if not found:
         return 0
     print_counts(flown, deep, found)
@@ -316,15 +303,9 @@ def main(words: list[str]) -> int:
     add_depth(reader)
     reader.add_argument("--most", type=int, default=20, metavar="N", help="show at most N places, without it 20")
     reader.add_argument("--cured", metavar="FILE", help="write the show with remedies to FILE")
-    reader.add_argument("show", metavar="SHOW", help="a file with a show, or - for standard input")
-    options = reader.parse_args(words)
-    text, flown = flown_of(options.show)
+    options, text, flown = words_and_show(reader, words)
     answer = ask_check(text, options.depth)
-    if answer:
-        print("check: " + answer[1])
-    else:
-        print(missing())
-    print()
+    print("check: " + answer[1] if answer else missing(), end="\n\n")
     smallness = small(flown)
     if smallness:
         print(smallness + "\n")
@@ -337,10 +318,10 @@ def main(words: list[str]) -> int:
         return 4
     blocked = explain_separation(flown, lines, options.depth, options.most)
     own = 5 if blocked else 0
-    if blocked and options.cured:
-        write_cured(options.cured, text, options.depth)
     if not blocked:
         print("Nothing is blocked at depth %d: all drones are apart." % options.depth)
+    elif options.cured:
+        write_cured(options.cured, text, options.depth)
     if answer and answer[0] != own:
         stop("check ends with %d and this tool with %d: one of them is wrong; please report the show"
              % (answer[0], own))

@@ -54,25 +54,14 @@ class Editor:
 
     def drop_drones(self) -> None:
         """Drops the drones, their places and their acts outside figures, and what is left empty."""
-        emptied = set()
-        for line in self.show.drones:
-            if line.values[0] in self.gone:
-                self.drop(line)
-        for name, formation in self.show.formations.items():
-            places = [place for place in formation.body if place.values[0] in self.gone]
-            if len(places) == len(formation.body):
-                emptied.add(name)
-                self.drop(formation)
-            for place in places:
-                self.drop(place)
-        for line in choreo.inside(self.show.top):
-            if line.kind == "form" and line.values[0] in emptied:
-                self.drop(line)
+        emptied = {name for name, formation in self.show.formations.items()
+                   if all(place.values[0] in self.gone for place in formation.body)}
         for block in self.show.top.body:
-            if block.kind != "figure":
-                for line in choreo.inside(block):
-                    if line.kind == "act" and line.values[0] in self.gone:
-                        self.drop(line)
+            named = ("drone", "at") if block.kind == "figure" else ("drone", "at", "act")
+            for line in [block, *choreo.inside(block)]:
+                names = self.gone if line.kind in named else emptied if line.kind in ("formation", "form") else ()
+                if line.values[0] in names:
+                    self.drop(line)
 
     def change_performs(self) -> None:
         """Takes the drones out of performs, and their roles out of figures."""
@@ -113,7 +102,6 @@ class Editor:
         self.changed[line.number] = with_words(self.lines[line.number - 1], words)
 
     def text(self) -> bytes:
-        """The new show."""
         out = []
         for number, line in enumerate(self.lines, 1):
             if number not in self.dropped:

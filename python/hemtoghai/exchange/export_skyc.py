@@ -115,7 +115,6 @@ def drones_of(path: str) -> list[tuple[str, bytes, int]]:
 
 
 def amount(word: str) -> Fraction:
-    """A number of millimetres from 0.001 on."""
     if not 0.001 <= float(word) <= 1000:
         raise ValueError
     return Fraction(word)

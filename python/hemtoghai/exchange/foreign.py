@@ -24,6 +24,7 @@ from hemtoghai.companion import read_front
 from hemtoghai.geometry import paths
 from hemtoghai.geometry.paths import part, Path, PI
 from hemtoghai.language.choreo import MOST_DRONES
+from hemtoghai.language.lines import free_name
 
 Kind = TypeVar("Kind")
 Row = List[Fraction]  # numbers of a line, control values, or a place
@@ -56,7 +57,6 @@ class Counter:
         self.most, self.left, self.things = most, most, things
 
     def take(self, count: int = 1) -> None:
-        """Counts so many more."""
         self.left -= count
         if self.left < 0:
             raise Unreadable("more than %d %s" % (self.most, self.things))
@@ -95,9 +95,7 @@ def name_of(word: str, taken: set[str]) -> str:
     """A drone's name in a show, from another program's: unlike all in `taken`, to which it is added."""
     base = re.sub("[^a-z0-9_]", "_", word.lower()).strip("_") or "d"
     base = ("" if base[0].isalpha() else "d") + base + ("_" if base in ("form", "end") else "")
-    name, k = base[:16], 2
-    while name in taken:
-        name, k = base[:15 - len(str(k))] + "_%d" % k, k + 1
+    name = free_name(base, taken) if base[:16] in taken else base[:16]
     taken.add(name)
     return name
 
@@ -161,7 +159,6 @@ class Archive:
         return [name for name in self.file.namelist() if not name.endswith("/")]
 
     def data(self, where: str) -> bytes:
-        """The bytes of a member."""
         try:
             about = self.file.getinfo(where)
         except KeyError:
@@ -256,7 +253,6 @@ AUTOMATIC = "automatic yaw"
 
 
 def skyc_path(archive: Archive, where: str, settings: object, name: str) -> Path[Fraction]:
-    """The path of a drone of a .skyc."""
     trajectory = archive.follow(field(settings, "trajectory", dict, where))
     version = field(trajectory, "version", Fraction, where, Fraction(1))
     if version != 1:
@@ -285,7 +281,6 @@ def skyc_path(archive: Archive, where: str, settings: object, name: str) -> Path
 
 
 def stays(begin: Fraction, place: Row) -> Piece:
-    """A piece of a path that stays in a place."""
     return begin, begin + 1, [[v] for v in place]
 
 
@@ -337,8 +332,7 @@ def limited(path: str) -> bytes:
 
 
 def separator_of(text: str) -> str:
-    """What parts the cells of a text: a semicolon or a tab, where its first row has one outside of quotes, else a
-    comma."""
+    """What parts the cells of a text: a semicolon or a tab, if its first row has one outside of quotes, or a comma."""
     for line in itertools.islice(io.StringIO(text, newline=None), LINES):
         if line.strip() and not line.lstrip().startswith("#"):
             bare = "".join(line.split('"')[::2])
@@ -515,7 +509,6 @@ def read_starts(path: str) -> dict[str, Row]:
 
 
 def is_archive(data: bytes) -> bool:
-    """Whether bytes are those of a zip."""
     return data[:2] == b"PK"
 
 

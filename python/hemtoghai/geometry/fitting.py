@@ -178,8 +178,7 @@ class Fit:
         return out
 
     def text(self, head: list[str], form: int, cues: slice = slice(None), wait: int = 0) -> str:
-        """The show's text after these first lines, in a form of the language, or that of some of its cues after a
-        wait."""
+        """The show's text after these first lines, in a form of the language, or that of some cues after a wait."""
         chosen = self.cues[cues]
         starts = [[row[0] for row in act.rows] for act in chosen[0].acts]
         lines = head + [line_in(form, "drone", path.name, *start) for path, start in zip(self.paths, starts)]

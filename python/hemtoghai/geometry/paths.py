@@ -36,7 +36,6 @@ class Budget:
         self.most = self.left = most
 
     def take(self, count: int = 1) -> None:
-        """Counts so many more."""
         self.left -= count
         if self.left < 0:
             raise TooLong
@@ -94,7 +93,6 @@ def halved(row: Row[float]) -> tuple[Row[float], Row[float]]:
 
 
 def in_whole_numbers(row: Row[Fraction]) -> Whole:
-    """Fractions as whole numbers."""
     over = lcm(*(v.denominator for v in row))
     return [v.numerator * (over // v.denominator) for v in row], over
 
@@ -124,8 +122,7 @@ def exact_part(row: Row[Fraction], u: Fraction, v: Fraction) -> Row[Fraction]:
 
 @functools.lru_cache(maxsize=None)
 def raising(low: int, high: int) -> tuple[list[list[tuple[int, int]]], int]:
-    """How control values of a high degree are made of those of a low one, each of (which, times), and what these are
-    to be divided by."""
+    """How control values of a high degree are made of a low one's, each of (which, times), and what divides these."""
     over = lcm(*(comb(high, k) for k in range(high + 1)))
     return [[(j, comb(low, j) * comb(high - low, k - j) * (over // comb(high, k)))
              for j in range(max(0, k - high + low), min(low, k) + 1)] for k in range(high + 1)], over
@@ -233,7 +230,6 @@ class Path(Generic[Number]):
         self.moving = [k for k, still in enumerate(self.still) if not still]
 
     def in_doubles(self) -> Path[float]:
-        """The same path in doubles."""
         pieces = [(float(a), float(b), [[float(v) for v in row] for row in rows]) for a, b, rows in self.pieces]
         return Path(self.name, pieces, float(self.reach))
 
@@ -242,7 +238,6 @@ class Path(Generic[Number]):
         return max(0, bisect.bisect_right(self.begins, t) - 1)
 
     def at(self, t: Number) -> Row[Number]:
-        """The place at an instant."""
         begin, end, rows = self.pieces[self.piece_at(t)]
         u = (min(max(t, begin), end) - begin) / (end - begin)
         return [value(row, u) for row in rows]

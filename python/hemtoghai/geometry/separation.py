@@ -69,13 +69,15 @@ def speed(milliseconds: int, b: Row) -> int:
     return -(-7000000 * (step << REACH_DEPTH) // (5040 * milliseconds << 7 * REACH_DEPTH))
 
 
-def reach_of(flown: Flown) -> Direction:
-    """How many millimetres any drone moves on x, y and z at most in the time by which one may be late."""
-    (late,) = flown.show.settings["late"]
+def reach_of(flown: Flown, late: int | None = None) -> Direction:
+    """How many millimetres any drone moves on x, y and z at most in so many milliseconds, those of the show if none."""
+    late = flown.show.settings["late"][0] if late is None else late
     if not late:
         return 0, 0, 0
-    fastest = [max(speed(ms, elements[axis]) for flight in flown.by_cue for ms, elements in flight) for axis in range(3)]
-    x, y, z = (min(FARTHEST, -(-late * v // 1000000)) for v in fastest)
+    if not hasattr(flown, "fastest"):
+        flown.fastest = [max(speed(milliseconds, elements[axis]) for flight in flown.by_cue
+                             for milliseconds, elements in flight) for axis in range(3)]
+    x, y, z = (min(FARTHEST, -(-late * v // 1000000)) for v in flown.fastest)
     return x, y, z
 
 
@@ -98,10 +100,7 @@ class Ruler:
         """The first of the eight control values that is below the threshold of a direction, or None."""
         x, y, z = self.weights[number]
         least = self.thresholds[number] << (7 * depth)
-        for k, (a, b, c) in enumerate(zip(*part)):
-            if x * a + y * b + z * c < least:
-                return k
-        return None
+        return next((k for k, (a, b, c) in enumerate(zip(*part)) if x * a + y * b + z * c < least), None)
 
     def separates(self, part: Part, depth: int, number: int) -> bool:
         """Whether a direction separates a part; both ends are looked at first."""
@@ -116,22 +115,17 @@ class Ruler:
 
 
 def tree(part: Part, ruler: Ruler, most: int, depth: int = 0) -> str | None:
-    """The tree with the largest leaves, in each the first direction, as a line; or None where a part of depth `most`
-    has none."""
+    """The tree with the largest leaves, each with the first direction; None where a part of depth `most` has none."""
     number = ruler.first(part, depth)
-    if number is not None:
-        return word_of(ruler.version, number)
-    if depth == most:
-        return None
+    if number is not None or depth == most:
+        return None if number is None else word_of(ruler.version, number)
     left, right = (tree(half, ruler, most, depth + 1) for half in cut(part))
     return None if left is None or right is None else "." + left + right
 
 
 def blocked(part: Part, ruler: Ruler, most: int, depth: int = 0, index: int = 0, hint: int = 0) -> int | None:
     """The index of the first part of depth `most` along which no direction separates the two, or None."""
-    numbers = [hint, *range(len(ruler.weights))]
-    number = next((n for n in numbers if ruler.separates(part, depth, n)), None)
-    if number is not None:
+    if any(ruler.separates(part, depth, n) for n in (hint, *range(len(ruler.weights)))):
         return None
     if depth == most:
         return index
@@ -140,20 +134,17 @@ def blocked(part: Part, ruler: Ruler, most: int, depth: int = 0, index: int = 0,
     return blocked(right, ruler, most, depth + 1, 2 * index + 1, hint) if found is None else found
 
 
-def ruler_of(flown: Flown, version: int = 2) -> Ruler:
-    """The ruler of a show."""
-    (stray,) = flown.show.settings["stray"]
+def ruler_of(flown: Flown, version: int = 2, stray: int | None = None, late: int | None = None) -> Ruler:
+    """The ruler of a show, or that with another stray, in millimetres, or another lateness, in milliseconds."""
+    stray = flown.show.settings["stray"][0] if stray is None else stray
     r, h = flown.show.settings["ellipsoid"]
-    return Ruler(r, h, version, stray, reach_of(flown))
+    return Ruler(r, h, version, stray, reach_of(flown, late))
 
 
 def are_far(first: list[Row], second: list[Row], ruler: Ruler) -> bool:
-    """Whether the boxes around two curves are so far apart along one axis that this axis' direction separates the whole
-    cue."""
-    for a, b, (weight, least) in zip(first, second, ruler.axes):
-        if weight * max(min(b) - max(a), min(a) - max(b)) >= least:
-            return True
-    return False
+    """Whether the boxes around two curves are so far apart along an axis that its direction separates the whole cue."""
+    return any(weight * max(min(b) - max(a), min(a) - max(b)) >= least
+               for a, b, (weight, least) in zip(first, second, ruler.axes))
 
 
 def slots(flown: Flown) -> Iterator[tuple[int, int, int]]:
@@ -207,8 +198,7 @@ def certificate(flown: Flown, depth: int, version: int = 2) -> str:
 
 
 def nodes_of(line: bytes, version: int) -> Nodes | None:
-    """The nodes of a tree in preorder, None for a split and else the number of a direction; or None where it isn't one
-    tree."""
+    """The nodes of a tree in preorder, None for a split, else a direction's number; None where it isn't one tree."""
     nodes: Nodes = []
     owed, at, width = 1, 0, version
     while at < len(line):
@@ -294,6 +284,11 @@ def square(b: Row) -> Row:
     weighted = [comb(7, k) * v for k, v in enumerate(b)]
     return [SCALE // comb(14, k) * sum(weighted[i] * weighted[k - i] for i in range(max(0, k - 7), min(7, k) + 1))
             for k in range(15)]
+
+
+def nearest_in(flown: Flown, i: int, j: int, cue: int) -> Nearest:
+    """Where two drones of a show come nearest in a cue, from 0."""
+    return Nearest(difference(flown.by_cue[i][cue][1], flown.by_cue[j][cue][1]), *flown.show.settings["ellipsoid"])
 
 
 class Nearest:

@@ -9,7 +9,6 @@ from __future__ import annotations
 
 import re
 from collections.abc import Iterator, Sequence
-from math import comb, isqrt
 from typing import Any, Dict, List, NamedTuple, Tuple
 
 from hemtoghai.language import quantities
@@ -72,8 +71,7 @@ NAME_FAULTS = ["double-name drone", "double-name formation, figure", "double-nam
 # ---- lines
 
 class Refused(Exception):
-    """A refusal: its status, the words of its fault line, the outcome that it counts as, and its line number if it has
-    one."""
+    """A refusal: its status, the words of its fault line, the outcome that it counts as, and maybe its line number."""
 
     def __init__(self, status: int, words: str, outcome: str, number: int | None = None) -> None:
         super().__init__("error %d %s" % (status, words))
@@ -95,7 +93,6 @@ class Line:
 
 
 def is_name(word: str) -> bool:
-    """Whether a word is a name."""
     return re.fullmatch("[a-z][a-z0-9_]{0,15}", word) is not None and word not in ("form", "end")
 
 
@@ -118,7 +115,6 @@ def number_of(slot: Number, word: str, form: int) -> int | None:
 
 
 def value_of(number: int, slot: Any, word: str, form: int = 1) -> Any:
-    """The value of a word in its slot."""
     if slot in ("name", "names"):
         if not is_name(word):
             raise fault(number, "bad-name")
@@ -136,8 +132,7 @@ def value_of(number: int, slot: Any, word: str, form: int = 1) -> Any:
 
 
 def slots_of(number: int, words: list[str], blocks: list[Line]) -> tuple[str, list[str], list[Any]]:
-    """What a line is, where these blocks are open: its kind, the first words that say so, and the slots of those after
-    them, one for each."""
+    """What a line is, where these blocks are open: its kind, the first words, that say so, and slots for the others."""
     place, in_figure = blocks[-1].kind, any(block.kind == "figure" for block in blocks)
     if place == "cue" and words[0] != "end" and (in_figure or words[0] != "form"):
         if not is_name(words[0]):
@@ -165,7 +160,6 @@ def line_of(number: int, words: list[str], blocks: list[Line]) -> Line:
 
 
 def word_of(slot: Any, value: Any, form: int) -> str:
-    """The word of a value in its slot, in a form of the language."""
     if form == 2 and isinstance(slot, Number) and slot.counts:
         return quantities.written(slot.counts, value)
     return str(value)
@@ -260,7 +254,6 @@ def faults_of_declarations(show: Show, drones: set[str]) -> Iterator[tuple[int, 
 
 
 def faults_of_cue(show: Show, cue: Line, known: set[str], in_figure: bool) -> Iterator[tuple[int, str]]:
-    """The faults of names in a cue."""
     acted: set[str] = set()
     formed: set[str] = set()
     for line in cue.body:
@@ -281,7 +274,6 @@ def faults_of_cue(show: Show, cue: Line, known: set[str], in_figure: bool) -> It
 
 
 def faults_of_perform(show: Show, line: Line, drones: set[str]) -> Iterator[tuple[int, str]]:
-    """The faults of names of a perform."""
     figure, players = show.figures.get(line.values[0]), line.values[6:]
     if figure is None:
         yield line.number, "unknown-name figure"
@@ -310,12 +302,8 @@ def count(show: Show, lines: list[Line]) -> int:
     """How many cues some lines stand for."""
     total = 0
     for line in lines:
-        if line.kind == "cue":
-            total += 1
-        elif line.kind == "repeat":
-            total += line.values[0] * count(show, line.body)
-        else:
-            total += count(show, show.figures[line.values[0]].body)
+        body = show.figures[line.values[0]].body if line.kind == "perform" else line.body
+        total += 1 if line.kind == "cue" else count(show, body) * (line.values[0] if line.kind == "repeat" else 1)
     return total
 
 
@@ -443,7 +431,6 @@ def yaws(act: str, begin: int, end: int) -> Row:
 
 
 def round_controls(act: str, at: Row, to: Any) -> list[Row]:
-    """The control values of a quarter circle."""
     start, end = ways(at, to)
     if act == "arc":
         rows = [[a, a + millionths(552285, w), c + w + millionths(552285, v), c + w]
@@ -504,7 +491,6 @@ def two_bytes(v: int) -> bytes:
 
 
 def segment_bytes(milliseconds: int, elements: list[Row]) -> bytes:
-    """The bytes of a segment."""
     header = sum(KINDS[len(e)] << (2 * k) for k, e in enumerate(elements))
     numbers = b"".join(two_bytes(v) for e in elements for v in e[1:])
     return bytes([header]) + milliseconds.to_bytes(2, "little") + numbers
@@ -519,8 +505,7 @@ def bytes_of(start: Row, segments: list[Segment]) -> bytes:
 class Flown:
     """What a show's drones fly: its cues, and for each drone its start in micrometres and tenths of a degree, one
     segment a cue as (milliseconds, elements) in `by_cue`, and what it is sent, holds joined, in `sent`."""
-    fastest: list[int]  # worked out where it is asked for, as is the ruler
-    ruler: Any
+    fastest: list[int]  # worked out where it is asked for
 
     def __init__(self, show: Show) -> None:
         self.show, self.names = show, show.names
@@ -541,7 +526,6 @@ class Flown:
         self.milliseconds = sum(cue.milliseconds for cue in self.cues)
 
     def data(self) -> list[bytes]:
-        """Each drone's bytes."""
         return [bytes_of(start, segments) for start, segments in zip(self.starts, self.sent)]
 
     def room(self) -> int:
@@ -549,7 +533,6 @@ class Flown:
         return MEMORY - self.show.settings["memory"][1]
 
     def plan(self) -> str:
-        """The text of the plan."""
         memory, offset = self.show.settings["memory"]
         (trajectory,) = self.show.settings["trajectory"]
         out = "plan 1\n"
@@ -575,12 +558,9 @@ def packets(memory: int, offset: int, trajectory: int, data: bytes, pieces: int)
 
 
 def parts_of(whole: bytes) -> tuple[bytes, bytes | None, list[int]]:
-    """The show's text, the second text or None where there is no marker line, and the lines of the first two marker
-    lines."""
-    lines, markers = whole.split(b"\n"), []
-    for number, line in enumerate(lines, 1):
-        if line in (b"%%", b"%%\r"):
-            markers.append(number)
+    """The show's text, the second text or None where there is no marker line, and the numbers of the first two."""
+    lines = whole.split(b"\n")
+    markers = [number for number, line in enumerate(lines, 1) if line in (b"%%", b"%%\r")]
     if not markers:
         return whole, None, []
     text = b"".join(line + b"\n" for line in lines[:markers[0] - 1])

@@ -66,8 +66,7 @@ LONGEST_SHOWN = 40  # bytes of a word of which other ways of writing it are name
 
 
 def row_of(word: str) -> Row | None:
-    """What a fault of a line means, its commonest cause or nothing, and its cure; None where the table has no such
-    word."""
+    """What a fault of a line means, its commonest cause or nothing, and its cure; None where the table hasn't it."""
     with open(os.path.join(TOP, LANGUAGE), encoding="utf-8") as lines:
         for line in lines:
             cells = [cell.strip() for cell in line.strip().strip("|").split("|")]
@@ -113,8 +112,7 @@ def range_row(line: bytes, form: int = 1) -> Row | None:
 
 
 def number_row(line: bytes, form: int) -> Row | None:
-    """The row of the word of a line that stands in the place of a number and is none; None where nothing more is known
-    of it."""
+    """The row of the word of a line that stands in place of a number and is none; None if no more is known of it."""
     from hemtoghai.language.choreo import number_of
     for word, slot, (name, *_) in numbers_of(line):
         if number_of(slot, word, form) is None:
@@ -163,7 +161,6 @@ def listed(words: Iterable[str]) -> str:
 
 
 def fits(slot: Number, word: str) -> bool:
-    """Whether a word is a quantity in a slot and in its range."""
     from hemtoghai.language.choreo import number_of
     value = number_of(slot, word, 2)
     return value is not None and slot.least <= value <= slot.most

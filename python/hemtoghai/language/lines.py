@@ -2,6 +2,7 @@
 form of that text, and one that makes a new text in the newest form."""
 from __future__ import annotations
 
+import itertools
 import re
 from collections.abc import Collection
 
@@ -29,9 +30,5 @@ def with_words(line: bytes, words: str) -> bytes:
 
 def free_name(name: str, taken: Collection[str]) -> str:
     """A name that none has, made from another one; it has at most 16 letters."""
-    number = 2
-    while True:
-        end = "_%d" % number
-        if name[:16 - len(end)] + end not in taken:
-            return name[:16 - len(end)] + end
-        number += 1
+    names = (name[:15 - len(str(number))] + "_%d" % number for number in itertools.count(2))
+    return next(it for it in names if it not in taken)

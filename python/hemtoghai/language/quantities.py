@@ -41,9 +41,7 @@ def number_of(digits: str) -> int:
 
 def moved(digits: str, places: int) -> str | None:
     """The digits of a number times ten to the power of `places`; None where that isn't whole."""
-    if places >= 0:
-        return digits + "0" * places
-    return digits[:places] if not digits[places:].strip("0") else None
+    return digits + "0" * places if places >= 0 else digits[:places] if not digits[places:].strip("0") else None
 
 
 def value_of(counts: Counts, word: str) -> int | None:
@@ -56,9 +54,7 @@ def value_of(counts: Counts, word: str) -> int | None:
         return None
     fraction = found[3] or ""
     digits = moved(found[2] + fraction, counts.units[found[4]] - len(fraction))
-    if digits is None:
-        return None
-    return -number_of(digits) if found[1] else number_of(digits)
+    return None if digits is None else -number_of(digits) if found[1] else number_of(digits)
 
 
 # ---- writing

@@ -21,8 +21,7 @@ def colour(k: int, count: int) -> str:
     if count <= len(FEW):
         return FEW[k]
     hue = k * 137.5 % 360
-    light = [36, 48][k % 2] - (10 if 40 < hue < 190 else 0)
-    return "hsl(%d,%d%%,%d%%)" % (round(hue), 65 if k % 2 else 95, light)
+    return "hsl(%d,%d%%,%d%%)" % (round(hue), 65 if k % 2 else 95, [36, 48][k % 2] - (10 if 40 < hue < 190 else 0))
 
 
 class View:
@@ -51,7 +50,6 @@ class View:
         return ca * dx + sa * dy, far * se + dz * ce, far * ce - dz * se
 
     def point(self, place: Place) -> Point:
-        """The point of a place."""
         x, y, _ = self.flat(place)
         return WIDTH / 2 + self.scale * x, self.above - self.scale * y
 
@@ -77,10 +75,8 @@ def floor_lines(view: View, low: Place, high: Place) -> Iterator[str]:
     for axis in (0, 1):
         first, last = -(-low[axis] // step), high[axis] // step
         for k in range(int(first), int(last) + 1):
-            ends = []
-            for other in (low[1 - axis], high[1 - axis]):
-                place = [step * k, other, 0] if axis == 0 else [other, step * k, 0]
-                ends.append(view.point(place))
+            ends = [view.point([step * k, other, 0] if axis == 0 else [other, step * k, 0])
+                    for other in (low[1 - axis], high[1 - axis])]
             yield '<polyline points="%s" fill="none" stroke="#ddd"/>' % coordinates(ends)
 
 
@@ -97,8 +93,7 @@ def drone_lines(view: View, flown: Flown, row: Place, k: int, opacity: float) ->
 
 
 def drawing_of(flown: Flown, times: Sequence[int], places: Sequence[Sequence[Place]]) -> str:
-    """The text of the drawing: the floor, all paths, the drones at their starts, faint, and in the first cue in which
-    they fly."""
+    """The text of the drawing: floor, paths, and the drones at their starts, faint, and in the first cue in flight."""
     r, h = flown.show.settings["ellipsoid"]
     rows: list[Place] = [place[:3] for row in places for place in row]
     low = [min(row[k] for row in rows) - r for k in range(3)]

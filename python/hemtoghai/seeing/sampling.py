@@ -71,6 +71,27 @@ def worked_out(flown: choreo.Flown, step: int, also: Iterable[int] = ()) -> tupl
     return times, places
 
 
+def rows_of_play(text: bytes, program: str | None, deep: int, step: int) -> list[str] | None:
+    """The rows of the program's `play`, or None where it isn't there."""
+    answer = ask(program, ["play", "--depth", str(deep), "--step", str(step)], text) if program else None
+    return answer[1].splitlines() if answer and answer[0] == 0 else None
+
+
+def flight_of(flown: choreo.Flown, step: int, rows: list[str] | None, also: Iterable[int],
+              regions: list[Region]) -> tuple[dict[str, Any], list[list[Sample]]]:
+    """What a page draws, a sample each so many milliseconds, and the places: by rows of `play`, or else by the tool."""
+    times, places = played(rows, flown.names) if rows else worked_out(flown, step, also)
+    (r, h), (stray,), (late,) = [flown.show.settings[word] for word in ("ellipsoid", "stray", "late")]
+    columns: list[tuple[Sample, ...]] = list(zip(*places))
+    return {
+        "source": "play" if rows else "tool", "step": step, "r": r, "h": h, "stray": stray, "late": late,
+        "regions": regions, "names": flown.names, "times": times, "end": flown.milliseconds,
+        "xyz": [[round(number) for sample in column for number in sample[:3]] for column in columns],
+        "yaw": [[round(sample[3]) for sample in column] for column in columns],
+        "cues": [[begin, cue_words(cue)] for begin, cue in zip(begins(flown), flown.cues)],
+    }, places
+
+
 def shares(flown: choreo.Flown, places: list[list[Sample]]) -> tuple[list[list[float]], list[list[float]]]:
     """At each sample the nearest pair as (share, first, second), and of each pair the sample at which it is nearest."""
     r, h = flown.show.settings["ellipsoid"]
@@ -96,10 +117,8 @@ def shares(flown: choreo.Flown, places: list[list[Sample]]) -> tuple[list[list[f
 def mark_of(flown: choreo.Flown, deep: int, i: int, j: int, cue: int, index: int) -> Mark:
     """A place in which two drones are blocked: from, to, both drones, cue, the nearest instant, all in milliseconds,
     how near they are there, whether they touch, the cause where it is the show's `stray` or `late`, and words."""
-    r, h = flown.show.settings["ellipsoid"]
     begin, lasts, parts = begins(flown)[cue], flown.cues[cue].milliseconds, 2 ** deep
-    part = separation.difference(flown.by_cue[i][cue][1], flown.by_cue[j][cue][1])
-    near = separation.Nearest(part, r, h)
+    near = separation.nearest_in(flown, i, j, cue)
     cause = None if near.touch else cause_of(flown, i, j, cue, deep)
     words = "%s and %s in cue %d, %s: nearest at %s with %.1f %% of what their ellipsoids need, %s" % (
         flown.names[i], flown.names[j], cue + 1, cue_words(flown.cues[cue]), seconds(begin + lasts * near.at),
@@ -111,8 +130,7 @@ def mark_of(flown: choreo.Flown, deep: int, i: int, j: int, cue: int, index: int
 
 
 def blocked_marks(flown: choreo.Flown, deep: int) -> list[Mark]:
-    """The places in which two drones are blocked, that first in which they come nearest; `named` is the one that
-    `check` names."""
+    """The places in which two drones are blocked, the nearest first; `named` is the one that `check` names."""
     marks = [mark_of(flown, deep, *found) for found in separation.blocked_places(flown, deep)]
     for mark in marks[:1]:
         mark["named"] = True

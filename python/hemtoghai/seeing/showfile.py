@@ -96,7 +96,6 @@ def text_of(data: bytes) -> tuple[str, str, bool]:
 
 
 def bytes_of(text: str) -> bytes:
-    """The bytes of a text of the page."""
     return text.encode("utf-8", "surrogateescape")
 
 

@@ -1,6 +1,5 @@
-"""What stands around a line of a show's text, and where each drone is there: for the menu of ./show studio, which writes
-new drones, cues and acts with these numbers. The text may be half written: then what stands before the line is
-taken."""
+"""What stands around a line of a show's text, and where each drone is there: for the menu of ./show studio, that writes
+new drones, cues and acts with these numbers. Of a text that is half written what stands before the line is taken."""
 from __future__ import annotations
 
 from collections.abc import Iterator
@@ -55,26 +54,19 @@ def around(lines: list[bytes], line: int) -> list[Block]:
 
 def later_declarations(lines: list[bytes], line: int) -> list[bytes]:
     """The lines at top after a line that declare drones, formations, figures and settings, with what is in them."""
-    out = []
-    for number, word, opened in steps(lines):
-        declared = opened[0].kind in DECLARED if opened else word in DECLARED
-        begin = opened[0].number if opened else number
-        if declared and begin >= line:
-            out.append(lines[number - 1])
-    return out
+    return [lines[number - 1] for number, word, opened in steps(lines)
+            if (opened[0].kind if opened else word) in DECLARED and (opened[0].number if opened else number) >= line]
 
 
 def before(lines: list[bytes], line: int, opened: list[Block]) -> list[bytes]:
-    """The lines that are flown before a line: a repeat that is open there is flown once so far, and a cue that is open
-    there isn't flown yet."""
+    """The lines that are flown before a line: a repeat that is open there is flown once so far, an open cue not yet."""
     end = opened[-1].number if opened and opened[-1].kind in ("cue", "formation") else line
     repeats = {block.number for block in opened if block.kind == "repeat"}
     return [b"" if number in repeats else it for number, it in enumerate(lines[:end - 1], 1)]
 
 
 def read(lines: list[bytes]) -> choreo.Flown | None:
-    """What the drones of these lines fly, with a pause at the end so that there is a cue; None where they are
-    faulty."""
+    """What the drones of these lines fly, with a pause at the end so that there is a cue; None if they are faulty."""
     pause_of_text = line_in(choreo.form_of(b"\n".join(lines)), "cue", 1).encode()
     pauses: list[list[bytes]] = [[pause_of_text, b"end"], []]
     for pause in pauses:
@@ -141,12 +133,8 @@ def acted(lines: list[bytes], block: Block) -> list[str]:
 
 def names_declared(lines: list[bytes], kind: str) -> list[str]:
     """The names after a word at top."""
-    out = []
-    for number, word, opened in steps(lines):
-        words = lines[number - 1].split()
-        if word == kind and not opened and len(words) > 1:
-            out.append(words[1].decode(errors="replace"))
-    return out
+    rows = [lines[number - 1].split() for number, word, opened in steps(lines) if word == kind and not opened]
+    return [words[1].decode(errors="replace") for words in rows if len(words) > 1]
 
 
 def formed(lines: list[bytes], block: Block) -> list[str]:

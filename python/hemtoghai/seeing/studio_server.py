@@ -4,6 +4,7 @@ A request is answered only where its Host is this machine's own name with the st
 the page, and where its path begins with the studio's random word. Bodies, texts, processes and times are bounded."""
 from __future__ import annotations
 
+import contextlib
 import hmac
 import json
 import os
@@ -68,28 +69,22 @@ class Handler(BaseHTTPRequestHandler):
         if origin not in (["http://" + host for host in hosts] + ([None] if self.command == "GET" else [])):
             return 403
         token = urlsplit(self.path).path.split("/")[1:2] or [""]
-        if not hmac.compare_digest(token[0].encode(), self.studio.token.encode()):
-            return 403
-        return None
+        return None if hmac.compare_digest(token[0].encode(), self.studio.token.encode()) else 403
 
     def route(self, routes: Mapping[str, Callable[[], object]]) -> None:
         """Answers by the last part of the path."""
         status = self.refusal()
         name = urlsplit(self.path).path.split("/", 2)[2:]
-        try:
+        with contextlib.suppress(BrokenPipeError, ConnectionResetError, TimeoutError):
             if status is None and name and name[0] in routes:
                 routes[name[0]]()
             else:
                 self.send_words(status or 404, "refused" if status else "there is nothing here")
-        except (BrokenPipeError, ConnectionResetError, TimeoutError):
-            pass
 
     def do_GET(self) -> None:
-        """Answers what is read."""
         self.route({"": self.get_page, "text": self.get_text, "events": self.get_events})
 
     def do_POST(self) -> None:
-        """Answers what is judged, made or written."""
         works: dict[str, Callable[[Asked], None]] = {
             "judge": self.judge, "places": self.places, "save": self.save, "cure": self.cure, "deal": self.deal,
             "fly": self.fly, "end": self.end, "compile": lambda asked: self.download("compile", asked),
@@ -113,12 +108,10 @@ class Handler(BaseHTTPRequestHandler):
         self.wfile.write(words.encode() + b"\n")
 
     def send_data(self, data: Mapping[str, object], status: int = 200) -> None:
-        """Data as JSON."""
         self.head(status, "application/json")
         self.wfile.write(json.dumps(data).encode())
 
     def with_body(self, work: Callable[[Asked], None]) -> None:
-        """Reads the body, and answers."""
         length = self.headers.get("Content-Length", "")
         if not re.fullmatch("[0-9]{1,9}", length):
             return self.send_words(411, "how long is it?")
@@ -136,11 +129,8 @@ class Handler(BaseHTTPRequestHandler):
 
     def drain(self, length: int) -> None:
         """Reads a body that is too large, so that its sender can read the answer; not one without end."""
-        for _ in range(min(length, 8 * MOST_BODY) // 65536 + 1):
-            if not self.rfile.read(min(65536, length)):
-                break
-            length -= 65536
-            if length <= 0:
+        for begin in range(0, min(length, 8 * MOST_BODY + 1), 65536):
+            if not self.rfile.read(min(65536, length - begin)):
                 break
 
     def get_page(self) -> None:
@@ -152,14 +142,12 @@ class Handler(BaseHTTPRequestHandler):
         self.wfile.write(self.studio.page(nonce))
 
     def get_text(self) -> None:
-        """The file's text."""
         try:
             self.send_data(self.studio.text())
         except OSError as error:
             self.send_data({"words": self.fault_of_file(error)}, 500)
 
     def fault_of_file(self, error: OSError) -> str:
-        """What is wrong with the file, in words."""
         return "%s: %s" % (self.studio.file.name, error.strerror or error)
 
     def get_events(self) -> None:
@@ -171,7 +159,6 @@ class Handler(BaseHTTPRequestHandler):
             self.listen()
         finally:
             self.server.listeners.release()
-        return None
 
     def listen(self) -> None:
         """Writes what is in the file now, and then each change, until the page is gone or the studio ends."""
@@ -232,7 +219,6 @@ class Handler(BaseHTTPRequestHandler):
                 self.put({"stage": "stale"})
             finally:
                 job.cancel()
-        return None
 
     def text_to_judge(self, asked: Asked, page: str, number: int) -> bytes:
         """The text that a page sends: the whole, or the lines that changed since the one of the number `base`."""
@@ -245,7 +231,6 @@ class Handler(BaseHTTPRequestHandler):
         return self.studio.texts.changed(page, number, base, line, gone, put, length)
 
     def put(self, stage: Mapping[str, object]) -> None:
-        """Writes a stage."""
         self.wfile.write(json.dumps(stage, separators=(",", ":")).encode() + b"\n")
         self.wfile.flush()
 
@@ -269,7 +254,6 @@ class Handler(BaseHTTPRequestHandler):
         return self.from_worker(job, studio.head(want="flight", answer=told) + text, text)
 
     def from_worker(self, job: Job, given: bytes, text: bytes) -> None:
-        """Passes on what the worker writes."""
         worker, before = self.studio.worker(job), time.monotonic()
         assert worker.stdout is not None and worker.stderr is not None
         watch = threading.Timer(LIMIT, end, [worker])
@@ -309,7 +293,6 @@ class Handler(BaseHTTPRequestHandler):
                 self.from_worker(job, self.studio.head(want="places", line=line) + asked["text"], asked["text"])
             finally:
                 job.cancel()
-        return None
 
     # -- the buttons
 
@@ -380,10 +363,8 @@ class Handler(BaseHTTPRequestHandler):
             return self.send_data({"words": words or "no answer"}, 409)
         self.head(200, "application/octet-stream")
         self.wfile.write(answered.said)
-        return None
 
     def end(self, _: Asked) -> None:
-        """Ends the studio."""
         self.send_data({"ended": True})
         threading.Thread(target=self.server.shutdown, daemon=True).start()
 
@@ -391,11 +372,9 @@ class Handler(BaseHTTPRequestHandler):
 def feed(worker: subprocess.Popen[bytes], given: bytes) -> None:
     """Gives a worker its text; one that is ended meanwhile takes none."""
     assert worker.stdin is not None
-    try:
+    with contextlib.suppress(OSError):
         worker.stdin.write(given)
         worker.stdin.close()
-    except OSError:
-        pass
 
 
 class Server(ThreadingHTTPServer):

@@ -21,8 +21,7 @@ class TooLarge(Exception):
 
 
 def digest_of(text: bytes) -> str:
-    """The SHA-256 of a text as the page computes it: of the text in UTF-8, in which a byte that is none there is
-    U+FFFD."""
+    """The SHA-256 of a text as the page computes it: of the text in UTF-8, in which a byte that is none is U+FFFD."""
     try:
         text.decode()
     except UnicodeDecodeError:

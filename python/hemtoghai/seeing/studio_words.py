@@ -1,4 +1,4 @@
-"""The words of the language as the page of ./show studio needs them: for its colours, its menu and its field of numbers.
+"""The words of the language as the page of ./show studio needs them: for colours, the menu and the field of numbers.
 They are taken from language/choreo.py, so a new act is known here once it is known there."""
 from __future__ import annotations
 

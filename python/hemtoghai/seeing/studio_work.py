@@ -21,13 +21,12 @@ import time
 from collections.abc import Iterator
 from typing import Any, Dict
 
-from hemtoghai.companion import ask_dynamics, begins, cue_words, no_program
+from hemtoghai.companion import ask_dynamics, begins, no_program
 from hemtoghai.geometry import separation
 from hemtoghai.language import choreo
-from hemtoghai.seeing.sampling import (ask, boxes_said, Mark, mark_of, played, Region, regions_of, Sample, step_of,
-                                       worked_out)
+from hemtoghai.seeing.sampling import ask, boxes_said, flight_of, Mark, mark_of, regions_of, rows_of_play, step_of
 from hemtoghai.seeing.studio_places import last_lines, places_at
-from hemtoghai.writing.flyable import below, MOST as FASTEST, motion, NoAnswer, small
+from hemtoghai.writing.flyable import below, MOST as FASTEST, motion_if_known, small
 from hemtoghai.writing.margins import greatest, MOST, with_setting
 
 Forms = Dict[int, Dict[str, int]]  # by `form` line and drone the `at` line of its formation
@@ -39,7 +38,6 @@ QUIET = 0.6  # seconds before the margins are looked for, which take many checks
 
 
 def put(stage: str, **more: object) -> None:
-    """Writes a stage."""
     sys.stdout.write(json.dumps({"stage": stage, **more}, separators=(",", ":")) + "\n")
     sys.stdout.flush()
 
@@ -92,51 +90,18 @@ def formed_lines(flown: choreo.Flown, text: bytes) -> list[list[list[int]]]:
     for number, line in cues.items():
         forms = [flown.show.formations[inner.values[0]].number for inner in line.body if inner.kind == "form"]
         bodies[number] = [[first, closing.get(first, first)] for first in forms]
-    out = []
-    for cue in flown.cues:
-        around = [[line, line] for kind, line, *_ in cue.within if kind == "perform"]
-        out.append([[cue.number, closing.get(cue.number, cue.number)], *bodies[cue.number], *around])
-    return out
+    return [[[cue.number, closing.get(cue.number, cue.number)], *bodies[cue.number],
+             *([line, line] for kind, line, *_ in cue.within if kind == "perform")] for cue in flown.cues]
 
 
 def drone_lines(flown: choreo.Flown, forms: Forms) -> dict[str, object]:
-    """For each drone its `drone` line, and by cue the line of its act there, of a formation that of its place; 0 where
-    it has none."""
-    acts = []
-    for name in flown.names:
-        numbers = [cue.acts[name][0] if name in cue.acts else 0 for cue in flown.cues]
-        acts.append([forms.get(number, {}).get(name, number) for number in numbers])
+    """For each drone its `drone` line, and by cue the line of its act, or of its place in a formation; 0 for none."""
+    acts = [[forms.get(number, {}).get(name, number) for number in (
+        cue.acts[name][0] if name in cue.acts else 0 for cue in flown.cues)] for name in flown.names]
     return {"drones": [line.number for line in flown.show.drones], "acts": acts}
 
 
 # ---- stages
-
-def rows_of_play(text: bytes, program: str | None, deep: int, step: int) -> list[str] | None:
-    """The rows of the program's `play`, or None where it isn't there."""
-    answer = ask(program, ["play", "--depth", str(deep), "--step", str(step)], text) if program else None
-    return answer[1].splitlines() if answer and answer[0] == 0 else None
-
-
-def flight_of(flown: choreo.Flown, text: bytes, step: int, rows: list[str] | None, mark: Mark | None,
-              regions: list[Region]) -> dict[str, object]:
-    """What the page draws, by rows of `play` or, where there are none, by the tools, a sample each so many
-    milliseconds."""
-    source = "tool"
-    if rows:
-        source, (times, places) = "play", played(rows, flown.names)
-    else:
-        times, places = worked_out(flown, step, {round(mark["nearest"])} if mark else ())
-    (r, h), (stray,), (late,) = [flown.show.settings[word] for word in ("ellipsoid", "stray", "late")]
-    columns: list[tuple[Sample, ...]] = list(zip(*places))
-    return {
-        "source": source, "step": step, "r": r, "h": h, "stray": stray, "late": late, "regions": regions,
-        "names": flown.names, "times": times, "end": flown.milliseconds,
-        "xyz": [[round(number) for sample in column for number in sample[:3]] for column in columns],
-        "yaw": [[round(sample[3]) for sample in column] for column in columns],
-        "cues": [[begin, cue_words(cue)] for begin, cue in zip(begins(flown), flown.cues)],
-        "lines": formed_lines(flown, text), "marks": [mark] if mark else [],
-    }
-
 
 def first_mark(flown: choreo.Flown, forms: Forms, said: str, deep: int) -> Mark:
     """The place that `check` names."""
@@ -194,17 +159,9 @@ def speeds_of(text: bytes, program: str | None) -> dict[str, list[float]]:
     return {row[1]: [int(word) / 1e6 for word in row[2:5]] for row in rows if row[:1] == ["speed"]}
 
 
-def motion_of(flown: choreo.Flown, text: bytes, program: str | None) -> str | None:
-    """What `dynamics` refuses of the show; None where it refuses nothing, or doesn't judge a show that doesn't fit."""
-    try:
-        return motion(program, flown, text) if program else None
-    except NoAnswer:
-        return None
-
-
 def faults_of(flown: choreo.Flown, text: bytes, program: str | None) -> Iterator[dict[str, object]]:
     """What no drone flies, as ./show says it: by line, cue and words, each None where there is none."""
-    found = [motion_of(flown, text, program), below(flown), small(flown)]
+    found = [motion_if_known(program, flown, text) if program else None, below(flown), small(flown)]
     for words in filter(None, found):
         where = re.fullmatch(r"line (\d+), (?:cue (\d+)|the end): (.*)", words)
         line, cue, rest = (where[1], where[2], where[3]) if where else (None, None, words)
@@ -246,7 +203,9 @@ def put_flight(text: bytes, deep: int, program: str | None, answer: list[Any] | 
     first = first_mark(flown, forms, said, deep) if status == 5 else None
     step = step_of(flown, None, MOST_PLACES)
     rows = rows_of_play(text, program, deep, step) if status == 0 else None
-    put("flight", flight=flight_of(flown, text, step, rows, first, regions_of(path) if path else []))
+    also = {round(first["nearest"])} if first else set()
+    drawn, _ = flight_of(flown, step, rows, also, regions_of(path) if path else [])
+    put("flight", flight={**drawn, "lines": formed_lines(flown, text), "marks": [first] if first else []})
     if status == 5:
         put("explained", touch=explained(flown, text, program, deep))
     put("lines", **drone_lines(flown, forms))

@@ -31,15 +31,11 @@ def form_lines(flown: choreo.Flown) -> list[tuple[choreo.Line, list[int]]]:
 
 
 def costs(flown: choreo.Flown, places: Sequence[choreo.Line], cues: list[int]) -> list[list[int]]:
-    """For each place's drone and each place the sum of the squared ways to it over these cues, in square
-    micrometres."""
+    """For each place's drone and each place the sum of the squared ways to it over these cues, in micrometres."""
     drones = [flown.names.index(place.values[0]) for place in places]
     goals = [place.values[1:4] for place in places]
-    rows = []
-    for drone in drones:
-        begins = [[1000 * row[0] for row in flown.by_cue[drone][cue][1][:3]] for cue in cues]
-        rows.append([sum((a - b) ** 2 for at in begins for a, b in zip(at, goal)) for goal in goals])
-    return rows
+    begins = [[[1000 * row[0] for row in flown.by_cue[drone][cue][1][:3]] for cue in cues] for drone in drones]
+    return [[sum((a - b) ** 2 for at in ats for a, b in zip(at, goal)) for goal in goals] for ats in begins]
 
 
 def dealt(cost: list[list[int]]) -> dict[int, int]:
@@ -79,7 +75,6 @@ def places_of(flown: choreo.Flown, line: choreo.Line) -> list[Place]:
 
 
 def naming_lines(flown: choreo.Flown) -> list[choreo.Line]:
-    """The lines of acts and performs."""
     return [line for line in choreo.inside(flown.show.top) if line.kind in ("act", "perform")]
 
 
@@ -116,8 +111,7 @@ def performers(flown: choreo.Flown, lost: set[int] | None = None) -> list[dict[s
 
 
 def carried_lines(flown: choreo.Flown) -> Iterator[tuple[list[choreo.Line], list[int]]]:
-    """The cues with acts of drones, and the performs: the lines that name drones, and the cues in which these are
-    played."""
+    """The cues with acts of drones, and the performs: the lines that name drones, and the cues of these lines."""
     cues = cue_lines(flown)
     groups: dict[int, list[int]] = {}
     for k, cue in enumerate(flown.cues):
@@ -132,9 +126,8 @@ def carried_lines(flown: choreo.Flown) -> Iterator[tuple[list[choreo.Line], list
 
 
 def carry(flown: choreo.Flown, written: dict[int, list[str]]) -> list[int]:
-    """Renames the acts and performs after each formation, so that they go with the places, by the names that are
-    written in them; returns the lines that can't be renamed, since their turns of a repeat are flown by different
-    drones."""
+    """Renames the acts and performs after each formation, so that they go with the places, by the names written in
+    them; the lines that can't be renamed, since their turns of a repeat are flown by different drones."""
     plays, unsure = performers(flown), []
     for lines, played in carried_lines(flown):
         names = [name for line in lines for name in written[line.number]]
@@ -227,11 +220,9 @@ def words_of(formation: choreo.Line) -> list[Words]:
 
 
 def state(flown: choreo.Flown) -> list[State]:
-    """The state of each `form` line."""
     out = []
     for line, cues in form_lines(flown):
         formation = flown.show.formations[line.values[0]]
         cost = costs(flown, formation.body, cues)
-        stay = sum(cost[k][k] == 0 for k in range(len(cost)))
-        out.append((total(cost), stay, words_of(formation)))
+        out.append((total(cost), sum(cost[k][k] == 0 for k in range(len(cost))), words_of(formation)))
     return out

@@ -26,7 +26,7 @@ def line_of_cue(flown: Flown, cue: int) -> int:
 
 
 def motion(program: str, flown: Flown, text: bytes, most: dict[str, int] | None = None) -> str | None:
-    """What `dynamics` refuses with limits, those of MOST where none are given, or None; raises NoAnswer where it neither
+    """What `dynamics` refuses with limits, those of MOST where none are given, or None; raises NoAnswer if it neither
     accepts nor refuses the show."""
     most = most or MOST
     words = ["dynamics", "--accel", str(most["accel"]), "--jump", str(most["jump"])]
@@ -90,8 +90,8 @@ def stacked(flown: Flown) -> str | None:
         for other, second in zip(flown.names[:k], flown.sent):
             far = hypot(*(flight[0][1][axis][0] - second[0][1][axis][0] for axis in (0, 1)))
             if far <= 2 * (radius + stray):
-                return "%s and %s begin %.0f mm apart from above: ./show legs SHOW PADS says from which pads they can " \
-                       "go up" % (other, name, far)
+                return ("%s and %s begin %.0f mm apart from above: ./show legs SHOW PADS says from which pads they can "
+                        "go up" % (other, name, far))
     return None
 
 
@@ -109,6 +109,5 @@ def warning(program: str, text: bytes) -> str | None:
         flown = choreo.flown_of(text)
     except choreo.Refused:
         return None
-    found = [words for words in (motion_if_known(program, flown, text), below(flown), small(flown),
-                                 None if small(flown) else stacked(flown)) if words]
-    return "; ".join(found) or None
+    found = motion_if_known(program, flown, text), below(flown), small(flown) or stacked(flown)
+    return "; ".join(filter(None, found)) or None
