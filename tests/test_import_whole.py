@@ -104,6 +104,7 @@ class RoundTrips(Case):
         self.assertTrue(bound / 2 < worst <= bound, (worst, bound))
         self.assertEqual(path.at(Fraction(1000))[3], 450)
 
+    @common.wants_program
     def test_refused(self):
         for data, status, words in ((b"plan 1\nx\n", 70, "line 2"), (b"", 3, "header"),
                                     (b"choreo 1\ncue 1.5\n", 3, "bad-")):
@@ -136,11 +137,13 @@ class Judged(Case):
                     for t in range(81)]
         return self.file("a.skyc", files.skyc([way(0, 0, 2), way(aside, 2, 0)]))
 
+    @common.wants_program
     def test_apart(self):
         status, out = self.judged(self.file("a.skyc", files.skyc([files.wild(k, 8) for k in range(3)])))
         self.assertEqual(status, 0)
         self.assertIn("APART: at every instant, by the file's own curves, ellipsoids 120 300", out)
 
+    @common.wants_program
     def test_too_near(self):
         # 200 mm aside of the 240 that two ellipsoids need: 83.3 %.
         status, out = self.judged(self.crossing(0.2))
@@ -151,6 +154,7 @@ class Judged(Case):
         self.assertIn("./show why, of the import", out)
         self.assertIn("TOO NEAR: no depth helps", out)
 
+    @common.wants_program
     def test_above(self):
         # Half a metre above one another, of the 600 mm that two ellipsoids need: 83.3 %. With 700 mm they are apart.
         for height, status, words in ((1.5, 5, "with 83.3 % of the distance"), (1.7, 0, "APART")):
@@ -158,6 +162,7 @@ class Judged(Case):
             came, out = self.judged("--waypoints", path)
             self.assertEqual((came, words in out), (status, True), out)
 
+    @common.wants_program
     def test_not_shown(self):
         # 250 mm aside: 104 %, but the import is some millimetres off, and its ellipsoids are larger by that.
         path = self.crossing(0.25, wave=0.02)
@@ -165,18 +170,21 @@ class Judged(Case):
         self.assertEqual((status, "NOT SHOWN" in out, "104.2 % of the distance" in out), (5, True, True), out)
         self.assertEqual(self.judged("--tolerance", "1", path)[0], 0)
 
+    @common.wants_program
     def test_wanted(self):
         # The same two drones, by other ellipsoids: 2 * 85 and some millimetres are less than 200, and 2 * 101 are more.
         path = self.crossing(0.2)
         self.assertEqual(self.judged("--ellipsoid", "85 300", path)[0], 0)
         self.assertEqual(self.judged("--ellipsoid", "101 300", path)[0], 5)
 
+    @common.wants_program
     def test_depth(self):
         # b flies half around a: no direction shows it for the whole cue.
         around = [[0, [1, 0, 1], []], [4, [-1, 0, 1], [[1, 1.3, 1], [-1, 1.3, 1]]]]
         path = self.file("a.skyc", files.skyc([[[0, [0, 0, 1], []]], around]))
         self.assertEqual([self.judged("--depth", depth, path)[0] for depth in (0, 6)], [5, 0])
 
+    @common.wants_program
     def test_stretches(self):
         # 200 steps are more than a stretch, and too long for a memory of 4,096 bytes; b comes by at 205 s.
         rows = "".join("%d,%g,0,1\n" % (t, 0.1 * (t % 2)) for t in range(201))
@@ -204,6 +212,7 @@ class Whole(Case):
             with open(self.file(name), "rb") as one, open(os.path.join(EXAMPLES, name), "rb") as other:
                 self.assertEqual(one.read(), other.read(), name)
 
+    @common.wants_program
     def test_examples_are_apart(self):
         for name, words in FOREIGN.items():
             names = [os.path.join(EXAMPLES, it) for it in (name, "eight_right.csv")[:1 + (name == "eight_left.csv")]]
@@ -212,6 +221,7 @@ class Whole(Case):
             done = subprocess.run([common.PROGRAM, "check"], input=out.encode(), stdout=subprocess.PIPE, timeout=60)
             self.assertEqual(done.returncode, 0, done.stdout)
 
+    @common.wants_program
     def test_uploaded(self):
         # The whole way: a .skyc, its show, an upload over a link that loses a fifth, and what the memories then hold.
         flown, text, _, _ = self.show_of(os.path.join(EXAMPLES, "rising.skyc"))

@@ -102,7 +102,11 @@ class Verdicts(Case):
         verdict = hemtoghai.run("check --depth 4", CROSSING)
         self.assertEqual((verdict, verdict.depth), (hemtoghai.check(CROSSING, 4), 4))
         self.assertEqual(verdict.line, "error 5 pair a b cue 1 part 7 of 16")
-        self.assertEqual((hemtoghai.run("chek", CURED).status, hemtoghai.run("chek", CURED).output), (2, b"error 2 usage\n"))
+
+    @common.wants_program
+    def test_no_command(self):
+        verdict = hemtoghai.run("chek", CURED)
+        self.assertEqual((verdict.status, verdict.output), (2, b"error 2 usage\n"))
 
 
 class Plans(Case):
