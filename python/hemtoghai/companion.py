@@ -182,7 +182,7 @@ def plan_in(text: bytes, path: str) -> list[tuple[str, bytes, int]]:
     lines = text.decode(errors="replace").split("\n")
     drones, name = [], None
     if lines[:1] != ["plan 1"]:
-        stop("%s, line 1: a plan begins with `plan 1`; ./show compile FILE writes one" % path)
+        stop("%s, line 1: a plan begins with `plan 1`; %s compile FILE writes one" % (path, COMMAND))
     for number, line in enumerate(lines[1:], 2):
         words = line.split(" ")
         try:

@@ -124,8 +124,8 @@ def refuse_what_none_flies(text: bytes, flown: Flown, options: argparse.Namespac
     except flyable.NoAnswer as why:
         raise Trouble("not flown: nobody knows whether a drone can fly it: %s" % why) from None
     if motion:
-        raise Trouble("not flown: %s, and no drone does: ./show summary %s says where; --%s lets it through" % (
-            motion, options.show, "jump" if "jumps" in motion else "accel"))
+        raise Trouble("not flown: %s, and no drone does: %s summary %s says where; --%s lets it through" % (
+            motion, program.COMMAND, options.show, "jump" if "jumps" in motion else "accel"))
     low = None if options.low else flyable.below(flown)
     if low:
         raise Trouble("not flown: %s; --low lets it through" % low)
@@ -208,7 +208,8 @@ def fly(radio: crazyradio.Radio, flown: Flown, text: bytes, pads: Sequence[legs.
         fleet.end_logs()
         log.close()
         if options.log and log.fault is None:
-            say("places are in %s: ./show flown %s %s judges them" % (options.log, options.show, options.log))
+            say("places are in %s: %s flown %s %s judges them" % (
+                options.log, program.COMMAND, options.show, options.log))
 
 
 def only(radio: crazyradio.Radio, floors: Dict[str, float], options: argparse.Namespace, watch: Watch,

@@ -129,7 +129,7 @@ def print_why(fit: fitting.Fit, text: str, wanted: Axes, deep: int) -> None:
         print("  %s at (%s) mm by the file" % (flown.names[k], ", ".join("%.0f" % (v / 1000) for v in place[:3])))
     if len(found) > 1:
         print("  and %s blocked, of this or other pairs" % many(len(found) - 1, "more place"))
-    print("./show why, of the import: its cues and lines, and its larger ellipsoids")
+    print("%s why, of the import: its cues and lines, and its larger ellipsoids" % program.COMMAND)
     blocked = why.Place(separation.nearest_in(flown, i, j, cue), i, j, cue, index)
     why.print_place(flown, text.encode().split(b"\n"), blocked, deep, [])
 
@@ -316,7 +316,7 @@ def head_of(options: argparse.Namespace, bound: Fraction, turned: Fraction, fact
     names = [os.path.basename(path) for path in options.files]
     source = "".join(it if 32 <= ord(it) < 127 else "?" for it in ", ".join(names[:3]))
     more = " and %d more" % (len(names) - 3) if len(names) > 3 else ""
-    return ["# Source: %.200s%s, by ./show import." % (source, more),
+    return ["# Source: %.200s%s, by %s import." % (source, more, program.COMMAND),
             "# Bound: at any instant what is sent is at most %.2f mm (%s) from the source." % (
                 bound, "its automatic yaw is left out" if foreign.AUTOMATIC in options.left_out else
                 "yaw %.2f degrees" % turned),

@@ -24,6 +24,7 @@ from hemtoghai.companion import ask_check, flown_of, many, missing, parser, stop
 from hemtoghai.flying import legs
 from hemtoghai.flying.landings import Landings
 from hemtoghai.language.choreo import Flown
+from hemtoghai.program import COMMAND
 
 NO_WAY = 16
 
@@ -32,7 +33,7 @@ def write(leg: legs.Leg, path: str, name: str, show: str, top: int) -> None:
     """Writes a leg as a show, and its summary; the show's own curves stay below `top`."""
     words = "judged as a whole" if leg.whole else "judged stage by stage: the next begins when the one before has ended"
     with open(path, "wb") as file:
-        file.write(leg.text(["# The way %s of %s, by ./show legs; %s." % (name, os.path.basename(show), words)]))
+        file.write(leg.text(["# The way %s of %s, by %s legs; %s." % (name, os.path.basename(show), COMMAND, words)]))
     print("way %s: %s, %.1f s; %s; %s" % (
         name, many(len(leg.stages), "stage"), leg.milliseconds() / 1000, words, path))
     if leg.why_below:

@@ -18,6 +18,7 @@ from hemtoghai.flying import legs
 from hemtoghai.geometry import separation
 from hemtoghai.language.choreo import Flown
 from hemtoghai.language.lines import line_in
+from hemtoghai.program import COMMAND
 from hemtoghai.writing.margins import greatest, MOST, with_setting
 
 PLACES = 32
@@ -149,9 +150,9 @@ def print_ways(flown: Flown) -> None:
         try:
             leg = (legs.way_up(flown.names, pads, firsts, begin, rules) if name == "up" else
                    legs.down(flown.names, pads, lasts, end, rules))
-            print("way %s with pads below the first places: %s, %.1f s, judged %s; ./show legs has the rest" % (
+            print("way %s with pads below the first places: %s, %.1f s, judged %s; %s legs has the rest" % (
                 name, many(len(leg.stages), "stage"), leg.milliseconds() / 1000,
-                "as a whole" if leg.whole else "stage by stage"))
+                "as a whole" if leg.whole else "stage by stage", COMMAND))
         except legs.NoWay as why:
             print("no way %s with pads below the first places: %s" % (name, why))
 

@@ -17,6 +17,7 @@ from hemtoghai.geometry.causes import cause_of, is_clear
 from hemtoghai.geometry.separation import ruler_of
 from hemtoghai.language import choreo
 from hemtoghai.language.choreo import Flown
+from hemtoghai.program import COMMAND
 from hemtoghai.writing.dealing import costs, dealt, form_lines, total
 from hemtoghai.writing.flyable import small
 from hemtoghai.writing.remedies import ENOUGH, first_of, last_of, lift_all, lifted, remedies, Remedy, written
@@ -212,7 +213,7 @@ def print_together(flown: Flown, groups: list[list[Place]], deep: int) -> None:
             print("What helps all of cue %d at once (%s more):" % (cue + 1, seconds(remedy.takes)))
             print("    " + remedy.words)
         for line in crossing_forms(flown, cue) if len(together) > 1 else []:
-            print("Line %d forms a formation whose ways cross: ./show deal deals its places anew." % line.number)
+            print("Line %d forms a formation whose ways cross: %s deal deals its places anew." % (line.number, COMMAND))
 
 
 def crossing_forms(flown: Flown, cue: int) -> list[choreo.Line]:

@@ -90,8 +90,8 @@ def stacked(flown: Flown) -> str | None:
         for other, second in zip(flown.names[:k], flown.sent):
             far = hypot(*(flight[0][1][axis][0] - second[0][1][axis][0] for axis in (0, 1)))
             if far <= 2 * (radius + stray):
-                return ("%s and %s begin %.0f mm apart from above: ./show legs SHOW PADS says from which pads they can "
-                        "go up" % (other, name, far))
+                return ("%s and %s begin %.0f mm apart from above: %s legs SHOW PADS says from which pads they can "
+                        "go up" % (other, name, far, proved.COMMAND))
     return None
 
 
