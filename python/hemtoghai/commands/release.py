@@ -157,6 +157,10 @@ def main(words: list[str]) -> int:
     reader.add_argument("--out", default=".", metavar="FOLDER", help="the folder of the archive; without it this one")
     reader.add_argument("--changed", action="store_true", help="release files that differ from the commit")
     options = reader.parse_args(words)
+    try:
+        os.makedirs(options.out, exist_ok=True)
+    except OSError as error:
+        stop("%s: %s" % (options.out, error.strerror))
     record, changed = judged_record(options.changed), git("status", "--porcelain") != ""
     if not re.fullmatch(r"\d+\.\d+\.\d+", records.version()):
         stop("VERSION isn't a version: three numbers with points between them")
