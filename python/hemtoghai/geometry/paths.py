@@ -190,10 +190,7 @@ def in_whole(rows: list[list[int]], splits: int, enough: int) -> int:
 
 def is_within(rows: list[Row[float]], splits: int, enough: float) -> bool:
     """Whether that bound is at most `enough`, in doubles."""
-    if len(rows) == 3:
-        squares = [x * x + y * y + z * z for x, y, z in zip(*rows)]
-    else:
-        squares = [v * v for v in rows[0]]
+    squares = [x * x + y * y + z * z for x, y, z in zip(*rows)] if len(rows) == 3 else [v * v for v in rows[0]]
     if max(squares) <= enough:
         return True
     if squares[0] > enough or squares[-1] > enough or not splits:
