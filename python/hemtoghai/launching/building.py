@@ -16,7 +16,8 @@ from collections.abc import Callable, Iterable
 from typing import Any, Dict, IO, List
 
 from hemtoghai.launching.launcher import say, stop
-from hemtoghai.launching.records import CRATES, crates_below, is_current, LAST, sha256, sources, stamp, write_record
+from hemtoghai.launching.records import (CRATES, crates_below, is_current, LAST, LEFT_OUT, sha256, sources, stamp,
+                                         write_record)
 from hemtoghai.launching.running import end_if_told, joined, Noted
 from hemtoghai.program import PROGRAM, RECORD, TOP, UNPROVED
 from hemtoghai.texts import CERTIFICATE, SHOW
@@ -118,12 +119,17 @@ def move(source: str, target: str) -> None:
         shutil.move(source, target)
 
 
+def no_sources(folder: str, names: list[str]) -> list[str]:
+    """What of a folder isn't copied: `ignore_dangling_symlinks` of Python 3.9 leaves out no links in inner folders."""
+    return [name for name in names if name in LEFT_OUT or not os.path.exists(os.path.join(folder, name))]
+
+
 def begin_in(room: str, crate: str, below: Crates, jobs: int) -> subprocess.Popen[bytes]:
     """Begins to prove a crate in a folder of its own: a copy of all sources, with the libraries below the crate and
     what was kept of the crate itself."""
     shutil.copy(os.path.join(TOP, "crates.txt"), room)
     copies = os.path.join(room, "crates")
-    shutil.copytree(CRATES, copies, ignore=shutil.ignore_patterns("out", "must-fail"), ignore_dangling_symlinks=True)
+    shutil.copytree(CRATES, copies, ignore=no_sources)
     for it in with_all_below(crate, below) - {crate}:
         library = os.path.join(CRATES, it, LIBRARY)
         if os.path.isdir(library):
