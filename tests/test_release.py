@@ -197,7 +197,7 @@ class Refusals(unittest.TestCase):
         self.repository.write("VERSION", "seven\n")
         self.refused("VERSION isn't a version", "--changed")
         self.repository.write("VERSION", "7.8.9\n")
-        self.refused("No such file or directory", "--changed", "--out", "none")
+        self.refused("VERSION/none: Not a directory", "--changed", "--out", "VERSION/none")
 
 
 class Release(unittest.TestCase):

@@ -157,10 +157,6 @@ def main(words: list[str]) -> int:
     reader.add_argument("--out", default=".", metavar="FOLDER", help="the folder of the archive; without it this one")
     reader.add_argument("--changed", action="store_true", help="release files that differ from the commit")
     options = reader.parse_args(words)
-    try:
-        os.makedirs(options.out, exist_ok=True)
-    except OSError as error:
-        stop("%s: %s" % (options.out, error.strerror))
     record, changed = judged_record(options.changed), git("status", "--porcelain") != ""
     if not re.fullmatch(r"\d+\.\d+\.\d+", records.version()):
         stop("VERSION isn't a version: three numbers with points between them")
@@ -170,6 +166,10 @@ def main(words: list[str]) -> int:
     name = "hemtoghai-%s%s-x86_64-linux" % (records.version(), "-changed" if changed else "")
     data = archive(name, contents, links, int(git("log", "-1", "--format=%ct")))
     path = os.path.join(options.out, name + ".tar.gz")
+    try:
+        os.makedirs(options.out, exist_ok=True)
+    except OSError as error:
+        stop("%s: %s" % (options.out, error.strerror))
     write_file(path, data)
     print_made(path, len(contents) + len(links), data)
     make_wheel(record, contents, changed, options.out)
