@@ -22,7 +22,6 @@ library wrote when they proved them, whatever the times of files. It refuses a b
 from __future__ import annotations
 
 import gzip
-import hashlib
 import io
 import json
 import os
@@ -110,7 +109,7 @@ def links_of(contents: Contents) -> Links:
 
 def manifest_of(record: Record, contents: Contents, links: Links, changed: bool) -> str:
     """The text of the manifest. A link has the SHA-256 of the file that it leads to."""
-    files = {path: hashlib.sha256(data).hexdigest() for path, data, _ in contents}
+    files = {path: program.digest_of(data) for path, data, _ in contents}
     for path, target in links:
         files[path] = files[os.path.join(os.path.dirname(path), target)]
     return json.dumps({
@@ -135,7 +134,7 @@ def archive(name: str, contents: Contents, links: Links, when: int) -> bytes:
 
 
 def print_made(path: str, count: int, data: bytes) -> None:
-    print("%s: %d files, %d bytes, sha256 %s" % (path, count, len(data), hashlib.sha256(data).hexdigest()))
+    print("%s: %d files, %d bytes, sha256 %s" % (path, count, len(data), program.digest_of(data)))
 
 
 def make_wheel(record: Record, contents: Contents, changed: bool, out: str) -> None:

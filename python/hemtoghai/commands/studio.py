@@ -13,7 +13,6 @@ answer.
 from __future__ import annotations
 
 import argparse
-import hashlib
 import json
 import os
 import re
@@ -153,7 +152,7 @@ class Studio:
         data = self.file.read()
         text, ends, mixed = text_of(TEMPLATE if data is None else data)
         return {"text": text, "ends": ends, "mixed": bool(mixed), "new": data is None, "stamp": stamp_of(data),
-                "key": hashlib.sha256(self.file.path.encode("utf-8", "surrogateescape")).hexdigest()[:16]}
+                "key": program.digest_of(self.file.path.encode("utf-8", "surrogateescape"))[:16]}
 
     def verdict(self, text: bytes, said: str, status: int, lasted: int) -> dict[str, object]:
         """What the page shows of an answer of `check`, with the SHA-256 of the text that was judged."""

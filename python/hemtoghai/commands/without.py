@@ -19,30 +19,16 @@ from collections.abc import Collection
 from hemtoghai.companion import add_depth, ask_check, flown_of, missing, parser, stop
 from hemtoghai.language import choreo
 from hemtoghai.language.lines import free_name, line_in, with_words
+from hemtoghai.seeing.studio_places import last_lines
 
 IDLE = "nobody"  # the role of a figure in which nobody acts
-
-
-def ends_of(text: bytes) -> dict[int, int]:
-    """The numbers of the `end` lines of a good show, by those of the lines that open their blocks."""
-    blocks, begun = [choreo.Line(0, "top", [choreo.form_of(text)])], False
-    ends: dict[int, int] = {}
-    for number, line in enumerate(text.split(b"\n"), 1):
-        words = line.partition(b"#")[0].decode().split()
-        if words and begun:
-            read = choreo.line_of(number, words, blocks)
-            if read.kind == "end":
-                ends[blocks[-1].number] = number
-            choreo.add_line(read, blocks)
-        begun = begun or words != []
-    return ends
 
 
 class Editor:
     """The lines of a show: which of them go, what stands in the place of others, and what comes after some."""
 
     def __init__(self, text: bytes, show: choreo.Show, gone: Collection[str]) -> None:
-        self.lines, self.show, self.gone, self.ends = text.split(b"\n"), show, set(gone), ends_of(text)
+        self.lines, self.show, self.gone, self.ends = text.split(b"\n"), show, set(gone), last_lines(text)
         self.dropped: set[int] = set()
         self.changed: dict[int, bytes] = {}
         self.after: dict[int, list[tuple[str, list[bytes]]]] = {}

@@ -4,7 +4,6 @@ from __future__ import annotations
 
 import contextlib
 import difflib
-import hashlib
 import os
 import re
 import shutil
@@ -14,6 +13,7 @@ from collections.abc import Iterator
 from typing import BinaryIO
 
 from hemtoghai.language import choreo
+from hemtoghai.program import digest_of
 
 MOST_TEXT = choreo.LONGEST_TEXT + 4096  # a little more than a show may have, so that the program can say so
 MOST_DIFF = 30000  # lines that are compared
@@ -21,7 +21,7 @@ MOST_DIFF = 30000  # lines that are compared
 
 def stamp_of(data: bytes | None) -> str:
     """What a file's bytes are known by; that of a file that isn't there is empty."""
-    return "" if data is None else hashlib.sha256(data).hexdigest()
+    return "" if data is None else digest_of(data)
 
 
 class ShowFile:

@@ -1,11 +1,11 @@
 """The texts that pages of ./show studio have, so that a page sends only the lines that it changed."""
 from __future__ import annotations
 
-import hashlib
 import re
 import threading
 from typing import Any
 
+from hemtoghai import program
 from hemtoghai.seeing.showfile import bytes_of, MOST_TEXT
 
 MOST_PAGES = 8  # whose texts are kept: of another one, the page sends the whole text again
@@ -26,7 +26,7 @@ def digest_of(text: bytes) -> str:
         text.decode()
     except UnicodeDecodeError:
         text = re.sub("[\ud800-\udfff]", "\ufffd", text.decode("utf-8", "surrogateescape")).encode()
-    return hashlib.sha256(text).hexdigest()
+    return program.digest_of(text)
 
 
 def length_of(text: bytes) -> int:
