@@ -368,8 +368,8 @@ class Signals(unittest.TestCase):
             self.addCleanup(signal.signal, number, signal.getsignal(number))
         self.watch, self.cut = crew.Watch(), threading.Event()
         self.watch.stop_motors = self.cut.set
-        self.watch.take_off()
-        self.watch.land()
+        self.watch.flies = True
+        self.watch.lands = True
 
     def press(self, number):
         """A signal to this process."""

@@ -200,7 +200,7 @@ def fly(radio: crazyradio.Radio, flown: Flown, text: bytes, pads: Sequence[legs.
         confirm(options, answers, "Take off?", watch.look)
         return bridge.run()
     finally:
-        watch.off()  # what is left is to close all
+        watch.over = True  # what is left is to close all
         if bridge:
             bridge.director.kill()
         if ways:
@@ -225,8 +225,7 @@ def only(radio: crazyradio.Radio, floors: Dict[str, float], options: argparse.Na
         if options.only == "stop":
             confirm(options, answers, "Stop all motors? Drones in the air fall.", lambda: None)
             return descent.cut()
-        watch.take_off()
-        watch.land()
+        watch.flies = watch.lands = True
         _, quiet, refused = fleet.land(descent.floors, descent.all, LAND, watch.look)
         say("told to land, in %.0f s%s%s" % (LAND, "; NO ANSWER: " + ", ".join(quiet) if quiet else "",
                                             "; REFUSED: " + ", ".join(refused) if refused else ""))
@@ -301,7 +300,7 @@ def main(words: list[str]) -> int:
     except (OSError, ValueError) as error:  # a file of words that isn't there, or isn't one
         return stop(str(error))
     finally:
-        watch.off()
+        watch.over = True
         for radio in radios:
             radio.close()
             for line in simulated(radio.names) if options.simulate else ():

@@ -211,7 +211,7 @@ class Bridge(Home):
             word, self.aims[k] = "land" if lands else "take off", (*place[:2], z)
             self.sinking |= {k} if lands else set()
         if not any(self.ahead):
-            self.watch.land()  # the last ones land: a first Ctrl-C changes nothing any more
+            self.watch.lands = True  # the last ones land: a first Ctrl-C changes nothing any more
         self.give(k, lambda since: self.fleet.command(k, data, word, since))
 
     def begin_stage(self, leg: legs.Leg, number: int) -> None:
@@ -225,7 +225,7 @@ class Bridge(Home):
         self.due_by = math.inf if stage is self.ways.up.stages[-1] else now + seconds + PATIENCE
         if stage.kind == legs.TAKE_OFF:
             self.flying, self.rising = True, set(stage.to)
-            self.watch.take_off()
+            self.watch.flies = True
             say("taking off, %s: %s, %.1f s" % (many(len(stage.to), "drone"), names, seconds))
         elif stage.kind == legs.LAND:
             say("landing, %s: %s, %.1f s" % (many(len(stage.to), "drone"), names, seconds))
@@ -404,7 +404,7 @@ class Bridge(Home):
         """Ends a flight in which nobody flew; the status."""
         words = "Ctrl-C" if isinstance(why, Interrupted) else str(why)
         say(words if words.startswith("not flown") else "not flown: %s" % words)
-        self.watch.off()
+        self.watch.over = True
         self.fleet.radio.drop()
         self.disarm(self.all)
         return EARLY

@@ -30,7 +30,8 @@ class Watch:
     off in the middle, `look` raises it where the flight looks, every 50 ms, and all land; where all land already it
     says so. The second Ctrl-C since take-off stops the motors: `stop_motors` is called by a thread of its own, whatever
     the flight does at that moment, and `look` raises `Cut`. No other signal does: what ends programs sends more than
-    one, and none of them may stop motors. Ctrl-Z does nothing, since a program that stands still lands nobody."""
+    one, and none of them may stop motors. Ctrl-Z does nothing, since a program that stands still lands nobody. It is
+    told once drones fly, once all land, and once it is `over`: from then on a signal does nothing."""
 
     def __init__(self) -> None:
         self.flies, self.lands, self.was_pressed, self.presses, self.over = False, False, False, 0, False
@@ -74,18 +75,6 @@ class Watch:
 
     def stops(self) -> str:
         return "Ctrl-C%s stops all motors" % ("" if self.presses else " twice")
-
-    def take_off(self) -> None:
-        """From now on drones fly."""
-        self.flies = True
-
-    def land(self) -> None:
-        """From now on all land: a first Ctrl-C changes nothing any more."""
-        self.lands = True
-
-    def off(self) -> None:
-        """From now on a signal does nothing, and nothing is raised."""
-        self.over = True
 
     def end(self) -> None:
         """Ends the watch over a flight: a second Ctrl-C that came before has stopped the motors, and is raised. One

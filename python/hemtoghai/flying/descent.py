@@ -90,7 +90,7 @@ class Descent:
         """Lands drones, and waits; who isn't down. Where commands are answered later than in `told` seconds it says so.
         Ctrl-C counts as long as others are still in the air."""
         if not set(self.all) - self.landed - set(drones):
-            self.watch.land()
+            self.watch.lands = True
         seconds = seconds or self.seconds_down(drones)
         late, quiet, refused = self.fleet.land(self.floors, drones, seconds, self.watch.look)
         if late > told and len(drones) > 1:
@@ -110,7 +110,7 @@ class Descent:
         """Lands all drones that aren't down, in so many seconds where they are given, and once more those that aren't
         then; disarms those that are down, since a drone that is disarmed in the air falls. A second Ctrl-C stops the
         motors. Says who isn't down, and stays with them. Whether all are down."""
-        self.watch.land()
+        self.watch.lands = True
         up = sorted(self.rising | set(self.up(self.all)))
         self.rising = set()
         if up:
@@ -202,7 +202,7 @@ class Descent:
 
     def cut(self) -> int:
         """Stops all motors; the status."""
-        self.watch.off()
+        self.watch.over = True
         self.fleet.cut()
         mute = [k for k in self.all if clock.now() - (self.fleet.radio.last[k] or 0.0) > self.longest]
         say("MOTORS STOPPED: emergency stop sent to all%s" % (

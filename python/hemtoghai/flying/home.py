@@ -179,7 +179,7 @@ class Home(Watched):
         """At a fault on the ways: where a landing of all from here isn't shown apart, the stage that is flown goes to
         its end, and all come down from there by a way that is judged: the way that they came, the rest of the way
         down, or a new one. What is left to do is a landing of who isn't down: why that isn't shown apart, or None."""
-        self.watch.land()
+        self.watch.lands = True
         self.fleet.radio.drop()
         why = self.refusal_soon()
         if why is None:
