@@ -35,7 +35,7 @@ class Unusable(Exception):
 
 # By a program's path what its file and its record looked like, the file that runs, and the last line of its proof.
 _copies: dict[str, tuple[tuple[tuple[int, ...], ...], str, str | None]] = {}
-_demanded = [False]  # whether a proof is
+demanded = [False]  # whether no program runs but the proved one, also in processes that `words_of` starts
 
 
 def looks(path: str) -> tuple[int, ...]:
@@ -116,7 +116,7 @@ def runs(path: str | None = None) -> str:
     if not os.path.isfile(path) or not os.access(path, os.X_OK):
         raise Unusable("the program isn't built; ./show check FILE builds it")
     if path != PROGRAM:
-        if _demanded[0]:
+        if demanded[0]:
             raise Unusable("%s isn't the proved program, and --proved runs no other" % path)
         return path
     from hemtoghai import machine
@@ -124,22 +124,12 @@ def runs(path: str | None = None) -> str:
     if fault:
         raise Unusable(fault)
     file, proved = copy_of(path)
-    if _demanded[0] and proved is None:
+    if demanded[0] and proved is None:
         record = record_path()
         raise Unusable("%s doesn't say that the program was proved" % os.path.basename(record)
                        if os.path.exists(record) else
                        "no record of how this program was built: nothing is known of its proof")
     return file
-
-
-def demand_proof() -> None:
-    """From now on no program runs but the proved one, also in processes that `words_of` starts."""
-    _demanded[0] = True
-
-
-def is_proof_demanded() -> bool:
-    """Whether no program runs but the proved one."""
-    return _demanded[0]
 
 
 def proof() -> str | None:
@@ -174,7 +164,7 @@ def copy_of(path: str) -> tuple[str, str | None]:
 
 def words_of(*words: str) -> list[str]:
     """What starts a command of this package in a process of its own, over the same files."""
-    return [sys.executable, "-IS", os.path.join(PACKAGE, "__main__.py"), *["--proved"] * _demanded[0], *words]
+    return [sys.executable, "-IS", os.path.join(PACKAGE, "__main__.py"), *["--proved"] * demanded[0], *words]
 
 
 def ask(words: list[str], text: bytes, path: str | None = None, seconds: float | None = None) -> tuple[int, bytes]:

@@ -529,17 +529,12 @@ def stem_of(path: str) -> str:
     return posixpath.splitext(posixpath.basename(path))[0]
 
 
-def has_waypoints(table: Table) -> bool:
-    """Whether a CSV file has a head that names t, x, y and z."""
-    words = {COLUMNS.get(cell) for cell in table.head}
-    return {"x", "y", "z"} <= words and bool({"t", "ms"} & words)
-
-
 def one_csv(data: bytes, stem: str, waypoints: bool, smooth: bool, places: dict[str, Row] | None,
             counter: Counter) -> dict[str, list[Piece]]:
     """The paths in the bytes of a CSV file by the names of their drones, as lists of pieces."""
     table = Table(data)
-    if waypoints or has_waypoints(table):
+    words = {COLUMNS.get(cell) for cell in table.head}
+    if waypoints or {"x", "y", "z"} <= words and {"t", "ms"} & words:
         return read_waypoints(table, stem, smooth, counter)
     if places is not None and stem not in places:
         raise Unreadable("the file of --starts has no place for %.40s" % stem)

@@ -163,11 +163,6 @@ class Home(Watched):
         stage = legs.Stage(legs.LAND, landings.landing_ms([at[k][2] - place[2] for k, place in to.items()]), to)
         return legs.judge_stages(leg, [stage], self.ways.standing(), at)
 
-    def refusal_soon(self) -> Optional[str]:
-        """Why not all may land now, or None: by what was judged beforehand, or else by `check`, which hasn't long."""
-        why = self.refusal_ready()
-        return why and self.soon(self.refusal_here, why)
-
     def soon(self, refusal: Callable[[], Optional[str]], late: Optional[str]) -> Optional[str]:
         """A refusal that `check` says, or this where it takes too long."""
         found = self.within(refusal, ANSWERS)
@@ -181,7 +176,8 @@ class Home(Watched):
         down, or a new one. What is left to do is a landing of who isn't down: why that isn't shown apart, or None."""
         self.watch.lands = True
         self.fleet.radio.drop()
-        why = self.refusal_soon()
+        why = self.refusal_ready()  # what was judged beforehand, or else `check`, which hasn't long
+        why = why and self.soon(self.refusal_here, why)
         if why is None:
             return None
         self.director.close()  # what follows is none of its flight

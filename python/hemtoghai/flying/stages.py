@@ -224,10 +224,6 @@ def standing_apart(standing: Dict[int, Place], rules: Rules, stray: int, late: i
     return classes_of(standing, standing, side)
 
 
-def standing_of(stage: Stage, pads: Dict[int, Place], at: Dict[int, Place]) -> List[int]:
-    return [k for k in at if k in pads and k not in stage.to and at[k] == tuple(pads[k])]
-
-
 def pads_refusal(leg: Leg, standing: Iterable[int], at: Dict[int, Place]) -> Optional[str]:
     """The first two of those who stand whose pads are too near to each other, or None."""
     return next(("pads of %s and %s are %.0f mm apart, and %d are wanted" % (
@@ -239,7 +235,8 @@ def judge_stages(leg: Leg, stages: Iterable[Stage], pads: Dict[int, Place], at: 
     """Judges stages that follow each other from places, each by itself; the first refusal, or None."""
     rows, at = [], dict(at)
     for stage in stages:
-        standing, late = standing_of(stage, pads, at), leg.rules.late
+        standing = [k for k in at if k in pads and k not in stage.to and at[k] == tuple(pads[k])]
+        late = leg.rules.late
         if sum(place != at[k] for k, place in stage.to.items()) < 2:
             late = 0  # where one drone moves, nobody is late
         rows.append((pads_refusal(leg, standing, at), stage_texts(

@@ -61,7 +61,8 @@ def part(row: Row[Number], u: Number, v: Number) -> Row[Number]:
         step = row[1] - row[0]
         return [row[0] + step * u, row[0] + step * v]
     if isinstance(u, Fraction):
-        return exact_part(row, u, v)
+        whole, over = whole_part(row, u, v)
+        return [Fraction(value, over) for value in whole]
     if len(row) == 4:
         return cubic_part(row, u, v)
     if u > 0:
@@ -112,12 +113,6 @@ def whole_part(row: Row[Fraction], u: Fraction, v: Fraction) -> Whole:
             values = [p * (c - at) + q * at for p, q in zip(values, values[1:])]
         out.append(values[0])
     return out, over * c ** n
-
-
-def exact_part(row: Row[Fraction], u: Fraction, v: Fraction) -> Row[Fraction]:
-    """The same as fractions."""
-    whole, over = whole_part(row, u, v)
-    return [Fraction(value, over) for value in whole]
 
 
 @functools.lru_cache(maxsize=None)

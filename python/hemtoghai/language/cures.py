@@ -119,15 +119,10 @@ def number_row(line: bytes, form: int) -> Row | None:
             if len(word) > LONGEST_SHOWN:
                 return None
             if slot.counts is None:
-                return unitless_row(name, word)
+                found = re.fullmatch("(-?[0-9]+)([a-z]+)", word)
+                return [f"{name} is {word}, and has no unit", "", f"write {found[1]}"] if found else None
             return (quantity_row if form == 2 else whole_row)(name, slot, slot.counts, word)
     return None
-
-
-def unitless_row(name: str, word: str) -> Row | None:
-    """The row of a word with a unit where none is wanted, in both forms."""
-    found = re.fullmatch("(-?[0-9]+)([a-z]+)", word)
-    return [f"{name} is {word}, and has no unit", "", f"write {found[1]}"] if found else None
 
 
 def kind_of(unit: str) -> str:

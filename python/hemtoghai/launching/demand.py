@@ -10,7 +10,7 @@ from hemtoghai import program
 
 def fault_of(words: list[str]) -> str | None:
     """Demands a proof; why the words after --proved aren't carried out, or None. What asks for help runs nothing."""
-    program.demand_proof()
+    program.demanded[0] = True
     options = [word.partition("=")[0] for word in words]  # a tool takes a short form of --program too
     if words[:1] == ["--unproved"] or any(len(option) > 2 and "--program".startswith(option) for option in options):
         return "--proved runs the proved program alone: it goes with neither --unproved nor --program"

@@ -62,7 +62,7 @@ def file_if_current(path: str) -> str | None:
 
 def file_for(unproved: bool) -> str | None:
     """The file that is to run, or None where there is only the sources' own try."""
-    if program.is_proof_demanded():
+    if program.demanded[0]:
         try:
             return program.runs()
         except program.Unusable as why:

@@ -129,12 +129,8 @@ def differing(wanted: dict[str, str]) -> Iterator[str]:
     known = {*wanted, "MANIFEST.json"}
     for path in sorted(all_files(TOP)):
         if path not in known and not (program.IS_INSTALLED and "__pycache__" in path.split(os.sep)):
-            yield "not in the release: " + printable(path)
-
-
-def printable(path: str) -> str:
-    """A path as it can be printed in one line."""
-    return path.encode("unicode_escape", "surrogateescape").decode("ascii") if not path.isprintable() else path
+            yield "not in the release: " + (
+                path if path.isprintable() else path.encode("unicode_escape", "surrogateescape").decode("ascii"))
 
 
 def all_files(top: str) -> Iterator[str]:
