@@ -16,6 +16,7 @@ if TYPE_CHECKING:
 CHUNK = 1 << 16
 SIGNALS = _signal.SIGINT, _signal.SIGTERM, _signal.SIGHUP, _signal.SIGQUIT
 came: list[int] = []  # the signals that came while they were only noted
+starting: list[bool] = []  # where a program was started, and nobody waits for it yet: an end then would leave it
 noting: list[bool] = []
 
 
@@ -24,7 +25,7 @@ noting: list[bool] = []
 def on_signal(number: int, _: object) -> None:
     """Ends the launcher; where signals are only noted, what is going on looks for them."""
     came.append(number)
-    if not noting:
+    if not noting and not starting:
         end_if_told()
 
 
@@ -87,13 +88,21 @@ def started(file: str, words: list[str], source: int, sink: int = 1) -> int:
     """Starts a program with these words, its standard input and output; its process. That a pipe is closed or a file
     may not grow is for the program to see, as failed writes: the signals for it stay ignored, as Python has them."""
     actions = [(os.POSIX_SPAWN_DUP2, source, 0), (os.POSIX_SPAWN_DUP2, sink, 1)]
+    starting.append(True)
     return os.posix_spawn(file, [file, *words], os.environ, file_actions=actions)
+
+
+def hear() -> None:
+    """Has signals end the launcher again, as one does that came since a program was started."""
+    starting.clear()
+    end_if_told()
 
 
 def ended(process: int) -> int:
     """The status of a process that was started, once it has ended; it is ended where the launcher is."""
     status = None
     try:
+        hear()
         status = os.waitpid(process, 0)[1]
     finally:
         if status is None:
@@ -122,6 +131,7 @@ def fed(file: str, words: list[str], pieces: Iterable[bytes], sink: int = 1) -> 
         os.close(source)
     fault = None
     try:
+        hear()
         hand(pieces, number)
     except OSError as error:
         fault = error
