@@ -1,14 +1,7 @@
--- Words of a line, and the extremes of trajectories that come one after another.
-use Rattle.dynamics_bound.proofs.Prelude.{common_steps, ◌≡◌, ℕ, ◌+◌, ◌<◌, max, List, [], ◌∷◌, ◌++◌, length, get_or, drop, sym, ap, ◌∙◌, arith, drop_more, Traj, AreWords, extremes, extremes_of, greater}
+-- The extremes of trajectories that come one after another.
+use Rattle.dynamics_bound.proofs.Prelude.{common_steps, ◌≡◌, ℕ, ◌+◌, ◌<◌, max, List, ◌∷◌, length, get_or, drop, sym, ap, ◌∙◌, arith, drop_more, Traj, extremes, extremes_of, greater}
 use Rattle.dynamics_bound.specs.declared.motion.Axes.{Axes}
 use Rattle.dynamics_bound.specs.declared.motion.Extremes.{Extremes}
-
--- words, and words after them
-pub words_both : (words more : List (List ℕ)) → AreWords words → AreWords more → AreWords (words ++ more)
-words_both [] more are after = after
-words_both (word ∷ words) more are after = (are.0, words_both words more are.1 after)
-
--- ---- extremes
 
 axes_by : (a b : Axes) → a.x ≡ b.x → a.y ≡ b.y → a.z ≡ b.z → a ≡ b
 axes_by a b x y z = grind (arith, common_steps)

@@ -1,5 +1,5 @@
 -- What the proofs of this crate cite from elsewhere, passed on from one place. Declares nothing.
-pub use Rattle.std.proofs.Common.{All, Bool, Fits, FitsSigned, IfNone, IfSome, List, None, OnOk, Option, Some, [], ap, arith, codes, cond, drop, false, get_or, inl, inr, length, lit<, map, max, nat_lt, neg_ℤ, of_z, pos, refl, rules, subst, suc, sum, sym, take, to_z, true, unsigned_abs, zero, ℕ, ℤ, ◌*ℤ◌, ◌*◌, ◌++◌, ◌+ℤ◌, ◌+◌, ◌-ℤ◌, ◌-◌, ◌/◌, ◌<ℤ◌, ◌<◌, ◌^◌, ◌∙◌, ◌∷◌, ◌≡◌, ◌≤ℤ◌, ◌≤◌, ◌⊎◌}
+pub use Rattle.std.proofs.Common.{All, Bool, Fits, FitsSigned, IfNone, IfSome, List, None, Option, Some, [], ap, arith, cond, drop, false, get_or, inl, inr, length, lit<, map, max, nat_lt, neg_ℤ, of_z, pos, refl, rules, suc, sum, sym, take, to_z, true, unsigned_abs, zero, ℕ, ℤ, ◌*ℤ◌, ◌*◌, ◌+ℤ◌, ◌+◌, ◌-ℤ◌, ◌-◌, ◌/◌, ◌<ℤ◌, ◌<◌, ◌^◌, ◌∙◌, ◌∷◌, ◌≡◌, ◌≤ℤ◌, ◌≤◌, ◌⊎◌}
 pub use Rattle.std.proofs.Math.Nat.{div-mul-le_self, pow-le-pow_right, pow-suc, pow-zero}
 pub use Rattle.std.proofs.lemmas.Bool.Decides.{nat_tests}
 pub use Rattle.std.proofs.lemmas.Grind.{common_steps, div_ceil_times}
@@ -13,8 +13,6 @@ unfoldable pub use Rattle.bezier_core.specs.Raised.{raised_value}
 pub use Rattle.bezier_core.specs.Raised.{raised}
 pub use Rattle.bezier_core.specs.Steps.{IsWithin}
 pub use Rattle.bezier_core.specs.declared.Bez.{Bez}
-pub use Rattle.fleet_io.proofs.WordLaws.{decimal_is_word, words_make_line}
-pub use Rattle.fleet_io.specs.Words.{AreWords, IsWord, with_word, with_words}
 pub use Rattle.fleet_math.proofs.BernsteinLemmas.{bernstein-at_end, bernstein-at_zero, bernstein-same, by_lt}
 pub use Rattle.fleet_math.proofs.RingLemmas.{le_mul_ℤ, linear, mul_assoc_ℤ, mul_comm_ℤ, mul_not_negative, one_mul_ℤ, ring, zero_mul_ℤ}
 unfoldable pub use Rattle.fleet_math.specs.Bernstein.{bernstein}
@@ -41,7 +39,6 @@ pub use Rattle.dynamics_bound.specs.Accelerations.{KeepsAcceleration, accelerati
 unfoldable pub use Rattle.dynamics_bound.specs.Edges.{jump, jump_between}
 pub use Rattle.dynamics_bound.specs.Edges.{AreSame, HasVelocities, IsGreatestJump, arrival, departure, first_greatest, first_step, first_velocity, greatest_jump, is_rest_at, last_step, rest}
 pub use Rattle.dynamics_bound.specs.Excesses.{IsWithinLimits, above, excess_before, first_excess, jumps_at, sharp_at}
-pub use Rattle.dynamics_bound.specs.Lines.{axes_words, jump_words, rest_word}
 pub use Rattle.dynamics_bound.specs.Motions.{cue_from, extremes, extremes_of, greater}
 pub use Rattle.dynamics_bound.specs.Steps.{greatest_before, reached_at, three, value_at, value_before, walk_at}
 pub use Rattle.dynamics_bound.specs.declared.excess.Excess.{Excess}
