@@ -1,21 +1,16 @@
 -- What the proofs of this crate cite from elsewhere, passed on from one place. Declares nothing.
-pub use Rattle.std.proofs.Common.{All, Bool, FitsSigned, List, None, OnOk, Option, Some, [], ap, append-nil, append_assoc, arith, codes, cond, decimal, drop, false, get_or, length, lit<, map, nat_lt, pos, refl, replicate, rules, subst, suc, sym, take, true, zero, ℕ, ℤ, ◌%◌, ◌*◌, ◌++◌, ◌+◌, ◌/◌, ◌<◌, ◌∙◌, ◌∷◌, ◌≡◌}
+pub use Rattle.std.proofs.Common.{All, Bool, List, None, Option, Some, [], ap, append-nil, append_assoc, arith, cond, drop, false, get_or, length, map, nat_lt, refl, replicate, rules, subst, suc, sym, take, true, zero, ℕ, ℤ, ◌++◌, ◌+◌, ◌<◌, ◌∙◌, ◌∷◌, ◌≡◌}
 pub use Rattle.std.proofs.lemmas.Grind.{common_steps, flat_map-append, take_at_read}
 pub use Rattle.std.proofs.lemmas.List.{drop_more, length-map, length-take, map-append, take_all}
 pub use Rattle.std.proofs.lemmas.List.Elements.{All-head, All-push, All-tail}
-pub use Rattle.std.specs.Fmt.{signed_decimal}
 pub use Rattle.std.specs.List.{flat_map, fold, range_with_len}
-pub use Rattle.firmware_memory.specs.Decoded.{last_value}
 pub use Rattle.firmware_memory.specs.Shown.{shown}
 pub use Rattle.firmware_memory.specs.declared.drone.Drone.{Drone}
-pub use Rattle.fleet_io.proofs.WordLaws.{decimal_is_word, fresh_after_line, hex_is_word, hex_makes_line, is_line_empty-append, signed_is_word, words_make_line}
-pub use Rattle.fleet_io.specs.Words.{IsWord, hex_word, is_line_empty, line, with_word}
 pub use Rattle.fleet_math.specs.Bernstein.{at}
 pub use Rattle.fleet_world.specs.WorldState.{WorldStandsAt, WorldStandsFor, WorldState, state_at, state_of}
 pub use Rattle.upload_model.specs.Drones.{DroneState}
 pub use Rattle.upload_model.specs.Sessions.{Upload, drone_count}
 pub use Rattle.upload_model.specs.declared.events.WorldEvent.{WorldEvent}
-pub use mir.Syntax.{w16}
 pub use Rattle.rehearsal.specs.Rehearsed.{blank_drone, rehearsed}
 unfoldable pub use Rattle.rehearsal.specs.Texts.{memory_lines}
-pub use Rattle.rehearsal.specs.Texts.{AreTexts, IsFound, address_word, drone_text, ending_line, entry_line, entry_lines, memory_line, started_word, title_line}
+pub use Rattle.rehearsal.specs.Texts.{AreTexts, IsFound, drone_text, entry_lines, memory_line, title_line}

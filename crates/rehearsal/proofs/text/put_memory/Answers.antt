@@ -4,12 +4,10 @@ use Rattle.rehearsal.proofs.TextLemmas.{rows-more}
 use Rattle.rehearsal.proofs.text.put_memory.Goals as goal
 
 pub loop-k-preserved : goal.loop-k-preserved
-loop-k-preserved c =
-    let next = rows-more c.args.text.now c.args.memory.now c.loop-k.k c.loop-k.text c.put_row.new.text c.loop-k.invariant.rows c.in_ok-put_row.ensures in
-    record { fresh = next.0; rows = next.1 }
+loop-k-preserved c = rows-more c.args.text.now c.args.memory.now c.loop-k.k c.loop-k.text c.put_row.new.text c.loop-k.invariant c.in_ok-put_row.ensures
 
 pub returns : goal.returns
 unfolding memory_lines
 returns c =
     let over : c.loop-k.k ≡ 128 = omega arith in
-    c.loop-k.invariant.rows ∙ ap (λ (n : ℕ). c.args.text.now ++ flat_map (memory_line c.args.memory.now) (range_with_len 0 n)) over
+    c.loop-k.invariant ∙ ap (λ (n : ℕ). c.args.text.now ++ flat_map (memory_line c.args.memory.now) (range_with_len 0 n)) over
