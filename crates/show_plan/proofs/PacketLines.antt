@@ -1,5 +1,5 @@
 -- The packet lines of a drone, one after another.
-use Rattle.show_plan.proofs.Prelude.{◌≡◌, ℕ, suc, ◌+◌, ◌-◌, ◌<◌, arith, false, true, List, [], ◌∷◌, ◌++◌, map, length, take, drop, get_or, codes, sym, ap, ◌∙◌, ◌==◌, nat_lt, if◌then◌else◌, flat_map, range_with_len, flat_map_more, get_or-map, hex_word, is_line_empty, line, fresh_after_line, Load, Upload, load_of, packet_at, packet_count, read_count, read_start, write_count, Traj, load_for, Settings, session_for, packet_line, packet_lines, packet_word}
+use Rattle.show_plan.proofs.Prelude.{◌≡◌, ℕ, suc, ◌+◌, ◌-◌, ◌<◌, arith, false, true, List, [], ◌∷◌, ◌++◌, map, length, take, drop, get_or, codes, sym, ap, ◌∙◌, ◌==◌, nat_lt, if◌then◌else◌, flat_map, range_with_len, flat_map_more, get_or-map, hex_word, line, Load, Upload, load_of, packet_at, packet_count, read_count, read_start, write_count, Traj, load_for, Settings, session_for, packet_line, packet_lines}
 use Rattle.crtp_packets.specs.Chunks.{chunk_count_of, chunk_of, chunk_start}
 use Rattle.crtp_packets.specs.Packets.{read_request_of, write_request_of}
 use Rattle.crtp_packets.specs.declared.packet.TheConstants.{READ_BYTES}
@@ -20,10 +20,6 @@ pub one_line_more : (text more start : List ℕ) (s : Upload) (d n : ℕ) → te
 one_line_more text more start s d n so_far next =
     next ∙ ap (λ (xs : List ℕ). xs ++ packet_line s d n) so_far ∙ flat_map_more (packet_line s d) start (range_with_len 0 n) n
     ∙ ap (λ (ks : List ℕ). start ++ flat_map (packet_line s d) ks) (sym (range-one_more n))
-
--- after the line of a packet the last line is empty
-pub fresh_after_packet : (text more : List ℕ) (s : Upload) (d n : ℕ) → more ≡ text ++ packet_line s d n → is_line_empty more ≡ true
-fresh_after_packet text more s d n is = ap is_line_empty is ∙ fresh_after_line text (packet_word s d n) (map hex_word (packet_at s d n))
 
 -- a read of a load, written out
 abbrev read_of : Settings → Load → ℕ → List ℕ

@@ -27,8 +27,7 @@ pub use Rattle.figure_expand.specs.Flown.{FitsWell, RoundsWell, StartsWell, job_
 pub use Rattle.figure_expand.specs.Written.{end_of, point_after}
 pub use Rattle.firmware_memory.specs.Decoded.{Carries, CurveLaw, load_for}
 pub use Rattle.fleet_curves.specs.Raised.{CurvesStandFor, Raised, difference, raised_of}
-pub use Rattle.fleet_io.proofs.WordLaws.{decimal_is_word, fresh_after_line, hex_makes_line, words_make_line}
-pub use Rattle.fleet_io.specs.Words.{IsWord, hex_word, is_line_empty, line, with_word}
+pub use Rattle.fleet_io.specs.Words.{IsWord, hex_word, line}
 pub use Rattle.mm_rounding.specs.Rounding.{axis_on, controls, counted, element_of, first_control, fits, is_short, millimetres, rounded, rounding, segment_of, short}
 pub use Rattle.mm_rounding.specs.declared.piece.MicroPiece.{MicroPiece}
 pub use Rattle.pair_search.specs.Laws.{IsFirstBlocked, SearchLaw}

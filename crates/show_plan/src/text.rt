@@ -1,48 +1,25 @@
 //! The texts that say a plan.
 
-ghost use Rattle.std.specs.Prelude.{◌≡◌, ◌≤◌, ◌++◌, ℕ, [], ◌∷◌, false, true, length, codes, decimal, IfOk, OnOk};
+ghost use Rattle.std.specs.Prelude.{◌≡◌, ◌≤◌, ◌++◌, ℕ, [], ◌∷◌, false, true, length, IfOk, OnOk};
 ghost use Rattle.std.specs.List.{All};
 ghost use Rattle.fleet_math.specs.Limits.{most_segments, most_drones};
-ghost use Rattle.fleet_io.specs.Words.{is_line_empty, line, with_word, IsWord};
 ghost use Rattle.traj_codec.specs.declared.traj.Traj.{Traj};
 ghost use Rattle.traj_codec.specs.Spelling.{IsEncoding};
 ghost use Rattle.upload_model.specs.Sessions.{Upload};
-ghost use Rattle.show_plan.specs.Fitting.{StandsAsWord, IsSendable, IsValidFitted, size};
+ghost use Rattle.show_plan.specs.Fitting.{IsSendable, IsValidFitted, size};
 ghost use Rattle.show_plan.specs.Landing.{AreUploadable, session_for};
 ghost use Rattle.show_plan.specs.Texts.{PlanLaw, drone_line, drone_part, drone_parts, packet_lines, plan_text};
 
 use crate::fitted::Fitted;
-use crate::packets::{put_bytes, put_packets};
+use crate::packets::put_packets;
 use crate::upload::{load_of, place_in};
 use choreo_show::{Name, Settings};
 use crtp_packets::MEMORY_BYTES;
 use fleet_io::Lines;
+use fleet_io::Word::{Bytes, Large};
 use std::alloc::{AllocError, Global};
 use traj_codec::{Segment, Traj, join_law, size_of, spelling_law};
 use upload_core::Session;
-
-fn put_head(text: &mut Lines) -> Result<(), AllocError>
-    requires { is_line_empty text.old ≡ true }
-    ensures { OnOk result (text.new ≡ text.old ++ line (codes "plan") (codes "1" ∷ [])) }
-{
-    text.word(b"plan")?;
-    text.word(b"1")?;
-    text.end()
-}
-
-// The number of these bytes, as a word.
-fn put_count(text: &mut Lines, bytes: &[u8]) -> Result<(), AllocError>
-    ensures { OnOk result (text.new ≡ with_word text.old (decimal (length bytes.now))) }
-{
-    text.decimal(bytes.len() as i64)
-}
-
-// The number of these segments, as a word.
-fn put_pieces(text: &mut Lines, segments: &[Segment]) -> Result<(), AllocError>
-    ensures { OnOk result (text.new ≡ with_word text.old (decimal (length segments.now))) }
-{
-    text.decimal(segments.len() as i64)
-}
 
 fn put_drone(
     text: &mut Lines,
@@ -50,25 +27,11 @@ fn put_drone(
     bytes: &[u8],
     segments: &[Segment],
 ) -> Result<(), AllocError>
-    requires fresh { is_line_empty text.old ≡ true }
-    requires name { IsWord name.now }
     ensures { OnOk result (text.new ≡ text.old ++ drone_line name.now bytes.now (length segments.now)) }
 {
-    text.word(b"drone")?;
-    text.word(name)?;
-    text.word(b"bytes")?;
-    put_count(text, bytes)?;
-    text.word(b"pieces")?;
-    put_pieces(text, segments)?;
-    text.end()
-}
-
-fn put_end(text: &mut Lines) -> Result<(), AllocError>
-    requires { is_line_empty text.old ≡ true }
-    ensures { OnOk result (text.new ≡ text.old ++ line (codes "end") []) }
-{
-    text.word(b"end")?;
-    text.end()
+    let count = Large(bytes.len() as u64);
+    let pieces = Large(segments.len() as u64);
+    text.line(b"drone ? bytes ? pieces ?", &[Bytes(name), count, pieces])
 }
 
 // The lines of a drone: its trajectory's bytes, and the packets that bring them, which are those of a session of this drone alone.
@@ -79,18 +42,15 @@ fn put_part(
     name: &[u8],
     t: &Traj,
 ) -> Result<(), AllocError>
-    requires fresh { is_line_empty text.old ≡ true }
-    requires name { IsWord name.now }
-    requires uploadable { AreUploadable settings (t.now ∷ []) }
-    ensures part { (s : Upload) (d : ℕ) → packet_lines (session_for settings (t.now ∷ []) false true) 0 ≡ packet_lines s d
+    requires { AreUploadable settings (t.now ∷ []) }
+    ensures { (s : Upload) (d : ℕ) → packet_lines (session_for settings (t.now ∷ []) false true) 0 ≡ packet_lines s d
         → OnOk result (text.new ≡ text.old ++ drone_part s d name.now t.now) }
-    ensures fresh { OnOk result (is_line_empty text.new ≡ true) }
 {
     let load = load_of(alloc, t)?;
     let bytes = load.bytes.as_slice();
     let segments = t.segments.as_slice();
     put_drone(text, name, bytes, segments)?;
-    put_bytes(text, b"data", bytes)?;
+    text.hex_line(b"data", bytes)?;
     let mut loads = Vec::new(alloc);
     loads.push(load)?;
     let session = Session::of_loads(place_in(settings), loads, false, true);
@@ -105,12 +65,9 @@ fn put_parts(
     names: &[Name],
     trajs: &[Traj],
 ) -> Result<(), AllocError>
-    requires fresh { is_line_empty text.old ≡ true }
-    requires words { All StandsAsWord names.now }
     requires count { length trajs.now ≡ length names.now }
     requires uploadable { AreUploadable settings trajs.now }
-    ensures parts { OnOk result (text.new ≡ text.old ++ drone_parts (session_for settings trajs.now false true) 0 names.now trajs.now) }
-    ensures fresh { OnOk result (is_line_empty text.new ≡ true) }
+    ensures { OnOk result (text.new ≡ text.old ++ drone_parts (session_for settings trajs.now false true) 0 names.now trajs.now) }
 {
     for d in 0..names.len() {
         put_part(alloc, text, settings, names[d].as_slice(), &trajs[d])?;
@@ -149,7 +106,7 @@ pub fn plan_text(alloc: Global, f: &Fitted) -> Result<Lines, AllocError>
 {
     join_law();
     let mut text = Lines::with_room(alloc, room_for(f))?;
-    put_head(&mut text)?;
+    text.line(b"plan 1", &[])?;
     put_parts(
         alloc,
         &mut text,
@@ -157,7 +114,7 @@ pub fn plan_text(alloc: Global, f: &Fitted) -> Result<Lines, AllocError>
         f.names.as_slice(),
         f.sent.as_slice(),
     )?;
-    put_end(&mut text)?;
+    text.line(b"end", &[])?;
     Ok(text)
 }
 

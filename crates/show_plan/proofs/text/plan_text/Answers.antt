@@ -2,9 +2,6 @@ use Rattle.show_plan.proofs.Prelude.{common_steps, List, codes, append_assoc, ap
 use Rattle.show_plan.proofs.Uploadable.{uploadable}
 use Rattle.show_plan.proofs.text.plan_text.Goals as goal
 
-pub put_end-requires : goal.put_end-requires
-put_end-requires c = c.in_ok-put_parts.ensures.fresh
-
 pub returns : goal.returns
 unfolding plan_text
 returns c = grind (arith, common_steps, codes, append_assoc)
