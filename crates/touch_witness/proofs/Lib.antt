@@ -7,5 +7,4 @@ pub mod Shows
 pub mod Least
 pub mod Levels
 pub mod Sharing
-pub mod Words
 mod Rows
