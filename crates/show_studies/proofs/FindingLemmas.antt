@@ -1,25 +1,12 @@
 -- What `explain` answers, from what its steps do.
-use Rattle.show_studies.proofs.Prelude.{◌≡◌, ℕ, ◌+◌, ◌*◌, ◌<◌, ◌≤◌, All, sum, List, [], ◌∷◌, ◌++◌, codes, decimal, ◌^◌, true, length, Option, Some, None, sym, ap, subst, ◌∙◌, arith, length-map, All-cons, All-head, All-nil, All-tail, Name, is_line_empty, fresh_after_line, Fitted, IsValidFitted, NoTouch, instant_of, Segment, durations, Traj, separation_line, word_at}
+use Rattle.show_studies.proofs.Prelude.{◌≡◌, ℕ, ◌*◌, ◌<◌, ◌≤◌, All, sum, List, [], ◌∷◌, ◌^◌, length, sym, ap, subst, ◌∙◌, arith, length-map, All-cons, All-head, All-nil, All-tail, Fitted, IsValidFitted, NoTouch, instant_of, Segment, durations, Traj}
 use Rattle.std.proofs.Math.Nat.{one-le-pow}
 use Rattle.traj_codec.specs.Joined.{IsLasting}
-use Rattle.show_plan.specs.declared.separation.BlockedPart.{BlockedPart}
 use Rattle.show_plan.specs.Separation.{FlyApart}
 use Rattle.touch_witness.proofs.Shows.{apart_disjoint, instant_inside}
 use Rattle.upload_model.proofs.Moments.{All-slice_get}
 use Rattle.fleet_curves.specs.Raised as raised
 use Rattle.sep_parts.proofs.Lifts.{exactly_apart, lasting_at, own_some}
-
--- ---- lines
-
--- after the first line a line is empty
-pub separation_fresh : (text : List ℕ) (names : List Name) (depth : ℕ) (blocked : Option BlockedPart) → is_line_empty (text ++ separation_line names depth blocked) ≡ true
-separation_fresh text names depth None = fresh_after_line text (codes "separated") []
-separation_fresh text names depth (Some part) =
-    fresh_after_line text (codes "blocked")
-    (codes "pair" ∷ word_at names part.slot.a ∷ word_at names part.slot.b ∷ codes "cue" ∷ decimal (part.slot.cue + 1) ∷ codes "part" ∷ decimal part.index ∷ codes "of" ∷ decimal (2 ^ depth) ∷ [])
-
-pub separation_leaves : (text new : List ℕ) (names : List Name) (depth : ℕ) (blocked : Option BlockedPart) → new ≡ text ++ separation_line names depth blocked → is_line_empty new ≡ true
-separation_leaves text new names depth blocked is = subst (λ (t : List ℕ). is_line_empty t ≡ true) (sym is) (separation_fresh text names depth blocked)
 
 -- ---- where no part is blocked
 

@@ -1,5 +1,5 @@
 -- What the proofs of this crate cite from elsewhere, passed on from one place. Declares nothing.
-pub use Rattle.std.proofs.Common.{All, Bool, Err, IfOk, IfSome, List, None, Ok, Option, Result, Some, [], ap, append_assoc, arith, codes, cond, decimal, drop, false, get_or, inl, inr, length, nat_lt, pos, refl, subst, suc, sum, sym, true, zero, ℕ, ℤ, ◌*ℤ◌, ◌*◌, ◌++◌, ◌+ℤ◌, ◌+◌, ◌-ℤ◌, ◌<ℤ◌, ◌<◌, ◌^◌, ◌∙◌, ◌∷◌, ◌≡◌, ◌≤ℤ◌, ◌≤◌, ◌⊎◌}
+pub use Rattle.std.proofs.Common.{All, Bool, Err, IfOk, IfSome, List, None, Ok, Option, Result, Some, [], ap, append_assoc, arith, cond, drop, false, get_or, inl, inr, length, nat_lt, pos, refl, subst, suc, sum, sym, zero, ℕ, ℤ, ◌*ℤ◌, ◌*◌, ◌++◌, ◌+ℤ◌, ◌+◌, ◌-ℤ◌, ◌<ℤ◌, ◌<◌, ◌^◌, ◌∙◌, ◌∷◌, ◌≡◌, ◌≤ℤ◌, ◌≤◌, ◌⊎◌}
 pub use Rattle.std.proofs.lemmas.Grind.{common_steps}
 pub use Rattle.std.proofs.lemmas.Int.{by_lt_z, ints}
 pub use Rattle.std.proofs.lemmas.List.{drop_all, drop_more, length-map}
@@ -13,8 +13,6 @@ pub use Rattle.choreo_show.specs.Plain.{PlainShow}
 pub use Rattle.dynamics_bound.specs.Lines.{motion_line}
 pub use Rattle.dynamics_bound.specs.Motions.{KeepsMotion, extremes_of, greater, motion}
 pub use Rattle.fleet_curves.specs.Raised.{Raised, curves_at, raised_of}
-pub use Rattle.fleet_io.proofs.WordLaws.{fresh_after_line}
-pub use Rattle.fleet_io.specs.Words.{is_line_empty}
 pub use Rattle.fleet_math.specs.Limits.{most_text}
 pub use Rattle.keepout_boxes.specs.Kept.{AllAbove, AllBelow, AllBetween, IsFirstEntry, IsKept, JudgeGives, KeepClear, KeptAt, Spot, extent, part_of}
 pub use Rattle.keepout_boxes.specs.Regions.{regions_of}
@@ -39,5 +37,5 @@ pub use Rattle.traj_codec.specs.declared.traj.Segment.{Segment}
 pub use Rattle.traj_codec.specs.declared.traj.Traj.{Traj}
 pub use Rattle.show_studies.specs.Boxes.{BoxesLaw, RegionsGive, StaysInRegions, aside_of, boxes_verb, faulty_region, regions_end, upwards_of}
 pub use Rattle.show_studies.specs.Dynamics.{KeepsDynamics, dynamics_of, dynamics_text, dynamics_verb, excess_by, excess_in, first_excess_of, limits_of, motion_lines, times_of}
-pub use Rattle.show_studies.specs.Explained.{Explains, TellsTouches, explain_verb, separation_line, word_at}
+pub use Rattle.show_studies.specs.Explained.{Explains, TellsTouches, explain_verb}
 pub use Rattle.show_studies.specs.Speeds.{KeepsBounds, KeepsSpeeds, above, first_too_fast, refused_or, speed_of_drone, speed_text, speed_verb, too_fast, too_fast_by}

@@ -1,6 +1,5 @@
 //! Lines on where two drones come close.
-ghost use Rattle.std.specs.Prelude.{◌≡◌, ◌++◌, true, length, All, IfOk, OnOk};
-ghost use Rattle.fleet_io.specs.Words.{is_line_empty};
+ghost use Rattle.std.specs.Prelude.{◌≡◌, ◌++◌, length, All, IfOk, OnOk};
 ghost use Rattle.show_plan.specs.Fitting.{IsValidFitted, StandsAsWord};
 ghost use Rattle.show_studies.specs.Steps.{IsBlockedAmong, IsClosestAmong, IsTouchAmong};
 ghost use Rattle.show_studies.specs.Explained.{contact_if, contact_line, explain_text, nearest_line, separation_line};
@@ -30,7 +29,6 @@ fn put_separation(
     depth: Depth,
     blocked: Option<BlockedPart>,
 ) -> Result<(), AllocError>
-    requires fresh { is_line_empty text.old ≡ true }
     requires words { All StandsAsWord names.now }
     requires among { IsBlockedAmong (length names.now) blocked }
     ensures { OnOk result (text.new ≡ text.old ++ separation_line names.now depth blocked) }
@@ -55,11 +53,9 @@ fn put_nearest(
     fine: Fine,
     closest: Option<Closest>,
 ) -> Result<(), AllocError>
-    requires fresh { is_line_empty text.old ≡ true }
     requires words { All StandsAsWord names.now }
     requires among { IsClosestAmong (length names.now) closest }
-    ensures line { OnOk result (text.new ≡ text.old ++ nearest_line names.now fine closest) }
-    ensures fresh { OnOk result (is_line_empty text.new ≡ true) }
+    ensures { OnOk result (text.new ≡ text.old ++ nearest_line names.now fine closest) }
 {
     match closest {
         None => Ok(()),
@@ -81,7 +77,6 @@ fn put_contact(
     fine: Fine,
     touch: Option<Touch>,
 ) -> Result<(), AllocError>
-    requires fresh { is_line_empty text.old ≡ true }
     requires words { All StandsAsWord names.now }
     requires among { IsTouchAmong (length names.now) touch }
     ensures { OnOk result (text.new ≡ text.old ++ contact_line names.now cues fine touch) }
@@ -106,7 +101,6 @@ fn put_last(
     fine: Fine,
     found: &Findings,
 ) -> Result<(), AllocError>
-    requires fresh { is_line_empty text.old ≡ true }
     requires words { All StandsAsWord names.now }
     requires among { IsTouchAmong (length names.now) found.now.touch }
     ensures { OnOk result (text.new ≡ text.old ++ contact_if found.now.blocked (contact_line names.now cues fine found.now.touch)) }

@@ -1,7 +1,7 @@
 //! `speed`: how fast the drones of a show are at most.
-ghost use Rattle.std.specs.Prelude.{◌≡◌, ◌≤◌, ◌++◌, ℕ, pos, true, length, None, All, IfOk, IfSome};
+ghost use Rattle.std.specs.Prelude.{◌≡◌, ◌≤◌, ◌++◌, ℕ, pos, length, None, All, IfOk, IfSome};
 ghost use Rattle.choreo_show.specs.Plain.{PlainShow};
-ghost use Rattle.fleet_io.specs.Words.{IsWord, is_line_empty};
+ghost use Rattle.fleet_io.specs.Words.{IsWord};
 ghost use Rattle.show_plan.specs.Fitting.{IsFitted, IsSendable, IsValidFitted, StandsAsWord};
 ghost use Rattle.speed_bound.specs.Speed.{KeepsSpeed, speed};
 ghost use Rattle.traj_codec.specs.Spelling.{HasDuration};
@@ -69,7 +69,6 @@ fn put_drone(
     depth: Depth,
     limit: Option<u32>,
 ) -> Result<Option<Refusal>, AllocError>
-    requires fresh { is_line_empty text.old ≡ true }
     requires name { IsWord name.now.items }
     requires some { 1 ≤ length t.now.segments }
     requires lasting { All HasDuration t.now.segments }

@@ -31,12 +31,11 @@ loop-d-preserved c =
     let inside : d < length names = omega (arith, within, c.requires.counted) in
     let none : excess_by limits depth times t c.index-names-d.result ≡ None = sym c.excess_by.ensures.excess ∙ c.in_default.is in
     let line =
-    c.in_ok-put_motion.ensures.line
+    c.in_ok-put_motion.ensures
     ∙ ap (λ (bytes : List ℕ). text ++ motion_line bytes c.motion_of-motion.result) c.as_slice.ensures.value
     ∙ ap (λ (m : Motion). text ++ motion_line name.items m) c.motion_of-motion.ensures.motion in
     let most = c.greater-most.ensures ∙ ap (λ (m : Motion). greater c.loop-d.most m.most) c.motion_of-motion.ensures.motion in
     record {
-      fresh = c.in_ok-put_motion.ensures.fresh;
       so_far = motions_next depth times text c.put_motion.new.text sent names d t name within inside c.index-sent-d.is c.index-names-d-in-loop-d.is line ∙ c.loop-d.invariant.so_far;
       most = ap (λ (e : Extremes). greater e (extremes_of depth (drop (d + 1) sent))) most ∙ extremes_next depth c.loop-d.most sent d t within c.index-sent-d.is ∙ c.loop-d.invariant.most;
       refusal = excess_next limits depth times sent names d t c.index-names-d.result within inside c.index-sent-d.is c.index-names-d.is none ∙ c.loop-d.invariant.refusal;

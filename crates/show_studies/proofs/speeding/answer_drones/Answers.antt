@@ -1,4 +1,4 @@
-use Rattle.show_studies.proofs.Prelude.{List, None, [], arith, codes, decimal, length, subst, sym, true, ℕ, ◌<◌, ◌∙◌, ◌∷◌, ◌≡◌, is_line_empty, fresh_after_line, speed, too_fast_by}
+use Rattle.show_studies.proofs.Prelude.{None, arith, length, sym, ◌<◌, ◌∙◌, ◌≡◌, too_fast_by}
 use Rattle.show_studies.proofs.SpeedLemmas.{bounds_within, keeps_next, keeps_over, refusal_next, speeds_next}
 use Rattle.show_studies.proofs.speeding.answer_drones.Goals as goal
 
@@ -13,9 +13,6 @@ loop-d-preserved c =
     let none : too_fast_by c.args.limit c.args.depth t name ≡ None = sym c.in_ok-put_drone.ensures.refusal ∙ c.in-None.is in
     let line = c.in_ok-put_drone.ensures.line c.in-None.is in
     record {
-      fresh = subst (λ (text : List ℕ). is_line_empty text ≡ true) (sym line)
-          (fresh_after_line c.loop-d.text (codes "speed")
-          (name.items ∷ decimal (speed c.args.depth t 0) ∷ decimal (speed c.args.depth t 1) ∷ decimal (speed c.args.depth t 2) ∷ []));
       so_far = speeds_next c.args.depth c.loop-d.text c.put_drone.new.text sent names c.loop-d.d t name within inside c.index-sent-d.is c.index-names-d.is line ∙ c.loop-d.invariant.so_far;
       refusal = refusal_next c.args.limit c.args.depth sent names c.loop-d.d t name within inside c.index-sent-d.is c.index-names-d.is none ∙ c.loop-d.invariant.refusal;
       keeps = λ later. c.loop-d.invariant.keeps
