@@ -6,6 +6,7 @@ use fleet_io::ShortLine;
 use fleet_io::Word::Number;
 
 /// What is said of a show that is accepted: how many drones and cues it has, and how many milliseconds it lasts.
+#[tactic(auto, unfolding(crate::specs::Reports::ok_line))]
 pub fn ok_line(drones: u8, cues: u16, ms: u32) -> ShortLine
     ensures { result ≡ ok_line drones cues ms }
 {
