@@ -262,6 +262,13 @@ class AllLand(unittest.TestCase):
         self.assertIsNone(it.with_silent(6800, {1}))
         self.assertIsNone(it.with_silent(500, {1}), "a is on the floor when b comes, 750 mm higher")
 
+    def test_silent_may_hear(self):
+        # b hovers silent above a: it may hear of the landing, and come down where a does. Beside a it may land or hover.
+        for x, may in ((0, False), (1000000, True)):
+            it = self.of("choreo 1\ndrone a 0 0 500000 0\ndrone b %d 0 1600000 0\ncue 4000\na hold\nb hold\nend\n" % x)
+            self.assertIsNone(it.with_silent(2000, {1}))
+            self.assertEqual(it.beside_silent(2000, {1}) is None, may)
+
     def test_what_flies_is_apart(self):
         # Landings by chance at instants that are said to be good: each drone up to half of `late` earlier or later, carried
         # on along its way as the simulated drones are, and as far aside as `stray` says. Their ellipsoids share no point.

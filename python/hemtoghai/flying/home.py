@@ -71,8 +71,7 @@ class Home(Watched):
         if not self.silent and not off:
             return self.ways.landings.now(t) or self.ways.landings.now(t + LEAD)
         at, told, silent = t + self.takes + LEAD, self.told_now(), set(self.silent)
-        why = self.meanwhile(lambda: self.ways.landings.with_silent(at, silent, off, told) if silent else
-                             self.ways.landings.refusal(at, off, told))
+        why = self.meanwhile(lambda: self.ways.landings.beside_silent(at, silent, off, told))
         took = 1000 * (clock.now() - self.began()) - t
         self.takes = max(1.2 * took, 0.8 * self.takes)
         left = at - LEAD / 2 - 1000 * (clock.now() - self.began())
@@ -144,8 +143,8 @@ class Home(Watched):
         if moving:
             return "%s silent on the way" % self.words_of(moving)
         mute = {k for k in self.mute() if at[k] != self.ways.pads[k]}
-        whys = (self.refusal_of(at, drones) for drones in ([land, land | mute] if mute else [land]))
-        return next(filter(None, whys), None)
+        cases = [land | mute, *((land | mute) - {k} for k in mute)]  # each pair: both land, or one of them alone
+        return next(filter(None, (self.refusal_of(at, drones) for drones in cases)), None)
 
     def refusal_of(self, at: Dict[int, legs.Place], drones: Set[int]) -> Optional[str]:
         """The same, where some land and all others stay."""

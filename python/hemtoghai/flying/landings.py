@@ -228,6 +228,13 @@ class Landings:
 
     # ---- where some fly on
 
+    def beside_silent(self, t: float, silent: Iterable[int], off: Optional[Dict[int, Reach]] = None,
+                      told: Optional[int] = None) -> Optional[str]:
+        """Why not all may land at an instant, or None, where each silent drone may hear of it and land as others do, or
+        hear nothing and fly its curve on: so in each pair both land, or one of the two does."""
+        whys = (self.with_silent(t, {k}, off, told) for k in silent)
+        return self.refusal(t, off, told) or next(filter(None, whys), None)
+
     def with_silent(self, t: float, silent: Iterable[int], off: Optional[Dict[int, Reach]] = None,
                     told: Optional[int] = None) -> Optional[str]:
         """Why others may not land at an instant while silent drones fly their curves on to the end, or None; `off` are
