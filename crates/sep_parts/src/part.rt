@@ -38,26 +38,19 @@ pub fn separates(
     all_places(|k| reaches(diff, w, least, k))
 }
 
-// The places are written out, so that each is a test of its own.
-macro_rules! each_passes {
-    ($passes:expr; $($k:literal)*) => {
-        $(
-            if !$passes($k) {
-                return false;
-            }
-        )*
-    };
-}
-
 // Whether a question is answered with yes at each of the eight places. The ends of the curves come first: where a
-// direction fails, it mostly fails there.
+// direction fails, it mostly fails there. The question is called in one place, so that the compiler writes it in there.
 #[inline(always)]
 pub(crate) fn all_places<F: Fn(usize) -> bool>(passes: F) -> bool
     requires { (k : ℕ) → k < 8 → F.pre passes k }
     ensures all { IsTrue result → (k : ℕ) → k ≤ 7 → F.post passes k true }
     ensures one { result ≡ false → (k : ℕ) × (k ≤ 7) × F.post passes k false }
 {
-    each_passes!(passes; 0 7 1 2 3 4 5 6);
+    for turn in 0..8 {
+        if !passes((8 - turn) % 8) {
+            return false;
+        }
+    }
     true
 }
 

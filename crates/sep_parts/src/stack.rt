@@ -3,8 +3,8 @@
 ghost use Rattle.std.specs.Prelude.{◌<◌, ◌^◌, All};
 ghost use Rattle.fleet_math.specs.Numbers.{IsBelow};
 ghost use Rattle.sep_parts.specs.Levels.{IsLevel, left_half, right_half};
+ghost use Rattle.sep_parts.specs.declared.narrow.TheConstants.{SHORT_DEPTH};
 
-use crate::narrow::SHORT_DEPTH;
 use crate::part::{halves, halves_short};
 use bezier_core::Bez;
 use fleet_curves::Difference;
@@ -20,8 +20,7 @@ pub struct Level {
 }
 
 /// The parts of the two halves of a level, without their places, of the differences `diff` of raised curves. No control
-/// value of a part reaches 2^86. Where those of the halves are below 2^58 they are made in 64 bits.
-#[inline(always)]
+/// value of a part reaches 2^86.
 pub fn parts_below(diff: &Difference, level: &Level) -> ([Bez<8>; 3], [Bez<8>; 3])
     requires level { IsLevel diff.now level.now }
     requires shallow { level.now.place.depth < 8 }
@@ -31,9 +30,17 @@ pub fn parts_below(diff: &Difference, level: &Level) -> ([Bez<8>; 3], [Bez<8>; 3
     ensures right_small { All (λ curve. All (IsBelow (2 ^ 86)) curve.b) result.1 }
 {
     diff.raised_law();
-    if level.place.depth < SHORT_DEPTH {
-        halves_short(&level.part)
-    } else {
-        halves(&level.part)
-    }
+    halves(&level.part)
+}
+
+/// As [`parts_below`], in numbers of 64 bits: no control value of the halves reaches 2^58.
+#[inline(always)]
+pub(crate) fn short_parts_below(diff: &Difference, level: &Level) -> ([Bez<8>; 3], [Bez<8>; 3])
+    requires level { IsLevel diff.now level.now }
+    requires depth { level.now.place.depth < SHORT_DEPTH }
+    ensures left { IsLevel diff.now (record { place = left_half level.now.place; part = result.0 }) }
+    ensures right { IsLevel diff.now (record { place = right_half level.now.place; part = result.1 }) }
+{
+    diff.raised_law();
+    halves_short(&level.part)
 }

@@ -1,12 +1,13 @@
 //! The parts of a cue that are still to be looked at, each halved where it stands.
 
 ghost use Rattle.std.specs.Prelude.{◌≡◌, ◌<◌, ◌≤◌, ◌^◌, [], ◌∷◌, ◌++◌, List, length, drop, All, MatchOption};
-ghost use Rattle.sep_parts.specs.Levels.{IsStack, left_half, places_of, right_half, root};
+ghost use Rattle.sep_parts.specs.Levels.{IsLevel, IsStack, left_half, places_of, right_half, root};
 ghost use Rattle.sep_parts.specs.Trees.{IsShallow, places_below};
 ghost use Rattle.sep_parts.specs.declared.stack.Level.{Level};
 
 use crate::node::Node;
-use crate::stack::{Level, parts_below};
+use crate::narrow::SHORT_DEPTH;
+use crate::stack::{Level, parts_below, short_parts_below};
 use bezier_core::Bez;
 use fleet_curves::Difference;
 use halving::Place;
@@ -113,7 +114,33 @@ impl Waiting {
     {
         let level = self.first();
         let place = level.place;
-        let parts = parts_below(diff, level);
+        if place.depth < SHORT_DEPTH {
+            let parts = short_parts_below(diff, level);
+            self.put_halves(diff, place, &parts)
+        } else {
+            let parts = parts_below(diff, level);
+            self.put_halves(diff, place, &parts)
+        }
+    }
+
+    // These parts of the halves take the place of the next part. Each caller has its own copy of this function, in which
+    // halves of 64 bits stay in registers.
+    #[inline(always)]
+    fn put_halves(
+        &mut self,
+        diff: &Difference,
+        place: Place,
+        parts: &([Bez<8>; 3], [Bez<8>; 3]),
+    )
+        requires some { 1 ≤ length self.old }
+        requires stack { IsStack diff.now self.old }
+        requires next { (level : Level) (rest : List Level) → self.old ≡ level ∷ rest → level.place ≡ place }
+        requires shallow { place.depth < 8 }
+        requires left { IsLevel diff.now (record { place = left_half place; part = parts.now.0 }) }
+        requires right { IsLevel diff.now (record { place = right_half place; part = parts.now.1 }) }
+        ensures stack { IsStack diff.now self.new }
+        ensures places { (level : Level) (rest : List Level) → self.old ≡ level ∷ rest → places_of self.new ≡ left_half place ∷ right_half place ∷ places_of rest }
+    {
         self.drop_next();
         self.push(place.right(), &parts.1);
         self.push(place.left(), &parts.0);
