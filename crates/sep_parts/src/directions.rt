@@ -5,7 +5,7 @@ ghost use Rattle.fleet_math.specs.Numbers.{IsBelow};
 ghost use Rattle.sep_parts.specs.Directions.{AreSmall, IsAxis, IsClearance, IsSquare, IsTableSize, ThresholdLaw, directions, for_ellipsoids, for_reach, for_strays, is_closed, is_rising, length_squared, limit_along, root_reaching, stray_limit, threshold, wide_directions};
 
 use crate::clearance::Clearance;
-use crate::part::weights;
+use crate::part::long_weights;
 use fleet_math::least_root_above;
 
 /// A table of directions, of 26 or of 98.
@@ -239,7 +239,7 @@ fn stray_limit(n: [i8; 3], clearance: Clearance) -> i128
 {
     product(
         stray_area(clearance.stray),
-        squared_weights(weights(n, clearance.r, clearance.h)),
+        squared_weights(long_weights(n, clearance.r, clearance.h)),
     )
 }
 
@@ -279,7 +279,7 @@ fn for_reach(n: [i8; 3], clearance: Clearance) -> i128
     ensures positive { pos 0 ≤ℤ result }
     ensures small { result ≤ℤ pos 786432000 }
 {
-    let w = weights(n, clearance.r, clearance.h);
+    let w = long_weights(n, clearance.r, clearance.h);
     let on_x = way(w[0], clearance.reach[0]);
     let on_y = way(w[1], clearance.reach[1]);
     let on_z = way(w[2], clearance.reach[2]);

@@ -10,6 +10,7 @@ ghost use Rattle.sep_parts.specs.Directions.{AreSmall, IsAxis, weights};
 ghost use Rattle.sep_parts.specs.Separates.{IsAbove, first_low, least_value};
 ghost use Rattle.sep_parts.specs.Sizes.{SizeLaw};
 
+use crate::short::weights;
 use bezier_core::{Bez, along, along_at};
 use fleet_math::Depth;
 use halving::{halve, halve_short};
@@ -33,7 +34,7 @@ pub fn separates(
     requires small { threshold <ℤ pos (2 ^ 30) }
     ensures { IsTrue result ↔ IsAbove threshold depth (along_value diff.now (weights n r h)) }
 {
-    let w = weights(n, r, h);
+    let w = long_weights(n, r, h);
     let least = scaled(threshold, depth);
     all_places(|k| reaches(diff, w, least, k))
 }
@@ -96,7 +97,7 @@ pub fn projected(diff: &[Bez<8>; 3], n: [i8; 3], r: u16, h: u16) -> Bez<8>
     ensures exact { result.b ≡ eight (along_value diff.now (weights n r h)) }
     ensures small { All (IsBelow (2 ^ 104)) result.b }
 {
-    along(diff, weights(n, r, h))
+    along(diff, long_weights(n, r, h))
 }
 
 /// The place, 0 to 7, of the first control value below the threshold, at the scale of raised curves and of the depth.
@@ -120,25 +121,16 @@ pub fn above(p: &Bez<8>, threshold: i128, depth: Depth) -> bool
     p.b.iter().all(|v| least <= *v)
 }
 
-// The weights of the three curves along a direction.
-pub(crate) fn weights(n: [i8; 3], r: u16, h: u16) -> [i128; 3]
+// The weights of the three curves along a direction, in 128 bits.
+pub(crate) fn long_weights(n: [i8; 3], r: u16, h: u16) -> [i128; 3]
     requires entries { AreSmall n }
     requires r { IsAxis r }
     requires h { IsAxis h }
     ensures exact { result ≡ weights n r h }
     ensures small { All (IsBelow 4001) result }
 {
-    [weight(n[0], h), weight(n[1], h), weight(n[2], r)]
-}
-
-// An entry times a half axis.
-fn weight(entry: i8, axis: u16) -> i128
-    requires entry { IsBelow 3 entry }
-    requires axis { IsAxis axis }
-    ensures exact { result ≡ entry *ℤ pos axis }
-    ensures small { IsBelow 4001 result }
-{
-    entry as i128 * axis as i128
+    let w = weights(n, r, h);
+    [i128::from(w[0]), i128::from(w[1]), i128::from(w[2])]
 }
 
 // The threshold at the scale of a depth.

@@ -8,10 +8,11 @@ ghost use Rattle.sep_parts.specs.Separates.{low_value};
 
 use crate::clearance::Clearance;
 use crate::directions::{Dirs, thresholds};
-use crate::narrow::{
-    NARROW_DEPTH, SHORT_DEPTH, narrow_weights, separates_narrow, separates_rows, separates_short,
-};
 use crate::part::{low_control, separates};
+use crate::short::{
+    SHORT_SUMS_DEPTH, SHORT_VALUES_DEPTH, separates_by_long_sums, separates_by_short_sums,
+    separates_rows, weights,
+};
 use crate::stack::Level;
 use fleet_curves::Difference;
 use fleet_math::Depth;
@@ -67,7 +68,7 @@ impl<const M: usize> Ruler<M> {
         ensures small { All (IsBelow 4001) result }
     {
         let directions = self.directions.n.as_slice();
-        narrow_weights(directions[dir], self.clearance.r, self.clearance.h)
+        weights(directions[dir], self.clearance.r, self.clearance.h)
     }
 
     /// The threshold of the direction with the number `dir`.
@@ -115,11 +116,25 @@ impl<const M: usize> Ruler<M> {
         let thresholds = self.thresholds.as_slice();
         let Clearance { r, h, .. } = self.clearance;
         let depth = Depth::make(level.place.depth);
-        if level.place.depth <= NARROW_DEPTH {
-            return separates_narrow(&level.part, directions[dir], r, h, thresholds[dir], depth);
+        if level.place.depth <= SHORT_SUMS_DEPTH {
+            return separates_by_short_sums(
+                &level.part,
+                directions[dir],
+                r,
+                h,
+                thresholds[dir],
+                depth,
+            );
         }
-        if level.place.depth <= SHORT_DEPTH {
-            return separates_short(&level.part, directions[dir], r, h, thresholds[dir], depth);
+        if level.place.depth <= SHORT_VALUES_DEPTH {
+            return separates_by_long_sums(
+                &level.part,
+                directions[dir],
+                r,
+                h,
+                thresholds[dir],
+                depth,
+            );
         }
         separates(&level.part, directions[dir], r, h, thresholds[dir], depth)
     }

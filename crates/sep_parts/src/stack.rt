@@ -3,7 +3,7 @@
 ghost use Rattle.std.specs.Prelude.{◌<◌, ◌^◌, All};
 ghost use Rattle.fleet_math.specs.Numbers.{IsBelow};
 ghost use Rattle.sep_parts.specs.Levels.{IsLevel, left_half, right_half};
-ghost use Rattle.sep_parts.specs.declared.narrow.TheConstants.{SHORT_DEPTH};
+ghost use Rattle.sep_parts.specs.declared.short.TheConstants.{SHORT_VALUES_DEPTH};
 
 use crate::part::{halves, halves_short};
 use bezier_core::Bez;
@@ -37,7 +37,7 @@ pub fn parts_below(diff: &Difference, level: &Level) -> ([Bez<8>; 3], [Bez<8>; 3
 #[inline(always)]
 pub(crate) fn short_parts_below(diff: &Difference, level: &Level) -> ([Bez<8>; 3], [Bez<8>; 3])
     requires level { IsLevel diff.now level.now }
-    requires depth { level.now.place.depth < SHORT_DEPTH }
+    requires depth { level.now.place.depth < SHORT_VALUES_DEPTH }
     ensures left { IsLevel diff.now (record { place = left_half level.now.place; part = result.0 }) }
     ensures right { IsLevel diff.now (record { place = right_half level.now.place; part = result.1 }) }
 {

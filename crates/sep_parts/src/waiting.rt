@@ -6,7 +6,7 @@ ghost use Rattle.sep_parts.specs.Trees.{IsShallow, places_below};
 ghost use Rattle.sep_parts.specs.declared.stack.Level.{Level};
 
 use crate::node::Node;
-use crate::narrow::SHORT_DEPTH;
+use crate::short::SHORT_VALUES_DEPTH;
 use crate::stack::{Level, parts_below, short_parts_below};
 use bezier_core::Bez;
 use fleet_curves::Difference;
@@ -114,7 +114,7 @@ impl Waiting {
     {
         let level = self.first();
         let place = level.place;
-        if place.depth < SHORT_DEPTH {
+        if place.depth < SHORT_VALUES_DEPTH {
             let parts = short_parts_below(diff, level);
             self.put_halves(diff, place, &parts)
         } else {
@@ -126,12 +126,7 @@ impl Waiting {
     // These parts of the halves take the place of the next part. Each caller has its own copy of this function, in which
     // halves of 64 bits stay in registers.
     #[inline(always)]
-    fn put_halves(
-        &mut self,
-        diff: &Difference,
-        place: Place,
-        parts: &([Bez<8>; 3], [Bez<8>; 3]),
-    )
+    fn put_halves(&mut self, diff: &Difference, place: Place, parts: &([Bez<8>; 3], [Bez<8>; 3]))
         requires some { 1 ≤ length self.old }
         requires stack { IsStack diff.now self.old }
         requires next { (level : Level) (rest : List Level) → self.old ≡ level ∷ rest → level.place ≡ place }

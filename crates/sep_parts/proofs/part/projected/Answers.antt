@@ -8,4 +8,4 @@ along-requires-clause-values c k d inside k' d' inside' = wider _ (c.requires.va
 
 pub returns-clause-small : goal.returns-clause-small
 returns-clause-small c =
-    along_small c.args.diff.now c.weights.result (weights c.args.n c.args.r c.args.h) c.along.result.b c.weights.ensures.small c.weights.ensures.exact c.requires.values c.along.ensures.exact
+    along_small c.args.diff.now c.long_weights.result (weights c.args.n c.args.r c.args.h) c.along.result.b c.long_weights.ensures.small c.long_weights.ensures.exact c.requires.values c.along.ensures.exact

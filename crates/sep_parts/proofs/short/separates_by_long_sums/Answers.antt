@@ -1,6 +1,6 @@
 use Rattle.sep_parts.proofs.Prelude.{common_steps, arith, rules, ◌≡◌, FitsSigned, to_z-of_z, w128, along_value, weights, least_value}
 use Rattle.sep_parts.proofs.Lows.{each_place}
-use Rattle.sep_parts.proofs.narrow.separates_short.Goals as goal
+use Rattle.sep_parts.proofs.short.separates_by_long_sums.Goals as goal
 
 pub returns : goal.returns
 returns c =

@@ -1,6 +1,6 @@
 use Rattle.sep_parts.proofs.Prelude.{◌^◌, FitsSigned, List, All, ℕ, lit<, to_z-of_z, w64, w128, at, Bez, IsBelow, controls, controls_below}
 use Rattle.sep_parts.proofs.NarrowLemmas.{narrow_told, narrow_value, narrow_value_fits}
-use Rattle.sep_parts.proofs.narrow.reaches.Goals as goal
+use Rattle.sep_parts.proofs.short.reaches_by_short_sum.Goals as goal
 
 value : (diff : List (Bez 8)) (axis k : ℕ) → All (λ (curve : Bez 8). All (IsBelow (2 ^ 46)) curve.b) diff → IsBelow (2 ^ 46) (at (controls diff axis) k)
 value diff axis k small = controls_below (2 ^ 46) diff axis k (lit< tt) small

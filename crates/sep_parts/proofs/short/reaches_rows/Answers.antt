@@ -1,7 +1,7 @@
 use Rattle.sep_parts.proofs.Prelude.{rules, ◌≡◌, ◌∙◌, ◌↔◌, ◌≤ℤ◌, ◌+ℤ◌, ◌*ℤ◌, ℕ, ℤ, [], List, FitsSigned, IsTrue, get_or, ap, sym, subst, to_z-of_z, w32, w64, at, along_value, controls, curves_of}
 use Rattle.fleet_curves.proofs.Rows.{controls_row}
 use Rattle.sep_parts.proofs.NarrowLemmas.{row_fits}
-use Rattle.sep_parts.proofs.narrow.reaches_rows.Goals as goal
+use Rattle.sep_parts.proofs.short.reaches_rows.Goals as goal
 
 sums : {x y z u v w : ℤ} → x ≡ u → y ≡ v → z ≡ w → x +ℤ y +ℤ z ≡ u +ℤ v +ℤ w
 sums {x} {y} {z} {u} {v} {w} p q r = cc

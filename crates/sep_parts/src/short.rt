@@ -1,4 +1,4 @@
-//! Parts of the first halvings, in 64 bits.
+//! Parts of the first halvings, in 64 bits: *short* numbers.
 
 ghost use Rattle.std.specs.Prelude.{◌≡◌, ℕ, ◌^◌, ◌≤◌, ◌<◌, ℤ, pos, ◌+ℤ◌, ◌*ℤ◌, ◌≤ℤ◌, ◌<ℤ◌, All, IsTrue, ◌↔◌};
 ghost use Rattle.fleet_math.specs.Bernstein.{at};
@@ -12,16 +12,16 @@ use crate::part::{all_places, scaled};
 use bezier_core::Bez;
 use fleet_math::Depth;
 
-/// The greatest depth of a part that is judged in 64 bits.
-pub(crate) const NARROW_DEPTH: u8 = 2;
+/// The greatest depth of a part whose weighted sums have 64 bits.
+pub(crate) const SHORT_SUMS_DEPTH: u8 = 2;
 
-/// The greatest depth of a part whose control values are kept in 64 bits.
-pub(crate) const SHORT_DEPTH: u8 = 4;
+/// The greatest depth of a part whose control values have 64 bits.
+pub(crate) const SHORT_VALUES_DEPTH: u8 = 4;
 
 /// What `separates` returns, of a part that is halved at most twice. Its control values are below 2^46, so that 64 bits
 /// hold each weighted sum.
 #[inline(always)]
-pub(crate) fn separates_narrow(
+pub(crate) fn separates_by_short_sums(
     diff: &[Bez<8>; 3],
     n: [i8; 3],
     r: u16,
@@ -35,31 +35,27 @@ pub(crate) fn separates_narrow(
     requires h { IsAxis h }
     requires positive { pos 0 ≤ℤ threshold }
     requires small { threshold <ℤ pos (2 ^ 30) }
-    requires depth { depth ≤ NARROW_DEPTH }
+    requires depth { depth ≤ SHORT_SUMS_DEPTH }
     ensures { IsTrue result ↔ ((k : ℕ) → k ≤ 7 → least_value threshold depth ≤ℤ along_value diff.now (weights n r h) k) }
 {
-    let w = narrow_weights(n, r, h);
+    let w = weights(n, r, h);
     let least = scaled(threshold, depth) as i64;
-    all_places(|k| reaches(diff, w, least, k))
+    all_places(|k| reaches_by_short_sum(diff, w, least, k))
 }
 
 /// The weights of the three curves along a direction.
-pub(crate) fn narrow_weights(n: [i8; 3], r: u16, h: u16) -> [i64; 3]
+pub(crate) fn weights(n: [i8; 3], r: u16, h: u16) -> [i64; 3]
     requires entries { AreSmall n }
     requires r { IsAxis r }
     requires h { IsAxis h }
     ensures exact { result ≡ weights n r h }
     ensures small { All (IsBelow 4001) result }
 {
-    [
-        narrow_weight(n[0], h),
-        narrow_weight(n[1], h),
-        narrow_weight(n[2], r),
-    ]
+    [weight(n[0], h), weight(n[1], h), weight(n[2], r)]
 }
 
 // An entry times a half axis.
-fn narrow_weight(entry: i8, axis: u16) -> i64
+fn weight(entry: i8, axis: u16) -> i64
     requires entry { IsBelow 3 entry }
     requires axis { IsAxis axis }
     ensures exact { result ≡ entry *ℤ pos axis }
@@ -69,7 +65,7 @@ fn narrow_weight(entry: i8, axis: u16) -> i64
 }
 
 // Whether one weighted sum is at least so much.
-fn reaches(diff: &[Bez<8>; 3], w: [i64; 3], least: i64, k: usize) -> bool
+fn reaches_by_short_sum(diff: &[Bez<8>; 3], w: [i64; 3], least: i64, k: usize) -> bool
     requires place { k < 8 }
     requires values { All (λ curve. All (IsBelow (2 ^ 46)) curve.b) diff.now }
     requires weights { All (IsBelow 4001) w }
@@ -92,14 +88,14 @@ fn sum_reaches(w: [i64; 3], x: i64, y: i64, z: i64, least: i64) -> bool
     requires z { IsBelow (2 ^ 46) z }
     ensures { IsTrue result ↔ (least ≤ℤ (at w 0 *ℤ x +ℤ at w 1 *ℤ y +ℤ at w 2 *ℤ z)) }
 {
-    let a = weighted(w[0], x);
-    let b = weighted(w[1], y);
-    let c = weighted(w[2], z);
+    let a = short_product(w[0], x);
+    let b = short_product(w[1], y);
+    let c = short_product(w[2], z);
     least <= a + b + c
 }
 
 // A number times a weight.
-fn weighted(weight: i64, value: i64) -> i64
+fn short_product(weight: i64, value: i64) -> i64
     requires weight { IsBelow 4001 weight }
     requires value { IsBelow (2 ^ 46) value }
     ensures product { result ≡ weight *ℤ value }
@@ -111,7 +107,7 @@ fn weighted(weight: i64, value: i64) -> i64
 /// What `separates` returns, of a part that is halved at most four times. Its control values are below 2^58, so that 64
 /// bits hold each, and a weighted sum is that of three products of numbers of 64 bits.
 #[inline(always)]
-pub(crate) fn separates_short(
+pub(crate) fn separates_by_long_sums(
     diff: &[Bez<8>; 3],
     n: [i8; 3],
     r: u16,
@@ -127,26 +123,26 @@ pub(crate) fn separates_short(
     requires small { threshold <ℤ pos (2 ^ 30) }
     ensures { IsTrue result ↔ ((k : ℕ) → k ≤ 7 → least_value threshold depth ≤ℤ along_value diff.now (weights n r h) k) }
 {
-    let w = narrow_weights(n, r, h);
+    let w = weights(n, r, h);
     let least = scaled(threshold, depth);
-    all_places(|k| reaches_short(diff, w, least, k))
+    all_places(|k| reaches_by_long_sum(diff, w, least, k))
 }
 
 // Whether one weighted sum is at least so much.
-fn reaches_short(diff: &[Bez<8>; 3], w: [i64; 3], least: i128, k: usize) -> bool
+fn reaches_by_long_sum(diff: &[Bez<8>; 3], w: [i64; 3], least: i128, k: usize) -> bool
     requires place { k < 8 }
     requires values { All (λ curve. All (IsBelow (2 ^ 58)) curve.b) diff.now }
     requires weights { All (IsBelow 4001) w }
     ensures { IsTrue result ↔ (least ≤ℤ along_value diff.now w k) }
 {
-    let x = weighted_short(w[0], diff[0].b[k]);
-    let y = weighted_short(w[1], diff[1].b[k]);
-    let z = weighted_short(w[2], diff[2].b[k]);
+    let x = long_product(w[0], diff[0].b[k]);
+    let y = long_product(w[1], diff[1].b[k]);
+    let z = long_product(w[2], diff[2].b[k]);
     least <= x + y + z
 }
 
 // A value times a weight, both in 64 bits.
-fn weighted_short(weight: i64, value: i128) -> i128
+fn long_product(weight: i64, value: i128) -> i128
     requires weight { IsBelow 4001 weight }
     requires value { IsBelow (2 ^ 58) value }
     ensures product { result ≡ weight *ℤ value }
@@ -171,7 +167,7 @@ pub(crate) fn separates_rows(
     requires small { threshold <ℤ pos (2 ^ 30) }
     ensures { IsTrue result ↔ ((k : ℕ) → k ≤ 7 → least_value threshold 0 ≤ℤ along_value (curves_of rows.now) (weights n r h) k) }
 {
-    let w = narrow_weights(n, r, h);
+    let w = weights(n, r, h);
     let least = whole_least(threshold);
     all_places(|k| reaches_rows(rows, w, least, k))
 }

@@ -1,7 +1,7 @@
 use Rattle.sep_parts.proofs.Prelude.{common_steps, arith, rules, ◌≡◌, ◌∙◌, FitsSigned, ap, ℤ, to_z, of_z, to_z-of_z, w64, w128, along_value, weights, least_value}
 use Rattle.sep_parts.proofs.Lows.{each_place}
 use Rattle.sep_parts.proofs.NarrowLemmas.{narrow_least}
-use Rattle.sep_parts.proofs.narrow.separates_narrow.Goals as goal
+use Rattle.sep_parts.proofs.short.separates_by_short_sums.Goals as goal
 
 pub overflow_cast-least : goal.overflow_cast-least
 overflow_cast-least c = grind (arith, common_steps, to_z-of_z, narrow_least)

@@ -1,6 +1,6 @@
 use Rattle.sep_parts.proofs.Prelude.{common_steps, arith, to_z-of_z}
 use Rattle.sep_parts.proofs.NarrowLemmas.{narrow_fits, narrow_product, narrow_value, narrow_weight_fits}
-use Rattle.sep_parts.proofs.narrow.weighted.Goals as goal
+use Rattle.sep_parts.proofs.short.short_product.Goals as goal
 
 pub returns-clause-product : goal.returns-clause-product
 returns-clause-product c = grind (arith, common_steps, narrow_value, narrow_weight_fits, narrow_fits, narrow_product, to_z-of_z)
