@@ -30,7 +30,6 @@ pub fn boxes_of(curves: &Curves) -> Boxes
     boxes
 }
 
-// The box of a drone's flight.
 fn box_of(curves: &Curves, drone: usize) -> [Bez<8>; 3]
     requires { drone < curves.now.drones }
     ensures { Covers curves.now drone result curves.now.cues }
@@ -68,7 +67,6 @@ fn wider(ends: Ends, curve: &Bez<8>) -> Ends
     Ends { low, high }
 }
 
-// The lesser of two numbers.
 fn lesser(a: i128, b: i128) -> i128
     ensures first { result ≤ℤ a }
     ensures second { result ≤ℤ b }
@@ -76,7 +74,6 @@ fn lesser(a: i128, b: i128) -> i128
     if a < b { a } else { b }
 }
 
-// The greater of two numbers.
 fn greater(a: i128, b: i128) -> i128
     ensures first { a ≤ℤ result }
     ensures second { b ≤ℤ result }

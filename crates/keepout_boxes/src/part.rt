@@ -111,7 +111,6 @@ fn less(border: i32, by: u16, scale: i128) -> i128
     scaled(border - by as i32, scale)
 }
 
-// A limit at a scale.
 fn scaled(limit: i32, scale: i128) -> i128
     requires limit { IsBelow 43001 limit }
     requires scale { IsIn (pos 0) (pos (2 ^ 70)) scale }
@@ -120,7 +119,6 @@ fn scaled(limit: i32, scale: i128) -> i128
     limit as i128 * scale
 }
 
-// Whether each control value is below a limit.
 fn all_below(curve: &Bez<8>, limit: i128) -> bool
     ensures { IsTrue result ↔ AllBelow (at curve.now.b) limit }
 {
@@ -132,7 +130,6 @@ fn all_below(curve: &Bez<8>, limit: i128) -> bool
     true
 }
 
-// Whether each control value is above a limit.
 fn all_above(curve: &Bez<8>, limit: i128) -> bool
     ensures { IsTrue result ↔ AllAbove (at curve.now.b) limit }
 {
@@ -144,7 +141,6 @@ fn all_above(curve: &Bez<8>, limit: i128) -> bool
     true
 }
 
-// Whether each control value lies between two limits.
 fn all_between(curve: &Bez<8>, low: i128, high: i128) -> bool
     ensures { IsTrue result ↔ AllBetween (at curve.now.b) low high }
 {

@@ -37,7 +37,6 @@ impl From<AllocError> for RegionFault {
     }
 }
 
-// The coordinate that a word is.
 fn coordinate(word: &[u8]) -> Option<i32>
     ensures value { result ≡ coordinate_word word.now }
     ensures near { IfSome result IsCoordinate }
@@ -100,7 +99,6 @@ fn region_on(text: &[u8], words: &[Token]) -> Option<Region>
     )
 }
 
-// One region more.
 fn put(regions: &mut Vec<Region>, region: Region) -> Result<(), AllocError>
     ensures { OnOk result (regions.new.items ≡ regions.old.items ++ region ∷ []) }
 {

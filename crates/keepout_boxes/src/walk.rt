@@ -46,11 +46,11 @@ pub fn first_entering(
         return first;
     }
     let second = first_entering(&right, region, r, h, next, below);
-    behind(second, 2u16.pow(levels as u32 - 1))
+    in_second_half(second, 2u16.pow(levels as u32 - 1))
 }
 
 // An index, counted from the beginning of the other half.
-fn behind(index: Option<u16>, parts: u16) -> Option<u16>
+fn in_second_half(index: Option<u16>, parts: u16) -> Option<u16>
     requires parts { parts ≤ 128 }
     requires index { IsIndex index parts }
     ensures { result ≡ option_map (λ i. parts + i) index }
