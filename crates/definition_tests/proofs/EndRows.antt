@@ -48,7 +48,7 @@ together t u late b e p q same behind before = record {
 
 -- ---- places
 pieces : (t : Traj) (axis : ℕ) → IsMoving t → axis ≤ 2 → All IsPiece (pieces_on axis t)
-pieces t axis moving inside = pieces_formed axis t.segments inside moving.lasting (formed_of t.segments moving.formed.segments)
+pieces t axis moving inside = pieces_formed axis t.segments inside moving.durations (formed_of t.segments moving.formed.segments)
 
 -- the last of a list's numbers is its last value
 at_last : (first : ℤ) (stored : List ℤ) → at (first ∷ stored) (length stored) ≡ plain.last_value first stored
@@ -134,7 +134,7 @@ ends = record {
   last = λ t axis b p q moving near some after.
       let is : held_at t b p q ≡ q * sum (durations t.segments) = is_last (sum (durations t.segments)) b p q after in
       subst (λ (k : ℕ). decoded t axis (own t k q) ≡ (power (pos (own t k q).c) 7 *ℤ last_value t axis)) (sym is)
-      (last_at (at t.start axis) axis q (length t.segments - 1) t.segments some moving.lasting (less_one (length t.segments) moving.some) (pieces t axis moving near));
+      (last_at (at t.start axis) axis q (length t.segments - 1) t.segments some moving.durations (less_one (length t.segments) moving.some) (pieces t axis moving near));
   together = together;
   apart = λ r h stray late trajs apart k n t u other first_is second_is same b e p q some behind before first second may also.
       apart k n t u other first_is second_is (held_at t b p q) q (held_at u e p q) q some some (inside t b p q) (inside u e p q)

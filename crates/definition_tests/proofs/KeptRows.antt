@@ -35,7 +35,7 @@ pub moving : (from to : ℕ) → from ≤ 17 → to ≤ 17 → IsMoving (flight 
 moving from to low high = record {
   formed = grind (arith, common_steps, All-cons, All-nil);
   some = omega arith;
-  lasting = grind (arith, common_steps, All-cons, All-nil);
+  durations = grind (arith, common_steps, All-cons, All-nil);
 }
 
 two : (P : Traj → Type 0) (t u : Traj) → P t → P u → All P (t ∷ u ∷ [])

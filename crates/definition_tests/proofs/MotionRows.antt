@@ -26,7 +26,7 @@ even = moving 0 10 (omega arith) (omega arith)
 pub speeds : SpeedRows
 unfolding reach speed segment_speed speed_of widest_step polar bernstein raised_value decoded moment
 speeds = record {
-  keeps = keeps_speed 0 0 (flight (pos 0) (pos 10)) (omega arith) even.some even.lasting (formed_of (flight (pos 0) (pos 10)).segments even.formed.segments);
+  keeps = keeps_speed 0 0 (flight (pos 0) (pos 10)) (omega arith) even.some even.durations (formed_of (flight (pos 0) (pos 10)).segments even.formed.segments);
   faster = λ keeps. let within = (keeps 0 1 10 1 (omega arith) (omega arith) (omega arith) (omega arith)).within in absurd (omega (arith, within));
   within = moves_reach 0 4 (flight (pos 0) (pos 10)) 0 (omega arith) even;
   farther = λ moves. let within = (moves 0 1 5 1 (omega arith) (omega arith) (omega arith) (omega arith) (record { before = omega arith; after = omega arith })).1 in absurd (omega (arith, within));
@@ -36,11 +36,11 @@ round : IsMoving parabola
 round = record {
   formed = grind (arith, common_steps, All-cons, All-nil);
   some = omega arith;
-  lasting = grind (arith, common_steps, All-cons, All-nil);
+  durations = grind (arith, common_steps, All-cons, All-nil);
 }
 
 pieces : All IsPiece (pieces_on 0 parabola)
-pieces = pieces_formed 0 parabola.segments (omega arith) round.lasting (formed_of parabola.segments round.formed.segments)
+pieces = pieces_formed 0 parabola.segments (omega arith) round.durations (formed_of parabola.segments round.formed.segments)
 
 pub accelerations : AccelerationRows
 unfolding acceleration segment_acceleration acceleration_of widest_bend_part widest_bend polar bernstein raised_value decoded

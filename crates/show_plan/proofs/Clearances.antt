@@ -15,7 +15,7 @@ all_moving times some last (t ∷ ts) same formed =
     (record {
       formed = All-head IsTrajectory t ts formed;
       some = omega (arith, some, ap (λ (ns : List ℕ). length ns) is, length-durations t.segments);
-      lasting = lasting t.segments (subst (λ (ns : List ℕ). All (λ ms. 1 ≤ ms) ns) (sym is) last);
+      durations = lasting t.segments (subst (λ (ns : List ℕ). All (λ ms. 1 ≤ ms) ns) (sym is) last);
     })
     (all_moving times some last ts (All-tail (λ (t : Traj). durations t.segments ≡ times) t ts same) (All-tail IsTrajectory t ts formed))
 

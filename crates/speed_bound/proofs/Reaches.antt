@@ -109,7 +109,7 @@ position_at t axis p q near moving before =
     let in_piece : lies.cue < length (pieces_on axis t) = omega (arith, lies.inside, length-map t.segments (λ (s : Segment). s.ms), length-map t.segments (piece_on axis)) in
     let here : lies.cue < length t.segments = omega (arith, lies.inside, length-map t.segments (λ (s : Segment). s.ms)) in
     rw lies.is
-    (position_within (at t.start axis) (pieces_on axis t) _ (pieces_formed axis t.segments near moving.lasting (formed_of t.segments moving.formed.segments)) in_piece
+    (position_within (at t.start axis) (pieces_on axis t) _ (pieces_formed axis t.segments near moving.durations (formed_of t.segments moving.formed.segments)) in_piece
     (ends p q (time_before (durations t.segments) lies.cue) (get_or (durations t.segments) lies.cue 0) _ (time_before-suc (durations t.segments) lies.cue lies.inside) lies.to)
     (points_numbers t.segments (at t.start axis) axis lies.cue near (start_is t axis near moving.formed) moving.formed.segments here))
   where
@@ -160,7 +160,7 @@ unfolding reach
 moves_reach depth late t axis near moving =
     moves_least late farthest (div_ceil (late * speed depth t axis) 1000000) t axis (moves_at_most late t axis near moving)
     (moves_by_speed late (speed depth t axis) (div_ceil (late * speed depth t axis) 1000000) t axis (div_ceil_times (late * speed depth t axis) 1000000 (omega arith)).0
-    (keeps_speed depth axis t near moving.some moving.lasting (formed_of t.segments moving.formed.segments)))
+    (keeps_speed depth axis t near moving.some moving.durations (formed_of t.segments moving.formed.segments)))
 
 -- all of them within the reach of all
 pub reach_law_holds : ReachLaw

@@ -55,7 +55,7 @@ same_gap t u v x y C C' D' d e positive first second same =
 same_place : (t : Traj) (axis p q s w : ℕ) → axis ≤ 2 → IsMoving t → 1 ≤ q → 1 ≤ w → p ≤ q * sum (durations t.segments) → s ≤ w * sum (durations t.segments) → AreTogether 0 p q s w → way t axis p q s w ≡ pos 0
 same_place t axis p q s w near moving q_some w_some p_in s_in together =
     no_way (power (pos (own t p q).c) 7 *ℤ power (pos (own t s w).c) 7) (way t axis p q s w)
-    (moves_by_speed 0 (speed 0 t axis) 0 t axis (omega arith) (keeps_speed 0 axis t near moving.some moving.lasting (formed_of t.segments moving.formed.segments)) p q s w q_some w_some p_in s_in together)
+    (moves_by_speed 0 (speed 0 t axis) 0 t axis (omega arith) (keeps_speed 0 axis t near moving.some moving.durations (formed_of t.segments moving.formed.segments)) p q s w q_some w_some p_in s_in together)
 
 -- what is not past the end by one fraction is not by another
 not_past : (p q s w n : ℕ) → 1 ≤ w → p * w ≡ s * q → s ≤ w * n → p ≤ q * n
@@ -68,8 +68,8 @@ pub still : StillLaw
 still r h trajs moving far a b t u differ t_is u_is p q s w q_some w_some p_before s_before together first second at_first at_second =
     let t_moving : IsMoving t = at_place IsMoving trajs a t moving t_is in
     let u_moving : IsMoving u = at_place IsMoving trajs b u moving u_is in
-    let t_lasts : IsLasting t = lasting_of t t_moving.lasting in
-    let u_lasts : IsLasting u = lasting_of u u_moving.lasting in
+    let t_lasts : IsLasting t = lasting_of t t_moving.durations in
+    let u_lasts : IsLasting u = lasting_of u u_moving.durations in
     let same : p * w ≡ s * q = omega (arith, together.before, together.after) in
     let u_before : p ≤ q * sum (durations u.segments) = not_past p q s w (sum (durations u.segments)) w_some same s_before in
     let exact : AreApart t u r h p q = far a b t u differ t_is u_is p q q_some p_before u_before in

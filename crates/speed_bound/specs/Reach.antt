@@ -27,7 +27,7 @@ reach_of depth late trajs axis = greatest_below (length trajs) (λ drone. reach 
 pub record IsMoving (t : Traj) : Type 0 where
   pub formed : IsTrajectory t
   pub some : 1 ≤ length t.segments
-  pub lasting : All HasDuration t.segments
+  pub durations : All HasDuration t.segments
 
 -- Each of these trajectories moves on each axis by at most the reach of all, between any two instants that are at most
 -- so far apart.

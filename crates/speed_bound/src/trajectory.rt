@@ -24,7 +24,7 @@ use traj_codec::{Element, Traj};
 /// moves by at most that speed times the time between them. Takes no memory.
 pub fn bound(t: &Traj, depth: Depth) -> [i64; 3]
     requires some { 1 ≤ length t.now.segments }
-    requires lasting { All HasDuration t.now.segments }
+    requires durations { All HasDuration t.now.segments }
     ensures exact { result ≡ pos (speed depth t.now 0) ∷ pos (speed depth t.now 1) ∷ pos (speed depth t.now 2) ∷ [] }
     ensures keeps { (axis : ℕ) → axis ≤ 2 → KeepsSpeed t.now axis (speed depth t.now axis) }
     ensures small { (axis : ℕ) → axis ≤ 2 → speed depth t.now axis < 2 ^ 50 }
@@ -36,7 +36,7 @@ pub fn bound(t: &Traj, depth: Depth) -> [i64; 3]
 /// On each of the axes x, y and z the greater of a given speed and of the bound on that of a trajectory, by its parts
 /// of the depth. What can't be faster than the given speeds isn't looked at more closely.
 pub fn faster(t: &Traj, depth: Depth, least: [u64; 3]) -> [u64; 3]
-    requires lasting { All HasDuration t.now.segments }
+    requires durations { All HasDuration t.now.segments }
     requires least { (axis : ℕ) → axis ≤ 2 → slice_index_or least axis 0 < 2 ^ 50 }
     ensures exact { result ≡ max (slice_index_or least 0 0) (speed depth t.now 0) ∷ max (slice_index_or least 1 0) (speed depth t.now 1)
         ∷ max (slice_index_or least 2 0) (speed depth t.now 2) ∷ [] }
@@ -63,7 +63,7 @@ pub fn faster(t: &Traj, depth: Depth, least: [u64; 3]) -> [u64; 3]
 // The greater of a given speed and of the bound of an element that begins with this value and lasts `ms` milliseconds.
 // One that stays at it isn't raised.
 fn element_speed(first: i16, element: Element, ms: u16, depth: Depth, least: u64) -> u64
-    requires lasting { 1 ≤ ms }
+    requires duration { 1 ≤ ms }
     requires least { least < 2 ^ 50 }
     ensures exact { result ≡ max least (segment_speed depth ms (at (raised (first ∷ stored element)))) }
     ensures formed { length (stored element) ≤ 7 }
@@ -79,7 +79,7 @@ fn element_speed(first: i16, element: Element, ms: u16, depth: Depth, least: u64
 // micrometres per second. The speed of the whole curve, as its own part, bounds those of all parts.
 fn segment_speed(curve: &Bez<8>, ms: u16, depth: Depth, least: u64) -> u64
     requires values { All (IsBelow (2 ^ 28)) curve.now.b }
-    requires lasting { 1 ≤ ms }
+    requires duration { 1 ≤ ms }
     requires least { least < 2 ^ 50 }
     ensures exact { result ≡ max least (segment_speed depth ms (at curve.now.b)) }
     ensures small { result < 2 ^ 50 }
@@ -109,7 +109,7 @@ fn slow_step(speed: u64, ms: u16, depth: Depth) -> u128
 #[tactic(auto, unfolding(crate::specs::Speed::speed_of))]
 fn per_second(widest: u128, ms: u16, depth: Depth) -> u64
     requires widest { widest ≤ 2 ^ (29 + 7 * depth) }
-    requires lasting { 1 ≤ ms }
+    requires duration { 1 ≤ ms }
     ensures exact { result ≡ speed_of depth ms widest }
     ensures small { result < 2 ^ 50 }
 {
