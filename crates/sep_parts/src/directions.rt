@@ -189,7 +189,6 @@ pub fn thresholds<const M: usize>(dirs: &Dirs<M>, clearance: Clearance) -> [i128
     values
 }
 
-// The threshold of one direction.
 fn threshold_along(n: [i8; 3], clearance: Clearance) -> i128
     requires entries { AreSmall n }
     requires clearance { IsClearance clearance }
@@ -198,7 +197,6 @@ fn threshold_along(n: [i8; 3], clearance: Clearance) -> i128
     for_ellipsoids(n, clearance) + for_strays(n, clearance) + for_reach(n, clearance)
 }
 
-// What the ellipsoids ask for along a direction.
 fn for_ellipsoids(n: [i8; 3], clearance: Clearance) -> i128
     requires entries { AreSmall n }
     requires clearance { IsClearance clearance }
@@ -262,7 +260,6 @@ fn squared_weights(w: [i128; 3]) -> i128
     sum(squared(w[0]), squared(w[1]), squared(w[2]))
 }
 
-// The square of a weight.
 fn squared(weight: i128) -> i128
     requires { IsBelow 4001 weight }
     ensures exact { result ≡ weight *ℤ weight }
@@ -318,7 +315,6 @@ fn area(r: u16, h: u16) -> u64
     4 * square(r) * square(h)
 }
 
-// The square of a half axis.
 fn square(r: u16) -> u64
     requires { IsAxis r }
     ensures exact { result ≡ r * r }
@@ -327,7 +323,6 @@ fn square(r: u16) -> u64
     r as u64 * r as u64
 }
 
-// A multiple of a small number.
 fn product(factor: u64, x: i128) -> i128
     requires factor { factor ≤ 2 ^ 50 }
     requires positive { pos 0 ≤ℤ x }
@@ -353,7 +348,6 @@ fn squared_length(n: [i8; 3]) -> i128
     )
 }
 
-// A sum of three squares.
 fn sum(x: i128, y: i128, z: i128) -> i128
     requires x { IsSquare x }
     requires y { IsSquare y }
@@ -365,7 +359,6 @@ fn sum(x: i128, y: i128, z: i128) -> i128
     x + y + z
 }
 
-// The square of an entry.
 fn squared_entry(entry: i8) -> i128
     requires low { neg_ℤ (pos 2) ≤ℤ entry }
     requires high { entry ≤ℤ pos 2 }

@@ -54,7 +54,6 @@ pub(crate) fn weights(n: [i8; 3], r: u16, h: u16) -> [i64; 3]
     [weight(n[0], h), weight(n[1], h), weight(n[2], r)]
 }
 
-// An entry times a half axis.
 fn weight(entry: i8, axis: u16) -> i64
     requires entry { IsBelow 3 entry }
     requires axis { IsAxis axis }
@@ -94,7 +93,6 @@ fn sum_reaches(w: [i64; 3], x: i64, y: i64, z: i64, least: i64) -> bool
     least <= a + b + c
 }
 
-// A number times a weight.
 fn short_product(weight: i64, value: i64) -> i64
     requires weight { IsBelow 4001 weight }
     requires value { IsBelow (2 ^ 46) value }

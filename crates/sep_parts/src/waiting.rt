@@ -141,7 +141,6 @@ impl Waiting {
         self.push(place.left(), &parts.0);
     }
 
-    // Without the next part.
     fn drop_next(&mut self)
         requires { 1 ≤ length self.old }
         ensures { self.new ≡ drop 1 self.old }
