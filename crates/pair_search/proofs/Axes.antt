@@ -1,5 +1,5 @@
 -- Drones that are far apart on an axis are separated by its direction.
-use Rattle.pair_search.proofs.Prelude.{common_steps, ◌≡◌, ◌⊎◌, inl, inr, ℕ, zero, suc, ◌+◌, ◌*◌, ◌≤◌, ℤ, pos, negsuc, neg_ℤ, ◌+ℤ◌, ◌-ℤ◌, ◌*ℤ◌, ◌≤ℤ◌, ◌<ℤ◌, unsigned_abs, arith, refl, sym, ◌∙◌, ap, List, [], ◌∷◌, ints, unsigned_abs-mul, at, linear, le_mul_pos, mul_comm_ℤ, mul_neg_ℤ, neg_mul_ℤ, one_mul_ℤ, zero_mul_ℤ, Bez, controls, at-eight, part_value, part-whole, Clearance, IsAxis, IsClearance, Stands, for_reach, length_squared, limit_along, reach_on, root_above, stray_limit, threshold, weights, Separates, part_along, root, Raised, curves_at, difference, Extent, HasAxes, IsExtent, IsFar, IsFarOn, gap_of, room_on, HasDirection}
+use Rattle.pair_search.proofs.Prelude.{common_steps, ◌≡◌, ◌⊎◌, inl, inr, ℕ, zero, suc, ◌+◌, ◌*◌, ◌≤◌, ℤ, pos, negsuc, neg_ℤ, ◌+ℤ◌, ◌-ℤ◌, ◌*ℤ◌, ◌≤ℤ◌, ◌<ℤ◌, unsigned_abs, arith, refl, sym, ◌∙◌, ap, List, [], ◌∷◌, ints, unsigned_abs-mul, at, linear, le_mul_pos, mul_comm_ℤ, mul_neg_ℤ, neg_mul_ℤ, one_mul_ℤ, zero_mul_ℤ, Bez, controls, at-eight, part_value, part-whole, Clearance, IsAxis, IsClearance, Stands, for_reach, length_squared, limit_along, reach_on, root_above, stray_limit, threshold, weights, Separates, part_along, root, Raised, curves_at, difference, Extent, HasAxes, IsExtent, IsFar, IsFarOn, least_distance, room_on, HasDirection}
 use Rattle.sep_parts.proofs.Limits.{root_above-least}
 
 -- (2 p + 1)^2 is above 4 p^2
@@ -24,10 +24,10 @@ axis_threshold c n half other reach one weight way same =
     together a b w p q s v first second way same = omega (arith, ints, first, second, way, same)
 
 -- what a value times a weight reaches, where it is at least the gap of the room
-reached : (half stray reach other : ℕ) (d : ℤ) → 1 ≤ other → gap_of (2 * half + 2 * stray + reach) ≤ℤ d →
+reached : (half stray reach other : ℕ) (d : ℤ) → 1 ≤ other → least_distance (2 * half + 2 * stray + reach) ≤ℤ d →
     (pos ((2 * (half * other) + 1) + 2 * (stray * other) + other * reach) *ℤ pos 5040) ≤ℤ (pos other *ℤ d)
 reached half stray reach other d some wide =
-    let more : (pos other *ℤ gap_of (2 * half + 2 * stray + reach)) ≤ℤ (pos other *ℤ d) = le_mul_pos other (gap_of (2 * half + 2 * stray + reach)) d wide in
+    let more : (pos other *ℤ least_distance (2 * half + 2 * stray + reach)) ≤ℤ (pos other *ℤ d) = le_mul_pos other (least_distance (2 * half + 2 * stray + reach)) d wide in
     omega (arith, ints, more, nat half stray reach other some)
   where
     spread : (half stray reach other : ℕ) → other * (5040 * ((2 * half + 2 * stray + reach) + 1)) ≡ 5040 * (2 * (half * other) + other + 2 * (stray * other) + other * reach)
@@ -114,7 +114,7 @@ module _ (c : Clearance) (diff : List (Bez 8)) where
   -- a direction along which the sums are at least a weight times what is more than the gap of the room
   separates_by : (n : List ℤ) (half other reach : ℕ) (e : ℕ → ℤ) → length_squared n ≡ pos 1 → length_squared (weights n c.r c.h) ≡ pos (other * other) →
       for_reach c n ≡ pos (other * reach) → 1 ≤ other → half * other ≡ c.r * c.h →
-      ((k : ℕ) → k ≤ 7 → part_along c.r c.h diff root n k ≡ pos other *ℤ e k) → ((k : ℕ) → k ≤ 7 → gap_of (2 * half + 2 * c.stray + reach) ≤ℤ e k) → Separates c diff root n
+      ((k : ℕ) → k ≤ 7 → part_along c.r c.h diff root n k ≡ pos other *ℤ e k) → ((k : ℕ) → k ≤ 7 → least_distance (2 * half + 2 * c.stray + reach) ≤ℤ e k) → Separates c diff root n
   separates_by n half other reach e one weight way some same along wide k few =
       rw (along k few)
       (close (threshold c n) ((2 * (half * other) + 1) + 2 * (c.stray * other) + other * reach) (pos other *ℤ e k) (axis_threshold c n half other reach one weight way same)
@@ -145,7 +145,7 @@ module _ (c : Clearance) (diff : List (Bez 8)) where
 
   -- the direction of an axis, one way or the other
   by_x : (s : ℤ) (e : ℕ → ℤ) → IsUnit s → length_squared (s ∷ pos 0 ∷ pos 0 ∷ []) ≡ pos 1 → IsAxis c.h → ((k : ℕ) → (s *ℤ pos c.h) *ℤ value 0 k ≡ pos c.h *ℤ e k) →
-      ((k : ℕ) → k ≤ 7 → gap_of (room_on c c.r 0) ≤ℤ e k) → Separates c diff root (s ∷ pos 0 ∷ pos 0 ∷ [])
+      ((k : ℕ) → k ≤ 7 → least_distance (room_on c c.r 0) ≤ℤ e k) → Separates c diff root (s ∷ pos 0 ∷ pos 0 ∷ [])
   by_x s e unit one some turns wide =
       separates_by (s ∷ pos 0 ∷ pos 0 ∷ []) c.r c.h (reach_on c 0) e one
       (only_first _ _ _ _ (square_unit s c.h unit) (square_none c.h) (square_none c.r))
@@ -153,7 +153,7 @@ module _ (c : Clearance) (diff : List (Bez 8)) where
       some.0 refl (λ k few. on_x s k ∙ turns k) wide
 
   by_y : (s : ℤ) (e : ℕ → ℤ) → IsUnit s → length_squared (pos 0 ∷ s ∷ pos 0 ∷ []) ≡ pos 1 → IsAxis c.h → ((k : ℕ) → (s *ℤ pos c.h) *ℤ value 1 k ≡ pos c.h *ℤ e k) →
-      ((k : ℕ) → k ≤ 7 → gap_of (room_on c c.r 1) ≤ℤ e k) → Separates c diff root (pos 0 ∷ s ∷ pos 0 ∷ [])
+      ((k : ℕ) → k ≤ 7 → least_distance (room_on c c.r 1) ≤ℤ e k) → Separates c diff root (pos 0 ∷ s ∷ pos 0 ∷ [])
   by_y s e unit one some turns wide =
       separates_by (pos 0 ∷ s ∷ pos 0 ∷ []) c.r c.h (reach_on c 1) e one
       (only_second _ _ _ _ (square_none c.h) (square_unit s c.h unit) (square_none c.r))
@@ -161,7 +161,7 @@ module _ (c : Clearance) (diff : List (Bez 8)) where
       some.0 refl (λ k few. on_y s k ∙ turns k) wide
 
   by_z : (s : ℤ) (e : ℕ → ℤ) → IsUnit s → length_squared (pos 0 ∷ pos 0 ∷ s ∷ []) ≡ pos 1 → IsAxis c.r → ((k : ℕ) → (s *ℤ pos c.r) *ℤ value 2 k ≡ pos c.r *ℤ e k) →
-      ((k : ℕ) → k ≤ 7 → gap_of (room_on c c.h 2) ≤ℤ e k) → Separates c diff root (pos 0 ∷ pos 0 ∷ s ∷ [])
+      ((k : ℕ) → k ≤ 7 → least_distance (room_on c c.h 2) ≤ℤ e k) → Separates c diff root (pos 0 ∷ pos 0 ∷ s ∷ [])
   by_z s e unit one some turns wide =
       separates_by (pos 0 ∷ pos 0 ∷ s ∷ []) c.h c.r (reach_on c 2) e one
       (only_third _ _ _ _ (square_none c.h) (square_none c.h) (square_unit s c.r unit))
@@ -173,17 +173,17 @@ module _ (c : Clearance) (diff : List (Bez 8)) where
 
   -- where on some axis all control values lie beyond the gap, on one side
   apart_x : (dirs : List (List ℤ)) → IsAxis c.h → HasAxes dirs →
-      ((k : ℕ) → k ≤ 7 → gap_of (room_on c c.r 0) ≤ℤ value 0 k) ⊎ ((k : ℕ) → k ≤ 7 → gap_of (room_on c c.r 0) ≤ℤ neg_ℤ (value 0 k)) → HasDirection c diff dirs root
+      ((k : ℕ) → k ≤ 7 → least_distance (room_on c c.r 0) ≤ℤ value 0 k) ⊎ ((k : ℕ) → k ≤ 7 → least_distance (room_on c c.r 0) ≤ℤ neg_ℤ (value 0 k)) → HasDirection c diff dirs root
   apart_x dirs some axes (inl wide) = there dirs (pos 1 ∷ pos 0 ∷ pos 0 ∷ []) axes.right (by_x (pos 1) (value 0) (inl refl) refl some (λ k. straight (pos c.h) (value 0 k)) wide)
   apart_x dirs some axes (inr wide) = there dirs (negsuc 0 ∷ pos 0 ∷ pos 0 ∷ []) axes.left (by_x (negsuc 0) (λ k. neg_ℤ (value 0 k)) (inr refl) refl some (λ k. turned (pos c.h) (value 0 k)) wide)
 
   apart_y : (dirs : List (List ℤ)) → IsAxis c.h → HasAxes dirs →
-      ((k : ℕ) → k ≤ 7 → gap_of (room_on c c.r 1) ≤ℤ value 1 k) ⊎ ((k : ℕ) → k ≤ 7 → gap_of (room_on c c.r 1) ≤ℤ neg_ℤ (value 1 k)) → HasDirection c diff dirs root
+      ((k : ℕ) → k ≤ 7 → least_distance (room_on c c.r 1) ≤ℤ value 1 k) ⊎ ((k : ℕ) → k ≤ 7 → least_distance (room_on c c.r 1) ≤ℤ neg_ℤ (value 1 k)) → HasDirection c diff dirs root
   apart_y dirs some axes (inl wide) = there dirs (pos 0 ∷ pos 1 ∷ pos 0 ∷ []) axes.forth (by_y (pos 1) (value 1) (inl refl) refl some (λ k. straight (pos c.h) (value 1 k)) wide)
   apart_y dirs some axes (inr wide) = there dirs (pos 0 ∷ negsuc 0 ∷ pos 0 ∷ []) axes.back (by_y (negsuc 0) (λ k. neg_ℤ (value 1 k)) (inr refl) refl some (λ k. turned (pos c.h) (value 1 k)) wide)
 
   apart_z : (dirs : List (List ℤ)) → IsAxis c.r → HasAxes dirs →
-      ((k : ℕ) → k ≤ 7 → gap_of (room_on c c.h 2) ≤ℤ value 2 k) ⊎ ((k : ℕ) → k ≤ 7 → gap_of (room_on c c.h 2) ≤ℤ neg_ℤ (value 2 k)) → HasDirection c diff dirs root
+      ((k : ℕ) → k ≤ 7 → least_distance (room_on c c.h 2) ≤ℤ value 2 k) ⊎ ((k : ℕ) → k ≤ 7 → least_distance (room_on c c.h 2) ≤ℤ neg_ℤ (value 2 k)) → HasDirection c diff dirs root
   apart_z dirs some axes (inl wide) = there dirs (pos 0 ∷ pos 0 ∷ pos 1 ∷ []) axes.up (by_z (pos 1) (value 2) (inl refl) refl some (λ k. straight (pos c.r) (value 2 k)) wide)
   apart_z dirs some axes (inr wide) = there dirs (pos 0 ∷ pos 0 ∷ negsuc 0 ∷ []) axes.down (by_z (negsuc 0) (λ k. neg_ℤ (value 2 k)) (inr refl) refl some (λ k. turned (pos c.r) (value 2 k)) wide)
 
@@ -199,12 +199,12 @@ module _ (c : Raised) (a b cue : ℕ) (first second : Extent) (near : IsExtent (
 
   -- where the extents are far apart on an axis, so are the control values
   beyond : (room axis : ℕ) → axis ≤ 2 → IsFarOn room axis first second →
-      ((k : ℕ) → k ≤ 7 → gap_of room ≤ℤ at (controls (difference c a b cue) axis) k) ⊎ ((k : ℕ) → k ≤ 7 → gap_of room ≤ℤ neg_ℤ (at (controls (difference c a b cue) axis) k))
-  beyond room axis few (inl wide) = inl (λ k small. more (gap_of room) (at first.high axis) (at second.low axis) _ _ _ wide (near.high axis k few small) (far.low axis k few small) (gap_at axis k few small))
+      ((k : ℕ) → k ≤ 7 → least_distance room ≤ℤ at (controls (difference c a b cue) axis) k) ⊎ ((k : ℕ) → k ≤ 7 → least_distance room ≤ℤ neg_ℤ (at (controls (difference c a b cue) axis) k))
+  beyond room axis few (inl wide) = inl (λ k small. more (least_distance room) (at first.high axis) (at second.low axis) _ _ _ wide (near.high axis k few small) (far.low axis k few small) (gap_at axis k few small))
     where
       more : (g high low x y d : ℤ) → g ≤ℤ (low -ℤ high) → x ≤ℤ high → low ≤ℤ y → d ≡ y -ℤ x → g ≤ℤ d
       more g high low x y d wide below above is = omega (arith, linear, wide, below, above, is)
-  beyond room axis few (inr wide) = inr (λ k small. less (gap_of room) (at second.high axis) (at first.low axis) _ _ _ wide (far.high axis k few small) (near.low axis k few small) (gap_at axis k few small))
+  beyond room axis few (inr wide) = inr (λ k small. less (least_distance room) (at second.high axis) (at first.low axis) _ _ _ wide (far.high axis k few small) (near.low axis k few small) (gap_at axis k few small))
     where
       less : (g high low x y d : ℤ) → g ≤ℤ (low -ℤ high) → x ≤ℤ high → low ≤ℤ y → d ≡ x -ℤ y → g ≤ℤ neg_ℤ d
       less g high low x y d wide below above is = omega (arith, linear, wide, below, above, is)

@@ -40,7 +40,7 @@ pub use Rattle.sep_parts.specs.declared.node.Node.TheVariants.{Leaf, Split}
 pub use Rattle.sep_parts.specs.declared.slot.Slot.{Slot}
 pub use Rattle.sep_parts.specs.declared.stack.Level.{Level}
 pub use mir.Syntax.{w128, w32, w64}
-pub use Rattle.pair_search.specs.Extents.{HasAxes, HasExtents, HaveFlights, IsExtent, IsFar, IsFarOn, IsFlight, gap_of, no_extent, room_on}
+pub use Rattle.pair_search.specs.Extents.{HasAxes, HasExtents, HaveFlights, IsExtent, IsFar, IsFarOn, IsFlight, least_distance, no_extent, room_on}
 unfoldable pub use Rattle.pair_search.specs.Fleets.{direction_at}
 pub use Rattle.pair_search.specs.Fleets.{StopsBy, best_nodes, blocked_in, nodes_in, nodes_of, slots_in}
 pub use Rattle.pair_search.specs.Lanes.{AreLanes, IsFloor, IsLane, IsLowAt, IsPoint, IsSmallLane, IsSmallPoint, lane_value, slack_of, slack_on, steps_of}

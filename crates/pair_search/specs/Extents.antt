@@ -49,16 +49,16 @@ abbrev pub room_on : Clearance → ℕ → ℕ → ℕ
 room_on c half axis = 2 * half + 2 * c.stray + reach_on c axis
 
 -- how far apart control values must be for so much room
-abbrev pub gap_of : ℕ → ℤ
-gap_of room = pos (5040 * (room + 1))
+abbrev pub least_distance : ℕ → ℤ
+least_distance room = pos (5040 * (room + 1))
 
--- a gap fits between two numbers
+-- a distance fits between two numbers
 abbrev pub IsBetween : ℤ → ℤ → ℤ → Type 0
-IsBetween high low gap = gap ≤ℤ (low -ℤ high)
+IsBetween high low distance = distance ≤ℤ (low -ℤ high)
 
 -- with so much room between them on an axis the one extent lies beyond the other
 abbrev pub IsFarOn : ℕ → ℕ → Extent → Extent → Type 0
-IsFarOn room axis first second = IsBetween (at first.high axis) (at second.low axis) (gap_of room) ⊎ IsBetween (at second.high axis) (at first.low axis) (gap_of room)
+IsFarOn room axis first second = IsBetween (at first.high axis) (at second.low axis) (least_distance room) ⊎ IsBetween (at second.high axis) (at first.low axis) (least_distance room)
 
 -- on some axis
 abbrev pub IsFar : Clearance → Extent → Extent → Type 0

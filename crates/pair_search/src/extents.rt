@@ -5,7 +5,7 @@ ghost use Rattle.fleet_math.specs.Bernstein.{at};
 ghost use Rattle.fleet_math.specs.Numbers.{IsBelow};
 ghost use Rattle.fleet_curves.specs.Raised.{curves_at, curves_of};
 ghost use Rattle.sep_parts.specs.Directions.{IsAxis, IsClearance, reach_on};
-ghost use Rattle.pair_search.specs.Extents.{AreExtents, AreFlights, HasAxes, HasExtents, IsBetween, IsExtent, IsFar, IsFarOn, IsFlight, IsWider, gap_of, room_on};
+ghost use Rattle.pair_search.specs.Extents.{AreExtents, AreFlights, HasAxes, HasExtents, IsBetween, IsExtent, IsFar, IsFarOn, IsFlight, IsWider, least_distance, room_on};
 
 use crate::lanes::greater;
 use fleet_curves::Curves;
@@ -54,7 +54,6 @@ fn extent_of(rows: &[[i32; 8]; 3]) -> Extent
     }
 }
 
-// The least of eight control values.
 fn least(row: &[i32; 8]) -> i32
     requires { All (IsBelow (2 ^ 28)) row.now }
     ensures below { (k : ℕ) → k ≤ 7 → result ≤ℤ at row.now k }
@@ -67,7 +66,6 @@ fn least(row: &[i32; 8]) -> i32
     least
 }
 
-// The greatest of eight control values.
 fn greatest(row: &[i32; 8]) -> i32
     requires { All (IsBelow (2 ^ 28)) row.now }
     ensures above { (k : ℕ) → k ≤ 7 → at row.now k ≤ℤ result }
@@ -80,7 +78,6 @@ fn greatest(row: &[i32; 8]) -> i32
     greatest
 }
 
-// The lesser of two numbers.
 fn lesser(a: i32, b: i32) -> i32
     ensures either { (result ≡ a) ⊎ (result ≡ b) }
     ensures first { result ≤ℤ a }
@@ -206,26 +203,26 @@ fn are_far_on(first: &Extent, second: &Extent, axis: usize, room: u32) -> bool
     requires second { (axis : ℕ) → axis ≤ 2 → IsBelow (2 ^ 28) (at second.now.low axis) × IsBelow (2 ^ 28) (at second.now.high axis) }
     ensures { IsTrue result → IsFarOn room axis first.now second.now }
 {
-    let gap = gap_of(room);
-    if is_between(first.high[axis], second.low[axis], gap) {
+    let distance = least_distance(room);
+    if is_between(first.high[axis], second.low[axis], distance) {
         return true;
     }
-    is_between(second.high[axis], first.low[axis], gap)
+    is_between(second.high[axis], first.low[axis], distance)
 }
 
-// Whether a gap fits between two numbers.
-fn is_between(high: i32, low: i32, gap: i32) -> bool
+// Whether a distance fits between two numbers.
+fn is_between(high: i32, low: i32, distance: i32) -> bool
     requires high { IsBelow (2 ^ 28) high }
     requires low { IsBelow (2 ^ 28) low }
-    ensures { IsTrue result → IsBetween high low gap }
+    ensures { IsTrue result → IsBetween high low distance }
 {
-    gap <= low - high
+    distance <= low - high
 }
 
 // How far apart control values must be for so much room: more than the room, in raised millimetres.
-fn gap_of(room: u32) -> i32
+fn least_distance(room: u32) -> i32
     requires { room ≤ 71536 }
-    ensures { result ≡ gap_of room }
+    ensures { result ≡ least_distance room }
 {
     (5040 * (room + 1)) as i32
 }

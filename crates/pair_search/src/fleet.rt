@@ -51,7 +51,7 @@ fn difference_of(curves: &Curves, slot: Slot) -> Difference
 }
 
 // The nodes of a slot's tree, put into `nodes`, which is empty before; or the first part of its cue that no direction
-// separates.
+// separates. What `waiting` has before is dropped.
 fn tree_of<const M: usize>(
     curves: &Curves,
     ruler: &Ruler<M>,
@@ -59,6 +59,7 @@ fn tree_of<const M: usize>(
     depth: Depth,
     slot: Slot,
     nodes: &mut Vec<Node>,
+    waiting: &mut Waiting,
 ) -> Result<(), SearchFault>
     requires slot { IsSlot curves.now.drones curves.now.cues slot }
     requires empty { nodes.old.items ≡ [] }
@@ -66,7 +67,7 @@ fn tree_of<const M: usize>(
     ensures { FindsTree ruler.now depth curves.now slot nodes.new.items result }
 {
     let diff = difference_of(curves, slot);
-    match search_by(&diff, ruler, lanes, depth, nodes)? {
+    match search_by(&diff, ruler, lanes, depth, nodes, waiting)? {
         Found::Clear => Ok(()),
         Found::Blocked { index } => Err(SearchFault::Blocked { slot, index }),
     }
@@ -91,10 +92,11 @@ pub fn search_all<const M: usize>(
     let lanes = lanes_of(ruler);
     let mut trees = Forest::none(alloc);
     let mut nodes = Vec::new(alloc);
+    let mut waiting = Waiting::none();
     let mut slot = Slot::first();
     while usize::from(slot.b) < drones {
         nodes.clear();
-        tree_of(curves, ruler, &lanes, depth, slot, &mut nodes)?;
+        tree_of(curves, ruler, &lanes, depth, slot, &mut nodes, &mut waiting)?;
         trees.push(nodes.as_slice())?;
         slot = slot.next(drones, cues);
     }

@@ -42,16 +42,16 @@ pub fn lanes_of<const M: usize>(ruler: &Ruler<M>) -> Lanes
     };
     for i in 0..ruler.count() {
         let w = ruler.weights_along(i);
-        lanes.x[i] = short_weight(w[0]);
-        lanes.y[i] = short_weight(w[1]);
-        lanes.z[i] = short_weight(w[2]);
+        lanes.x[i] = lane_weight(w[0]);
+        lanes.y[i] = lane_weight(w[1]);
+        lanes.z[i] = lane_weight(w[2]);
         lanes.low[i] = low_of(ruler.threshold_along(i), w);
     }
     lanes
 }
 
 // A weight in 32 bits.
-fn short_weight(weight: i64) -> i32
+fn lane_weight(weight: i64) -> i32
     requires { IsBelow 4001 weight }
     ensures { result ≡ weight }
 {
@@ -206,7 +206,6 @@ pub(crate) fn lane_at(lanes: &Lanes, p: &Point, i: usize) -> i32
     lane_times(lanes.x[i], p.x) + lane_times(lanes.y[i], p.y) + lane_times(lanes.z[i], p.z)
 }
 
-// A coordinate times its weight.
 fn lane_times(weight: i32, value: i32) -> i32
     requires weight { IsBelow 4001 weight }
     requires value { IsWithin (pos 65536) value }

@@ -65,7 +65,6 @@ fn high_of(lanes: &Lanes, i: usize, j: usize) -> i32
     }
 }
 
-// Whether the directions of two lanes are opposite.
 fn are_opposite(lanes: &Lanes, i: usize, j: usize) -> bool
     requires i { i < 112 }
     requires j { j < 112 }
@@ -90,7 +89,6 @@ fn cancel(a: i32, b: i32) -> bool
     a + b == 0
 }
 
-// A number with the other sign.
 fn negated(low: i32) -> i32
     requires { IsBelow (2 ^ 29) low }
     ensures exact { result ≡ neg_ℤ low }

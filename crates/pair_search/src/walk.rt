@@ -64,16 +64,19 @@ pub fn search_with<const M: usize>(
     ensures clear { IfOk result (λ found.
         (found ≡ Found.Clear) ↔ IsClear ruler.now.clearance diff.now ruler.now.directions depth) }
 {
-    search_by(diff, ruler, &lanes_of(ruler), depth, nodes)
+    let mut waiting = Waiting::none();
+    search_by(diff, ruler, &lanes_of(ruler), depth, nodes, &mut waiting)
 }
 
-/// As [`search_with`], with the lanes of the ruler made before.
+/// As [`search_with`], with the lanes of the ruler made before, and a list for waiting parts. What it has before is
+/// dropped: it takes longer to make one than to search most cues.
 pub fn search_by<const M: usize>(
     diff: &Difference,
     ruler: &Ruler<M>,
     lanes: &Lanes,
     depth: Depth,
     nodes: &mut Vec<Node>,
+    waiting: &mut Waiting,
 ) -> Result<Found, AllocError>
     requires empty { nodes.old.items ≡ [] }
     requires lanes { AreLanes ruler.now lanes.now }
@@ -81,21 +84,22 @@ pub fn search_by<const M: usize>(
     ensures clear { IfOk result (λ found.
         (found ≡ Found.Clear) ↔ IsClear ruler.now.clearance diff.now ruler.now.directions depth) }
 {
-    let answer = walk(diff, ruler, lanes, depth, nodes);
+    let answer = walk(diff, ruler, lanes, depth, nodes, waiting);
     if !matches!(answer, Ok(Found::Clear)) {
         nodes.clear();
     }
     answer
 }
 
-// The nodes of the parts in preorder, up to the first part that is blocked. Most cues are told by one direction: for
-// them no stack is made.
+// The nodes of the parts in preorder, up to the first part that is blocked. Most cues are told by one direction: in
+// them no part waits.
 fn walk<const M: usize>(
     diff: &Difference,
     ruler: &Ruler<M>,
     lanes: &Lanes,
     depth: Depth,
     nodes: &mut Vec<Node>,
+    waiting: &mut Waiting,
 ) -> Result<Found, AllocError>
     requires empty { nodes.old.items ≡ [] }
     requires lanes { AreLanes ruler.now lanes.now }
@@ -106,7 +110,7 @@ fn walk<const M: usize>(
             nodes.push(Node::Leaf { dir })?;
             Ok(Found::Clear)
         }
-        Some(Node::Split) => walk_halves(diff, ruler, lanes, depth, nodes),
+        Some(Node::Split) => walk_halves(diff, ruler, lanes, depth, nodes, waiting),
         None => Ok(Found::Blocked { index: 0 }),
     }
 }
@@ -129,6 +133,7 @@ fn walk_halves<const M: usize>(
     lanes: &Lanes,
     depth: Depth,
     nodes: &mut Vec<Node>,
+    waiting: &mut Waiting,
 ) -> Result<Found, AllocError>
     requires empty { nodes.old.items ≡ [] }
     requires split { node_for (first_by ruler.now diff.now) depth root ≡ Some Node.Split }
@@ -139,12 +144,12 @@ fn walk_halves<const M: usize>(
     let _levels = depth.levels();
     diff.raised_law();
     nodes.push(Node::Split)?;
-    let mut waiting = Waiting::none();
+    waiting.clear();
     waiting.begin(diff);
     waiting.pass(diff, Node::Split);
     while let Some(level) = waiting.next() {
         match node_for(diff, level, ruler, lanes, depth) {
-            Some(node) => put(diff, &mut waiting, nodes, node)?,
+            Some(node) => put(diff, waiting, nodes, node)?,
             None => {
                 return Ok(Found::Blocked {
                     index: level.place.index,

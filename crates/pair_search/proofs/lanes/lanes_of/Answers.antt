@@ -15,18 +15,18 @@ loop-i-init g c = record {
     zero : (n j : ℕ) → 0 < n → IsBelow n (at (replicate 112 (pos 0)) j)
     zero n j some = rw (zeros 112 j) (omega (arith, ints), omega (arith, ints))
 
-pub short_weight-requires : goal.short_weight-requires
-short_weight-requires g c =
+pub lane_weight-requires : goal.lane_weight-requires
+lane_weight-requires g c =
     let small : IsBelow 4001 (at c.weights_along-w.result 0) = below_at 4001 c.weights_along-w.result 0 (lit< tt) c.weights_along-w.ensures.small in
     rw (to_z-of_z w64 (at c.weights_along-w.result 0) (long_fits _ small)) small
 
-pub short_weight-requires-in-loop-i : goal.short_weight-requires-in-loop-i
-short_weight-requires-in-loop-i g c =
+pub lane_weight-requires-in-loop-i : goal.lane_weight-requires-in-loop-i
+lane_weight-requires-in-loop-i g c =
     let small : IsBelow 4001 (at c.weights_along-w.result 1) = below_at 4001 c.weights_along-w.result 1 (lit< tt) c.weights_along-w.ensures.small in
     rw (to_z-of_z w64 (at c.weights_along-w.result 1) (long_fits _ small)) small
 
-pub short_weight-requires-in-loop-i-2 : goal.short_weight-requires-in-loop-i-2
-short_weight-requires-in-loop-i-2 g c =
+pub lane_weight-requires-in-loop-i-2 : goal.lane_weight-requires-in-loop-i-2
+lane_weight-requires-in-loop-i-2 g c =
     let small : IsBelow 4001 (at c.weights_along-w.result 2) = below_at 4001 c.weights_along-w.result 2 (lit< tt) c.weights_along-w.ensures.small in
     rw (to_z-of_z w64 (at c.weights_along-w.result 2) (long_fits _ small)) small
 
@@ -39,12 +39,12 @@ loop-i-preserved g c =
     let a_fits : FitsSigned w64 (at w 0) = long_fits _ a in
     let b_fits : FitsSigned w64 (at w 1) = long_fits _ b in
     let d_fits : FitsSigned w64 (at w 2) = long_fits _ d in
-    let x : c.short_weight.result ≡ at w 0 = simp to_z-of_z at c.short_weight.ensures in
-    let y : c.short_weight-in-loop-i.result ≡ at w 1 = simp to_z-of_z at c.short_weight-in-loop-i.ensures in
-    let z : c.short_weight-in-loop-i-2.result ≡ at w 2 = simp to_z-of_z at c.short_weight-in-loop-i-2.ensures in
-    let x_is : to_z w32 (of_z w32 c.short_weight.result) ≡ at w 0 = ap (λ (v : ℤ). to_z w32 (of_z w32 v)) x ∙ to_z-of_z w32 (at w 0) (weight_fits _ a) in
-    let y_is : to_z w32 (of_z w32 c.short_weight-in-loop-i.result) ≡ at w 1 = ap (λ (v : ℤ). to_z w32 (of_z w32 v)) y ∙ to_z-of_z w32 (at w 1) (weight_fits _ b) in
-    let z_is : to_z w32 (of_z w32 c.short_weight-in-loop-i-2.result) ≡ at w 2 = ap (λ (v : ℤ). to_z w32 (of_z w32 v)) z ∙ to_z-of_z w32 (at w 2) (weight_fits _ d) in
+    let x : c.lane_weight.result ≡ at w 0 = simp to_z-of_z at c.lane_weight.ensures in
+    let y : c.lane_weight-in-loop-i.result ≡ at w 1 = simp to_z-of_z at c.lane_weight-in-loop-i.ensures in
+    let z : c.lane_weight-in-loop-i-2.result ≡ at w 2 = simp to_z-of_z at c.lane_weight-in-loop-i-2.ensures in
+    let x_is : to_z w32 (of_z w32 c.lane_weight.result) ≡ at w 0 = ap (λ (v : ℤ). to_z w32 (of_z w32 v)) x ∙ to_z-of_z w32 (at w 0) (weight_fits _ a) in
+    let y_is : to_z w32 (of_z w32 c.lane_weight-in-loop-i.result) ≡ at w 1 = ap (λ (v : ℤ). to_z w32 (of_z w32 v)) y ∙ to_z-of_z w32 (at w 1) (weight_fits _ b) in
+    let z_is : to_z w32 (of_z w32 c.lane_weight-in-loop-i-2.result) ≡ at w 2 = ap (λ (v : ℤ). to_z w32 (of_z w32 v)) z ∙ to_z-of_z w32 (at w 2) (weight_fits _ d) in
     let low_is : to_z w32 (of_z w32 c.low_of.result) ≡ c.low_of.result = to_z-of_z w32 c.low_of.result (low_fits _ c.low_of.ensures.small) in
     let t_fits : FitsSigned w128 c.threshold_along.result = search rules in
     let inside : c.loop-i.i < 112 = omega (arith, c.loop-i-test.true, c.count-i-end.ensures.few) in
