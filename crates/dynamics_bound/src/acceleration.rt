@@ -22,7 +22,7 @@ use traj_codec::Traj;
 /// Between any three instants of a segment, whatever fractions they are, the mean velocity changes by at most that
 /// number times half the time between the first and the last. Takes no memory.
 pub fn bound(t: &Traj, depth: Depth) -> [i64; 3]
-    requires lasting { All HasDuration t.now.segments }
+    requires durations { All HasDuration t.now.segments }
     ensures exact { result ≡ pos (acceleration depth t.now 0) ∷ pos (acceleration depth t.now 1)
         ∷ pos (acceleration depth t.now 2) ∷ [] }
     ensures keeps { (axis : ℕ) → axis ≤ 2 → KeepsAcceleration t.now axis (acceleration depth t.now axis) }
@@ -41,7 +41,7 @@ pub fn bound(t: &Traj, depth: Depth) -> [i64; 3]
 /// The bound on the acceleration in a segment that lasts `ms` milliseconds, or `most` where that is no less.
 pub fn segment_above(curve: &Bez<8>, ms: u16, depth: Depth, most: u64) -> u64
     requires values { All (IsBelow (2 ^ 28)) curve.now.b }
-    requires lasting { 1 ≤ ms }
+    requires duration { 1 ≤ ms }
     requires most { most < 2 ^ 53 }
     ensures exact { result ≡ max most (segment_acceleration depth ms (at curve.now.b)) }
     ensures small { result < 2 ^ 53 }
@@ -68,7 +68,7 @@ fn bend_within(most: u64, ms: u16, depth: Depth) -> u128
 #[tactic(auto, unfolding(crate::specs::Accelerations::acceleration_of))]
 fn per_second_squared(widest: u128, ms: u16, depth: Depth) -> u64
     requires widest { widest ≤ 2 ^ 30 * 32 ^ depth }
-    requires lasting { 1 ≤ ms }
+    requires duration { 1 ≤ ms }
     ensures exact { result ≡ acceleration_of depth ms widest }
     ensures small { result < 2 ^ 53 }
 {

@@ -31,7 +31,6 @@ pub fn widest_above(curve: &Bez<8>, depth: Depth, least: u128) -> u128
     widest_above(&right, below, first)
 }
 
-// The widest bend among the control values of one curve.
 fn widest_bend(curve: &Bez<8>) -> u128
     requires { All (IsWithin (pos (2 ^ 84))) curve.now.b }
     ensures { result ≡ widest_bend (at curve.now.b) }
@@ -53,7 +52,6 @@ fn bend(a: i128, b: i128, c: i128) -> u128
     distance(step(a, b), step(b, c))
 }
 
-// The step from one number to the next.
 fn step(a: i128, b: i128) -> i128
     requires a { IsBelow (2 ^ 120) a }
     requires b { IsBelow (2 ^ 120) b }
@@ -63,7 +61,6 @@ fn step(a: i128, b: i128) -> i128
     b - a
 }
 
-// How far one number is from another.
 fn distance(a: i128, b: i128) -> u128
     requires a { IsBelow (2 ^ 126) a }
     requires b { IsBelow (2 ^ 126) b }

@@ -44,7 +44,7 @@ pub struct Excess {
 /// The first acceleration or jump above its limit, in the order of segments: in each the bound on its acceleration by
 /// parts of a depth, and then the jump at its beginning; of both x before y before z. Takes no memory.
 pub fn first_above(t: &Traj, limits: Limits, depth: Depth) -> Option<Excess>
-    requires lasting { All HasDuration t.now.segments }
+    requires durations { All HasDuration t.now.segments }
     ensures exact { result ≡ first_excess limits depth t.now }
     ensures none { IfNone result (IsWithinLimits limits depth t.now) }
     ensures named { IfSome result (λ e. (e.axis ≤ 2) × (e.segment ≤ length t.now.segments)) }
@@ -67,7 +67,7 @@ pub fn first_above(t: &Traj, limits: Limits, depth: Depth) -> Option<Excess>
 fn sharp_at(walk: &Walk, t: &Traj, k: usize, limit: Option<u64>, depth: Depth) -> Option<Excess>
     requires here { walk.now ≡ walk_at t.now k }
     requires inside { k < length t.now.segments }
-    requires lasting { All HasDuration t.now.segments }
+    requires durations { All HasDuration t.now.segments }
     ensures { result ≡ sharp_at limit depth t.now k }
 {
     let most = limit?;
@@ -79,7 +79,7 @@ fn sharp_at(walk: &Walk, t: &Traj, k: usize, limit: Option<u64>, depth: Depth) -
 fn jumps_at(walk: &Walk, t: &Traj, k: usize, limit: Option<u64>) -> Option<Excess>
     requires here { walk.now ≡ walk_at t.now k }
     requires inside { k ≤ length t.now.segments }
-    requires lasting { All HasDuration t.now.segments }
+    requires durations { All HasDuration t.now.segments }
     ensures { result ≡ jumps_at limit t.now k }
 {
     let most = limit?;

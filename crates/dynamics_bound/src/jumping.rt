@@ -26,7 +26,7 @@ pub struct Jump {
 /// That these are the velocities is what `velocities` says: near each of its ends a segment departs from the line with
 /// that velocity by at most half its bound on acceleration times the square of the time. Takes no memory.
 pub fn jumps(t: &Traj) -> [Jump; 3]
-    requires lasting { All HasDuration t.now.segments }
+    requires durations { All HasDuration t.now.segments }
     ensures exact { result ≡ greatest_jump t.now 0 ∷ greatest_jump t.now 1 ∷ greatest_jump t.now 2 ∷ [] }
     ensures greatest { (axis : ℕ) → IsGreatestJump t.now axis (greatest_jump t.now axis) }
     ensures velocities { (axis : ℕ) → axis ≤ 2 → HasVelocities t.now axis }
@@ -49,7 +49,7 @@ pub fn jumps(t: &Traj) -> [Jump; 3]
 
 /// Whether a trajectory begins at rest on x, y and z, and whether it ends at rest.
 pub fn rests(t: &Traj) -> (bool, bool)
-    requires lasting { All HasDuration t.now.segments }
+    requires durations { All HasDuration t.now.segments }
     ensures first { result.0 ≡ is_rest_at t.now 0 }
     ensures last { result.1 ≡ is_rest_at t.now (length t.now.segments) }
 {

@@ -7,7 +7,6 @@ use fleet_io::Lines;
 use fleet_io::Word::{Bytes, Large};
 use std::alloc::AllocError;
 
-// Whether a drone is at rest.
 fn rest_word(is_at_rest: bool) -> &'static [u8]
     ensures { result.now ≡ rest_word is_at_rest }
 {

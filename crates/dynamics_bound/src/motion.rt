@@ -131,7 +131,7 @@ fn axes_of(x: i64, y: i64, z: i64) -> Axes
 /// memory.
 pub fn motion_of(t: &Traj, cues: &[Segment], depth: Depth) -> Motion
     requires segments { length t.now.segments ≤ most_segments }
-    requires lasting { All HasDuration t.now.segments }
+    requires durations { All HasDuration t.now.segments }
     requires cues { length cues.now ≤ most_cues }
     ensures motion { result ≡ motion depth (durations cues.now) t.now }
     ensures keeps { (limits : Limits) → IsWithinLimits limits depth t.now → KeepsMotion limits depth t.now }

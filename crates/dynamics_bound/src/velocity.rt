@@ -60,7 +60,6 @@ fn last_step(value: i16, element: Element) -> i32
     }
 }
 
-// The way from one value to another.
 fn way(from: i16, to: i16) -> i32
     ensures exact { result ≡ to -ℤ from }
     ensures small { IsBelow 65536 result }
@@ -75,11 +74,10 @@ pub fn jump_between(v: Velocity, w: Velocity) -> u64
     ensures exact { result ≡ jump_between v w }
     ensures small { result < 2 ^ 53 }
 {
-    let gap = apart(product(w.step, v.ms), product(v.step, w.ms));
-    per_second(gap, v.ms, w.ms)
+    let change = apart(product(w.step, v.ms), product(v.step, w.ms));
+    per_second(change, v.ms, w.ms)
 }
 
-// A step times a duration.
 fn product(step: i32, ms: u16) -> i64
     ensures exact { result ≡ step *ℤ pos ms }
     ensures small { IsWithin (pos (2 ^ 31 * ms)) result }
@@ -93,7 +91,6 @@ fn times(step: i32, ms: u16) -> i64
     i64::from(step) * i64::from(ms)
 }
 
-// How far apart two numbers are.
 fn apart(a: i64, b: i64) -> u64
     requires a { IsBelow (2 ^ 60) a }
     requires b { IsBelow (2 ^ 60) b }
@@ -103,14 +100,14 @@ fn apart(a: i64, b: i64) -> u64
 }
 
 // The difference of two fractions over both their denominators, in micrometres per second, rounded up.
-fn per_second(gap: u64, v_ms: u16, w_ms: u16) -> u64
+fn per_second(change: u64, v_ms: u16, w_ms: u16) -> u64
     requires v { 1 ≤ v_ms }
     requires w { 1 ≤ w_ms }
-    requires gap { gap ≤ 2 ^ 32 * (v_ms * w_ms) }
-    ensures exact { result ≡ div_ceil (1000000 * gap) (v_ms * w_ms) }
+    requires change { change ≤ 2 ^ 32 * (v_ms * w_ms) }
+    ensures exact { result ≡ div_ceil (1000000 * change) (v_ms * w_ms) }
     ensures small { result < 2 ^ 53 }
 {
-    let way = 1_000_000 * gap as u128;
+    let way = 1_000_000 * change as u128;
     let time = v_ms as u128 * w_ms as u128;
     way.div_ceil(time) as u64
 }

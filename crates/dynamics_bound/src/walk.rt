@@ -58,7 +58,7 @@ impl Walk {
     pub fn jumps(&self, t: &Traj, k: usize) -> [u64; 3]
         requires here { self.now ≡ walk_at t.now k }
         requires inside { k ≤ length t.now.segments }
-        requires lasting { All HasDuration t.now.segments }
+        requires durations { All HasDuration t.now.segments }
         ensures exact { result ≡ three (λ axis. jump t.now axis k) }
         ensures small { All (λ v. v < 2 ^ 53) result }
     {
@@ -79,7 +79,7 @@ impl Walk {
     pub fn accelerations(&self, t: &Traj, k: usize, depth: Depth, most: &[u64; 3]) -> [u64; 3]
         requires here { self.now ≡ walk_at t.now k }
         requires inside { k < length t.now.segments }
-        requires lasting { All HasDuration t.now.segments }
+        requires durations { All HasDuration t.now.segments }
         requires most { All (λ v. v < 2 ^ 53) most.now }
         ensures exact { result ≡ three (λ axis. max (slice_index_or most.now axis 0) (acceleration_in depth t.now axis k)) }
         ensures small { All (λ v. v < 2 ^ 53) result }
@@ -94,7 +94,6 @@ impl Walk {
     }
 }
 
-// At rest at a value.
 fn resting(value: i16) -> Reached
     ensures { result ≡ record { value = value; arrival = rest } }
 {
@@ -121,7 +120,7 @@ impl Reached {
     // The jump where this element begins.
     fn jump(&self, element: Element, ms: u16) -> u64
         requires arrived { 1 ≤ self.now.arrival.ms }
-        requires lasting { 1 ≤ ms }
+        requires duration { 1 ≤ ms }
         ensures exact { result ≡ jump_between self.now.arrival
             (record { step = first_step (self.now.value ∷ stored element); ms = ms }) }
         ensures small { result < 2 ^ 53 }

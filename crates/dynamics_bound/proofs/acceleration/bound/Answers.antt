@@ -17,7 +17,7 @@ returns-clause-exact c =
 
 pub returns-clause-keeps : goal.returns-clause-keeps
 returns-clause-keeps c axis near =
-    keeps_acceleration c.args.depth axis c.args.t.now (pieces_formed axis c.args.t.now.segments near c.requires.lasting c.formed_law.ensures)
+    keeps_acceleration c.args.depth axis c.args.t.now (pieces_formed axis c.args.t.now.segments near c.requires.durations c.formed_law.ensures)
 
 pub returns-clause-small : goal.returns-clause-small
 returns-clause-small c axis near =

@@ -25,8 +25,8 @@ small w ms depth p q r wide lasting p_is q_is r_is =
 
 pub overflow_cast-result : goal.overflow_cast-result
 overflow_cast-result c =
-    let few : c.div_ceil.result < 2 ^ 53 = small c.args.widest c.args.ms c.levels-levels.result c.pow.result c.pow-2.result c.div_ceil.result (rw c.levels-levels.ensures.same c.requires.widest) c.requires.lasting c.pow.ensures c.pow-2.ensures c.div_ceil.ensures in
+    let few : c.div_ceil.result < 2 ^ 53 = small c.args.widest c.args.ms c.levels-levels.result c.pow.result c.pow-2.result c.div_ceil.result (rw c.levels-levels.ensures.same c.requires.widest) c.requires.duration c.pow.ensures c.pow-2.ensures c.div_ceil.ensures in
     omega arith
 
 pub returns-clause-small : goal.returns-clause-small
-returns-clause-small c = small c.args.widest c.args.ms c.levels-levels.result c.pow.result c.pow-2.result c.div_ceil.result (rw c.levels-levels.ensures.same c.requires.widest) c.requires.lasting c.pow.ensures c.pow-2.ensures c.div_ceil.ensures
+returns-clause-small c = small c.args.widest c.args.ms c.levels-levels.result c.pow.result c.pow-2.result c.div_ceil.result (rw c.levels-levels.ensures.same c.requires.widest) c.requires.duration c.pow.ensures c.pow-2.ensures c.div_ceil.ensures

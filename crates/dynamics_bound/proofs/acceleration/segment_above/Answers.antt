@@ -22,7 +22,7 @@ no_sharper depth ms most least widest f lasting least_is widest_is same = grind 
 
 pub returns-then-widest-least-clause-exact : goal.returns-then-widest-least-clause-exact
 returns-then-widest-least-clause-exact c =
-    no_sharper c.args.depth c.args.ms c.args.most c.bend_within-least.result c.widest_above-widest.result (at c.args.curve.now.b) c.requires.lasting c.bend_within-least.ensures.exact
+    no_sharper c.args.depth c.args.ms c.args.most c.bend_within-least.result c.widest_above-widest.result (at c.args.curve.now.b) c.requires.duration c.bend_within-least.ensures.exact
     c.widest_above-widest.ensures c.if-widest-least.true
 
 -- above the least it is the widest

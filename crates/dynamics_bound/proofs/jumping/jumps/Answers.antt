@@ -40,14 +40,14 @@ pub returns-clause-greatest : goal.returns-clause-greatest
 returns-clause-greatest c axis = is_greatest c.args.t.now axis
 
 pub returns-clause-velocities : goal.returns-clause-velocities
-returns-clause-velocities c axis near = has_velocities axis c.args.t.now (pieces_formed axis c.args.t.now.segments near c.requires.lasting c.formed_law.ensures)
+returns-clause-velocities c axis near = has_velocities axis c.args.t.now (pieces_formed axis c.args.t.now.segments near c.requires.durations c.formed_law.ensures)
 
 pub returns-clause-none : goal.returns-clause-none
 unfolding jump
 returns-clause-none c axis edge inside none =
-    none_same (arrival c.args.t.now axis edge) (departure c.args.t.now axis edge) (arrival-lasts c.args.t.now axis edge inside c.requires.lasting) (departure-lasts c.args.t.now axis edge c.requires.lasting) none
+    none_same (arrival c.args.t.now axis edge) (departure c.args.t.now axis edge) (arrival-lasts c.args.t.now axis edge inside c.requires.durations) (departure-lasts c.args.t.now axis edge c.requires.durations) none
 
 pub returns-clause-same : goal.returns-clause-same
 unfolding jump
 returns-clause-same c axis edge inside same =
-    same_none (arrival c.args.t.now axis edge) (departure c.args.t.now axis edge) (arrival-lasts c.args.t.now axis edge inside c.requires.lasting) (departure-lasts c.args.t.now axis edge c.requires.lasting) same
+    same_none (arrival c.args.t.now axis edge) (departure c.args.t.now axis edge) (arrival-lasts c.args.t.now axis edge inside c.requires.durations) (departure-lasts c.args.t.now axis edge c.requires.durations) same

@@ -8,8 +8,8 @@ small gap a b r some_a some_b few is =
 
 pub overflow_cast-result : goal.overflow_cast-result
 overflow_cast-result c =
-    let few : c.div_ceil.result < 2 ^ 53 = small c.args.gap c.args.v_ms c.args.w_ms c.div_ceil.result c.requires.v c.requires.w c.requires.gap c.div_ceil.ensures in
+    let few : c.div_ceil.result < 2 ^ 53 = small c.args.change c.args.v_ms c.args.w_ms c.div_ceil.result c.requires.v c.requires.w c.requires.gap c.div_ceil.ensures in
     omega arith
 
 pub returns-clause-small : goal.returns-clause-small
-returns-clause-small c = small c.args.gap c.args.v_ms c.args.w_ms c.div_ceil.result c.requires.v c.requires.w c.requires.gap c.div_ceil.ensures
+returns-clause-small c = small c.args.change c.args.v_ms c.args.w_ms c.div_ceil.result c.requires.v c.requires.w c.requires.gap c.div_ceil.ensures

@@ -26,9 +26,9 @@ pub segment_above-requires-clause-values : goal.segment_above-requires-clause-va
 segment_above-requires-clause-values c =
     All-get_or (λ (curve : Bez 8). All (IsBelow (2 ^ 28)) curve.b) c.raised_segment-curves.result 0 _ (omega (arith, ap (λ (cs : List (Bez 8)). length cs) c.raised_segment-curves.ensures.exact)) c.raised_segment-curves.ensures.small
 
-pub segment_above-requires-clause-lasting : goal.segment_above-requires-clause-lasting
-segment_above-requires-clause-lasting c =
-    All-get_or HasDuration c.as_slice.result.now c.args.k _ (rw c.as_slice.ensures c.requires.inside) (rw c.as_slice.ensures c.requires.lasting)
+pub segment_above-requires-clause-duration : goal.segment_above-requires-clause-duration
+segment_above-requires-clause-duration c =
+    All-get_or HasDuration c.as_slice.result.now c.args.k _ (rw c.as_slice.ensures c.requires.inside) (rw c.as_slice.ensures c.requires.durations)
 
 pub segment_above-requires-clause-most : goal.segment_above-requires-clause-most
 segment_above-requires-clause-most c =
@@ -39,9 +39,9 @@ pub segment_above-requires-2-clause-values : goal.segment_above-requires-2-claus
 segment_above-requires-2-clause-values c =
     All-get_or (λ (curve : Bez 8). All (IsBelow (2 ^ 28)) curve.b) c.raised_segment-curves.result 1 _ (omega (arith, ap (λ (cs : List (Bez 8)). length cs) c.raised_segment-curves.ensures.exact)) c.raised_segment-curves.ensures.small
 
-pub segment_above-requires-2-clause-lasting : goal.segment_above-requires-2-clause-lasting
-segment_above-requires-2-clause-lasting c =
-    All-get_or HasDuration c.as_slice.result.now c.args.k _ (rw c.as_slice.ensures c.requires.inside) (rw c.as_slice.ensures c.requires.lasting)
+pub segment_above-requires-2-clause-duration : goal.segment_above-requires-2-clause-duration
+segment_above-requires-2-clause-duration c =
+    All-get_or HasDuration c.as_slice.result.now c.args.k _ (rw c.as_slice.ensures c.requires.inside) (rw c.as_slice.ensures c.requires.durations)
 
 pub segment_above-requires-2-clause-most : goal.segment_above-requires-2-clause-most
 segment_above-requires-2-clause-most c =
@@ -52,9 +52,9 @@ pub segment_above-requires-3-clause-values : goal.segment_above-requires-3-claus
 segment_above-requires-3-clause-values c =
     All-get_or (λ (curve : Bez 8). All (IsBelow (2 ^ 28)) curve.b) c.raised_segment-curves.result 2 _ (omega (arith, ap (λ (cs : List (Bez 8)). length cs) c.raised_segment-curves.ensures.exact)) c.raised_segment-curves.ensures.small
 
-pub segment_above-requires-3-clause-lasting : goal.segment_above-requires-3-clause-lasting
-segment_above-requires-3-clause-lasting c =
-    All-get_or HasDuration c.as_slice.result.now c.args.k _ (rw c.as_slice.ensures c.requires.inside) (rw c.as_slice.ensures c.requires.lasting)
+pub segment_above-requires-3-clause-duration : goal.segment_above-requires-3-clause-duration
+segment_above-requires-3-clause-duration c =
+    All-get_or HasDuration c.as_slice.result.now c.args.k _ (rw c.as_slice.ensures c.requires.inside) (rw c.as_slice.ensures c.requires.durations)
 
 pub segment_above-requires-3-clause-most : goal.segment_above-requires-3-clause-most
 segment_above-requires-3-clause-most c =
