@@ -1,5 +1,5 @@
 -- Events as bytes: how long they are, and that bytes begin with one event or with none.
-use Rattle.flight_link.proofs.Prelude.{◌≡◌, ◌⊎◌, inl, inr, ℕ, zero, suc, ◌+◌, ◌<◌, ◌≤◌, ◌^◌, Bool, true, false, cond, List, [], ◌∷◌, ◌++◌, length, take, drop, slice_index, length-append, append_assoc, append-nil, Option, Some, None, Result, Ok, Err, refl, sym, ap, subst, ◌∙◌, arith, ◌==◌, nat_le, nat_lt, Event, Clock, Seen, Answered, Said, FrameFault, FrameLaw, IsEvent, event_bytes, event_in, length_of, BeginsNoEvent, IsBegun}
+use Rattle.flight_link.proofs.Prelude.{◌≡◌, ◌⊎◌, inl, inr, ℕ, ◌+◌, ◌<◌, ◌≤◌, ◌^◌, Bool, true, false, cond, List, [], ◌∷◌, ◌++◌, length, take, drop, slice_index, length-append, append_assoc, Option, Some, None, Result, Ok, Err, refl, sym, ap, subst, ◌∙◌, arith, nat_le, nat_lt, Event, Clock, Seen, Answered, Said, FrameFault, FrameLaw, IsEvent, event_bytes, event_in, length_of, BeginsNoEvent, IsBegun}
 use Rattle.std.specs.Int.{w16, cast_signed, cast_unsigned}
 use Rattle.std.specs.Prelude.{ℤ, FitsSigned}
 use Rattle.std.proofs.Math.Facts.{sfits_to_z}

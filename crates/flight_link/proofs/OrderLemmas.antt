@@ -1,16 +1,18 @@
 -- What goes out is what the director says, and a flight that ends with 0 was told to each drone.
-use Rattle.flight_link.proofs.Prelude.{◌≡◌, ◌⊎◌, inl, inr, ℕ, zero, suc, ◌<◌, ◌≤◌, Bool, true, false, List, [], ◌∷◌, ◌++◌, length, Option, Some, None, refl, sym, ap, ◌∙◌, arith, ◌==◌, Contains, Event, Frame, Flight, drones, sent, start, ended, end_in, end_of, first_of_two, sent_over, end_frame, BeginsWith, EndsGoing, EndsWith, FlightFails, FlightGives, event_limit}
+use Rattle.flight_link.proofs.Prelude.{◌≡◌, ◌⊎◌, inl, inr, ℕ, suc, ◌≤◌, true, false, List, [], ◌∷◌, ◌++◌, length, Some, refl, sym, ◌∙◌, arith, ◌==◌, Contains, Event, Frame, Flight, sent, start, ended, end_in, sent_over, end_frame, BeginsWith, FlightFails, FlightGives, dialogue_of, item_limit}
 use Rattle.flight_model.specs.declared.events.Frame.TheVariants.{To, ToAll, Noted, Over}
-use Rattle.flight_model.specs.Law.{OverLaw, ordered, orders_to}
+use Rattle.flight_model.specs.Law.{OverLaw}
 use Rattle.flight_link.specs.Orders.{OrdersLaw, Says, SaysWhole}
 use Rattle.flight_link.proofs.EventLemmas.{longer}
-use Rattle.flight_link.proofs.FlightLemmas.{less_or_not}
+use Rattle.link_dialogue.proofs.EndLemmas.{ends_zero}
+use Rattle.link_dialogue.proofs.ItemLemmas.{less_or_not}
+use Rattle.flight_link.proofs.StatusLemmas.{same_status}
 
 abbrev says_ended : (f : Flight) (bytes : List ℕ) (status : ℕ) (output : List ℕ) → FlightGives f bytes status output → Says f bytes status output
-says_ended f bytes status output g = record { events = g.events; each = g.takes.each; stand = (g.rest, g.takes.cut); said = g.sends }
+says_ended f bytes status output g = record { events = g.items; each = g.takes.each; stand = (g.rest, g.takes.cut); said = g.sends }
 
 says_failed : (f : Flight) (taken output : List ℕ) → FlightFails f taken output → Says f taken 6 output
-says_failed f taken output g = record { events = g.events; each = g.takes.each; stand = (g.rest, g.takes.cut); said = g.sends }
+says_failed f taken output g = record { events = g.items; each = g.takes.each; stand = (g.rest, g.takes.cut); said = g.sends }
 
 -- of two fronts of one list one begins the other
 fronts : (a b c d : List ℕ) → a ++ b ≡ c ++ d → BeginsWith a c ⊎ BeginsWith c a
@@ -25,21 +27,8 @@ says_cut f bytes status output part s begins = fronts part begins.0 (sent_over f
 
 -- ---- status 0
 
--- a flight that goes on doesn't end with 0
-going_on : (d : ℕ) (full : Bool) (rest : List ℕ) → EndsGoing d full rest 0 → ⊥
-going_on d true rest e = omega (arith, e)
-going_on d false [] e = omega (arith, e)
-going_on d false (c ∷ rest) e = let is = e.0 in omega (arith, is)
-
-said_zero : (d : ℕ) (o : Option ℕ) (full : Bool) (rest : List ℕ) → EndsWith d o full rest 0 → o ≡ Some 0
-said_zero d None full rest e = absurd (going_on d full rest e)
-said_zero d (Some n) full rest e = ap (λ (m : ℕ). Some m) (sym e)
-
 later : (x : Frame) (frames : List Frame) (y : Frame) → Contains frames y → Contains (x ∷ frames) y
 later x frames y c = (suc c.0, omega (arith, c.1), c.2)
-
-same_status : (a b : ℕ) → Some a ≡ Some b → a ≡ b
-same_status a b is = cc
 
 -- the end that gives 0 is that of a flight that was flown and kept
 flown_in : (frames : List Frame) → end_in frames ≡ Some 0 → Contains frames (Over true true)
@@ -51,14 +40,14 @@ flown_in (Over true true ∷ frames) is = (0, omega arith, refl)
 flown_in (Over true false ∷ frames) is = absurd (let e = same_status 20 0 is in omega (arith, e))
 flown_in (Over false kept ∷ frames) is = absurd (let e = same_status 20 0 is in omega (arith, e))
 
-zero_said : (f : Flight) (events : List Event) → ended f events ≡ Some 0 → Contains (sent f (start f) events) (Over true true)
+pub zero_said : (f : Flight) (events : List Event) → ended f events ≡ Some 0 → Contains (sent f (start f) events) (Over true true)
 unfolding ended
 zero_said f events is = flown_in (sent f (start f) events) is
 
 says_whole : OverLaw → (f : Flight) (bytes output : List ℕ) → 1 ≤ length f.steps → FlightGives f bytes 0 output → SaysWhole f bytes output
 says_whole law f bytes output some g = record {
   says = says_ended f bytes 0 output g;
-  told = law f some g.events true (zero_said f g.events (said_zero (drones f) (ended f g.events) (length g.events == event_limit) g.rest g.ends));
+  told = law f some g.items true (zero_said f g.items (ends_zero (dialogue_of f) (ended f g.items) (length g.items == item_limit) g.rest g.ends));
 }
 
 pub orders_law : OverLaw → OrdersLaw

@@ -1,7 +1,7 @@
 -- The end is said exactly where the flight is over.
-use Rattle.flight_link.proofs.Prelude.{◌≡◌, ◌≢◌, ◌⊎◌, inl, inr, ℕ, suc, Bool, true, false, cond, List, [], ◌∷◌, ◌++◌, Option, Some, None, refl, sym, ap, ◌∙◌, ◌==◌, ◌↔◌, length, Event, Frame, Flight, State, after, happens, says, sent, start, ended, end_in, end_of, first_of_two}
+use Rattle.flight_link.proofs.Prelude.{◌≡◌, ◌≢◌, ◌⊎◌, inl, inr, ℕ, suc, Bool, true, false, cond, List, [], ◌∷◌, Option, Some, None, refl, sym, ap, ◌∙◌, ◌==◌, ◌↔◌, length, Event, Flight, State, after, happens, says, sent, start, ended, end_in, first_of_two}
 use Rattle.std.specs.Prelude.{map}
-use Rattle.flight_model.specs.declared.events.Frame.TheVariants.{Noted, Over}
+use Rattle.flight_model.specs.declared.events.Frame.TheVariants.{Noted}
 use Rattle.flight_model.specs.declared.events.Note.{Note}
 use Rattle.flight_model.specs.declared.events.Order.{Order}
 use Rattle.flight_model.specs.declared.flights.Orders.{Orders}

@@ -1,5 +1,5 @@
 -- What is sent over events that come one after the other.
-use Rattle.flight_link.proofs.Prelude.{◌≡◌, List, [], ◌∷◌, ◌++◌, append_assoc, append-nil, refl, sym, ap, ◌∙◌, ℕ, flat_map-append, Option, Some, None, Event, Frame, Flight, State, after, happens, says, sent, start, output_bytes, ended, end_in, end_of, first_of_two, frames_bytes, sent_over, BeginsWith}
+use Rattle.flight_link.proofs.Prelude.{◌≡◌, List, [], ◌∷◌, ◌++◌, append_assoc, append-nil, refl, sym, ap, ◌∙◌, ℕ, flat_map-append, Option, Some, None, Appends, Event, Frame, Flight, State, after, happens, says, sent, start, output_bytes, ended, end_in, end_of, first_of_two, frames_bytes, sent_over, BeginsWith}
 
 -- what is said at an event that comes after others
 abbrev pub said_at : Flight → List Event → Event → List Frame
@@ -31,9 +31,10 @@ frames-append : (xs ys : List Frame) → frames_bytes (xs ++ ys) ≡ frames_byte
 frames-append xs ys = flat_map-append output_bytes xs ys
 
 -- before any event nothing is sent
-pub sent-none : (f : Flight) → sent_over f [] ≡ []
+pub sends-nothing : (f : Flight) (old : Option (List ℕ)) → Appends old old (sent_over f [])
 unfolding sent_over
-sent-none f = refl
+sends-nothing f None = tt
+sends-nothing f (Some bytes) = sym (append-nil bytes)
 
 -- what one event more sends
 pub sent-push : (f : Flight) (events : List Event) (x : Event) → sent_over f (events ++ x ∷ []) ≡ sent_over f events ++ answer f events x
@@ -47,9 +48,6 @@ sent-front f xs ys = (
   frames_bytes (sent f (after f (start f) xs) ys),
   ap frames_bytes (said-append f (start f) xs ys) ∙ frames-append (sent f (start f) xs) (sent f (after f (start f) xs) ys),
 )
-
-pub BeginsWith-trans : (a b c : List ℕ) → BeginsWith a b → BeginsWith b c → BeginsWith a c
-BeginsWith-trans a b c p q = (p.0 ++ q.0, q.1 ∙ ap (λ (l : List ℕ). l ++ q.0) p.1 ∙ append_assoc a p.0 q.0)
 
 -- ---- the end
 

@@ -8,7 +8,8 @@ use Rattle.flight_model.specs.Directors.{drones, sent, start}
 use Rattle.flight_model.specs.Law.{ordered, orders_to}
 use Rattle.flight_frames.specs.Frames.{IsEvent}
 use Rattle.flight_link.specs.Sends.{events_bytes, sent_over}
-use Rattle.flight_link.specs.Flights.{BeginsWith, FlightFails, FlightGives}
+use Rattle.link_dialogue.specs.Dialogues.{BeginsWith}
+use Rattle.flight_link.specs.Flights.{FlightFails, FlightGives}
 
 -- These events stand at the front of the bytes, and all that goes out is what the director says at them, and then the
 -- end frame.

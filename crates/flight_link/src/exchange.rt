@@ -6,21 +6,20 @@ ghost use Rattle.fleet_io.specs.Causes.{Rose};
 ghost use Rattle.fleet_io.specs.Held.{buffer_bytes, stream};
 ghost use Rattle.fleet_io.specs.Taken.{AppendsFront};
 ghost use Rattle.fleet_io.specs.Told.{MayGive, Went, to_come};
-ghost use Rattle.link_frames.specs.Frames.{end_frame};
 ghost use Rattle.flight_model.specs.Directors.{drones};
 ghost use Rattle.flight_director.specs.Held.{IsHeld};
 ghost use Rattle.flight_link.specs.Sends.{end_in, end_of, status_of as word_status};
-ghost use Rattle.flight_link.specs.Steps.{Breaks, Ends, Fails};
-ghost use Rattle.flight_link.specs.Flights.{FlightFails, FlightGives, StaysPrompt, StopsAtEnd};
+ghost use Rattle.link_dialogue.specs.Steps.{Breaks, Ends, Fails};
+ghost use Rattle.flight_link.specs.Flights.{FlightFails, FlightGives, StaysPrompt, StopsAtEnd, dialogue_of};
 
 use crate::input::{Next, next_event};
 use crate::output::{Bytes, send};
 use fleet_io::status::{DONE, ENDED, FAULTY, READ_FAILED, TOO_MANY_FRAMES, WRITE_FAILED};
-use fleet_io::{Failed, Parts, Sink, Source, write_whole};
+use fleet_io::{Failed, Parts, Sink, Source};
 use flight_director::{Director, Out};
 use flight_frames::frame_law;
 use flight_model::{Flight, Frame};
-use link_frames::END_BYTE;
+use link_dialogue::finish;
 
 /// The flight is over, and it wasn't flown to its last step, or a drone left its curve in the show or was silent.
 pub const NOT_FLOWN: u8 = 20;
@@ -80,11 +79,11 @@ fn carry<S: Source, K: Sink>(
     requires at_end { IsTrue parts.old.ended → IsTrue (S.told source.old).ended }
     requires holds { length parts.old.waiting ≤ buffer_bytes }
     requires held { IsHeld flight }
-    ensures ends { (all : List ℕ) → MayGive parts.new.ended (S.told source.new) all → IfOk result (λ status. Ends flight status (stream parts.old (to_come all (S.told source.old))) (K.written sink.old) (K.written sink.new)) }
+    ensures ends { (all : List ℕ) → MayGive parts.new.ended (S.told source.new) all → IfOk result (λ status. Ends (dialogue_of flight) status (stream parts.old (to_come all (S.told source.old))) (K.written sink.old) (K.written sink.new)) }
     ensures read { (all : List ℕ) → MayGive parts.new.ended (S.told source.new) all → result ≡ Err Broken.Read → Rose (S.told source.old).faults (S.told source.new).faults × (parts.old.ended ≡ false)
-        × Fails flight (stream parts.old (to_come all (S.told source.old))) (to_come all (S.told source.new)) (K.written sink.old) (K.written sink.new) }
+        × Fails (dialogue_of flight) (stream parts.old (to_come all (S.told source.old))) (to_come all (S.told source.new)) (K.written sink.old) (K.written sink.new) }
     ensures write { (all : List ℕ) → MayGive parts.new.ended (S.told source.new) all → result ≡ Err Broken.Write → Rose (K.faults sink.old) (K.faults sink.new)
-        × Breaks flight (stream parts.old (to_come all (S.told source.old))) (K.written sink.old) (K.written sink.new) }
+        × Breaks (dialogue_of flight) (stream parts.old (to_come all (S.told source.old))) (K.written sink.old) (K.written sink.new) }
     ensures prompt { (all : List ℕ) → MayGive parts.new.ended (S.told source.new) all → StaysPrompt flight (stream parts.old (to_come all (S.told source.old))) (to_come all (S.told source.new)) (K.written sink.old) (K.written sink.new) }
     ensures stops { (all : List ℕ) → MayGive parts.new.ended (S.told source.new) all → StopsAtEnd flight (stream parts.old (to_come all (S.told source.old))) (to_come all (S.told source.new)) }
     ensures grown { (sent : List ℕ) × Appends (K.written sink.old) (K.written sink.new) sent }
@@ -117,20 +116,6 @@ fn carry<S: Source, K: Sink>(
         }
     }
     Ok(TOO_MANY_FRAMES)
-}
-
-// Writes the end frame.
-fn finish<K: Sink>(sink: &mut K, status: u8) -> u8
-    ensures ok { result ≢ 7 → (result ≡ status) × Appends (K.written sink.old) (K.written sink.new) (end_frame status) }
-    ensures front { AppendsFront (K.written sink.old) (K.written sink.new) (end_frame status) }
-    ensures cause { result ≡ 7 → status ≢ 7 → Rose (K.faults sink.old) (K.faults sink.new) }
-    ensures later { K.faults sink.old ≤ K.faults sink.new }
-    ensures known { (result ≡ status) ⊎ (result ≡ 7) }
-{
-    match write_whole(sink, &[END_BYTE, status]) {
-        Ok(()) => status,
-        Err(Failed) => WRITE_FAILED,
-    }
 }
 
 /// Flies a flight through frames (docs/PROMISES.md, "Its frames"). The director hears each event that the source gives,

@@ -26,7 +26,7 @@ refusal = frame.Packet 1 (0x4E ∷ 2 ∷ 0 ∷ 0 ∷ 0 ∷ 0 ∷ 5 ∷ [])
 row : UploadGives (link_of (session false)) (0x50 ∷ 1 ∷ 7 ∷ 0x4E ∷ 2 ∷ 0 ∷ 0 ∷ 0 ∷ 0 ∷ 5 ∷ []) 10 (first ++ 0x45 ∷ 10 ∷ [])
 unfolding sent_over packet_at write_count read_count packet_count acked acked_from acknowledges reply_to reply_in all_settled phase_of flight_in flight_at out progress progress_within ending all_packets ticks
 row = record {
-  frames = refusal ∷ [];
+  items = refusal ∷ [];
   rest = [];
   takes = record { cut = refl; each = All-cons IsFrame refusal [] (omega arith, omega arith, omega arith, omega arith) (All-nil IsFrame); few = omega arith; going = one };
   ends = refl;

@@ -31,6 +31,3 @@ sent-push s xs f = ap (λ (h : List Event). sent_over s h) (events-push s xs f) 
 -- what a front of frames leads to is sent first
 pub sent-front : (s : Link) (xs ys : List Frame) → BeginsWith (sent_over s (events_in s xs)) (sent_over s (events_in s (xs ++ ys)))
 sent-front s xs ys = (answers_after s (events_in s xs) (events_in s ys), ap (λ (h : List Event). sent_over s h) (events-append s xs ys) ∙ sent-append s (events_in s xs) (events_in s ys))
-
-pub BeginsWith-trans : (a b c : List ℕ) → BeginsWith a b → BeginsWith b c → BeginsWith a c
-BeginsWith-trans a b c p q = (p.0 ++ q.0, q.1 ∙ ap (λ (l : List ℕ). l ++ q.0) p.1 ∙ append_assoc a p.0 q.0)

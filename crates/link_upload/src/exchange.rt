@@ -6,21 +6,23 @@ ghost use Rattle.fleet_io.specs.Causes.{Rose};
 ghost use Rattle.fleet_io.specs.Held.{buffer_bytes, stream};
 ghost use Rattle.fleet_io.specs.Taken.{AppendsFront};
 ghost use Rattle.fleet_io.specs.Told.{MayGive, Took, Went, to_come};
-ghost use Rattle.link_frames.specs.Frames.{IsBegun, IsFrame, end_frame, frame_of};
+ghost use Rattle.link_frames.specs.Frames.{IsBegun, IsFrame, frame_of};
 ghost use Rattle.upload_core.specs.HostStandsFor.{HostStandsFor};
 ghost use Rattle.upload_core.specs.HostState.{IsPacketOf, view_of};
 ghost use Rattle.link_upload.specs.Links.{link_of};
 ghost use Rattle.link_upload.specs.Sends.{answers_after, event_in, packet_frames};
-ghost use Rattle.link_upload.specs.Steps.{Breaks, Ends, Fails, StepGives};
-ghost use Rattle.link_upload.specs.Uploads.{StaysPrompt, StopsAtEnd, UploadFails, UploadGives};
+ghost use Rattle.link_dialogue.specs.Steps.{Breaks, Ends, Fails};
+ghost use Rattle.link_upload.specs.Steps.{StepGives};
+ghost use Rattle.link_upload.specs.Uploads.{StaysPrompt, StopsAtEnd, UploadFails, UploadGives, upload_of};
 ghost use Rattle.upload_model.specs.declared.events.Event.{Event};
 
 use crate::host::{drone_count, take_packet, take_tick};
 use crate::input::{Next, next_frame};
 use crate::output::{Bytes, send};
 use fleet_io::status::{ENDED, FAULTY, READ_FAILED, TOO_MANY_FRAMES, WRITE_FAILED};
-use fleet_io::{Failed, Parts, Sink, Source, write_whole};
-use link_frames::{END_BYTE, View, whole_frame};
+use fleet_io::{Failed, Parts, Sink, Source};
+use link_dialogue::finish;
+use link_frames::{View, whole_frame};
 use upload_core::{Host, Out};
 
 // Hands a frame to the host of an upload that is going. A packet of a drone that isn't in the session is no event.
@@ -115,11 +117,11 @@ fn carry<S: Source, K: Sink>(
     requires at_end { IsTrue parts.old.ended → IsTrue (S.told source.old).ended }
     requires holds { length parts.old.waiting ≤ buffer_bytes }
     requires new { HostStandsFor (view_of host) [] }
-    ensures ends { (all : List ℕ) → MayGive parts.new.ended (S.told source.new) all → IfOk result (λ status. Ends (link_of host.session) status (stream parts.old (to_come all (S.told source.old))) (K.written sink.old) (K.written sink.new)) }
+    ensures ends { (all : List ℕ) → MayGive parts.new.ended (S.told source.new) all → IfOk result (λ status. Ends (upload_of (link_of host.session)) status (stream parts.old (to_come all (S.told source.old))) (K.written sink.old) (K.written sink.new)) }
     ensures read { (all : List ℕ) → MayGive parts.new.ended (S.told source.new) all → result ≡ Err Broken.Read → Rose (S.told source.old).faults (S.told source.new).faults × (parts.old.ended ≡ false)
-        × Fails (link_of host.session) (stream parts.old (to_come all (S.told source.old))) (to_come all (S.told source.new)) (K.written sink.old) (K.written sink.new) }
+        × Fails (upload_of (link_of host.session)) (stream parts.old (to_come all (S.told source.old))) (to_come all (S.told source.new)) (K.written sink.old) (K.written sink.new) }
     ensures write { (all : List ℕ) → MayGive parts.new.ended (S.told source.new) all → result ≡ Err Broken.Write → Rose (K.faults sink.old) (K.faults sink.new)
-        × Breaks (link_of host.session) (stream parts.old (to_come all (S.told source.old))) (K.written sink.old) (K.written sink.new) }
+        × Breaks (upload_of (link_of host.session)) (stream parts.old (to_come all (S.told source.old))) (K.written sink.old) (K.written sink.new) }
     ensures prompt { (all : List ℕ) → MayGive parts.new.ended (S.told source.new) all → StaysPrompt (link_of host.session) (stream parts.old (to_come all (S.told source.old))) (to_come all (S.told source.new)) (K.written sink.old) (K.written sink.new) }
     ensures stops { (all : List ℕ) → MayGive parts.new.ended (S.told source.new) all → StopsAtEnd (link_of host.session) (stream parts.old (to_come all (S.told source.old))) (to_come all (S.told source.new)) }
     ensures grown { (sent : List ℕ) × Appends (K.written sink.old) (K.written sink.new) sent }
@@ -156,20 +158,6 @@ fn carry<S: Source, K: Sink>(
         }
     }
     Ok(TOO_MANY_FRAMES)
-}
-
-// Writes the end frame.
-fn finish<K: Sink>(sink: &mut K, status: u8) -> u8
-    ensures ok { result ≢ 7 → (result ≡ status) × Appends (K.written sink.old) (K.written sink.new) (end_frame status) }
-    ensures front { AppendsFront (K.written sink.old) (K.written sink.new) (end_frame status) }
-    ensures cause { result ≡ 7 → status ≢ 7 → Rose (K.faults sink.old) (K.faults sink.new) }
-    ensures later { K.faults sink.old ≤ K.faults sink.new }
-    ensures known { (result ≡ status) ⊎ (result ≡ 7) }
-{
-    match write_whole(sink, &[END_BYTE, status]) {
-        Ok(()) => status,
-        Err(Failed) => WRITE_FAILED,
-    }
 }
 
 /// Carries an upload through link frames (docs/RADIO.md, "Link frames"), of a host to which nothing has happened.

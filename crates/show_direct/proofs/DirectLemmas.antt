@@ -36,10 +36,10 @@ whole law over kept o input p old new safe appended =
       flight = flight;
       output = p.output;
       says = record {
-        says = record { events = flown.1.events; each = flown.1.takes.each; stand = (flown.1.rest, flown.1.takes.cut); said = flown.1.sends };
-        told = over f (some_steps (routes_of o safe.s show.s down.s)) flown.1.events true said;
+        says = record { events = flown.1.items; each = flown.1.takes.each; stand = (flown.1.rest, flown.1.takes.cut); said = flown.1.sends };
+        told = over f (some_steps (routes_of o safe.s show.s down.s)) flown.1.items true said;
       };
-      kept = kept.kept f flown.1.events (flies_show law kept o safe.s show.s down.s (rest_of input) flight show.accepts) said;
+      kept = kept.kept f flown.1.items (flies_show law kept o safe.s show.s down.s (rest_of input) flight show.accepts) said;
       written = appended;
     }
 

@@ -9,7 +9,8 @@ use Rattle.link_frames.specs.Frames.{end_frame}
 use Rattle.refusals.specs.declared.refusal.Refusal.{Refusal}
 use Rattle.flight_model.specs.Directors.{drones}
 use Rattle.flight_steps.specs.declared.faults.FlightFault.{FlightFault}
-use Rattle.flight_link.specs.Flights.{EndsWith, FlightGives, FlightLinkLaw, event_limit}
+use Rattle.link_dialogue.specs.Dialogues.{EndsWith, item_limit}
+use Rattle.flight_link.specs.Flights.{FlightGives, FlightLinkLaw, dialogue_of}
 use Rattle.flight_link.specs.Sends.{ended, sent_over}
 use Rattle.show_judge.proofs.AnswerLemmas.{refused_some}
 use Rattle.show_judge.proofs.HeadlineLemmas.{flies_text}
@@ -82,9 +83,9 @@ flight_done : FlightLinkLaw → (o : Options) (up show down : PlainShow) (bytes 
     (exchange_by o up show down None).succeeds bytes → p.status ≡ 0
 flight_done law o up show down bytes p gives (events, rest, takes, over) =
     let f = flight_of o up show down in
-    let ends : EndsWith (drones f) (ended f events) (length events == event_limit) rest 0 = rw over refl in
+    let ends : EndsWith (dialogue_of f) (ended f events) (length events == item_limit) rest 0 = rw over refl in
     let wanted : FlightGives f bytes 0 (sent_over f events ++ end_frame 0) =
-    record { events = events; rest = rest; takes = takes; ends = ends; sends = refl } in
+    record { items = events; rest = rest; takes = takes; ends = ends; sends = refl } in
     (law.one f bytes p.status 0 p.output (sent_over f events ++ end_frame 0) gives wanted).0
 
 -- three shows have one exchange, whether or not they are a flight

@@ -24,7 +24,10 @@ use Rattle.flight_model.specs.declared.events.Event.{Event}
 use Rattle.flight_model.specs.declared.events.Frame.{Frame}
 use Rattle.flight_model.specs.declared.events.Frame.TheVariants.{To, ToAll, Noted, Over}
 use Rattle.flight_model.specs.declared.flights.Flight.{Flight}
-use Rattle.flight_link.specs.Flights.{EndsGoing, EndsWith, FlightGives, event_limit}
+use Rattle.link_dialogue.specs.Dialogues.{item_limit}
+use Rattle.link_dialogue.proofs.EndLemmas.{ends_zero}
+use Rattle.flight_link.specs.Flights.{FlightGives, dialogue_of}
+use Rattle.flight_link.proofs.OrderLemmas.{zero_said}
 unfoldable use Rattle.flight_link.specs.Sends.{ended}
 use Rattle.flight_link.specs.Sends.{end_in}
 use Rattle.refusals.specs.declared.refusal.Refusal.{Refusal}
@@ -39,38 +42,8 @@ use Rattle.show_direct.specs.Exchanges.{Accepts}
 
 -- ---- the end that gives 0
 
--- a flight that goes on doesn't end with 0
-going_on : (d : ℕ) (full : Bool) (rest : List ℕ) → EndsGoing d full rest 0 → ⊥
-going_on d true rest e = omega (arith, e)
-going_on d false [] e = omega (arith, e)
-going_on d false (c ∷ rest) e = let is = e.0 in omega (arith, is)
-
-said_zero : (d : ℕ) (o : Option ℕ) (full : Bool) (rest : List ℕ) → EndsWith d o full rest 0 → o ≡ Some 0
-said_zero d None full rest e = absurd (going_on d full rest e)
-said_zero d (Some n) full rest e = ap (λ (m : ℕ). Some m) (sym e)
-
-later : (x : Frame) (frames : List Frame) (y : Frame) → Contains frames y → Contains (x ∷ frames) y
-later x frames y c = (suc c.0, omega (arith, c.1), c.2)
-
-same_status : (a b : ℕ) → Some a ≡ Some b → a ≡ b
-same_status a b is = cc
-
--- it is that of a flight that was flown and kept
-flown_in : (frames : List Frame) → end_in frames ≡ Some 0 → Contains frames (Over true true)
-flown_in [] is = absurd (cc)
-flown_in (To d o ∷ frames) is = later (To d o) frames (Over true true) (flown_in frames is)
-flown_in (ToAll o ∷ frames) is = later (ToAll o) frames (Over true true) (flown_in frames is)
-flown_in (Noted n ∷ frames) is = later (Noted n) frames (Over true true) (flown_in frames is)
-flown_in (Over true true ∷ frames) is = (0, omega arith, refl)
-flown_in (Over true false ∷ frames) is = absurd (let e = same_status 20 0 is in omega (arith, e))
-flown_in (Over false kept ∷ frames) is = absurd (let e = same_status 20 0 is in omega (arith, e))
-
-in_sent : (f : Flight) (events : List Event) → ended f events ≡ Some 0 → Contains (sent f (start f) events) (Over true true)
-unfolding ended
-in_sent f events is = flown_in (sent f (start f) events) is
-
-pub said_kept : (f : Flight) (bytes output : List ℕ) (g : FlightGives f bytes 0 output) → Contains (sent f (start f) g.events) (Over true true)
-said_kept f bytes output g = in_sent f g.events (said_zero (drones f) (ended f g.events) (length g.events == event_limit) g.rest g.ends)
+pub said_kept : (f : Flight) (bytes output : List ℕ) (g : FlightGives f bytes 0 output) → Contains (sent f (start f) g.items) (Over true true)
+said_kept f bytes output g = zero_said f g.items (ends_zero (dialogue_of f) (ended f g.items) (length g.items == item_limit) g.rest g.ends)
 
 -- ---- how long a show lasts
 

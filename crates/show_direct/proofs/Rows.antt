@@ -82,7 +82,7 @@ frame_rows = record { other = refl; gap = refl; restless = refl; still = refl; s
 early : FlightGives (flight_of (within 100) up (there_and_back (codes "a")) down) [] 8 (0x45 ∷ 8 ∷ [])
 unfolding ended sent_over expanded end_of
 early = record {
-  events = [];
+  items = [];
   rest = [];
   takes = record { cut = refl; each = All-nil (IsEvent 1); few = omega arith; going = λ n under. absurd (omega (arith, under)) };
   ends = refl;

@@ -17,7 +17,8 @@ pub use Rattle.fleet_world.specs.Schedules.{ScheduleLaw, schedule_of}
 pub use Rattle.fleet_world.specs.WorldState.{WorldStandsAt, WorldState, state_at}
 pub use Rattle.link_frames.specs.Frames.{end_frame, frames_bytes, packet_byte}
 pub use Rattle.link_upload.specs.Links.{Link, link_of}
-pub use Rattle.link_upload.specs.Uploads.{EndsWith, IsPrompt, StaysPrompt, StopsAtEnd, UploadFails, UploadGives, UploadLaw, frame_limit}
+pub use Rattle.link_dialogue.specs.Dialogues.{EndsWith, item_limit}
+pub use Rattle.link_upload.specs.Uploads.{IsPrompt, StaysPrompt, StopsAtEnd, UploadFails, UploadGives, UploadLaw, upload_of}
 pub use Rattle.refusals.specs.declared.refusal.Refusal.{Refusal}
 pub use Rattle.rehearsal.specs.Rehearsed.{blank_drone, rehearsed}
 pub use Rattle.rehearsal.specs.Texts.{AreTexts, IsFound, IsRehearsalText, drone_text, title_line}

@@ -1,5 +1,5 @@
 -- The laws of `upload`.
-use Rattle.show_uploads.proofs.Prelude.{◌≡◌, ◌==◌, Bool, [], ◌++◌, length, refl, arith, All-nil, PlainShow, end_frame, EndsWith, UploadGives, UploadLaw, frame_limit, Cut, Outcome, flies_text, link_in, UploadSucceeds, UploadingLaw, upload_verb}
+use Rattle.show_uploads.proofs.Prelude.{◌≡◌, ◌==◌, Bool, [], ◌++◌, length, refl, arith, All-nil, PlainShow, end_frame, EndsWith, UploadGives, UploadLaw, item_limit, upload_of, Cut, Outcome, flies_text, link_in, UploadSucceeds, UploadingLaw, upload_verb}
 use Rattle.link_upload.specs.Sends.{events_in, sent_over}
 use Rattle.show_uploads.proofs.RehearsalLemmas.{outcome_by}
 
@@ -17,9 +17,9 @@ some law start readback s cut =
 done : UploadLaw → (start readback : Bool) (s : PlainShow) (cut : Cut) (o : Outcome) → UploadGives (link_in s start readback) cut.frames o.status o.output → UploadSucceeds start readback s cut → o.status ≡ 0
 done law start readback s cut o gives (frames, rest, takes, over) =
     let link = link_in s start readback in
-    let ends : EndsWith (link.ended (events_in link frames)) (length frames == frame_limit) rest 0 = rw over refl in
+    let ends : EndsWith (upload_of link) (link.ended (events_in link frames)) (length frames == item_limit) rest 0 = rw over refl in
     let wanted : UploadGives link cut.frames 0 (sent_over link (events_in link frames) ++ end_frame 0) =
-    record { frames = frames; rest = rest; takes = takes; ends = ends; sends = refl } in
+    record { items = frames; rest = rest; takes = takes; ends = ends; sends = refl } in
     (law.one link cut.frames o.status 0 o.output _ gives wanted).0
 
 pub uploading_laws : UploadLaw → UploadingLaw

@@ -1,4 +1,4 @@
-use Rattle.flight_link.proofs.Prelude.{◌≡◌, sym, ◌∙◌}
+use Rattle.flight_link.proofs.Prelude.{sym, ◌∙◌}
 use Rattle.flight_link.proofs.BegunLemmas.{judged_err, judged_more, judged_whole}
 use Rattle.flight_link.proofs.begun.judged.Goals as goal
 

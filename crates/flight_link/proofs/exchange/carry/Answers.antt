@@ -1,17 +1,17 @@
-use Rattle.flight_link.proofs.Prelude.{◌≡◌, List, refl, sym, ap, ◌∙◌, arith, IsInput-now, Went-none, Went-trans, back, consumed, of_source, stream, to_come, Event, Flight, Frame, State, after, end_in, says, start}
-use Rattle.flight_link.proofs.SendLemmas.{said_at}
-use Rattle.flight_link.proofs.CarryLemmas.{Carries-none, Carries-push, Rose-later, breaks, end_answered, end_faulty, end_full, end_known, end_none, fails, grown_by, grown_more, prompt_answered, prompt_broken, prompt_carried, short_begun, short_end, short_event, short_faulty, short_waiting, stops_before, stops_waiting}
+use Rattle.flight_link.proofs.Prelude.{refl, sym, ap, ◌∙◌, arith, IsInput-now, Went-none, Went-trans, back, consumed, of_source, stream, to_come, dialogue_of, end_in}
+use Rattle.link_dialogue.proofs.ItemLemmas.{Rose-later, grown_by, grown_more}
+use Rattle.link_dialogue.proofs.CarryLemmas.{Carries-none, Carries-push, breaks, end_answered, end_faulty, end_full, end_none, fails, prompt_answered, prompt_broken, prompt_carried, short_begun, short_end, short_faulty, short_item, short_waiting, stops_before, stops_waiting}
+use Rattle.flight_link.proofs.SendLemmas.{ended-none, sends-nothing}
+use Rattle.flight_link.proofs.FlightLemmas.{is_dialogue}
+use Rattle.flight_link.proofs.CarryLemmas.{heard}
+use Rattle.flight_link.proofs.StatusLemmas.{end_known}
 use Rattle.flight_link.proofs.exchange.carry.Goals as goal
-
--- what the director says at an event, where it has heard these
-heard : (f h : Flight) (s : State) (events : List Event) (x : Event) (items : List Frame) → h ≡ f → s ≡ after f (start f) events → items ≡ says h s x → items ≡ said_at f events x
-heard f h s events x items is_f is_s is = rw (is_f, is_s) at is
 
 -- ---- before any event
 
 pub events-init : goal.events-init
 events-init g c = record {
-  carries = λ all may. Carries-none c.args.flight _ _ _ c.make-director.ensures.state;
+  carries = λ all may. Carries-none (dialogue_of c.args.flight) _ _ _ _ c.make-director.ensures.state (ended-none c.args.flight) (sends-nothing c.args.flight _);
   flight = c.make-director.ensures.flight;
   sound = c.requires.sound;
   holds = c.requires.holds;
@@ -30,22 +30,22 @@ returns-in-Err-clause-read g c all may = λ _.
     let failed = c.in-Err.ensures.failed in (
       Rose-later _ _ _ inv.went.gives.later c.in-Err.ensures.cause,
       inv.began failed.0,
-      fails c.args.flight (stream c.args.parts.now (to_come all (g.S.Source.told c.args.source.now))) (stream c.events.parts (to_come all (g.S.Source.told c.events.source))) (to_come all (g.S.Source.told c.next_event.new.source)) _ _ _ _ carries c.events-test.true failed.2.0 (rw c.drone_count-drones.ensures at failed.2.1) (consumed _ _ _ all _ _ _ failed.2.2 may),
+      fails (dialogue_of c.args.flight) (stream c.args.parts.now (to_come all (g.S.Source.told c.args.source.now))) (stream c.events.parts (to_come all (g.S.Source.told c.events.source))) (to_come all (g.S.Source.told c.next_event.new.source)) _ _ _ _ carries c.events-test.true failed.2.0 (rw c.drone_count-drones.ensures at failed.2.1) (consumed _ _ _ all _ _ _ failed.2.2 may),
     )
 
 pub returns-in-Err-clause-prompt : goal.returns-in-Err-clause-prompt
 returns-in-Err-clause-prompt g c all may =
     let failed = c.in-Err.ensures.failed in
-    prompt_carried c.frame_law.ensures c.args.flight _ _ _ _ _ _ _ (c.events.invariant.carries all (back _ _ _ _ all c.next_event.ensures.went may)) (short_begun _ _ _ failed.2.0 (rw c.drone_count-drones.ensures at failed.2.1) (consumed _ _ _ all _ _ _ failed.2.2 may))
+    prompt_carried (dialogue_of c.args.flight) (is_dialogue c.frame_law.ensures c.args.flight) _ _ _ _ _ _ _ (c.events.invariant.carries all (back _ _ _ _ all c.next_event.ensures.went may)) (short_begun (dialogue_of c.args.flight) (is_dialogue c.frame_law.ensures c.args.flight) _ _ failed.2.0 (rw c.drone_count-drones.ensures at failed.2.1) (consumed _ _ _ all _ _ _ failed.2.2 may))
 
 pub returns-in-Err-clause-went : goal.returns-in-Err-clause-went
 returns-in-Err-clause-went g c = Went-trans _ _ _ _ _ _ c.events.invariant.went c.next_event.ensures.went
 
 pub returns-in-End-clause-ends : goal.returns-in-End-clause-ends
-returns-in-End-clause-ends g c all may = end_none c.args.flight _ _ _ _ _ _ (c.events.invariant.carries all (back _ _ _ _ all c.next_event.ensures.went may)) c.events-test.true (rw c.in-End.is at (c.in-Ok.ensures.gives all may))
+returns-in-End-clause-ends g c all may = end_none (dialogue_of c.args.flight) _ _ _ _ _ _ (c.events.invariant.carries all (back _ _ _ _ all c.next_event.ensures.went may)) c.events-test.true (rw c.in-End.is at (c.in-Ok.ensures.gives all may))
 
 pub returns-in-End-clause-prompt : goal.returns-in-End-clause-prompt
-returns-in-End-clause-prompt g c all may = prompt_carried c.frame_law.ensures c.args.flight _ _ _ _ _ _ _ (c.events.invariant.carries all (back _ _ _ _ all c.next_event.ensures.went may)) (short_end _ _ _ (rw c.in-End.is at (c.in-Ok.ensures.gives all may)))
+returns-in-End-clause-prompt g c all may = prompt_carried (dialogue_of c.args.flight) (is_dialogue c.frame_law.ensures c.args.flight) _ _ _ _ _ _ _ (c.events.invariant.carries all (back _ _ _ _ all c.next_event.ensures.went may)) (short_end (dialogue_of c.args.flight) (is_dialogue c.frame_law.ensures c.args.flight) _ _ (rw c.in-End.is at (c.in-Ok.ensures.gives all may)))
 
 pub returns-in-End-clause-known : goal.returns-in-End-clause-known
 returns-in-End-clause-known g c = (1, omega arith, refl)
@@ -54,10 +54,10 @@ pub returns-in-End-clause-went : goal.returns-in-End-clause-went
 returns-in-End-clause-went g c = Went-trans _ _ _ _ _ _ c.events.invariant.went c.next_event.ensures.went
 
 pub returns-in-Faulty-clause-ends : goal.returns-in-Faulty-clause-ends
-returns-in-Faulty-clause-ends g c all may = end_faulty c.args.flight _ _ _ _ _ _ (c.events.invariant.carries all (back _ _ _ _ all c.next_event.ensures.went may)) c.events-test.true (rw (c.in-Faulty.is, c.drone_count-drones.ensures) at (c.in-Ok.ensures.gives all may))
+returns-in-Faulty-clause-ends g c all may = end_faulty (dialogue_of c.args.flight) _ _ _ _ _ _ (c.events.invariant.carries all (back _ _ _ _ all c.next_event.ensures.went may)) c.events-test.true (rw (c.in-Faulty.is, c.drone_count-drones.ensures) at (c.in-Ok.ensures.gives all may))
 
 pub returns-in-Faulty-clause-prompt : goal.returns-in-Faulty-clause-prompt
-returns-in-Faulty-clause-prompt g c all may = prompt_carried c.frame_law.ensures c.args.flight _ _ _ _ _ _ _ (c.events.invariant.carries all (back _ _ _ _ all c.next_event.ensures.went may)) (short_faulty _ _ _ (rw (c.in-Faulty.is, c.drone_count-drones.ensures) at (c.in-Ok.ensures.gives all may)))
+returns-in-Faulty-clause-prompt g c all may = prompt_carried (dialogue_of c.args.flight) (is_dialogue c.frame_law.ensures c.args.flight) _ _ _ _ _ _ _ (c.events.invariant.carries all (back _ _ _ _ all c.next_event.ensures.went may)) (short_faulty (dialogue_of c.args.flight) _ _ (rw (c.in-Faulty.is, c.drone_count-drones.ensures) at (c.in-Ok.ensures.gives all may)))
 
 pub returns-in-Faulty-clause-known : goal.returns-in-Faulty-clause-known
 returns-in-Faulty-clause-known g c = (2, omega arith, refl)
@@ -72,15 +72,15 @@ returns-in-Err-send-clause-write g c all may = λ _.
     let inv = c.events.invariant in
     let carries = inv.carries all (back _ _ _ _ all c.next_event.ensures.went may) in
     let took = rw (c.in-Whole.is, c.drone_count-drones.ensures) at (c.in-Ok.ensures.gives all may) in
-    let said = heard c.args.flight c.events.director.flight c.events.director.state carries.events c.in-Whole.e c.event.new.out.items inv.flight carries.stands c.event.ensures.out in
-    let out = rw (c.as_slice.ensures.value, said) at c.in-Err-send.ensures.front in
-    (Rose-later _ _ _ inv.sink_later c.in-Err-send.ensures.cause.failed, breaks c.frame_law.ensures c.args.flight (stream c.args.parts.now (to_come all (g.S.Source.told c.args.source.now))) (stream c.events.parts (to_come all (g.S.Source.told c.events.source))) (stream c.next_event.new.parts (to_come all (g.S.Source.told c.next_event.new.source))) _ _ _ _ _ carries c.in-Whole.e took.0 c.events-test.true took.1 out)
+    let h = heard c.args.flight c.events.director.flight c.events.director.state c.event.new.self.state carries.items c.in-Whole.e c.event.new.out.items _ _ inv.flight carries.stands carries.going took.0 took.1 c.event.ensures.out c.event.ensures.state in
+    let out = rw c.as_slice.ensures.value at c.in-Err-send.ensures.front in
+    (Rose-later _ _ _ inv.sink_later c.in-Err-send.ensures.cause.failed, breaks (dialogue_of c.args.flight) (is_dialogue c.frame_law.ensures c.args.flight) (stream c.args.parts.now (to_come all (g.S.Source.told c.args.source.now))) (stream c.events.parts (to_come all (g.S.Source.told c.events.source))) (stream c.next_event.new.parts (to_come all (g.S.Source.told c.next_event.new.source))) _ _ _ _ _ carries c.in-Whole.e _ h.more c.events-test.true out)
 
 pub returns-in-Err-send-clause-prompt : goal.returns-in-Err-send-clause-prompt
 returns-in-Err-send-clause-prompt g c all may =
     let took = rw (c.in-Whole.is, c.drone_count-drones.ensures) at (c.in-Ok.ensures.gives all may) in
-    prompt_broken c.frame_law.ensures c.args.flight _ _ _ _ _ _ _ _ _ (c.events.invariant.carries all (back _ _ _ _ all c.next_event.ensures.went may)) c.in-Err-send.ensures.front
-    (short_event c.frame_law.ensures _ _ c.next_event.new.parts.waiting _ c.in-Whole.e took.0 c.next_event.ensures.holds took.1)
+    prompt_broken (dialogue_of c.args.flight) (is_dialogue c.frame_law.ensures c.args.flight) _ _ _ _ _ _ _ _ _ (c.events.invariant.carries all (back _ _ _ _ all c.next_event.ensures.went may)) c.in-Err-send.ensures.front
+    (short_item (dialogue_of c.args.flight) (is_dialogue c.frame_law.ensures c.args.flight) _ c.next_event.new.parts.waiting _ c.in-Whole.e took.0 c.next_event.ensures.holds took.1)
 
 pub returns-in-Err-send-clause-went : goal.returns-in-Err-send-clause-went
 returns-in-Err-send-clause-went g c = Went-trans _ _ _ _ _ _ c.events.invariant.went c.next_event.ensures.went
@@ -90,19 +90,19 @@ returns-in-Some-clause-ends g c all may =
     let inv = c.events.invariant in
     let carries = inv.carries all (back _ _ _ _ all c.next_event.ensures.went may) in
     let took = rw (c.in-Whole.is, c.drone_count-drones.ensures) at (c.in-Ok.ensures.gives all may) in
-    let said = heard c.args.flight c.events.director.flight c.events.director.state carries.events c.in-Whole.e c.event.new.out.items inv.flight carries.stands c.event.ensures.out in
-    let out = rw (c.as_slice.ensures.value, said) at c.in-Ok-send.ensures.ok in
-    end_answered c.args.flight (stream c.args.parts.now (to_come all (g.S.Source.told c.args.source.now))) (stream c.events.parts (to_come all (g.S.Source.told c.events.source))) (stream c.next_event.new.parts (to_come all (g.S.Source.told c.next_event.new.source))) _ _ _ _ _ carries c.in-Whole.e took.0 c.events-test.true took.1 out c.in-Some.status
-    (ap end_in (sym (c.as_slice-in-events.ensures.value ∙ said)) ∙ sym c.end_in.ensures ∙ c.in-Some.is)
+    let h = heard c.args.flight c.events.director.flight c.events.director.state c.event.new.self.state carries.items c.in-Whole.e c.event.new.out.items _ _ inv.flight carries.stands carries.going took.0 took.1 c.event.ensures.out c.event.ensures.state in
+    let out = rw c.as_slice.ensures.value at c.in-Ok-send.ensures.ok in
+    end_answered (dialogue_of c.args.flight) (stream c.args.parts.now (to_come all (g.S.Source.told c.args.source.now))) (stream c.events.parts (to_come all (g.S.Source.told c.events.source))) (stream c.next_event.new.parts (to_come all (g.S.Source.told c.next_event.new.source))) _ _ _ _ _ carries c.in-Whole.e _ h.more c.events-test.true out c.in-Some.status
+    (h.answer ∙ ap end_in (sym c.as_slice-in-events.ensures.value) ∙ sym c.end_in.ensures ∙ c.in-Some.is)
 
 pub returns-in-Some-clause-prompt : goal.returns-in-Some-clause-prompt
 returns-in-Some-clause-prompt g c all may =
     let inv = c.events.invariant in
     let carries = inv.carries all (back _ _ _ _ all c.next_event.ensures.went may) in
     let took = rw (c.in-Whole.is, c.drone_count-drones.ensures) at (c.in-Ok.ensures.gives all may) in
-    let said = heard c.args.flight c.events.director.flight c.events.director.state carries.events c.in-Whole.e c.event.new.out.items inv.flight carries.stands c.event.ensures.out in
-    let out = rw (c.as_slice.ensures.value, said) at c.in-Ok-send.ensures.ok in
-    prompt_answered c.frame_law.ensures c.args.flight _ _ _ _ _ _ _ _ _ carries c.in-Whole.e took.0 took.1 out (short_waiting _ c.next_event.new.parts.waiting _ c.next_event.ensures.holds)
+    let h = heard c.args.flight c.events.director.flight c.events.director.state c.event.new.self.state carries.items c.in-Whole.e c.event.new.out.items _ _ inv.flight carries.stands carries.going took.0 took.1 c.event.ensures.out c.event.ensures.state in
+    let out = rw c.as_slice.ensures.value at c.in-Ok-send.ensures.ok in
+    prompt_answered (dialogue_of c.args.flight) (is_dialogue c.frame_law.ensures c.args.flight) _ _ _ _ _ _ _ _ _ carries c.in-Whole.e _ h.more out (short_waiting (dialogue_of c.args.flight) c.next_event.new.parts.waiting _ c.next_event.ensures.holds)
 
 pub returns-in-Some-clause-known : goal.returns-in-Some-clause-known
 returns-in-Some-clause-known g c = end_known c.event.new.out.items c.in-Some.status (ap end_in (sym c.as_slice-in-events.ensures.value) ∙ sym c.end_in.ensures ∙ c.in-Some.is)
@@ -117,10 +117,9 @@ events-preserved g c =
       carries = λ all may. (
           let carries = inv.carries all (back _ _ _ _ all c.next_event.ensures.went may) in
           let took = rw (c.in-Whole.is, c.drone_count-drones.ensures) at (c.in-Ok.ensures.gives all may) in
-          let said = heard c.args.flight c.events.director.flight c.events.director.state carries.events c.in-Whole.e c.event.new.out.items inv.flight carries.stands c.event.ensures.out in
-          let out = rw (c.as_slice.ensures.value, said) at c.in-Ok-send.ensures.ok in
-          let state = rw (inv.flight, carries.stands) at c.event.ensures.state in
-          Carries-push c.args.flight _ _ _ _ _ _ _ _ _ _ carries c.in-Whole.e took.0 took.1 out (omega arith) (ap end_in (sym (c.as_slice-in-events.ensures.value ∙ said)) ∙ sym c.end_in.ensures ∙ c.in-None.is) state);
+          let h = heard c.args.flight c.events.director.flight c.events.director.state c.event.new.self.state carries.items c.in-Whole.e c.event.new.out.items _ _ inv.flight carries.stands carries.going took.0 took.1 c.event.ensures.out c.event.ensures.state in
+          let out = rw c.as_slice.ensures.value at c.in-Ok-send.ensures.ok in
+          Carries-push (dialogue_of c.args.flight) _ _ _ _ _ _ _ _ _ _ carries c.in-Whole.e _ h.more out (omega arith) (h.answer ∙ ap end_in (sym c.as_slice-in-events.ensures.value) ∙ sym c.end_in.ensures ∙ c.in-None.is) h.state);
       flight = c.event.ensures.flight ∙ inv.flight;
       sound = c.in-Ok.ensures.sound;
       holds = c.next_event.ensures.holds;
@@ -133,10 +132,10 @@ events-preserved g c =
 -- ---- this many events
 
 pub returns-clause-ends : goal.returns-clause-ends
-returns-clause-ends g c all may = end_full c.args.flight _ _ _ _ _ _ (c.events.invariant.carries all may) (omega arith)
+returns-clause-ends g c all may = end_full (dialogue_of c.args.flight) _ _ _ _ _ _ (c.events.invariant.carries all may) (omega arith)
 
 pub returns-clause-prompt : goal.returns-clause-prompt
-returns-clause-prompt g c all may = prompt_carried c.frame_law.ensures c.args.flight _ _ _ _ _ _ _ (c.events.invariant.carries all may) (short_waiting _ c.events.parts.waiting _ c.events.invariant.holds)
+returns-clause-prompt g c all may = prompt_carried (dialogue_of c.args.flight) (is_dialogue c.frame_law.ensures c.args.flight) _ _ _ _ _ _ _ (c.events.invariant.carries all may) (short_waiting (dialogue_of c.args.flight) c.events.parts.waiting _ c.events.invariant.holds)
 
 pub returns-clause-known : goal.returns-clause-known
 returns-clause-known g c = (3, omega arith, refl)
@@ -166,25 +165,25 @@ returns-clause-grown g c = (_, (c.events.invariant.carries (g.S.Source.told c.ev
 pub returns-in-Err-clause-stops : goal.returns-in-Err-clause-stops
 returns-in-Err-clause-stops g c all may =
     let failed = c.in-Err.ensures.failed in
-    stops_before c.frame_law.ensures c.args.flight _ _ _ _ _ _ _ (c.events.invariant.carries all (back _ _ _ _ all c.next_event.ensures.went may)) c.events-test.true (short_begun _ _ _ failed.2.0 (rw c.drone_count-drones.ensures at failed.2.1) (consumed _ _ _ all _ _ _ failed.2.2 may))
+    stops_before (dialogue_of c.args.flight) (is_dialogue c.frame_law.ensures c.args.flight) _ _ _ _ _ _ _ (c.events.invariant.carries all (back _ _ _ _ all c.next_event.ensures.went may)) c.events-test.true (short_begun (dialogue_of c.args.flight) (is_dialogue c.frame_law.ensures c.args.flight) _ _ failed.2.0 (rw c.drone_count-drones.ensures at failed.2.1) (consumed _ _ _ all _ _ _ failed.2.2 may))
 
 pub returns-in-End-clause-stops : goal.returns-in-End-clause-stops
 returns-in-End-clause-stops g c all may =
-    stops_before c.frame_law.ensures c.args.flight _ _ _ _ _ _ _ (c.events.invariant.carries all (back _ _ _ _ all c.next_event.ensures.went may)) c.events-test.true (short_end _ _ _ (rw c.in-End.is at (c.in-Ok.ensures.gives all may)))
+    stops_before (dialogue_of c.args.flight) (is_dialogue c.frame_law.ensures c.args.flight) _ _ _ _ _ _ _ (c.events.invariant.carries all (back _ _ _ _ all c.next_event.ensures.went may)) c.events-test.true (short_end (dialogue_of c.args.flight) (is_dialogue c.frame_law.ensures c.args.flight) _ _ (rw c.in-End.is at (c.in-Ok.ensures.gives all may)))
 
 pub returns-in-Faulty-clause-stops : goal.returns-in-Faulty-clause-stops
 returns-in-Faulty-clause-stops g c all may =
-    stops_before c.frame_law.ensures c.args.flight _ _ _ _ _ _ _ (c.events.invariant.carries all (back _ _ _ _ all c.next_event.ensures.went may)) c.events-test.true (short_faulty _ _ _ (rw (c.in-Faulty.is, c.drone_count-drones.ensures) at (c.in-Ok.ensures.gives all may)))
+    stops_before (dialogue_of c.args.flight) (is_dialogue c.frame_law.ensures c.args.flight) _ _ _ _ _ _ _ (c.events.invariant.carries all (back _ _ _ _ all c.next_event.ensures.went may)) c.events-test.true (short_faulty (dialogue_of c.args.flight) _ _ (rw (c.in-Faulty.is, c.drone_count-drones.ensures) at (c.in-Ok.ensures.gives all may)))
 
 pub returns-in-Err-send-clause-stops : goal.returns-in-Err-send-clause-stops
 returns-in-Err-send-clause-stops g c all may =
     let took = rw (c.in-Whole.is, c.drone_count-drones.ensures) at (c.in-Ok.ensures.gives all may) in
-    stops_before c.frame_law.ensures c.args.flight _ _ _ _ _ _ _ (c.events.invariant.carries all (back _ _ _ _ all c.next_event.ensures.went may)) c.events-test.true (short_event c.frame_law.ensures _ _ c.next_event.new.parts.waiting _ c.in-Whole.e took.0 c.next_event.ensures.holds took.1)
+    stops_before (dialogue_of c.args.flight) (is_dialogue c.frame_law.ensures c.args.flight) _ _ _ _ _ _ _ (c.events.invariant.carries all (back _ _ _ _ all c.next_event.ensures.went may)) c.events-test.true (short_item (dialogue_of c.args.flight) (is_dialogue c.frame_law.ensures c.args.flight) _ c.next_event.new.parts.waiting _ c.in-Whole.e took.0 c.next_event.ensures.holds took.1)
 
 pub returns-in-Some-clause-stops : goal.returns-in-Some-clause-stops
 returns-in-Some-clause-stops g c all may =
     let took = rw (c.in-Whole.is, c.drone_count-drones.ensures) at (c.in-Ok.ensures.gives all may) in
-    stops_before c.frame_law.ensures c.args.flight _ _ _ _ _ _ _ (c.events.invariant.carries all (back _ _ _ _ all c.next_event.ensures.went may)) c.events-test.true (short_event c.frame_law.ensures _ _ c.next_event.new.parts.waiting _ c.in-Whole.e took.0 c.next_event.ensures.holds took.1)
+    stops_before (dialogue_of c.args.flight) (is_dialogue c.frame_law.ensures c.args.flight) _ _ _ _ _ _ _ (c.events.invariant.carries all (back _ _ _ _ all c.next_event.ensures.went may)) c.events-test.true (short_item (dialogue_of c.args.flight) (is_dialogue c.frame_law.ensures c.args.flight) _ c.next_event.new.parts.waiting _ c.in-Whole.e took.0 c.next_event.ensures.holds took.1)
 
 pub returns-clause-stops : goal.returns-clause-stops
-returns-clause-stops g c all may = stops_waiting c.frame_law.ensures c.args.flight _ _ _ c.events.parts.waiting _ _ _ (c.events.invariant.carries all may) (omega arith) c.events.invariant.holds
+returns-clause-stops g c all may = stops_waiting (dialogue_of c.args.flight) (is_dialogue c.frame_law.ensures c.args.flight) _ _ _ c.events.parts.waiting _ _ _ (c.events.invariant.carries all may) (omega arith) c.events.invariant.holds

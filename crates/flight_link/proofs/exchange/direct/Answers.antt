@@ -1,6 +1,7 @@
-use Rattle.flight_link.proofs.Prelude.{refl, sym, stream, to_come, ◌∙◌, arith, end_frame}
-use Rattle.flight_link.proofs.CarryLemmas.{Rose-later, grown_more}
-use Rattle.flight_link.proofs.FinishLemmas.{cut_broken, cut_ended, cut_failed, all_sent, failed, grew_ended, grew_failed, is_end, known_by, prompt_kept}
+use Rattle.flight_link.proofs.Prelude.{refl, sym, stream, to_come, ◌∙◌, arith, dialogue_of, end_frame}
+use Rattle.link_dialogue.proofs.ItemLemmas.{Rose-later, grown_more}
+use Rattle.link_dialogue.proofs.FinishLemmas.{all_sent, cut_broken, cut_ended, cut_failed, failed, grew_ended, grew_failed, prompt_kept}
+use Rattle.flight_link.proofs.StatusLemmas.{is_end, known_by}
 use Rattle.flight_link.proofs.exchange.direct.Goals as goal
 
 -- ---- the flight came to its end
@@ -8,7 +9,7 @@ use Rattle.flight_link.proofs.exchange.direct.Goals as goal
 pub returns-in-Ok-clause-ends : goal.returns-in-Ok-clause-ends
 returns-in-Ok-clause-ends g c all may = λ not_six not_seven.
     let w = c.finish.ensures.ok not_seven in
-    all_sent c.args.flight c.in-Ok.status c.finish.result (stream c.args.parts.now (to_come all (g.S.Source.told c.args.source.now))) (g.K.Sink.written c.args.sink.now) (g.K.Sink.written c.carry.new.sink) _ w.0 (c.in-Ok.ensures.ends all may) w.1
+    all_sent (dialogue_of c.args.flight) c.in-Ok.status c.finish.result (stream c.args.parts.now (to_come all (g.S.Source.told c.args.source.now))) (g.K.Sink.written c.args.sink.now) (g.K.Sink.written c.carry.new.sink) _ w.0 (c.in-Ok.ensures.ends all may) w.1
 
 pub returns-in-Ok-clause-six : goal.returns-in-Ok-clause-six
 returns-in-Ok-clause-six g c all may = λ six.
@@ -17,11 +18,11 @@ returns-in-Ok-clause-six g c all may = λ six.
 pub returns-in-Ok-clause-seven : goal.returns-in-Ok-clause-seven
 returns-in-Ok-clause-seven g c all may = λ seven.
     let is = is_end c.in-Ok.status c.in-Ok.ensures.known in
-    (Rose-later _ _ _ c.carry.ensures.sink_later (c.finish.ensures.cause seven is.1), cut_ended c.args.flight c.in-Ok.status (stream c.args.parts.now (to_come all (g.S.Source.told c.args.source.now))) (to_come all (g.S.Source.told c.carry.new.source)) (g.S.Source.told c.args.source.now).faults (g.S.Source.told c.carry.new.source).faults c.args.parts.now.ended (g.K.Sink.written c.args.sink.now) (g.K.Sink.written c.carry.new.sink) _ (c.in-Ok.ensures.ends all may) c.finish.ensures.front)
+    (Rose-later _ _ _ c.carry.ensures.sink_later (c.finish.ensures.cause seven is.1), cut_ended (dialogue_of c.args.flight) c.in-Ok.status (stream c.args.parts.now (to_come all (g.S.Source.told c.args.source.now))) (to_come all (g.S.Source.told c.carry.new.source)) (g.S.Source.told c.args.source.now).faults (g.S.Source.told c.carry.new.source).faults c.args.parts.now.ended (g.K.Sink.written c.args.sink.now) (g.K.Sink.written c.carry.new.sink) _ (c.in-Ok.ensures.ends all may) c.finish.ensures.front)
 
 pub returns-in-Ok-clause-prompt : goal.returns-in-Ok-clause-prompt
 returns-in-Ok-clause-prompt g c all may =
-    prompt_kept c.args.flight (stream c.args.parts.now (to_come all (g.S.Source.told c.args.source.now))) (to_come all (g.S.Source.told c.carry.new.source)) (g.K.Sink.written c.args.sink.now) (g.K.Sink.written c.carry.new.sink) _ (end_frame c.in-Ok.status) (c.carry.ensures.prompt all may) (grew_ended c.args.flight c.in-Ok.status (stream c.args.parts.now (to_come all (g.S.Source.told c.args.source.now))) (g.K.Sink.written c.args.sink.now) (g.K.Sink.written c.carry.new.sink) (c.in-Ok.ensures.ends all may)) c.finish.ensures.front
+    prompt_kept (dialogue_of c.args.flight) (stream c.args.parts.now (to_come all (g.S.Source.told c.args.source.now))) (to_come all (g.S.Source.told c.carry.new.source)) (g.K.Sink.written c.args.sink.now) (g.K.Sink.written c.carry.new.sink) _ (end_frame c.in-Ok.status) (c.carry.ensures.prompt all may) (grew_ended (dialogue_of c.args.flight) c.in-Ok.status (stream c.args.parts.now (to_come all (g.S.Source.told c.args.source.now))) (g.K.Sink.written c.args.sink.now) (g.K.Sink.written c.carry.new.sink) (c.in-Ok.ensures.ends all may)) c.finish.ensures.front
 
 pub returns-in-Ok-clause-known : goal.returns-in-Ok-clause-known
 returns-in-Ok-clause-known g c = known_by c.in-Ok.status c.finish.result (is_end c.in-Ok.status c.in-Ok.ensures.known).2 c.finish.ensures.known
@@ -31,19 +32,19 @@ returns-in-Ok-clause-known g c = known_by c.in-Ok.status c.finish.result (is_end
 pub returns-in-Err-Read-clause-six : goal.returns-in-Err-Read-clause-six
 returns-in-Err-Read-clause-six g c all may = λ six.
     let r = (rw c.in-Err-Read.field-0-is at (c.in-Err-Read.ensures.read all may)) refl in
-    (r.0, r.1, failed c.args.flight (stream c.args.parts.now (to_come all (g.S.Source.told c.args.source.now))) (to_come all (g.S.Source.told c.carry.new.source)) (g.K.Sink.written c.args.sink.now) (g.K.Sink.written c.carry.new.sink) _ r.2 (c.finish-in-Err-Read.ensures.ok (λ seven. omega (arith, six, seven))).1)
+    (r.0, r.1, failed (dialogue_of c.args.flight) (stream c.args.parts.now (to_come all (g.S.Source.told c.args.source.now))) (to_come all (g.S.Source.told c.carry.new.source)) (g.K.Sink.written c.args.sink.now) (g.K.Sink.written c.carry.new.sink) _ r.2 (c.finish-in-Err-Read.ensures.ok (λ seven. omega (arith, six, seven))).1)
 
 pub returns-in-Err-Read-clause-seven : goal.returns-in-Err-Read-clause-seven
 returns-in-Err-Read-clause-seven g c all may = λ seven.
     let r = (rw c.in-Err-Read.field-0-is at (c.in-Err-Read.ensures.read all may)) refl in (
       Rose-later _ _ _ c.carry.ensures.sink_later (c.finish-in-Err-Read.ensures.cause seven (λ e. omega (arith, e))),
-      cut_failed c.args.flight (stream c.args.parts.now (to_come all (g.S.Source.told c.args.source.now))) (to_come all (g.S.Source.told c.carry.new.source)) (g.S.Source.told c.args.source.now).faults (g.S.Source.told c.carry.new.source).faults c.args.parts.now.ended (g.K.Sink.written c.args.sink.now) (g.K.Sink.written c.carry.new.sink) _ r.0 r.1 r.2 c.finish-in-Err-Read.ensures.front,
+      cut_failed (dialogue_of c.args.flight) (stream c.args.parts.now (to_come all (g.S.Source.told c.args.source.now))) (to_come all (g.S.Source.told c.carry.new.source)) (g.S.Source.told c.args.source.now).faults (g.S.Source.told c.carry.new.source).faults c.args.parts.now.ended (g.K.Sink.written c.args.sink.now) (g.K.Sink.written c.carry.new.sink) _ r.0 r.1 r.2 c.finish-in-Err-Read.ensures.front,
     )
 
 pub returns-in-Err-Read-clause-prompt : goal.returns-in-Err-Read-clause-prompt
 returns-in-Err-Read-clause-prompt g c all may =
     let r = (rw c.in-Err-Read.field-0-is at (c.in-Err-Read.ensures.read all may)) refl in
-    prompt_kept c.args.flight (stream c.args.parts.now (to_come all (g.S.Source.told c.args.source.now))) (to_come all (g.S.Source.told c.carry.new.source)) (g.K.Sink.written c.args.sink.now) (g.K.Sink.written c.carry.new.sink) _ (end_frame 6) (c.carry.ensures.prompt all may) (grew_failed c.args.flight (stream c.args.parts.now (to_come all (g.S.Source.told c.args.source.now))) (to_come all (g.S.Source.told c.carry.new.source)) (g.K.Sink.written c.args.sink.now) (g.K.Sink.written c.carry.new.sink) r.2) c.finish-in-Err-Read.ensures.front
+    prompt_kept (dialogue_of c.args.flight) (stream c.args.parts.now (to_come all (g.S.Source.told c.args.source.now))) (to_come all (g.S.Source.told c.carry.new.source)) (g.K.Sink.written c.args.sink.now) (g.K.Sink.written c.carry.new.sink) _ (end_frame 6) (c.carry.ensures.prompt all may) (grew_failed (dialogue_of c.args.flight) (stream c.args.parts.now (to_come all (g.S.Source.told c.args.source.now))) (to_come all (g.S.Source.told c.carry.new.source)) (g.K.Sink.written c.args.sink.now) (g.K.Sink.written c.carry.new.sink) r.2) c.finish-in-Err-Read.ensures.front
 
 pub returns-in-Err-Read-clause-known : goal.returns-in-Err-Read-clause-known
 returns-in-Err-Read-clause-known g c = known_by 6 c.finish-in-Err-Read.result (1, omega arith, refl) c.finish-in-Err-Read.ensures.known
@@ -53,7 +54,7 @@ returns-in-Err-Read-clause-known g c = known_by 6 c.finish-in-Err-Read.result (1
 pub returns-in-Err-Write-clause-seven : goal.returns-in-Err-Write-clause-seven
 returns-in-Err-Write-clause-seven g c all may = λ seven.
     let w = (rw c.in-Err-Write.field-0-is at (c.in-Err-Write.ensures.write all may)) refl in
-    (w.0, cut_broken c.args.flight (stream c.args.parts.now (to_come all (g.S.Source.told c.args.source.now))) (to_come all (g.S.Source.told c.carry.new.source)) (g.S.Source.told c.args.source.now).faults (g.S.Source.told c.carry.new.source).faults c.args.parts.now.ended (g.K.Sink.written c.args.sink.now) (g.K.Sink.written c.carry.new.sink) w.1)
+    (w.0, cut_broken (dialogue_of c.args.flight) (stream c.args.parts.now (to_come all (g.S.Source.told c.args.source.now))) (to_come all (g.S.Source.told c.carry.new.source)) (g.S.Source.told c.args.source.now).faults (g.S.Source.told c.carry.new.source).faults c.args.parts.now.ended (g.K.Sink.written c.args.sink.now) (g.K.Sink.written c.carry.new.sink) w.1)
 
 pub returns-in-Err-Write-clause-known : goal.returns-in-Err-Write-clause-known
 returns-in-Err-Write-clause-known g c = (2, omega arith, refl)

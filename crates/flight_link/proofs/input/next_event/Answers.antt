@@ -1,6 +1,6 @@
-use Rattle.flight_link.proofs.Prelude.{◌≡◌, ◌++◌, ◌∷◌, [], length, length-append, sym, ◌∙◌, arith, rules, Took-none, Took-trans, Went-none, Went-trans, back, consumed, nothing_before, refl, false, true, stream, to_come, IsBegun}
+use Rattle.flight_link.proofs.Prelude.{◌≡◌, ◌++◌, ◌∷◌, [], length-append, sym, ◌∙◌, arith, rules, Took-none, Took-trans, Went-none, Went-trans, back, consumed, nothing_before, refl, false, true, stream, to_come, BeginsNoEvent}
 use Rattle.flight_link.proofs.EventLemmas.{begun, none_begun, short}
-use Rattle.flight_link.proofs.StepLemmas.{bad_front, cut_front}
+use Rattle.link_dialogue.proofs.ItemLemmas.{bad_front, cut_front}
 use Rattle.flight_link.proofs.input.next_event.Goals as goal
 
 pub bytes-init : goal.bytes-init
@@ -25,7 +25,7 @@ returns-in-Whole-clause-went g c = Went-trans _ _ _ _ _ _ c.bytes.invariant.went
 
 pub returns-in-Bad-clause-gives : goal.returns-in-Bad-clause-gives
 returns-in-Bad-clause-gives g c all may =
-    bad_front (stream c.args.parts.now (to_come all (g.S.Source.told c.args.source.now))) (stream c.byte.new.self (to_come all (g.S.Source.told c.byte.new.source))) c.args.drones (c.bytes.begun ++ c.in-Some.byte ∷ [])
+    bad_front (BeginsNoEvent c.args.drones) (stream c.args.parts.now (to_come all (g.S.Source.told c.args.source.now))) (stream c.byte.new.self (to_come all (g.S.Source.told c.byte.new.source))) (c.bytes.begun ++ c.in-Some.byte ∷ [])
     (consumed _ _ _ all _ _ _ (Took-trans _ _ _ _ _ _ _ _ c.bytes.invariant.took (rw (c.in_ok-byte.was, c.in-Some.is) at c.byte.ensures.took)) may)
     (omega (arith, length-append c.bytes.begun (c.in-Some.byte ∷ [])))
     (rw c.feed.ensures.bytes at (rw c.in-Bad.is at c.feed.ensures.gives))
@@ -63,5 +63,5 @@ returns-in-None-2-clause-gives g c all may =
     let told = g.S.Source.told c.byte.new.source in
     let before = back _ _ _ _ all c.byte.ensures.went may in
     let at_end = nothing_before _ _ told all c.bytes.parts.waiting c.byte.new.self.waiting _ c.byte.ensures.took (rw (c.in_ok-byte.was, c.in-None-2.is) refl) may none.2 none.1 in
-    cut_front (stream c.args.parts.now (to_come all (g.S.Source.told c.args.source.now))) (stream c.bytes.parts (to_come all (g.S.Source.told c.bytes.source))) c.args.drones c.bytes.begun (consumed _ _ _ all _ _ _ c.bytes.invariant.took before) at_end
+    cut_front (BeginsNoEvent c.args.drones) (stream c.args.parts.now (to_come all (g.S.Source.told c.args.source.now))) (stream c.bytes.parts (to_come all (g.S.Source.told c.bytes.source))) c.bytes.begun (consumed _ _ _ all _ _ _ c.bytes.invariant.took before) at_end
     (λ empty. absurd (let e : false ≡ true = sym c.if-is_empty.false ∙ c.is_empty.ensures ∙ rw empty refl in cc)) (begun c.frame_law.ensures c.args.drones c.bytes.begun c.bytes.invariant.begun)

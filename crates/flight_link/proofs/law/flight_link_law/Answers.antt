@@ -1,6 +1,10 @@
-use Rattle.flight_link.proofs.FlightLemmas.{one, some}
+use Rattle.flight_link.proofs.Prelude.{dialogue_of}
+use Rattle.link_dialogue.proofs.EndLemmas.{one, some}
+use Rattle.flight_link.proofs.FlightLemmas.{is_dialogue}
 use Rattle.flight_link.proofs.OverLemmas.{over}
 use Rattle.flight_link.proofs.law.flight_link_law.Goals as goal
 
 pub returns : goal.returns
-returns c = record { one = one c.frame_law.ensures; some = some c.frame_law.ensures; over = over }
+returns c =
+    let law = c.frame_law.ensures in
+    record { one = λ f. one (dialogue_of f) (is_dialogue law f); some = λ f. some (dialogue_of f) (is_dialogue law f); over = over }

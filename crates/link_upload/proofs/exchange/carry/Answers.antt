@@ -1,21 +1,26 @@
-use Rattle.link_upload.proofs.Prelude.{refl, sym, ap, ◌∙◌, arith, IsInput-now, Told, Went-none, Went-trans, back, consumed, of_source, stream, to_come, events_in, link_of, HostStandsFor, view_of}
-use Rattle.link_upload.proofs.CarryLemmas.{Carries-none, Carries-push, Rose-later, answered, breaks, breaks_first, end_answered, end_faulty, end_full, end_known, end_none, fails, grown_by, grown_front, grown_more, prompt_answered, prompt_broken, prompt_carried, prompt_first, short_begun, short_end, short_faulty, short_frame, short_waiting, stops_before, stops_first, stops_waiting}
+use Rattle.link_upload.proofs.Prelude.{refl, sym, ap, ◌∙◌, arith, IsInput-now, Went-none, Went-trans, back, consumed, of_source, stream, to_come, link_of, upload_of, HostStandsFor, view_of}
+use Rattle.link_dialogue.proofs.ItemLemmas.{Rose-later, grown_by, grown_more}
+use Rattle.link_dialogue.proofs.CarryLemmas.{Carries-none, Carries-push, breaks, breaks_first, end_answered, end_faulty, end_full, end_none, fails, prompt_answered, prompt_broken, prompt_carried, prompt_first, short_begun, short_end, short_faulty, short_item, short_waiting, stops_before, stops_first, stops_waiting}
+use Rattle.link_upload.proofs.SendLemmas.{sent-none}
+use Rattle.link_upload.proofs.UploadLemmas.{is_dialogue}
+use Rattle.link_upload.proofs.CarryLemmas.{answered}
+use Rattle.link_upload.proofs.StatusLemmas.{end_known}
 use Rattle.link_upload.proofs.exchange.carry.Goals as goal
 
 -- ---- before any frame
 
 pub returns-in-Err-clause-write : goal.returns-in-Err-clause-write
 returns-in-Err-clause-write g c all may = λ _.
-    let front = rw (c.as_slice.ensures.value, c.first.ensures.sent) at c.in-Err.ensures.front in
-    (c.in-Err.ensures.cause.failed, breaks_first (link_of c.args.host.session) (stream c.args.parts.now (to_come all (g.S.Source.told c.args.source.now))) _ _ front)
+    let front = rw (c.as_slice.ensures.value, c.first.ensures.sent, ← sent-none (link_of c.args.host.session)) at c.in-Err.ensures.front in
+    (c.in-Err.ensures.cause.failed, breaks_first (upload_of (link_of c.args.host.session)) (is_dialogue (link_of c.args.host.session)) (stream c.args.parts.now (to_come all (g.S.Source.told c.args.source.now))) _ _ front)
 
 pub returns-in-Err-clause-prompt : goal.returns-in-Err-clause-prompt
-returns-in-Err-clause-prompt g c all may = prompt_first (link_of c.args.host.session) c.args.parts.now.waiting _ _ _ c.requires.holds
+returns-in-Err-clause-prompt g c all may = prompt_first (upload_of (link_of c.args.host.session)) c.args.parts.now.waiting _ _ _ c.requires.holds
 
 pub frames-init : goal.frames-init
 frames-init g c =
     record {
-      carries = λ all may. Carries-none (link_of c.args.host.session) _ _ _ _ c.requires.new c.drone_count.ensures.going (rw (c.as_slice.ensures.value, c.first.ensures.sent) at c.in-Ok.ensures.ok);
+      carries = λ all may. Carries-none (upload_of (link_of c.args.host.session)) _ _ _ _ c.requires.new c.drone_count.ensures.going (rw (c.as_slice.ensures.value, c.first.ensures.sent, ← sent-none (link_of c.args.host.session)) at c.in-Ok.ensures.ok);
       session = refl;
       sound = c.requires.sound;
       holds = c.requires.holds;
@@ -34,22 +39,22 @@ returns-in-Err-step-clause-read g c all may = λ _.
     let failed = c.in-Err-step.ensures.failed in (
       Rose-later _ _ _ inv.went.gives.later c.in-Err-step.ensures.cause,
       inv.began failed.0,
-      fails (link_of c.args.host.session) (stream c.args.parts.now (to_come all (g.S.Source.told c.args.source.now))) (stream c.frames.parts (to_come all (g.S.Source.told c.frames.source))) (to_come all (g.S.Source.told c.step.new.source)) _ _ _ _ carries c.frames-test.true failed.2.0 failed.2.1 (consumed _ _ _ all _ _ _ failed.2.2 may),
+      fails (upload_of (link_of c.args.host.session)) (stream c.args.parts.now (to_come all (g.S.Source.told c.args.source.now))) (stream c.frames.parts (to_come all (g.S.Source.told c.frames.source))) (to_come all (g.S.Source.told c.step.new.source)) _ _ _ _ carries c.frames-test.true failed.2.0 failed.2.1 (consumed _ _ _ all _ _ _ failed.2.2 may),
     )
 
 pub returns-in-Err-step-clause-prompt : goal.returns-in-Err-step-clause-prompt
 returns-in-Err-step-clause-prompt g c all may =
     let failed = c.in-Err-step.ensures.failed in
-    prompt_carried (link_of c.args.host.session) _ _ _ _ _ _ _ (c.frames.invariant.carries all (back _ _ _ _ all c.step.ensures.went may)) (short_begun _ _ failed.2.0 failed.2.1 (consumed _ _ _ all _ _ _ failed.2.2 may))
+    prompt_carried (upload_of (link_of c.args.host.session)) (is_dialogue (link_of c.args.host.session)) _ _ _ _ _ _ _ (c.frames.invariant.carries all (back _ _ _ _ all c.step.ensures.went may)) (short_begun (upload_of (link_of c.args.host.session)) (is_dialogue (link_of c.args.host.session)) _ _ failed.2.0 failed.2.1 (consumed _ _ _ all _ _ _ failed.2.2 may))
 
 pub returns-in-Err-step-clause-went : goal.returns-in-Err-step-clause-went
 returns-in-Err-step-clause-went g c = Went-trans _ _ _ _ _ _ c.frames.invariant.went c.step.ensures.went
 
 pub returns-in-End-clause-ends : goal.returns-in-End-clause-ends
-returns-in-End-clause-ends g c all may = end_none (link_of c.args.host.session) _ _ _ _ _ _ (c.frames.invariant.carries all (back _ _ _ _ all c.step.ensures.went may)) c.frames-test.true (rw c.in-End.is at (c.in-Ok-step.ensures.gives all may))
+returns-in-End-clause-ends g c all may = end_none (upload_of (link_of c.args.host.session)) _ _ _ _ _ _ (c.frames.invariant.carries all (back _ _ _ _ all c.step.ensures.went may)) c.frames-test.true (rw c.in-End.is at (c.in-Ok-step.ensures.gives all may))
 
 pub returns-in-End-clause-prompt : goal.returns-in-End-clause-prompt
-returns-in-End-clause-prompt g c all may = prompt_carried (link_of c.args.host.session) _ _ _ _ _ _ _ (c.frames.invariant.carries all (back _ _ _ _ all c.step.ensures.went may)) (short_end _ _ (rw c.in-End.is at (c.in-Ok-step.ensures.gives all may)))
+returns-in-End-clause-prompt g c all may = prompt_carried (upload_of (link_of c.args.host.session)) (is_dialogue (link_of c.args.host.session)) _ _ _ _ _ _ _ (c.frames.invariant.carries all (back _ _ _ _ all c.step.ensures.went may)) (short_end (upload_of (link_of c.args.host.session)) (is_dialogue (link_of c.args.host.session)) _ _ (rw c.in-End.is at (c.in-Ok-step.ensures.gives all may)))
 
 pub returns-in-End-clause-known : goal.returns-in-End-clause-known
 returns-in-End-clause-known g c = (1, omega arith, refl)
@@ -58,10 +63,10 @@ pub returns-in-End-clause-went : goal.returns-in-End-clause-went
 returns-in-End-clause-went g c = Went-trans _ _ _ _ _ _ c.frames.invariant.went c.step.ensures.went
 
 pub returns-in-Faulty-clause-ends : goal.returns-in-Faulty-clause-ends
-returns-in-Faulty-clause-ends g c all may = end_faulty (link_of c.args.host.session) _ _ _ _ _ _ (c.frames.invariant.carries all (back _ _ _ _ all c.step.ensures.went may)) c.frames-test.true (rw c.in-Faulty.is at (c.in-Ok-step.ensures.gives all may))
+returns-in-Faulty-clause-ends g c all may = end_faulty (upload_of (link_of c.args.host.session)) _ _ _ _ _ _ (c.frames.invariant.carries all (back _ _ _ _ all c.step.ensures.went may)) c.frames-test.true (rw c.in-Faulty.is at (c.in-Ok-step.ensures.gives all may))
 
 pub returns-in-Faulty-clause-prompt : goal.returns-in-Faulty-clause-prompt
-returns-in-Faulty-clause-prompt g c all may = prompt_carried (link_of c.args.host.session) _ _ _ _ _ _ _ (c.frames.invariant.carries all (back _ _ _ _ all c.step.ensures.went may)) (short_faulty _ _ (rw c.in-Faulty.is at (c.in-Ok-step.ensures.gives all may)))
+returns-in-Faulty-clause-prompt g c all may = prompt_carried (upload_of (link_of c.args.host.session)) (is_dialogue (link_of c.args.host.session)) _ _ _ _ _ _ _ (c.frames.invariant.carries all (back _ _ _ _ all c.step.ensures.went may)) (short_faulty (upload_of (link_of c.args.host.session)) _ _ (rw c.in-Faulty.is at (c.in-Ok-step.ensures.gives all may)))
 
 pub returns-in-Faulty-clause-known : goal.returns-in-Faulty-clause-known
 returns-in-Faulty-clause-known g c = (4, omega arith, refl)
@@ -77,14 +82,14 @@ returns-in-Err-send-clause-write g c all may = λ _.
     let carries = inv.carries all (back _ _ _ _ all c.step.ensures.went may) in
     let took = rw c.in-Answered.is at (c.in-Ok-step.ensures.gives all may) in
     let a = answered (link_of c.args.host.session) (link_of c.frames.host.session) (HostStandsFor (view_of c.frames.host)) (HostStandsFor (view_of c.step.new.host)) took.frame c.in-Answered.status c.step.new.out.items
-    (events_in (link_of c.args.host.session) carries.frames) (ap link_of inv.session) carries.stands carries.going took.stands took.answer took.sends in
-    let out = rw (took.session, inv.session, c.as_slice-in-frames.ensures.value, a.sent) at c.in-Err-send.ensures.front in
-    (Rose-later _ _ _ inv.sink_later c.in-Err-send.ensures.cause.failed, breaks (link_of c.args.host.session) (stream c.args.parts.now (to_come all (g.S.Source.told c.args.source.now))) (stream c.frames.parts (to_come all (g.S.Source.told c.frames.source))) (stream c.step.new.parts (to_come all (g.S.Source.told c.step.new.source))) _ _ _ _ _ carries took.frame took.formed c.frames-test.true took.taken out)
+    carries.items _ _ (ap link_of inv.session) carries.stands carries.going took.formed took.taken took.stands took.answer took.sends in
+    let out = rw (took.session, inv.session, c.as_slice-in-frames.ensures.value) at c.in-Err-send.ensures.front in
+    (Rose-later _ _ _ inv.sink_later c.in-Err-send.ensures.cause.failed, breaks (upload_of (link_of c.args.host.session)) (is_dialogue (link_of c.args.host.session)) (stream c.args.parts.now (to_come all (g.S.Source.told c.args.source.now))) (stream c.frames.parts (to_come all (g.S.Source.told c.frames.source))) (stream c.step.new.parts (to_come all (g.S.Source.told c.step.new.source))) _ _ _ _ _ carries took.frame _ a.more c.frames-test.true out)
 
 pub returns-in-Err-send-clause-prompt : goal.returns-in-Err-send-clause-prompt
 returns-in-Err-send-clause-prompt g c all may =
     let took = rw c.in-Answered.is at (c.in-Ok-step.ensures.gives all may) in
-    prompt_broken (link_of c.args.host.session) _ _ _ _ _ _ _ _ _ (c.frames.invariant.carries all (back _ _ _ _ all c.step.ensures.went may)) c.in-Err-send.ensures.front (short_frame _ c.step.new.parts.waiting _ took.frame c.step.ensures.holds took.taken)
+    prompt_broken (upload_of (link_of c.args.host.session)) (is_dialogue (link_of c.args.host.session)) _ _ _ _ _ _ _ _ _ (c.frames.invariant.carries all (back _ _ _ _ all c.step.ensures.went may)) c.in-Err-send.ensures.front (short_item (upload_of (link_of c.args.host.session)) (is_dialogue (link_of c.args.host.session)) _ c.step.new.parts.waiting _ took.frame took.formed c.step.ensures.holds took.taken)
 
 pub returns-in-Err-send-clause-went : goal.returns-in-Err-send-clause-went
 returns-in-Err-send-clause-went g c = Went-trans _ _ _ _ _ _ c.frames.invariant.went c.step.ensures.went
@@ -95,9 +100,9 @@ returns-in-Some-clause-ends g c all may =
     let carries = inv.carries all (back _ _ _ _ all c.step.ensures.went may) in
     let took = rw c.in-Answered.is at (c.in-Ok-step.ensures.gives all may) in
     let a = answered (link_of c.args.host.session) (link_of c.frames.host.session) (HostStandsFor (view_of c.frames.host)) (HostStandsFor (view_of c.step.new.host)) took.frame c.in-Answered.status c.step.new.out.items
-    (events_in (link_of c.args.host.session) carries.frames) (ap link_of inv.session) carries.stands carries.going took.stands took.answer took.sends in
-    let out = rw (took.session, inv.session, c.as_slice-in-frames.ensures.value, a.sent) at c.in-Ok-send.ensures.ok in
-    end_answered (link_of c.args.host.session) (stream c.args.parts.now (to_come all (g.S.Source.told c.args.source.now))) (stream c.frames.parts (to_come all (g.S.Source.told c.frames.source))) (stream c.step.new.parts (to_come all (g.S.Source.told c.step.new.source))) _ _ _ _ _ carries took.frame took.formed c.frames-test.true took.taken out c.in-Answered.status a.answer c.in-Some.status (λ full rest. rw c.in-Some.is refl)
+    carries.items _ _ (ap link_of inv.session) carries.stands carries.going took.formed took.taken took.stands took.answer took.sends in
+    let out = rw (took.session, inv.session, c.as_slice-in-frames.ensures.value) at c.in-Ok-send.ensures.ok in
+    end_answered (upload_of (link_of c.args.host.session)) (stream c.args.parts.now (to_come all (g.S.Source.told c.args.source.now))) (stream c.frames.parts (to_come all (g.S.Source.told c.frames.source))) (stream c.step.new.parts (to_come all (g.S.Source.told c.step.new.source))) _ _ _ _ _ carries took.frame _ a.more c.frames-test.true out c.in-Some.status (sym a.answer ∙ c.in-Some.is)
 
 pub returns-in-Some-clause-prompt : goal.returns-in-Some-clause-prompt
 returns-in-Some-clause-prompt g c all may =
@@ -105,9 +110,9 @@ returns-in-Some-clause-prompt g c all may =
     let carries = inv.carries all (back _ _ _ _ all c.step.ensures.went may) in
     let took = rw c.in-Answered.is at (c.in-Ok-step.ensures.gives all may) in
     let a = answered (link_of c.args.host.session) (link_of c.frames.host.session) (HostStandsFor (view_of c.frames.host)) (HostStandsFor (view_of c.step.new.host)) took.frame c.in-Answered.status c.step.new.out.items
-    (events_in (link_of c.args.host.session) carries.frames) (ap link_of inv.session) carries.stands carries.going took.stands took.answer took.sends in
-    let out = rw (took.session, inv.session, c.as_slice-in-frames.ensures.value, a.sent) at c.in-Ok-send.ensures.ok in
-    prompt_answered (link_of c.args.host.session) _ _ _ _ _ _ _ _ _ carries took.frame took.taken out (short_waiting c.step.new.parts.waiting _ c.step.ensures.holds)
+    carries.items _ _ (ap link_of inv.session) carries.stands carries.going took.formed took.taken took.stands took.answer took.sends in
+    let out = rw (took.session, inv.session, c.as_slice-in-frames.ensures.value) at c.in-Ok-send.ensures.ok in
+    prompt_answered (upload_of (link_of c.args.host.session)) (is_dialogue (link_of c.args.host.session)) _ _ _ _ _ _ _ _ _ carries took.frame _ a.more out (short_waiting (upload_of (link_of c.args.host.session)) c.step.new.parts.waiting _ c.step.ensures.holds)
 
 pub returns-in-Some-clause-known : goal.returns-in-Some-clause-known
 returns-in-Some-clause-known g c =
@@ -126,9 +131,9 @@ frames-preserved g c =
           let carries = inv.carries all (back _ _ _ _ all c.step.ensures.went may) in
           let took = rw c.in-Answered.is at (c.in-Ok-step.ensures.gives all may) in
           let a = answered (link_of c.args.host.session) (link_of c.frames.host.session) (HostStandsFor (view_of c.frames.host)) (HostStandsFor (view_of c.step.new.host)) took.frame c.in-Answered.status c.step.new.out.items
-          (events_in (link_of c.args.host.session) carries.frames) (ap link_of inv.session) carries.stands carries.going took.stands took.answer took.sends in
-          let out = rw (took.session, inv.session, c.as_slice-in-frames.ensures.value, a.sent) at c.in-Ok-send.ensures.ok in
-          Carries-push (link_of c.args.host.session) _ _ _ _ _ _ _ _ _ _ carries took.frame took.formed took.taken out (omega arith) (sym a.answer ∙ c.in-None.is) a.stands);
+          carries.items _ _ (ap link_of inv.session) carries.stands carries.going took.formed took.taken took.stands took.answer took.sends in
+          let out = rw (took.session, inv.session, c.as_slice-in-frames.ensures.value) at c.in-Ok-send.ensures.ok in
+          Carries-push (upload_of (link_of c.args.host.session)) _ _ _ _ _ _ _ _ _ _ carries took.frame _ a.more out (omega arith) (sym a.answer ∙ c.in-None.is) a.stands);
       session = kept.session ∙ inv.session;
       sound = c.in-Ok-step.ensures.sound;
       holds = c.step.ensures.holds;
@@ -141,10 +146,10 @@ frames-preserved g c =
 -- ---- this many frames
 
 pub returns-clause-ends : goal.returns-clause-ends
-returns-clause-ends g c all may = end_full (link_of c.args.host.session) _ _ _ _ _ _ (c.frames.invariant.carries all may) (omega arith)
+returns-clause-ends g c all may = end_full (upload_of (link_of c.args.host.session)) _ _ _ _ _ _ (c.frames.invariant.carries all may) (omega arith)
 
 pub returns-clause-prompt : goal.returns-clause-prompt
-returns-clause-prompt g c all may = prompt_carried (link_of c.args.host.session) _ _ _ _ _ _ _ (c.frames.invariant.carries all may) (short_waiting c.frames.parts.waiting _ c.frames.invariant.holds)
+returns-clause-prompt g c all may = prompt_carried (upload_of (link_of c.args.host.session)) (is_dialogue (link_of c.args.host.session)) _ _ _ _ _ _ _ (c.frames.invariant.carries all may) (short_waiting (upload_of (link_of c.args.host.session)) c.frames.parts.waiting _ c.frames.invariant.holds)
 
 pub returns-clause-known : goal.returns-clause-known
 returns-clause-known g c = (5, omega arith, refl)
@@ -152,7 +157,7 @@ returns-clause-known g c = (5, omega arith, refl)
 -- ---- what was sent only grows
 
 pub returns-in-Err-clause-grown : goal.returns-in-Err-clause-grown
-returns-in-Err-clause-grown g c = grown_front _ _ _ c.in-Err.ensures.front
+returns-in-Err-clause-grown g c = (c.in-Err.ensures.front.0, c.in-Err.ensures.front.3)
 
 pub returns-in-Err-step-clause-grown : goal.returns-in-Err-step-clause-grown
 returns-in-Err-step-clause-grown g c = (_, (c.frames.invariant.carries (g.S.Source.told c.frames.source).given (of_source _ _ _ c.frames.invariant.at_end (IsInput-now (g.S.Source.told c.frames.source)))).sent)
@@ -175,33 +180,33 @@ returns-clause-grown g c = (_, (c.frames.invariant.carries (g.S.Source.told c.fr
 -- ---- no more is read after the end
 
 pub returns-in-Err-clause-stops : goal.returns-in-Err-clause-stops
-returns-in-Err-clause-stops g c all may = stops_first (link_of c.args.host.session) c.args.parts.now.waiting _ c.requires.holds
+returns-in-Err-clause-stops g c all may = stops_first (upload_of (link_of c.args.host.session)) c.args.parts.now.waiting _ c.requires.holds
 
 pub returns-in-Err-step-clause-stops : goal.returns-in-Err-step-clause-stops
 returns-in-Err-step-clause-stops g c all may =
     let failed = c.in-Err-step.ensures.failed in
-    stops_before (link_of c.args.host.session) _ _ _ _ _ _ _ (c.frames.invariant.carries all (back _ _ _ _ all c.step.ensures.went may)) c.frames-test.true (short_begun _ _ failed.2.0 failed.2.1 (consumed _ _ _ all _ _ _ failed.2.2 may))
+    stops_before (upload_of (link_of c.args.host.session)) (is_dialogue (link_of c.args.host.session)) _ _ _ _ _ _ _ (c.frames.invariant.carries all (back _ _ _ _ all c.step.ensures.went may)) c.frames-test.true (short_begun (upload_of (link_of c.args.host.session)) (is_dialogue (link_of c.args.host.session)) _ _ failed.2.0 failed.2.1 (consumed _ _ _ all _ _ _ failed.2.2 may))
 
 pub returns-in-End-clause-stops : goal.returns-in-End-clause-stops
 returns-in-End-clause-stops g c all may =
-    stops_before (link_of c.args.host.session) _ _ _ _ _ _ _ (c.frames.invariant.carries all (back _ _ _ _ all c.step.ensures.went may)) c.frames-test.true (short_end _ _ (rw c.in-End.is at (c.in-Ok-step.ensures.gives all may)))
+    stops_before (upload_of (link_of c.args.host.session)) (is_dialogue (link_of c.args.host.session)) _ _ _ _ _ _ _ (c.frames.invariant.carries all (back _ _ _ _ all c.step.ensures.went may)) c.frames-test.true (short_end (upload_of (link_of c.args.host.session)) (is_dialogue (link_of c.args.host.session)) _ _ (rw c.in-End.is at (c.in-Ok-step.ensures.gives all may)))
 
 pub returns-in-Faulty-clause-stops : goal.returns-in-Faulty-clause-stops
 returns-in-Faulty-clause-stops g c all may =
-    stops_before (link_of c.args.host.session) _ _ _ _ _ _ _ (c.frames.invariant.carries all (back _ _ _ _ all c.step.ensures.went may)) c.frames-test.true (short_faulty _ _ (rw c.in-Faulty.is at (c.in-Ok-step.ensures.gives all may)))
+    stops_before (upload_of (link_of c.args.host.session)) (is_dialogue (link_of c.args.host.session)) _ _ _ _ _ _ _ (c.frames.invariant.carries all (back _ _ _ _ all c.step.ensures.went may)) c.frames-test.true (short_faulty (upload_of (link_of c.args.host.session)) _ _ (rw c.in-Faulty.is at (c.in-Ok-step.ensures.gives all may)))
 
 pub returns-in-Err-send-clause-stops : goal.returns-in-Err-send-clause-stops
 returns-in-Err-send-clause-stops g c all may =
     let took = rw c.in-Answered.is at (c.in-Ok-step.ensures.gives all may) in
-    stops_before (link_of c.args.host.session) _ _ _ _ _ _ _ (c.frames.invariant.carries all (back _ _ _ _ all c.step.ensures.went may)) c.frames-test.true (short_frame _ c.step.new.parts.waiting _ took.frame c.step.ensures.holds took.taken)
+    stops_before (upload_of (link_of c.args.host.session)) (is_dialogue (link_of c.args.host.session)) _ _ _ _ _ _ _ (c.frames.invariant.carries all (back _ _ _ _ all c.step.ensures.went may)) c.frames-test.true (short_item (upload_of (link_of c.args.host.session)) (is_dialogue (link_of c.args.host.session)) _ c.step.new.parts.waiting _ took.frame took.formed c.step.ensures.holds took.taken)
 
 pub returns-in-Some-clause-stops : goal.returns-in-Some-clause-stops
 returns-in-Some-clause-stops g c all may =
     let took = rw c.in-Answered.is at (c.in-Ok-step.ensures.gives all may) in
-    stops_before (link_of c.args.host.session) _ _ _ _ _ _ _ (c.frames.invariant.carries all (back _ _ _ _ all c.step.ensures.went may)) c.frames-test.true (short_frame _ c.step.new.parts.waiting _ took.frame c.step.ensures.holds took.taken)
+    stops_before (upload_of (link_of c.args.host.session)) (is_dialogue (link_of c.args.host.session)) _ _ _ _ _ _ _ (c.frames.invariant.carries all (back _ _ _ _ all c.step.ensures.went may)) c.frames-test.true (short_item (upload_of (link_of c.args.host.session)) (is_dialogue (link_of c.args.host.session)) _ c.step.new.parts.waiting _ took.frame took.formed c.step.ensures.holds took.taken)
 
 pub returns-clause-stops : goal.returns-clause-stops
-returns-clause-stops g c all may = stops_waiting (link_of c.args.host.session) _ _ _ c.frames.parts.waiting _ _ _ (c.frames.invariant.carries all may) (omega arith) c.frames.invariant.holds
+returns-clause-stops g c all may = stops_waiting (upload_of (link_of c.args.host.session)) (is_dialogue (link_of c.args.host.session)) _ _ _ c.frames.parts.waiting _ _ _ (c.frames.invariant.carries all may) (omega arith) c.frames.invariant.holds
 
 pub send-requires-in-frames-clause-known : goal.send-requires-in-frames-clause-known
 send-requires-in-frames-clause-known g c = rw c.as_slice-in-frames.ensures.value (rw c.in-Answered.is at (c.in-Ok-step.ensures.gives (g.S.Source.told c.step.new.source).given (of_source _ _ _ c.step.ensures.went.at_end (IsInput-now (g.S.Source.told c.step.new.source))))).known

@@ -1,11 +1,11 @@
-use Rattle.link_upload.proofs.Prelude.{◌≡◌, ◌≤◌, false, length, List, ℕ, IsTrue, MayGive, Went, to_come, stream, link_of, HostStandsFor, view_of}
-use Rattle.link_upload.proofs.CarryLemmas.{Carries}
+use Rattle.link_upload.proofs.Prelude.{◌≡◌, ◌≤◌, false, length, List, ℕ, IsTrue, MayGive, Went, to_come, stream, events_in, link_of, upload_of, HostStandsFor, view_of}
+use Rattle.link_dialogue.proofs.CarryLemmas.{Carries}
 use Rattle.link_upload.proofs.exchange.carry.Given as goal
 
 abbrev pub invariant-frames : goal.invariant-frames
 invariant-frames g l = record {
   carries : (all : List ℕ) → MayGive l.parts.ended (g.S.Source.told l.source) all →
-      Carries (link_of l.fn.host.session) (stream l.fn.parts (to_come all (g.S.Source.told l.fn.source))) (stream l.parts (to_come all (g.S.Source.told l.source))) (g.K.Sink.written l.fn.sink) (g.K.Sink.written l.sink) l.n (HostStandsFor (view_of l.host));
+      Carries (upload_of (link_of l.fn.host.session)) (stream l.fn.parts (to_come all (g.S.Source.told l.fn.source))) (stream l.parts (to_come all (g.S.Source.told l.source))) (g.K.Sink.written l.fn.sink) (g.K.Sink.written l.sink) l.n (λ frames. HostStandsFor (view_of l.host) (events_in (link_of l.fn.host.session) frames));
   session : l.host.session ≡ l.fn.host.session;
   sound : IsTrue l.parts.sound;
   holds : length l.parts.waiting ≤ 4096;

@@ -1,4 +1,4 @@
-use Rattle.link_upload.proofs.Prelude.{IsInput-now, IsFrame, of_source}
+use Rattle.link_upload.proofs.Prelude.{IsInput-now, of_source}
 use Rattle.link_upload.proofs.exchange.step.Goals as goal
 
 pub answer-status-requires-in-Whole : goal.answer-status-requires-in-Whole

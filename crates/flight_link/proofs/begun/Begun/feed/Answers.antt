@@ -1,4 +1,4 @@
-use Rattle.flight_link.proofs.Prelude.{◌≡◌, ◌<◌, length, arith, common_steps, rules}
+use Rattle.flight_link.proofs.Prelude.{◌<◌, arith, common_steps}
 use Rattle.flight_link.proofs.EventLemmas.{short}
 use Rattle.flight_link.proofs.BegunLemmas.{put_byte}
 use Rattle.flight_link.proofs.begun.Begun.feed.Goals as goal

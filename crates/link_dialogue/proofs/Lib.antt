@@ -1,0 +1,4 @@
+pub mod ItemLemmas
+pub mod EndLemmas
+pub mod CarryLemmas
+pub mod FinishLemmas
