@@ -5,7 +5,7 @@ use Rattle.upload_core.proofs.Windows.{range-one_more, flat_map-append_one}
 use Rattle.upload_core.proofs.Standing.{IsUntired}
 
 -- numbers that rise, none of which has a count
-untired-rising : (a b : ℕ) (es : List InFlight) → IsBetween a b (packets_in es) → ((k : ℕ) → a ≤ k → count_in es k ≡ 0) → All IsUntired es
+pub untired-rising : (a b : ℕ) (es : List InFlight) → IsBetween a b (packets_in es) → ((k : ℕ) → a ≤ k → count_in es k ≡ 0) → All IsUntired es
 untired-rising a b [] rising none = All-nil IsUntired
 untired-rising a b (e ∷ es) rising none =
     let from = rising.0 in

@@ -1,7 +1,7 @@
 -- The phase that an upload is in, and whether all is acknowledged.
 use Rattle.upload_core.proofs.Prelude.{common_steps, ◌≡◌, ℕ, ◌<◌, Bool, true, false, not, cond, ◌&&◌, ◌==◌, List, [], ◌∷◌, length, refl, ap, sym, subst, ◌∙◌, arith, inl, inr, range_with_len, list_all, cases_lt, false≢true, false_from_ne_true, Phase, Loading, Reading, Starting, Sent, Upload, drone_count, load_count, start_number, packet_count, first_of, count_of, Packets, all_settled, phase_of, all_packets, Settled-from, all_packets-each, all_settled-agree, Row, marked, IsBegun, RowsStand}
 use Rattle.upload_core.proofs.Staying.{settled-more}
-use Rattle.upload_core.proofs.Windows.{all-settled, not-settled, empty-all, some-window}
+use Rattle.upload_core.proofs.Windows.{all-settled, list_all-true, not-settled, empty-all, some-window}
 use Rattle.upload_core.proofs.Standing.{list_all-packets_agree}
 
 -- ---- the phase
@@ -50,10 +50,6 @@ loading-done s Starting done is other = (begun-phase s Starting done done is (λ
 
 -- ---- all packets
 
-list_all-true : (f : ℕ → Bool) → ((k : ℕ) → f k ≡ true) → (ks : List ℕ) → list_all f ks ≡ true
-list_all-true f h [] = refl
-list_all-true f h (k ∷ ks) = ap (λ (b : Bool). b && list_all f ks) (h k) ∙ list_all-true f h ks
-
 all_settled-all : (s : Upload) (p : Phase) → all_settled s p (λ d k. true) ≡ true
 unfolding all_settled
 all_settled-all s p =
@@ -66,16 +62,12 @@ all-open s p done here =
     false_from_ne_true (list_all (λ x. done x.drone x.packet) (all_packets s))
     (λ all. false≢true (sym here ∙ all_settled-agree s p done (λ d k. true) (λ d k l b. all_packets-each s (λ x. done x.drone x.packet) all d k l b) ∙ all_settled-all s p))
 
-list_all-always : (xs : List Sent) → list_all (λ x. true) xs ≡ true
-list_all-always [] = refl
-list_all-always (x ∷ xs) = list_all-always xs
-
 -- all is, where each of the three is complete
 all-three : (s : Upload) (done : Packets) → all_settled s Loading done ≡ true → all_settled s Reading done ≡ true → all_settled s Starting done ≡ true →
     list_all (λ x. done x.drone x.packet) (all_packets s) ≡ true
 unfolding packet_count
 all-three s done loading reading starting =
-    list_all-packets_agree s (λ x. done x.drone x.packet) (λ x. true) each ∙ list_all-always (all_packets s) where
+    list_all-packets_agree s (λ x. done x.drone x.packet) (λ x. true) each ∙ list_all-true (λ x. true) (λ x. refl) (all_packets s) where
       each : (d k : ℕ) → d < drone_count s → k < packet_count s d → done d k ≡ true
       each d k l b = elim (cases_lt k (load_count s d)) [
         | inl low ↦ Settled-from s Loading done loading d l k (omega arith) (omega arith)

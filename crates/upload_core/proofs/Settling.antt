@@ -3,7 +3,8 @@ use Rattle.upload_core.proofs.Prelude.{common_steps, ◌≡◌, ◌≢◌, ◌==
 use Rattle.std.proofs.lemmas.List.Filters.{length-filter_both}
 use Rattle.std.proofs.lemmas.List.FromFn.{length-range_with_len}
 use Rattle.upload_core.proofs.Numbers.{between-out, between-weaker, or_nothing, past-in}
-use Rattle.upload_core.proofs.Staying.{flight-open}
+use Rattle.upload_core.proofs.Beginning.{untired-rising}
+use Rattle.upload_core.proofs.Staying.{flight-open, includes-out}
 use Rattle.upload_core.proofs.Windows.{row_at-set_same, row_at-set_other, window-flight, windows-flight, includes-windows, all-settled, news-one, news-all}
 use Rattle.upload_core.proofs.Walks.{all-at}
 use Rattle.upload_core.proofs.Phases.{begun-phase}
@@ -21,33 +22,13 @@ count-known : (es : List InFlight) (k : ℕ) → count_in es k ≡ cond (among (
 count-known es k = grind (arith, common_steps, cond, count-none)
 
 -- where all counts are 0, none is as high as the host waits
-low-entries : (a b : ℕ) (es : List InFlight) → IsBetween a b (packets_in es) → ((k : ℕ) → count_in es k ≡ 0) → All (λ (e : InFlight). e.ticks < 20) es
-low-entries a b [] rising h = All-nil (λ (e : InFlight). e.ticks < 20)
-low-entries a b (e ∷ es) rising h =
-    All-cons (λ (x : InFlight). x.ticks < 20) e es
-    (let here : e.ticks ≡ 0 = sym (ap (λ (t : Bool). cond t e.ticks (count_in es e.packet)) (eq-eqb e.packet e.packet refl)) ∙ h e.packet in omega arith)
-    (low-entries (e.packet + 1) b es rising.2 (λ k. elim (cases_eq e.packet k) [
-      | inl same ↦ count-none es k (between-out (e.packet + 1) b (packets_in es) k rising.2 (inl (omega arith)))
-      | inr other ↦ sym (ap (λ (t : Bool). cond t e.ticks (count_in es k)) (ne_eqb e.packet k other)) ∙ h k
-    ]))
-
 pub low-rows : (s : Upload) (p : Phase) (rows : List Row) → RowsStand s p rows → ((d k : ℕ) → counted rows d k ≡ 0) → IsLow rows
 low-rows s p rows stand none =
     All-from_get_or (λ (row : Row). All (λ (e : InFlight). e.ticks < 20) row.window.items) rows (record { window = record { items = [] }; next = 0; until = 0 })
-    (λ i l. low-entries (first_of s p i) (row_at rows i).next (row_at rows i).window.items
-    (stand.each i (let n = stand.count in omega arith)).shape.rising (none i))
+    (λ i l. untired-rising (first_of s p i) (row_at rows i).next (row_at rows i).window.items
+    (stand.each i (let n = stand.count in omega arith)).shape.rising (λ k m. none i k))
 
 -- ---- what is in flight
-
-includes-beyond : (f : ℕ → List ℕ) (a n : ℕ) (x : Sent) → a + n ≤ x.drone → includes (flat_map (λ d. sent_to d (f d)) (range_with_len a n)) x ≡ false
-includes-beyond f a zero x l = refl
-includes-beyond f a (suc n) x l =
-    list_any-append (λ y. y.drone == x.drone && y.packet == x.packet) (sent_to a (f a)) (flat_map (λ d. sent_to d (f d)) (range_with_len (a + 1) n))
-    ∙ ap (λ (b : Bool). b || includes (flat_map (λ d. sent_to d (f d)) (range_with_len (a + 1) n)) x) (head (f a))
-    ∙ includes-beyond f (a + 1) n x (omega arith) where
-      head : (ks : List ℕ) → includes (sent_to a ks) x ≡ false
-      head [] = refl
-      head (k ∷ ks) = ap (λ (b : Bool). (b && k == x.packet) || includes (sent_to a ks) x) (ne_eqb a x.drone (omega arith)) ∙ head ks
 
 module _ (s : Upload) (p : Phase) (rows : List Row) (stand : RowsStand s p rows) (phase : p ≡ phase_of s (marked rows)) where
   pub flight-includes : (x : Sent) → x.drone < drone_count s → includes (flight_after s (marked rows)) x ≡ among (window_at rows x.drone) x.packet
@@ -57,7 +38,7 @@ module _ (s : Upload) (p : Phase) (rows : List Row) (stand : RowsStand s p rows)
   flight-known x there = elim (cases_lt x.drone (drone_count s)) [
     | inl l ↦ l
     | inr past ↦
-        absurd (false≢true (sym (includes-beyond (window_at rows) 0 (drone_count s) x (omega arith)) ∙ ap (λ (xs : List Sent). includes xs x) (sym (windows-flight s p rows stand phase)) ∙ there))
+        absurd (false≢true (sym (includes-out (window_at rows) 0 (drone_count s) x (inr (omega arith))) ∙ ap (λ (xs : List Sent). includes xs x) (sym (windows-flight s p rows stand phase)) ∙ there))
   ]
 
 -- ---- one packet less in flight

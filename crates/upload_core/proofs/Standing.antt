@@ -1,5 +1,6 @@
 -- From the rows of a host to the definitions over its list of events.
-use Rattle.upload_core.proofs.Prelude.{common_steps, ◌≡◌, ◌==◌, ◌≢◌, ℕ, zero, suc, ◌+◌, ◌<◌, ◌≤◌, Bool, true, false, not, cond, ◌&&◌, ◌||◌, eqb, List, [], ◌∷◌, ◌++◌, length, map, filter, refl, ap, sym, subst, ◌∙◌, arith, Option, Some, None, inl, inr, find, nat_lt, All, range_with_len, list_all, flat_map, option_or, cases_eq, eq-eqb, false≢true, false_from_ne_true, length-map, list_all-append, find-append, All-nil, All-cons, All-head, All-tail, All-map, All-weaker, All-from_get_or, Event, Phase, Loading, Sent, Progress, Going, Done, Upload, drone_count, load_count, packet_count, reply_to, is_good, is_end, Packets, phase_of, includes, gave_up, if_going, sent_at, sent_to, all_packets, acknowledges, joined, acked, counts, flight_after, flight, ticks, ended_for, ends_for, ended_by, progress, out, All-flat_map_range, acked-push, acked-more, acked-done, IsFlight, flight-fits, flat_map-range-agree, acked-tick, flight-tick, ticks-push, progress-stays, progress-next, progress-tick, Agree, all_settled-agree, phase_of-agree, flight_after-agree, InFlight, Row, packets_in, among, is_past, is_marked, row_at, marked, window_at, counted, count_in, IsRow, older, older_row, tired_in, RowStands, RowsStand, IsReady, IsLow, in_windows, HostView, IsPacketOf, HostStandsFor}
+use Rattle.upload_core.proofs.Prelude.{common_steps, ◌≡◌, ◌==◌, ◌≢◌, ℕ, zero, suc, ◌+◌, ◌<◌, ◌≤◌, Bool, true, false, not, cond, ◌&&◌, ◌||◌, eqb, List, [], ◌∷◌, ◌++◌, length, map, filter, refl, ap, sym, subst, ◌∙◌, arith, Option, Some, None, inl, inr, find, nat_lt, All, range_with_len, list_all, flat_map, option_or, cases_eq, eq-eqb, false≢true, false_from_ne_true, length-map, find-append, or_right, All-nil, All-cons, All-head, All-tail, All-map, All-weaker, All-from_get_or, Event, Phase, Loading, Sent, Progress, Going, Done, Upload, drone_count, load_count, packet_count, reply_to, is_good, is_end, Packets, phase_of, includes, gave_up, if_going, sent_at, sent_to, all_packets, acknowledges, joined, acked, counts, flight_after, flight, ticks, ended_for, ends_for, ended_by, progress, out, All-flat_map_range, acked-push, acked-more, acked-done, IsFlight, flight-fits, flat_map-range-agree, acked-tick, flight-tick, ticks-push, progress-stays, progress-next, progress-tick, Agree, all_settled-agree, phase_of-agree, flight_after-agree, InFlight, Row, packets_in, among, is_past, is_marked, row_at, marked, window_at, counted, count_in, IsRow, older, older_row, tired_in, RowStands, RowsStand, IsReady, IsLow, in_windows, HostView, IsPacketOf, HostStandsFor}
+use Rattle.upload_model.proofs.HostLaws.{All-range}
 use Rattle.upload_model.specs.declared.events.Event.TheVariants as event
 use Rattle.upload_core.proofs.Numbers.{between-weaker}
 use Rattle.upload_core.proofs.RowLemmas.{packets-older, count_in-older}
@@ -7,48 +8,7 @@ use Rattle.upload_core.proofs.Staying.{includes-flight_at, flight-open, ticks-no
 use Rattle.upload_core.proofs.Windows.{windows-flight, includes-windows}
 use Rattle.upload_core.proofs.Walks.{all-at, packet_of, tired-row}
 
--- ---- tests that agree at the packets of a session
-
-find-sent_agree : (p q : Sent → Bool) (d : ℕ) (a n : ℕ) → ((k : ℕ) → k < a + n → p (record { drone = d; packet = k }) ≡ q (record { drone = d; packet = k })) →
-    find p (sent_to d (range_with_len a n)) ≡ find q (sent_to d (range_with_len a n))
-find-sent_agree p q d a zero h = refl
-find-sent_agree p q d a (suc n) h =
-    ap (λ (b : Bool). cond b (Some (record { drone = d; packet = a })) (find p (sent_to d (range_with_len (a + 1) n)))) (h a (omega arith))
-    ∙ ap (λ (o : Option Sent). cond (q (record { drone = d; packet = a })) (Some (record { drone = d; packet = a })) o) (find-sent_agree p q d (a + 1) n (λ k l. h k (omega arith)))
-
-list_all-sent_agree : (p q : Sent → Bool) (d : ℕ) (a n : ℕ) → ((k : ℕ) → k < a + n → p (record { drone = d; packet = k }) ≡ q (record { drone = d; packet = k })) →
-    list_all p (sent_to d (range_with_len a n)) ≡ list_all q (sent_to d (range_with_len a n))
-list_all-sent_agree p q d a zero h = refl
-list_all-sent_agree p q d a (suc n) h =
-    ap (λ (b : Bool). b && list_all p (sent_to d (range_with_len (a + 1) n))) (h a (omega arith))
-    ∙ ap (λ (b : Bool). q (record { drone = d; packet = a }) && b) (list_all-sent_agree p q d (a + 1) n (λ k l. h k (omega arith)))
-
-find-rows_agree : (p q : Sent → Bool) (count : ℕ → ℕ) (a n : ℕ) →
-    ((d k : ℕ) → d < a + n → k < count d → p (record { drone = d; packet = k }) ≡ q (record { drone = d; packet = k })) →
-    find p (flat_map (λ d. sent_to d (range_with_len 0 (count d))) (range_with_len a n)) ≡ find q (flat_map (λ d. sent_to d (range_with_len 0 (count d))) (range_with_len a n))
-find-rows_agree p q count a zero h = refl
-find-rows_agree p q count a (suc n) h =
-    grind (arith, common_steps, find-append, find-sent_agree, (find-rows_agree p q count (a + 1) n (λ d k l b. h d k (omega arith) b)))
-
-list_all-rows_agree : (p q : Sent → Bool) (count : ℕ → ℕ) (a n : ℕ) →
-    ((d k : ℕ) → d < a + n → k < count d → p (record { drone = d; packet = k }) ≡ q (record { drone = d; packet = k })) →
-    list_all p (flat_map (λ d. sent_to d (range_with_len 0 (count d))) (range_with_len a n)) ≡ list_all q (flat_map (λ d. sent_to d (range_with_len 0 (count d))) (range_with_len a n))
-list_all-rows_agree p q count a zero h = refl
-list_all-rows_agree p q count a (suc n) h =
-    grind (arith, common_steps, list_all-append, list_all-sent_agree, (list_all-rows_agree p q count (a + 1) n (λ d k l b. h d k (omega arith) b)))
-
-abbrev pub SameTest : Upload → (Sent → Bool) → (Sent → Bool) → Type 0
-SameTest s p q = (d k : ℕ) → d < drone_count s → k < packet_count s d → p (record { drone = d; packet = k }) ≡ q (record { drone = d; packet = k })
-
-pub find-packets_agree : (s : Upload) (p q : Sent → Bool) → SameTest s p q → find p (all_packets s) ≡ find q (all_packets s)
-unfolding all_packets
-find-packets_agree s p q h = find-rows_agree p q (packet_count s) 0 (drone_count s) (λ d k l b. h d k (omega arith) b)
-
-pub list_all-packets_agree : (s : Upload) (p q : Sent → Bool) → SameTest s p q → list_all p (all_packets s) ≡ list_all q (all_packets s)
-unfolding all_packets
-list_all-packets_agree s p q h = list_all-rows_agree p q (packet_count s) 0 (drone_count s) (λ d k l b. h d k (omega arith) b)
-
--- ---- tests that agree at what is in flight
+-- ---- tests that agree
 
 find-agree : (p q : Sent → Bool) (xs : List Sent) → All (λ x. p x ≡ q x) xs → find p xs ≡ find q xs
 find-agree p q [] all = refl
@@ -56,14 +16,33 @@ find-agree p q (x ∷ xs) all =
     ap (λ b. cond b (Some x) (find p xs)) (All-head (λ y. p y ≡ q y) x xs all)
     ∙ ap (λ (o : Option Sent). cond (q x) (Some x) o) (find-agree p q xs (All-tail (λ y. p y ≡ q y) x xs all))
 
+list_all-agree : (p q : Sent → Bool) (xs : List Sent) → All (λ x. p x ≡ q x) xs → list_all p xs ≡ list_all q xs
+list_all-agree p q [] all = refl
+list_all-agree p q (x ∷ xs) all =
+    ap (λ b. b && list_all p xs) (All-head (λ y. p y ≡ q y) x xs all) ∙ ap (λ b. q x && b) (list_all-agree p q xs (All-tail (λ y. p y ≡ q y) x xs all))
+
+-- they agree at the packets of a session
+abbrev pub SameTest : Upload → (Sent → Bool) → (Sent → Bool) → Type 0
+SameTest s p q = (d k : ℕ) → d < drone_count s → k < packet_count s d → p (record { drone = d; packet = k }) ≡ q (record { drone = d; packet = k })
+
+same-packets : (s : Upload) (p q : Sent → Bool) → SameTest s p q → All (λ x. p x ≡ q x) (all_packets s)
+unfolding all_packets
+same-packets s p q h =
+    All-flat_map_range (λ x. p x ≡ q x) (λ d. sent_to d (range_with_len 0 (packet_count s d))) 0 (drone_count s)
+    (λ d l b. All-map (λ x. p x ≡ q x) (λ (k : ℕ). record { drone = d; packet = k }) (range_with_len 0 (packet_count s d))
+    (All-range (λ k. p (record { drone = d; packet = k }) ≡ q (record { drone = d; packet = k })) 0 (packet_count s d) (λ k m c. h d k (omega arith) (omega arith))))
+
+pub find-packets_agree : (s : Upload) (p q : Sent → Bool) → SameTest s p q → find p (all_packets s) ≡ find q (all_packets s)
+find-packets_agree s p q h = find-agree p q (all_packets s) (same-packets s p q h)
+
+pub list_all-packets_agree : (s : Upload) (p q : Sent → Bool) → SameTest s p q → list_all p (all_packets s) ≡ list_all q (all_packets s)
+list_all-packets_agree s p q h = list_all-agree p q (all_packets s) (same-packets s p q h)
+
 all-among : (ks : List ℕ) → All (λ k. among ks k ≡ true) ks
 all-among [] = All-nil (λ k. among [] k ≡ true)
 all-among (x ∷ ks) =
     All-cons (λ k. among (x ∷ ks) k ≡ true) x ks (ap (λ b. b || among ks x) (eq-eqb x x refl))
-    (All-weaker (λ k. among ks k ≡ true) (λ k. among (x ∷ ks) k ≡ true) (λ k e. later (x == k) e) ks (all-among ks)) where
-      later : {c : Bool} (b : Bool) → c ≡ true → (b || c) ≡ true
-      later true e = refl
-      later false e = e
+    (All-weaker (λ k. among ks k ≡ true) (λ k. among (x ∷ ks) k ≡ true) (λ k e. or_right (x == k) (among ks k) e) ks (all-among ks))
 
 all-windows : (P : Sent → Type 0) (rows : List Row) (n : ℕ) → ((d k : ℕ) → d < n → among (window_at rows d) k ≡ true → P (record { drone = d; packet = k })) → All P (in_windows rows n)
 all-windows P rows n h =

@@ -1,6 +1,6 @@
 -- What is in flight stays so until it is acknowledged; so what isn't in flight and isn't acknowledged never
 -- was, and has no ticks.
-use Rattle.upload_core.proofs.Prelude.{common_steps, ◌≡◌, ◌==◌, ℕ, zero, suc, ◌+◌, ◌<◌, ◌≤◌, Bool, true, false, not, cond, ◌&&◌, ◌||◌, eqb, List, [], ◌∷◌, ◌++◌, take, filter, refl, ap, sym, ◌∙◌, arith, Some, inl, inr, range_with_len, list_all, flat_map, cases_eq, eq-eqb, ne_eqb, and_left, false≢true, false_from_ne_true, list_any-append, Event, Phase, Loading, Reading, Starting, Sent, Upload, drone_count, write_count, load_count, first_of, count_of, Packets, all_settled, phase_of, allowed, flight_in, flight_at, flight_after, flight, sent_to, acked, is_tick, includes, ticks, list_all-range, allowed-few, acked-more, ticks-push, ticks-nil, among}
+use Rattle.upload_core.proofs.Prelude.{common_steps, ◌≡◌, ◌⊎◌, ◌==◌, ℕ, zero, suc, ◌+◌, ◌<◌, ◌≤◌, Bool, true, false, not, cond, ◌&&◌, ◌||◌, eqb, List, [], ◌∷◌, ◌++◌, take, filter, refl, ap, sym, ◌∙◌, arith, Some, inl, inr, range_with_len, list_all, flat_map, cases_eq, eq-eqb, ne_eqb, and_left, false≢true, false_from_ne_true, list_any-append, Event, Phase, Loading, Reading, Starting, Sent, Upload, drone_count, write_count, load_count, first_of, count_of, Packets, all_settled, phase_of, allowed, flight_in, flight_at, flight_after, flight, sent_to, acked, is_tick, includes, ticks, list_all-range, allowed-few, acked-more, ticks-push, ticks-nil, among}
 use Rattle.upload_model.proofs.Sending.{by_last}
 use Rattle.upload_core.proofs.Numbers.{all-weaker, or_nothing, shut}
 
@@ -14,13 +14,14 @@ includes-sent_to i (k ∷ ks) x =
       at true b c = refl
       at false b c = refl
 
-includes-after : (f : ℕ → List ℕ) (a n : ℕ) (x : Sent) → x.drone < a → includes (flat_map (λ d. sent_to d (f d)) (range_with_len a n)) x ≡ false
-includes-after f a zero x h = refl
-includes-after f a (suc n) x h =
+-- drones that aren't among these have nothing in flight
+pub includes-out : (f : ℕ → List ℕ) (a n : ℕ) (x : Sent) → (x.drone < a) ⊎ (a + n ≤ x.drone) → includes (flat_map (λ d. sent_to d (f d)) (range_with_len a n)) x ≡ false
+includes-out f a zero x out = refl
+includes-out f a (suc n) x out =
     list_any-append (λ y. y.drone == x.drone && y.packet == x.packet) (sent_to a (f a)) (flat_map (λ d. sent_to d (f d)) (range_with_len (a + 1) n))
     ∙ ap (λ (b : Bool). b || includes (flat_map (λ d. sent_to d (f d)) (range_with_len (a + 1) n)) x)
-    (includes-sent_to a (f a) x ∙ and_left (eqb a x.drone) (among (f a) x.packet) (ne_eqb a x.drone (omega arith)))
-    ∙ includes-after f (a + 1) n x (omega arith)
+    (includes-sent_to a (f a) x ∙ and_left (eqb a x.drone) (among (f a) x.packet) (ne_eqb a x.drone (λ e. elim out [ inl l ↦ omega arith | inr l ↦ omega arith ])))
+    ∙ includes-out f (a + 1) n x (elim out [ inl l ↦ inl (omega arith) | inr l ↦ inr (omega arith) ])
 
 pub includes-rows : (f : ℕ → List ℕ) (a n : ℕ) (x : Sent) → a ≤ x.drone → x.drone < a + n →
     includes (flat_map (λ d. sent_to d (f d)) (range_with_len a n)) x ≡ among (f x.drone) x.packet
@@ -31,7 +32,7 @@ includes-rows f a (suc n) x l h =
       | inl same ↦
           ap (λ (b : Bool). b || includes (flat_map (λ d. sent_to d (f d)) (range_with_len (a + 1) n)) x)
           (includes-sent_to a (f a) x ∙ ap (λ (b : Bool). b && among (f a) x.packet) (eq-eqb a x.drone same) ∙ ap (λ (i : ℕ). among (f i) x.packet) same)
-          ∙ ap (λ (b : Bool). among (f x.drone) x.packet || b) (includes-after f (a + 1) n x (omega arith))
+          ∙ ap (λ (b : Bool). among (f x.drone) x.packet || b) (includes-out f (a + 1) n x (inl (omega arith)))
           ∙ or_nothing (among (f x.drone) x.packet)
       | inr other ↦
           ap (λ (b : Bool). b || includes (flat_map (λ d. sent_to d (f d)) (range_with_len (a + 1) n)) x)

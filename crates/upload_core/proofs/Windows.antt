@@ -1,5 +1,5 @@
 -- What is in flight of all drones, drone by drone, and rows of which one changes.
-use Rattle.upload_core.proofs.Prelude.{filter_agree, common_steps, ◌≡◌, ◌≢◌, ◌==◌, ℕ, zero, suc, ◌+◌, ◌-◌, ◌<◌, ◌≤◌, Bool, true, false, not, cond, ◌&&◌, ◌||◌, List, [], ◌∷◌, ◌++◌, length, filter, set, get_or, refl, ap, sym, ◌∙◌, arith, inl, inr, range_with_len, list_all, flat_map, cases_eq, eq-eqb, false≢true, eqb-true, and_parts, append-nil, append_assoc, get_or-set_same, get_or-set_other, map-append, filter-append, Phase, Loading, Sent, Upload, drone_count, first_of, count_of, allowed, all_settled, phase_of, includes, flight_in, flight_at, flight_after, sent_to, range-more, list_all-range-agree, flat_map-range-agree, InFlight, Row, among, is_marked, row_at, marked, window_at, RowsStand, in_windows}
+use Rattle.upload_core.proofs.Prelude.{filter_agree, common_steps, ◌≡◌, ◌≢◌, ◌==◌, ℕ, zero, suc, ◌+◌, ◌-◌, ◌<◌, ◌≤◌, Bool, true, false, not, cond, ◌&&◌, ◌||◌, List, [], ◌∷◌, ◌++◌, length, filter, set, get_or, refl, ap, sym, ◌∙◌, arith, inl, inr, range_with_len, list_all, flat_map, cases_eq, eq-eqb, false≢true, eqb-true, and_parts, or_right, append-nil, append_assoc, get_or-set_same, get_or-set_other, map-append, filter-append, Phase, Loading, Sent, Upload, drone_count, first_of, count_of, allowed, all_settled, phase_of, includes, flight_in, flight_at, flight_after, sent_to, range-more, list_all-range-agree, flat_map-range-agree, InFlight, Row, among, is_marked, row_at, marked, window_at, RowsStand, in_windows}
 use Rattle.upload_core.proofs.Numbers.{not-past}
 use Rattle.upload_core.proofs.RowLemmas.{row-flight, row-settled, row-open}
 use Rattle.upload_core.proofs.Staying.{includes-rows}
@@ -45,15 +45,16 @@ includes-windows rows n x l = includes-rows (window_at rows) 0 n x (omega arith)
 abbrev pub IsEmpty : List Row → Type 0
 IsEmpty rows = (d : ℕ) → (row_at rows d).window.items ≡ []
 
+pub list_all-true : {X : Type 0} (f : X → Bool) → ((x : X) → f x ≡ true) → (xs : List X) → list_all f xs ≡ true
+list_all-true f h [] = refl
+list_all-true f h (x ∷ xs) = ap (λ (b : Bool). b && list_all f xs) (h x) ∙ list_all-true f h xs
+
 pub all-settled : (s : Upload) (p : Phase) (rows : List Row) → RowsStand s p rows → ((d : ℕ) → d < drone_count s → (row_at rows d).window.items ≡ []) → all_settled s p (marked rows) ≡ true
 unfolding all_settled
 all-settled s p rows stand none =
     list_all-range-agree (λ d. list_all (marked rows d) (range_with_len (first_of s p d) (count_of s p d))) (λ d. true) 0 (drone_count s)
     (λ d l b. (row-settled s p d (row_at rows d) (stand.each d (omega arith)) (none d (omega arith))).1)
-    ∙ each (range_with_len 0 (drone_count s)) where
-      each : (xs : List ℕ) → list_all (λ d. true) xs ≡ true
-      each [] = refl
-      each (x ∷ xs) = each xs
+    ∙ list_all-true (λ d. true) (λ d. refl) (range_with_len 0 (drone_count s))
 
 pub not-settled : (s : Upload) (p : Phase) (rows : List Row) → RowsStand s p rows → (d : ℕ) → d < drone_count s → ((row_at rows d).window.items ≡ [] → ⊥) → all_settled s p (marked rows) ≡ false
 unfolding all_settled
@@ -117,19 +118,13 @@ filter-none : (q : ℕ → Bool) (ks : List ℕ) → ((k : ℕ) → among ks k �
 filter-none q [] h = refl
 filter-none q (k ∷ ks) h =
     ap (λ b. cond b (k ∷ filter q ks) (filter q ks)) (h k (ap (λ b. b || among ks k) (eq-eqb k k refl)))
-    ∙ filter-none q ks (λ j a. h j (later (k == j) a)) where
-      later : {c : Bool} (b : Bool) → c ≡ true → (b || c) ≡ true
-      later true e = refl
-      later false e = e
+    ∙ filter-none q ks (λ j a. h j (or_right (k == j) (among ks j) a))
 
 filter-whole : (q : ℕ → Bool) (ks : List ℕ) → ((k : ℕ) → among ks k ≡ true → q k ≡ true) → filter q ks ≡ ks
 filter-whole q [] h = refl
 filter-whole q (k ∷ ks) h =
     ap (λ b. cond b (k ∷ filter q ks) (filter q ks)) (h k (ap (λ b. b || among ks k) (eq-eqb k k refl)))
-    ∙ ap (λ xs. k ∷ xs) (filter-whole q ks (λ j a. h j (later (k == j) a))) where
-      later : {c : Bool} (b : Bool) → c ≡ true → (b || c) ≡ true
-      later true e = refl
-      later false e = e
+    ∙ ap (λ xs. k ∷ xs) (filter-whole q ks (λ j a. h j (or_right (k == j) (among ks j) a)))
 
 rows-none : (f : ℕ → List ℕ) (a n : ℕ) → ((d : ℕ) → a ≤ d → d < a + n → f d ≡ []) → rows_of f a n ≡ []
 rows-none f a zero h = refl
@@ -148,10 +143,7 @@ rows-one f a (suc n) i l m h = elim (cases_eq a i) [
 ]
 
 rows-same : (f g : ℕ → List ℕ) (a n : ℕ) → ((d : ℕ) → a ≤ d → d < a + n → f d ≡ g d) → rows_of f a n ≡ rows_of g a n
-rows-same f g a zero h = refl
-rows-same f g a (suc n) h =
-    ap (λ ks. sent_to a ks ++ rows_of f (a + 1) n) (h a (omega arith) (omega arith))
-    ∙ ap (λ xs. sent_to a (g a) ++ xs) (rows-same f g (a + 1) n (λ d l m. h d (omega arith) (omega arith)))
+rows-same f g a n h = flat_map-range-agree (λ d. sent_to d (f d)) (λ d. sent_to d (g d)) a n (λ d l b. ap (sent_to d) (h d l b))
 
 module _ (f g : ℕ → List ℕ) (n : ℕ) where
   -- what a drone has in flight now and hadn't before
