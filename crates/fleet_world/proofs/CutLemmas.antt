@@ -39,7 +39,7 @@ pub ends-more : (from to n : ℕ) (ends : List ℕ) → AreEnds from ends to →
 ends-more from to n [] h some few = (omega (arith, h), omega (arith, h), refl)
 ends-more from to n (e ∷ ends) h some few = (h.0, h.1, ends-more e to n ends h.2 some few)
 
--- a piece stays when bytes are put behind
+-- a piece stays when bytes are put after it
 piece-stays : (bytes more : List ℕ) (a b : ℕ) → a ≤ b → b ≤ length bytes → slice_range (bytes ++ more) a b ≡ slice_range bytes a b
 piece-stays bytes more a b l m =
     ap (take (b - a)) (drop-append-le a bytes more (omega arith))

@@ -1,5 +1,5 @@
 -- Numbers of nine digits are small, and a schedule is read line by line.
-use Rattle.fleet_world.proofs.Prelude.{common_steps, ◌≡◌, ℕ, zero, suc, ◌+◌, ◌-◌, ◌*◌, ◌<◌, ◌≤◌, Bool, true, false, cond, List, [], ◌∷◌, ◌++◌, length, refl, ap, sym, ◌∙◌, arith, Some, None, Result, Ok, Err, and_parts, leb-true, le-leb, ne_eqb, append_assoc, nat_le, min, option_map, counted_from_0, number_of, put_event, behind}
+use Rattle.fleet_world.proofs.Prelude.{common_steps, ◌≡◌, ℕ, zero, suc, ◌+◌, ◌-◌, ◌*◌, ◌<◌, ◌≤◌, Bool, true, false, cond, List, [], ◌∷◌, ◌++◌, length, refl, ap, sym, ◌∙◌, arith, Some, None, Result, Ok, Err, and_parts, leb-true, le-leb, ne_eqb, append_assoc, nat_le, min, option_map, counted_from_0, number_of, put_event, prepended}
 use Rattle.text_lines.specs.declared.number.TheConstants.{LARGE}
 use Rattle.text_lines.specs.Numbers.{is_digit, digits_after, natural_of}
 
@@ -60,12 +60,12 @@ number_of-read w n l is some =
     sym (ap (λ (b : Bool). cond b (counted_from_0 (natural_of w)) None) (le-leb (length w) 9 l)
     ∙ ap counted_from_0 is ∙ ap (λ (b : Bool). cond b None (Some (n - 1))) (ne_eqb n 0 some))
 
-pub behind-nothing : {E : Type 0} (later : Result (List E) ℕ) → behind [] later ≡ later
-behind-nothing {E} (Ok later) = refl
-behind-nothing {E} (Err faulty) = refl
+pub prepended-nothing : {E : Type 0} (later : Result (List E) ℕ) → prepended [] later ≡ later
+prepended-nothing {E} (Ok later) = refl
+prepended-nothing {E} (Err faulty) = refl
 
 -- one event more
-pub behind-more : {E : Type 0} (events : List E) (event : E) (number : ℕ) (later : Result (List E) ℕ) →
-    behind (events ++ event ∷ []) later ≡ behind events (put_event number (Some event) later)
-behind-more {E} events event number (Ok later) = ap {B = Result (List E) ℕ} (λ (es : List E). Ok es) (append_assoc events (event ∷ []) later)
-behind-more {E} events event number (Err faulty) = refl
+pub prepended-more : {E : Type 0} (events : List E) (event : E) (number : ℕ) (later : Result (List E) ℕ) →
+    prepended (events ++ event ∷ []) later ≡ prepended events (put_event number (Some event) later)
+prepended-more {E} events event number (Ok later) = ap {B = Result (List E) ℕ} (λ (es : List E). Ok es) (append_assoc events (event ∷ []) later)
+prepended-more {E} events event number (Err faulty) = refl

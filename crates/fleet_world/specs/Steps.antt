@@ -4,9 +4,9 @@ use Rattle.crtp_packets.specs.declared.packet.TheConstants.{PACKET_BYTES}
 use Rattle.text_lines.specs.Lines.{lines_of}
 
 -- these events in front of what is read of the lines after them
-abbrev pub behind : {E : Type 0} → List E → Result (List E) ℕ → Result (List E) ℕ
-behind events (Ok later) = Ok (events ++ later)
-behind events (Err faulty) = Err faulty
+abbrev pub prepended : {E : Type 0} → List E → Result (List E) ℕ → Result (List E) ℕ
+prepended events (Ok later) = Ok (events ++ later)
+prepended events (Err faulty) = Err faulty
 
 -- a line of some text
 abbrev pub IsLine : List ℕ → Type 0

@@ -29,7 +29,6 @@ impl Model for Answers {
     ghost invariant = { λ a. AreEnds 0 a.ends.items (length a.bytes.items) };
 }
 
-/// Where answer `n` begins, by the places where answers end.
 fn begin(ends: &[usize], n: usize) -> usize
     requires { n < length ends.now }
     ensures { result ≡ begin_of 0 ends.now n }
@@ -37,7 +36,6 @@ fn begin(ends: &[usize], n: usize) -> usize
     if n == 0 { 0 } else { ends[n - 1] }
 }
 
-/// The packet whose bytes lie from one place to another.
 fn packet_of(bytes: &[u8], start: usize, end: usize) -> Packet
     requires some { start < end }
     requires few { end ≤ start + PACKET_BYTES }

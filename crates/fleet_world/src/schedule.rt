@@ -5,7 +5,7 @@ ghost use Rattle.fleet_math.specs.Limits.{most_drones, most_text};
 ghost use Rattle.text_lines.specs.Tokens.{words_in};
 ghost use Rattle.fleet_world.specs.Schedules.{number_of as number_word, place_from, event_with, number_to, alteration_of, event_of, events_of, schedule_of, ScheduleLaw};
 ghost use Rattle.fleet_world.specs.Faults.{FaultGives};
-ghost use Rattle.fleet_world.specs.Steps.{IsLine, behind};
+ghost use Rattle.fleet_world.specs.Steps.{IsLine, prepended};
 ghost use Rattle.text_lines.specs.Words.{numbered};
 ghost use Rattle.text_lines.specs.declared.token.Comments.TheVariants.{Absent};
 
@@ -14,15 +14,15 @@ use std::alloc::{AllocError, Global};
 use text_lines::{Comments, Token, line_word_count, natural, split_line, tokens, word_at};
 use upload_model::WorldEvent;
 
-/// The most digits of a number in a schedule.
+// The most digits of a number in a schedule.
 const MOST_DIGITS: usize = 9;
 
-/// The most digits of an address, and the last address of a memory.
+// The most digits of an address, and the last address of a memory.
 const ADDRESS_DIGITS: usize = 4;
 
 const LAST_ADDRESS: u16 = 4095;
 
-/// The most digits of a value, and the greatest value of a byte.
+// The most digits of a value, and the greatest value of a byte.
 const VALUE_DIGITS: usize = 3;
 
 const MOST_VALUE: u16 = 255;
@@ -63,7 +63,7 @@ impl From<AllocError> for ScheduleFault {
     }
 }
 
-/// The number of a packet or an answer, counted from 0, of a word that counts it from 1.
+// The number of a packet or an answer, counted from 0, of a word that counts it from 1.
 fn number_of(word: &[u8]) -> Option<u32>
     ensures { result ≡ number_word word.now }
 {
@@ -90,7 +90,7 @@ pub fn drone_of(names: &[Name], word: &[u8]) -> Option<u8>
     None
 }
 
-/// What a line of three words does.
+// What a line of three words does.
 fn named_event(kind: &[u8], drone: Option<u8>, n: Option<u32>) -> Option<WorldEvent>
     ensures { result ≡ event_with kind.now drone n }
 {
@@ -105,7 +105,7 @@ fn named_event(kind: &[u8], drone: Option<u8>, n: Option<u32>) -> Option<WorldEv
     None
 }
 
-/// The number of a word of at most this many digits, where it is at most `most`.
+// The number of a word of at most this many digits, where it is at most `most`.
 fn number_within(word: &[u8], digits: usize, most: u16) -> Option<u16>
     requires { digits ≤ 9 }
     ensures { result ≡ number_to digits most word.now }
@@ -125,7 +125,7 @@ fn number_within(word: &[u8], digits: usize, most: u16) -> Option<u16>
     }
 }
 
-/// The alteration of a line of four words.
+// The alteration of a line of four words.
 fn alteration(text: &[u8], names: &[Name], words: &[Token]) -> Option<WorldEvent>
     requires names { length names.now ≤ most_drones }
     requires words { length words.now ≡ 4 }
@@ -144,8 +144,8 @@ fn alteration(text: &[u8], names: &[Name], words: &[Token]) -> Option<WorldEvent
     })
 }
 
-/// The event of a line with these words, where it is `tick`, or `take` or `hear` with a name and a number,
-/// or with read-back an alteration (docs/RADIO.md, "Schedules").
+// The event of a line with these words, where it is `tick`, or `take` or `hear` with a name and a number,
+// or with read-back an alteration (docs/RADIO.md, "Schedules").
 fn event_on(readback: bool, text: &[u8], names: &[Name], words: &[Token]) -> Option<WorldEvent>
     requires { length names.now ≤ most_drones }
     ensures { result ≡ event_of readback (map (λ name. name.items) names.now) (words_in text.now words.now) }
@@ -169,7 +169,6 @@ fn event_on(readback: bool, text: &[u8], names: &[Name], words: &[Token]) -> Opt
     None
 }
 
-/// One event more.
 fn put(events: &mut Vec<WorldEvent>, event: WorldEvent) -> Result<(), AllocError>
     ensures { OnOk result (events.new.items ≡ events.old.items ++ event ∷ []) }
 {
@@ -177,7 +176,7 @@ fn put(events: &mut Vec<WorldEvent>, event: WorldEvent) -> Result<(), AllocError
     Ok(())
 }
 
-/// The event of a line, if it has words, after those of the lines before it.
+// The event of a line, if it has words, after those of the lines before it.
 fn put_line(
     alloc: Global,
     readback: bool,
@@ -190,8 +189,8 @@ fn put_line(
     requires short { length line.now ≤ most_text }
     requires names { length names.now ≤ most_drones }
     ensures ok { OnOk result ((later : List (List ℕ)) →
-        behind events.new.items (events_of readback (map (λ name. name.items) names.now) (numbered Absent (number + 1) later))
-        ≡ behind events.old.items (events_of readback (map (λ name. name.items) names.now) (numbered Absent number (line.now ∷ later)))) }
+        prepended events.new.items (events_of readback (map (λ name. name.items) names.now) (numbered Absent (number + 1) later))
+        ≡ prepended events.old.items (events_of readback (map (λ name. name.items) names.now) (numbered Absent number (line.now ∷ later)))) }
     ensures fault { IfErr result (λ fault. (later : List (List ℕ)) →
         FaultGives fault (events_of readback (map (λ name. name.items) names.now) (numbered Absent number (line.now ∷ later)))) }
 {
@@ -229,10 +228,10 @@ pub fn read_schedule(
     let mut events = Vec::new(alloc);
     let mut number: u32 = 1;
     let mut rest = text;
-    'lines: while let Some((line, behind)) = split_line(rest) {
+    'lines: while let Some((line, after)) = split_line(rest) {
         put_line(alloc, readback, line, number, names, &mut events)?;
         number += 1;
-        rest = behind;
+        rest = after;
     }
     Ok(events)
 }

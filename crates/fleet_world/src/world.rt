@@ -20,7 +20,7 @@ use std::marker::Model;
 use upload_core::{Event, Host, MOST_SENT, Out, Progress, Sent, Session};
 use upload_model::WorldEvent;
 
-/// These packets after those of their drones, for which there is room.
+// These packets after those of their drones, for which there is room.
 fn put_all(out: &[Sent], traffic: &mut [Traffic])
     requires known { All (λ x. x.drone < length traffic.old) out.now }
     requires room { HasRoom traffic.old (length out.now) }
@@ -101,7 +101,6 @@ impl World {
         self.act(e)
     }
 
-    /// One event, from one point of an upload to the next.
     fn act(&mut self, e: WorldEvent) -> Result<Progress, AllocError>
         ensures stands { OnOk result ((s : Upload) (w : Worlds.World) → WorldStandsAt self.old s w →
             WorldStandsAt self.new s (happens s w e)) }
@@ -147,7 +146,6 @@ impl World {
         }
     }
 
-    /// A byte of a drone's memory is set to a value.
     fn alter(&mut self, drone: u8, address: u16, value: u8)
         requires known { drone < drone_count self.old.host.session }
         requires inside { address < MEMORY_BYTES }
@@ -160,7 +158,7 @@ impl World {
         taker.memory[address as usize] = value;
     }
 
-    /// Packet `n` of all that were ever sent to a drone.
+    // Packet `n` of all that were ever sent to a drone.
     fn sent_packet(&self, drone: u8, n: u32) -> Option<Packet>
         requires { drone < drone_count self.now.host.session }
         ensures { result ≡ slice_get (packets_at self.now.host.session drone (row_of self.now.sent drone)) n }
@@ -172,7 +170,6 @@ impl World {
         }
     }
 
-    /// A drone takes a packet.
     fn take(&mut self, drone: u8, packet: &Packet) -> Result<(), AllocError>
         requires known { drone < drone_count self.old.host.session }
         ensures stands { OnOk result ((s : Upload) (w : Worlds.World) → WorldStandsAt self.old s w →
@@ -187,7 +184,6 @@ impl World {
             .take(&mut self.drones[drone], packet)
     }
 
-    /// An event of the host.
     fn happen(&mut self, e: Event) -> Result<Progress, AllocError>
         ensures stands { OnOk result ((s : Upload) (w : Worlds.World) → WorldStandsAt self.old s w →
             WorldStandsAt self.new s (host_event s w e)) }

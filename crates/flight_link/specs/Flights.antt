@@ -24,8 +24,8 @@ dialogue_of f = record {
 abbrev pub Takes : Flight → List ℕ → List Event → List ℕ → Type 0
 Takes f bytes events rest = DialogueTakes (dialogue_of f) bytes events rest
 
--- A flight that gets these bytes ends with this status, and sends this in all: what the director says at each event, and
--- the end frame.
+-- A flight that gets these bytes ends with this status, and sends this in all: what the director says at each event,
+-- and the end frame.
 abbrev pub FlightGives : Flight → List ℕ → ℕ → List ℕ → Type 0
 FlightGives f bytes status output = DialogueGives (dialogue_of f) bytes status output
 

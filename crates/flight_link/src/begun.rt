@@ -11,14 +11,10 @@ use std::marker::Model;
 // The most bytes of an event: a sample.
 pub const EVENT_BYTES: usize = 11;
 
-// What a further byte gives.
 #[derive(Clone, Copy, Debug, PartialEq, Eq)]
 pub enum Fed {
-    // The event isn't whole yet.
     More,
-    // This event is whole.
     Whole { e: Event },
-    // No event begins so.
     Bad,
 }
 
@@ -62,7 +58,6 @@ fn judged(bytes: &[u8], count: usize, drones: usize) -> Fed
 }
 
 impl Begun {
-    // No byte has come.
     pub fn make() -> Begun
         ensures { result ≡ [] }
     {

@@ -24,7 +24,6 @@ use link_dialogue::finish;
 /// The flight is over, and it wasn't flown to its last step, or a drone left its curve in the show or was silent.
 pub const NOT_FLOWN: u8 = 20;
 
-// The status of the end that a frame says, if it says one.
 fn end_of(frame: &Frame) -> Option<u8>
     ensures { result ≡ end_of frame.now }
 {
@@ -50,7 +49,6 @@ fn end_in(said: &[Frame]) -> Option<u8>
     None
 }
 
-// How many drones fly.
 fn drone_count(flight: &Flight) -> usize
     ensures { result ≡ drones flight.now }
 {
@@ -64,7 +62,6 @@ enum Broken {
     Write,
 }
 
-// The most events that are taken in one flight.
 const EVENT_LIMIT: u32 = 4_000_000;
 
 // Carries a flight to its end, and returns the status. All that the events lead to has gone out then, but not the end

@@ -12,7 +12,6 @@ use fleet_io::{Failed, Parts, Source};
 use flight_frames::frame_law;
 use flight_model::Event;
 
-// What comes next of the events.
 #[derive(Clone, Copy, Debug, PartialEq, Eq)]
 pub enum Next {
     Whole { e: Event },

@@ -19,7 +19,6 @@ const MOST_BYTES: usize = MOST_OUT * FRAME_BYTES;
 // The bytes that one event sends: one place for all events of a flight.
 pub type Bytes = ArrayVec<u8, MOST_BYTES>;
 
-// A frame after others.
 fn put(frame: &Frame, bytes: &mut Bytes)
     requires room { length bytes.old.items + FRAME_BYTES ≤ MOST_BYTES }
     ensures bytes { bytes.new.items ≡ bytes.old.items ++ output_bytes frame.now }

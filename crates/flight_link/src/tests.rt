@@ -368,7 +368,7 @@ fn faulty_inputs(rt: HostRuntime) -> Result<(), Fail> {
 
 // A byte without a place and the end of the flight are judged before the next read.
 #[test]
-fn no_read_behind_the_end(rt: HostRuntime) -> Result<(), Fail> {
+fn no_read_after_the_end(rt: HostRuntime) -> Result<(), Fail> {
     let alloc = rt.alloc();
     for faulty in FAULTY {
         let count = u64::try_from(faulty.len()).unwrap_or(0);
@@ -418,13 +418,13 @@ fn four_million_events(rt: HostRuntime) -> Result<(), Fail> {
         (3_999_999, STOP, 13, b"\x02\x05\x45\x0D"),
         (3_999_998, STOP, 8, b"\x02\x05\x45\x08"),
     ];
-    for (count, behind, status, output) in rows {
+    for (count, after, status, output) in rows {
         let mut input = Vec::new(alloc);
         // A go of which no drone was heard does nothing.
         for _ in 0..count {
             input.extend_from_slice(GO)?;
         }
-        input.extend_from_slice(behind)?;
+        input.extend_from_slice(after)?;
         let ran = run(alloc, input, 4096, 0, 0)?;
         assert_eq!(rt; ran.status, status);
         assert_eq!(rt; ran.sink.written(), output);

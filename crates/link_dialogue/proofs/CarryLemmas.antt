@@ -153,32 +153,32 @@ breaks t law stream mid now old sent new n Stands c i answer more few front = wh
 
 -- No item stands at the front of what is left and has more after it than may wait.
 abbrev pub IsShort : Dialogue → Option (List ℕ) → Option (List ℕ) → Type 0
-IsShort t now left = (rest behind : List ℕ) → now ≡ Some rest → left ≡ Some behind → (j : t.Item) (more : List ℕ) → t.IsItem j → buffer_bytes + length behind < length more →
+IsShort t now left = (rest unread : List ℕ) → now ≡ Some rest → left ≡ Some unread → (j : t.Item) (more : List ℕ) → t.IsItem j → buffer_bytes + length unread < length more →
     rest ≡ t.bytes j ++ more → ⊥
 
-prompt_by : (t : Dialogue) → IsDialogue t → (xs ys : List t.Item) (rest behind taken sent tail : List ℕ) → All t.IsItem xs → taken ++ behind ≡ items_bytes t xs ++ rest →
-    BeginsWith (t.sent xs) sent → ((j : t.Item) (more : List ℕ) → t.IsItem j → buffer_bytes + length behind < length more → rest ≡ t.bytes j ++ more → ⊥) →
+prompt_by : (t : Dialogue) → IsDialogue t → (xs ys : List t.Item) (rest unread taken sent tail : List ℕ) → All t.IsItem xs → taken ++ unread ≡ items_bytes t xs ++ rest →
+    BeginsWith (t.sent xs) sent → ((j : t.Item) (more : List ℕ) → t.IsItem j → buffer_bytes + length unread < length more → rest ≡ t.bytes j ++ more → ⊥) →
     All t.IsItem ys → taken ≡ items_bytes t ys ++ tail → buffer_bytes < length tail → BeginsWith (t.sent ys) sent
-prompt_by t law xs ys rest behind taken sent tail each all began none formed cut long =
-    let both : items_bytes t ys ++ (tail ++ behind) ≡ items_bytes t xs ++ rest = sym (ap (λ (l : List ℕ). l ++ behind) cut ∙ append_assoc (items_bytes t ys) tail behind) ∙ all in
-    elim (compare t law ys xs (tail ++ behind) rest formed each both) [
+prompt_by t law xs ys rest unread taken sent tail each all began none formed cut long =
+    let both : items_bytes t ys ++ (tail ++ unread) ≡ items_bytes t xs ++ rest = sym (ap (λ (l : List ℕ). l ++ unread) cut ∙ append_assoc (items_bytes t ys) tail unread) ∙ all in
+    elim (compare t law ys xs (tail ++ unread) rest formed each both) [
       | inl p ↦ BeginsWith-trans _ _ _ (rw (← p.1) at (law.front ys p.0)) began
       | inr p ↦ later p.0 p.1 p.2
     ]
   where
-    later : (more : List t.Item) → ys ≡ xs ++ more → rest ≡ items_bytes t more ++ (tail ++ behind) → BeginsWith (t.sent ys) sent
+    later : (more : List t.Item) → ys ≡ xs ++ more → rest ≡ items_bytes t more ++ (tail ++ unread) → BeginsWith (t.sent ys) sent
     later [] is left = let same : ys ≡ xs = is ∙ append-nil xs in rw same began
     later (j ∷ more) is left =
-        absurd (none j (items_bytes t more ++ (tail ++ behind)) (All-head t.IsItem j more (All-later t xs (j ∷ more) (rw is at formed)))
-        (omega (arith, long, length-append tail behind, length-append (items_bytes t more) (tail ++ behind))) (left ∙ append_assoc (t.bytes j) (items_bytes t more) (tail ++ behind)))
+        absurd (none j (items_bytes t more ++ (tail ++ unread)) (All-head t.IsItem j more (All-later t xs (j ∷ more) (rw is at formed)))
+        (omega (arith, long, length-append tail unread, length-append (items_bytes t more) (tail ++ unread))) (left ∙ append_assoc (t.bytes j) (items_bytes t more) (tail ++ unread)))
 
 -- what was sent for items is prompt where what is left is short
 pub prompt : (t : Dialogue) → IsDialogue t → (stream now left old new : Option (List ℕ)) (xs : List t.Item) (output : List ℕ) → All t.IsItem xs → Consumes stream now (items_bytes t xs) →
     Appends old new output → BeginsWith (t.sent xs) output → IsShort t now left → StaysPrompt t stream left old new
-prompt t law stream now left old new xs output each taken_so sent_so began is_short bytes behind before taken sent known_bytes known_left cut known_before known_sent ys tail formed cut_so long =
+prompt t law stream now left old new xs output each taken_so sent_so began is_short bytes unread before taken sent known_bytes known_left cut known_before known_sent ys tail formed cut_so long =
     let l = left_of bytes (items_bytes t xs) now (rw known_bytes at taken_so) in
     let sent_is : output ≡ sent = same_front before output sent (sym (grown before (before ++ sent) output old new known_before known_sent sent_so)) in
-    prompt_by t law xs ys l.0 behind taken sent tail each (sym cut ∙ l.2) (rw sent_is at began) (is_short l.0 behind l.1 known_left) formed cut_so long
+    prompt_by t law xs ys l.0 unread taken sent tail each (sym cut ∙ l.2) (rw sent_is at began) (is_short l.0 unread l.1 known_left) formed cut_so long
 
 pub prompt_carried : (t : Dialogue) → IsDialogue t → (stream now left old new : Option (List ℕ)) (n : ℕ) (Stands : List t.Item → Type 0) → Carries t stream now old new n Stands → IsShort t now left → StaysPrompt t stream left old new
 prompt_carried t law stream now left old new n Stands c is_short = prompt t law stream now left old new c.items _ c.each c.taken c.sent ([], sym (append-nil _)) is_short
@@ -196,16 +196,16 @@ prompt_broken t law stream mid left old sent new n Stands bytes c front is_short
 
 -- before any item no more was taken than waited
 pub prompt_first : (t : Dialogue) (waiting : List ℕ) (left old new : Option (List ℕ)) → length waiting ≤ buffer_bytes → StaysPrompt t (prepend_known waiting left) left old new
-prompt_first t waiting None old new few bytes behind before taken sent known_bytes known_left cut known_before known_sent ys tail formed cut_so long = absurd (cc)
-prompt_first t waiting (Some xs) old new few bytes behind before taken sent known_bytes known_left cut known_before known_sent ys tail formed cut_so long =
-    let e : xs ≡ behind = cc in
+prompt_first t waiting None old new few bytes unread before taken sent known_bytes known_left cut known_before known_sent ys tail formed cut_so long = absurd (cc)
+prompt_first t waiting (Some xs) old new few bytes unread before taken sent known_bytes known_left cut known_before known_sent ys tail formed cut_so long =
+    let e : xs ≡ unread = cc in
     let b : waiting ++ xs ≡ bytes = cc in
     absurd (omega (
       arith,
       few,
       long,
       length-append waiting xs,
-      length-append taken behind,
+      length-append taken unread,
       length-append (items_bytes t ys) tail,
       ap (λ (l : List ℕ). length l) b,
       ap (λ (l : List ℕ). length l) cut,
@@ -217,42 +217,42 @@ prompt_first t waiting (Some xs) old new few bytes behind before taken sent know
 
 -- at most this many bytes wait
 pub short_waiting : (t : Dialogue) (waiting : List ℕ) (left : Option (List ℕ)) → length waiting ≤ buffer_bytes → IsShort t (prepend_known waiting left) left
-short_waiting t waiting None few rest behind known known_left j more formed long is = absurd (cc)
-short_waiting t waiting (Some xs) few rest behind known known_left j more formed long is =
-    let e : xs ≡ behind = cc in
+short_waiting t waiting None few rest unread known known_left j more formed long is = absurd (cc)
+short_waiting t waiting (Some xs) few rest unread known known_left j more formed long is =
+    let e : xs ≡ unread = cc in
     let r : waiting ++ xs ≡ rest = cc in
     omega (arith, long, few, length-append waiting xs, length-append (t.bytes j) more, ap (λ (l : List ℕ). length l) r, ap (λ (l : List ℕ). length l) is, ap (λ (l : List ℕ). length l) e)
 
 -- one item stands before those
 pub short_item : (t : Dialogue) → IsDialogue t → (mid : Option (List ℕ)) (waiting : List ℕ) (left : Option (List ℕ)) (i : t.Item) → t.IsItem i → length waiting ≤ buffer_bytes →
     Consumes mid (prepend_known waiting left) (t.bytes i) → IsShort t mid left
-short_item t law None waiting left i is_i few taken rest behind known known_left j more formed long is = absurd (cc)
-short_item t law (Some xs) waiting None i is_i few taken rest behind known known_left j more formed long is = absurd taken
-short_item t law (Some xs) waiting (Some ys) i is_i few taken rest behind known known_left j more formed long is =
-    let e : ys ≡ behind = cc in
+short_item t law None waiting left i is_i few taken rest unread known known_left j more formed long is = absurd (cc)
+short_item t law (Some xs) waiting None i is_i few taken rest unread known known_left j more formed long is = absurd taken
+short_item t law (Some xs) waiting (Some ys) i is_i few taken rest unread known known_left j more formed long is =
+    let e : ys ≡ unread = cc in
     let r : xs ≡ rest = cc in
     let same = law.step i j (waiting ++ ys) more is_i formed (sym taken ∙ r ∙ is) in
     omega (arith, long, few, length-append waiting ys, ap (λ (l : List ℕ). length l) same.1, ap (λ (l : List ℕ). length l) e)
 
 -- nothing is left
 pub short_end : (t : Dialogue) → IsDialogue t → (now left : Option (List ℕ)) → IsAtEnd now → IsShort t now left
-short_end t law None left at_end rest behind known known_left j more formed long is = absurd (cc)
-short_end t law (Some xs) left at_end rest behind known known_left j more formed long is =
+short_end t law None left at_end rest unread known known_left j more formed long is = absurd (cc)
+short_end t law (Some xs) left at_end rest unread known known_left j more formed long is =
     let r : xs ≡ rest = cc in
     omega (arith, long, length-append (t.bytes j) more, ap (λ (l : List ℕ). length l) (sym at_end ∙ r ∙ is), law.some j)
 
 -- what is left begins with no item
 pub short_faulty : (t : Dialogue) (now left : Option (List ℕ)) → IsFaulty (BeginsNone t) now → IsShort t now left
-short_faulty t None left faulty rest behind known known_left j more formed long is = absurd (cc)
-short_faulty t (Some xs) left faulty rest behind known known_left j more formed long is =
+short_faulty t None left faulty rest unread known known_left j more formed long is = absurd (cc)
+short_faulty t (Some xs) left faulty rest unread known known_left j more formed long is =
     let r : xs ≡ rest = cc in faulty.1 j more formed (r ∙ is)
 
 -- less than an item was taken of what is left
 pub short_begun : (t : Dialogue) → IsDialogue t → (now left : Option (List ℕ)) (begun : List ℕ) → t.IsBegun begun → Consumes now left begun → IsShort t now left
-short_begun t law None left begun b taken rest behind known known_left j more formed long is = absurd (cc)
-short_begun t law (Some xs) None begun b taken rest behind known known_left j more formed long is = absurd taken
-short_begun t law (Some xs) (Some ys) begun b taken rest behind known known_left j more formed long is =
-    let e : ys ≡ behind = cc in
+short_begun t law None left begun b taken rest unread known known_left j more formed long is = absurd (cc)
+short_begun t law (Some xs) None begun b taken rest unread known known_left j more formed long is = absurd taken
+short_begun t law (Some xs) (Some ys) begun b taken rest unread known known_left j more formed long is =
+    let e : ys ≡ unread = cc in
     let r : xs ≡ rest = cc in
     omega (arith, long, law.short begun b, length-append begun ys, length-append (t.bytes j) more, ap (λ (l : List ℕ). length l) (sym taken ∙ r ∙ is), ap (λ (l : List ℕ). length l) e)
 
@@ -261,8 +261,8 @@ short_begun t law (Some xs) (Some ys) begun b taken rest behind known known_left
 -- Where the dialogue goes on after these items, items with which it is over are these and more, or they are as many as
 -- are taken; and what stands after them is no longer than what may wait.
 pub stops : (t : Dialogue) → IsDialogue t → (stream now left old new : Option (List ℕ)) (n : ℕ) (Stands : List t.Item → Type 0) → Carries t stream now old new n Stands → n ≤ item_limit → IsShort t now left →
-    (n ≡ item_limit → (rest behind : List ℕ) → now ≡ Some rest → left ≡ Some behind → length rest ≤ length behind + buffer_bytes) → StopsAtEnd t stream left
-stops t law stream now left old new n Stands c few is_short at_limit bytes behind ys rest known known_left took over =
+    (n ≡ item_limit → (rest unread : List ℕ) → now ≡ Some rest → left ≡ Some unread → length rest ≤ length unread + buffer_bytes) → StopsAtEnd t stream left
+stops t law stream now left old new n Stands c few is_short at_limit bytes unread ys rest known known_left took over =
     let l = left_of bytes (items_bytes t c.items) now (rw known at c.taken) in
     elim (compare t law c.items ys l.0 rest c.each took.each (sym l.2 ∙ took.cut)) [
       | inl p ↦ later l.0 l.1 p.0 p.1 p.2
@@ -270,21 +270,21 @@ stops t law stream now left old new n Stands c few is_short at_limit bytes behin
     ]
   where
     -- the dialogue goes on after them, so they are as many as are taken
-    same : (after : List ℕ) → now ≡ Some after → ys ≡ c.items → after ≡ rest → length rest ≤ length behind + buffer_bytes
+    same : (after : List ℕ) → now ≡ Some after → ys ≡ c.items → after ≡ rest → length rest ≤ length unread + buffer_bytes
     same after known_now is left_is = elim over [
       | inl ends ↦ absurd (ends (rw is c.going))
-      | inr full ↦ rw (← left_is) (at_limit (sym c.counted ∙ ap (λ (xs : List t.Item). length xs) (sym is) ∙ full) after behind known_now known_left)
+      | inr full ↦ rw (← left_is) (at_limit (sym c.counted ∙ ap (λ (xs : List t.Item). length xs) (sym is) ∙ full) after unread known_now known_left)
     ]
 
-    later : (after : List ℕ) → now ≡ Some after → (more : List t.Item) → ys ≡ c.items ++ more → after ≡ items_bytes t more ++ rest → length rest ≤ length behind + buffer_bytes
+    later : (after : List ℕ) → now ≡ Some after → (more : List t.Item) → ys ≡ c.items ++ more → after ≡ items_bytes t more ++ rest → length rest ≤ length unread + buffer_bytes
     later after known_now [] is left_is = same after known_now (is ∙ append-nil c.items) left_is
-    later after known_now (j ∷ more) is left_is = elim (less_or_not (buffer_bytes + length behind) (length (items_bytes t more ++ rest))) [
-      | inl long ↦ absurd (is_short after behind known_now known_left j (items_bytes t more ++ rest) (All-head t.IsItem j more (All-later t c.items (j ∷ more) (rw is at took.each))) long
+    later after known_now (j ∷ more) is left_is = elim (less_or_not (buffer_bytes + length unread) (length (items_bytes t more ++ rest))) [
+      | inl long ↦ absurd (is_short after unread known_now known_left j (items_bytes t more ++ rest) (All-head t.IsItem j more (All-later t c.items (j ∷ more) (rw is at took.each))) long
           (left_is ∙ append_assoc (t.bytes j) (items_bytes t more) rest))
       | inr short_rest ↦ omega (arith, short_rest, length-append (items_bytes t more) rest)
     ]
 
-    earlier : (after : List ℕ) → now ≡ Some after → (more : List t.Item) → c.items ≡ ys ++ more → rest ≡ items_bytes t more ++ after → length rest ≤ length behind + buffer_bytes
+    earlier : (after : List ℕ) → now ≡ Some after → (more : List t.Item) → c.items ≡ ys ++ more → rest ≡ items_bytes t more ++ after → length rest ≤ length unread + buffer_bytes
     earlier after known_now [] is rest_is = same after known_now (sym (is ∙ append-nil ys)) (sym rest_is)
     earlier after known_now (m ∷ more) is rest_is =
         let counted : length c.items ≡ length ys + length (m ∷ more) = ap (λ (xs : List t.Item). length xs) is ∙ length-append ys (m ∷ more) in
@@ -297,26 +297,26 @@ stops t law stream now left old new n Stands c few is_short at_limit bytes behin
 -- the same before as many items as are taken
 pub stops_before : (t : Dialogue) → IsDialogue t → (stream now left old new : Option (List ℕ)) (n : ℕ) (Stands : List t.Item → Type 0) → Carries t stream now old new n Stands → n < item_limit → IsShort t now left → StopsAtEnd t stream left
 stops_before t law stream now left old new n Stands c few is_short =
-    stops t law stream now left old new n Stands c (omega (arith, few)) is_short (λ full rest behind known known_left. absurd (omega (arith, few, full)))
+    stops t law stream now left old new n Stands c (omega (arith, few)) is_short (λ full rest unread known known_left. absurd (omega (arith, few, full)))
 
 -- the same with what waits
 pub stops_waiting : (t : Dialogue) → IsDialogue t → (stream old new : Option (List ℕ)) (waiting : List ℕ) (left : Option (List ℕ)) (n : ℕ) (Stands : List t.Item → Type 0) → Carries t stream (prepend_known waiting left) old new n Stands →
     n ≤ item_limit → length waiting ≤ buffer_bytes → StopsAtEnd t stream left
 stops_waiting t law stream old new waiting left n Stands c few holds =
-    stops t law stream (prepend_known waiting left) left old new n Stands c few (short_waiting t waiting left holds) (λ full rest behind known known_left. by left rest behind known known_left)
+    stops t law stream (prepend_known waiting left) left old new n Stands c few (short_waiting t waiting left holds) (λ full rest unread known known_left. by left rest unread known known_left)
   where
-    by : (left : Option (List ℕ)) (rest behind : List ℕ) → prepend_known waiting left ≡ Some rest → left ≡ Some behind → length rest ≤ length behind + buffer_bytes
-    by None rest behind known known_left = absurd (cc)
-    by (Some xs) rest behind known known_left =
-        let e : xs ≡ behind = cc in
+    by : (left : Option (List ℕ)) (rest unread : List ℕ) → prepend_known waiting left ≡ Some rest → left ≡ Some unread → length rest ≤ length unread + buffer_bytes
+    by None rest unread known known_left = absurd (cc)
+    by (Some xs) rest unread known known_left =
+        let e : xs ≡ unread = cc in
         let r : waiting ++ xs ≡ rest = cc in
         omega (arith, holds, length-append waiting xs, ap (λ (l : List ℕ). length l) r, ap (λ (l : List ℕ). length l) e)
 
 -- before any item no more was taken than waited
 pub stops_first : (t : Dialogue) (waiting : List ℕ) (left : Option (List ℕ)) → length waiting ≤ buffer_bytes → StopsAtEnd t (prepend_known waiting left) left
-stops_first t waiting None few bytes behind ys rest known known_left took over = absurd (cc)
-stops_first t waiting (Some xs) few bytes behind ys rest known known_left took over =
-    let e : xs ≡ behind = cc in
+stops_first t waiting None few bytes unread ys rest known known_left took over = absurd (cc)
+stops_first t waiting (Some xs) few bytes unread ys rest known known_left took over =
+    let e : xs ≡ unread = cc in
     let b : waiting ++ xs ≡ bytes = cc in
     omega (
       arith,

@@ -77,13 +77,13 @@ grew_failed t (Some bytes) left old new x = (t.sent x.1, x.8)
 
 -- more that was sent is prompt too
 pub prompt_kept : (t : Dialogue) (stream left old mid new : Option (List ℕ)) (more : List ℕ) → StaysPrompt t stream left old mid → Grew stream old mid → AppendsFront mid new more → StaysPrompt t stream left old new
-prompt_kept t None left old mid new more p grew front bytes behind before taken sent known_bytes known_left cut known_before known_sent ys tail formed cut_so long = absurd (cc)
-prompt_kept t (Some xs) left None mid new more p grew front bytes behind before taken sent known_bytes known_left cut known_before known_sent ys tail formed cut_so long = absurd (cc)
-prompt_kept t (Some xs) left (Some b) None new more p grew front bytes behind before taken sent known_bytes known_left cut known_before known_sent ys tail formed cut_so long = absurd grew.1
-prompt_kept t (Some xs) left (Some b) (Some m) None more p grew front bytes behind before taken sent known_bytes known_left cut known_before known_sent ys tail formed cut_so long = absurd front.3
-prompt_kept t (Some xs) left (Some b) (Some m) (Some n) more p grew front bytes behind before taken sent known_bytes known_left cut known_before known_sent ys tail formed cut_so long =
+prompt_kept t None left old mid new more p grew front bytes unread before taken sent known_bytes known_left cut known_before known_sent ys tail formed cut_so long = absurd (cc)
+prompt_kept t (Some xs) left None mid new more p grew front bytes unread before taken sent known_bytes known_left cut known_before known_sent ys tail formed cut_so long = absurd (cc)
+prompt_kept t (Some xs) left (Some b) None new more p grew front bytes unread before taken sent known_bytes known_left cut known_before known_sent ys tail formed cut_so long = absurd grew.1
+prompt_kept t (Some xs) left (Some b) (Some m) None more p grew front bytes unread before taken sent known_bytes known_left cut known_before known_sent ys tail formed cut_so long = absurd front.3
+prompt_kept t (Some xs) left (Some b) (Some m) (Some n) more p grew front bytes unread before taken sent known_bytes known_left cut known_before known_sent ys tail formed cut_so long =
     let e : b ≡ before = cc in
     let g : n ≡ before ++ sent = cc in
     let mid_is : m ≡ before ++ grew.0 = grew.1 ∙ ap (λ (l : List ℕ). l ++ grew.0) e in
     let sent_is : sent ≡ grew.0 ++ front.0 = same_front before sent (grew.0 ++ front.0) (sym g ∙ front.3 ∙ ap (λ (l : List ℕ). l ++ front.0) mid_is ∙ append_assoc before grew.0 front.0) in
-    BeginsWith-trans _ _ _ (p bytes behind before taken grew.0 known_bytes known_left cut known_before (ap (λ (l : List ℕ). Some l) mid_is) ys tail formed cut_so long) (front.0, sent_is)
+    BeginsWith-trans _ _ _ (p bytes unread before taken grew.0 known_bytes known_left cut known_before (ap (λ (l : List ℕ). Some l) mid_is) ys tail formed cut_so long) (front.0, sent_is)

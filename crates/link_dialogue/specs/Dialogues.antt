@@ -38,8 +38,8 @@ pub record Takes (t : Dialogue) (bytes : List ℕ) (items : List t.Item) (rest :
   pub going : (n : ℕ) → n < length items → t.ended (take n items) ≡ None
 
 -- The end of a dialogue that goes on. 4,000,000 items were taken, and nothing after them is judged: 13. Else no byte is
--- left: 8. Else the bytes that are left begin with no whole item, since one of them has no place, or the last item isn't
--- finished: 11.
+-- left: 8. Else the bytes that are left begin with no whole item, since one of them has no place, or the last item
+-- isn't finished: 11.
 abbrev pub EndsGoing : Dialogue → Bool → List ℕ → ℕ → Type 0
 EndsGoing t true rest status = status ≡ 13
 EndsGoing t false [] status = status ≡ 8
@@ -59,8 +59,8 @@ pub record DialogueGives (t : Dialogue) (bytes : List ℕ) (status : ℕ) (outpu
   pub ends : EndsWith t (t.ended items) (length items == item_limit) rest status
   pub sends : output ≡ t.sent items ++ end_frame status
 
--- A read failed after these bytes: each whole item among them was answered, less than an item stands after them, and the
--- dialogue goes on. What was sent ends with the end frame of a failed read.
+-- A read failed after these bytes: each whole item among them was answered, less than an item stands after them, and
+-- the dialogue goes on. What was sent ends with the end frame of a failed read.
 pub record DialogueFails (t : Dialogue) (taken output : List ℕ) : Type 0 where
   pub items : List t.Item
   pub rest : List ℕ
@@ -84,7 +84,7 @@ IsPrompt t taken sent =
 -- What was sent is prompt, where source and sink tell what they had before and what they have now.
 abbrev pub StaysPrompt : Dialogue → Option (List ℕ) → Option (List ℕ) → Option (List ℕ) → Option (List ℕ) → Type 0
 StaysPrompt t stream left old new =
-    (bytes behind before taken sent : List ℕ) → stream ≡ Some bytes → left ≡ Some behind → bytes ≡ taken ++ behind →
+    (bytes unread before taken sent : List ℕ) → stream ≡ Some bytes → left ≡ Some unread → bytes ≡ taken ++ unread →
     old ≡ Some before → new ≡ Some (before ++ sent) → IsPrompt t taken sent
 
 -- After these items a dialogue is over: they end it, or they are as many as are taken in one dialogue.
@@ -95,8 +95,8 @@ IsOver t items = (t.ended items ≡ None → ⊥) ⊎ (length items ≡ item_lim
 -- where it tells what it had before and what it has now.
 abbrev pub StopsAtEnd : Dialogue → Option (List ℕ) → Option (List ℕ) → Type 0
 StopsAtEnd t stream left =
-    (bytes behind : List ℕ) (items : List t.Item) (rest : List ℕ) → stream ≡ Some bytes → left ≡ Some behind →
-    Takes t bytes items rest → IsOver t items → length rest ≤ length behind + buffer_bytes
+    (bytes unread : List ℕ) (items : List t.Item) (rest : List ℕ) → stream ≡ Some bytes → left ≡ Some unread →
+    Takes t bytes items rest → IsOver t items → length rest ≤ length unread + buffer_bytes
 
 -- ---- what makes it one
 

@@ -27,7 +27,7 @@ use upload_core::{Host, Out};
 
 // Hands a frame to the host of an upload that is going. A packet of a drone that isn't in the session is no event.
 #[inline(always)]
-fn answer(host: &mut Host, frame: View<'_>, out: &mut Out) -> Option<u8>
+fn take_frame(host: &mut Host, frame: View<'_>, out: &mut Out) -> Option<u8>
     requires formed { IsFrame (frame_of frame) }
     ensures session { host.new.session ≡ host.old.session }
     ensures stands { (h : List Event) → HostStandsFor (view_of host.old) h → (link_of host.old.session).ended h ≡ None
@@ -51,7 +51,6 @@ fn answer(host: &mut Host, frame: View<'_>, out: &mut Out) -> Option<u8>
     }
 }
 
-// What a step to the next frame did.
 enum Stepped {
     Answered { status: Option<u8> },
     End,
@@ -81,13 +80,13 @@ fn step<S: Source>(
 {
     if let Some(frame) = whole_frame(parts.waiting()) {
         let size = frame.size();
-        let status = answer(host, frame, out);
+        let status = take_frame(host, frame, out);
         parts.take_waiting(size);
         return Ok(Stepped::Answered { status });
     }
     match next_frame(parts, source)? {
         Next::Whole { f } => {
-            let status = answer(host, f.view(), out);
+            let status = take_frame(host, f.view(), out);
             Ok(Stepped::Answered { status })
         }
         Next::End => Ok(Stepped::End),
@@ -102,7 +101,6 @@ enum Broken {
     Write,
 }
 
-// The most frames that are taken in one upload.
 const FRAME_LIMIT: u32 = 4_000_000;
 
 // Carries an upload to its end, and returns the status. All that the frames lead to has gone out then, but not the end

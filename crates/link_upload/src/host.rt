@@ -11,7 +11,6 @@ use crtp_packets::{PACKET_BYTES, Packet};
 use fleet_io::status::{DIFFERS, DONE, GAVE_UP, REFUSED};
 use upload_core::{Event, Host, Out, Progress, Sent};
 
-// The status of an upload, if it has ended.
 fn status(progress: Progress) -> Option<u8>
     ensures value { result ≡ status_of progress }
     ensures statuses { IfSome result (λ status. Contains (0 ∷ 9 ∷ 10 ∷ 14 ∷ []) status) }
@@ -34,7 +33,6 @@ pub fn drone_count(host: &Host) -> usize
     host.session().drones()
 }
 
-// A packet of the upload.
 pub fn packet_of(host: &Host, x: Sent) -> Packet
     requires { IsPacketOf host.now.session x }
     ensures value { result ≡ (link_of host.now.session).packet x.drone x.packet }

@@ -10,7 +10,6 @@ ghost use Rattle.link_upload.specs.Steps.{NextGives};
 use fleet_io::{Failed, Parts, Source};
 use link_frames::{FRAME_BYTES, Fed, Frame, Frames, frame_law};
 
-// What comes next of the frames.
 #[derive(Drop)]
 pub enum Next {
     Whole { f: Frame },
@@ -18,7 +17,6 @@ pub enum Next {
     Faulty,
 }
 
-// The next frame, byte by byte.
 #[inline(never)]
 pub fn next_frame<S: Source>(parts: &mut Parts, source: &mut S) -> Result<Next, Failed>
     requires sound { IsTrue parts.old.sound }

@@ -20,7 +20,6 @@ const MOST_OUT: usize = MOST_SENT * FRAME_BYTES;
 // The bytes that one event sends: one place for all events of an upload, since to make it clears 4,352 bytes.
 pub type Bytes = ArrayVec<u8, MOST_OUT>;
 
-// The frame of a packet after those of others.
 fn put(host: &Host, x: Sent, bytes: &mut Bytes)
     requires known { IsPacketOf host.now.session x }
     requires room { length bytes.old.items + FRAME_BYTES ≤ MOST_OUT }

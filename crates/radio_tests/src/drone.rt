@@ -5,7 +5,7 @@ use crtp_packets::{Packet, command_answer};
 use firmware_memory::{Def, Drone, MEMORY_BYTES, TABLE_ENTRIES, make};
 use std::test::Fail;
 
-/// The packet of 1 to 31 bytes.
+// The packet of 1 to 31 bytes.
 fn packet_of(bytes: &[u8]) -> Packet
     requires not_empty { 1 ≤ length bytes.now }
     requires fits { length bytes.now ≤ 31 }
@@ -16,7 +16,7 @@ fn packet_of(bytes: &[u8]) -> Packet
     }
 }
 
-/// A drone to which nothing has happened. Its memory has the id 2, and 1 to 20 as its last bytes.
+// A drone to which nothing has happened. Its memory has the id 2, and 1 to 20 as its last bytes.
 fn fresh() -> Drone {
     let mut memory = [255; MEMORY_BYTES];
     for i in 0..20 {
@@ -25,14 +25,14 @@ fn fresh() -> Drone {
     make(2, memory)
 }
 
-/// What a packet changes: the byte at this place, which becomes 7, or this entry of the table.
+// What a packet changes: the byte at this place, which becomes 7, or this entry of the table.
 #[derive(Clone, Copy)]
 enum Change {
     Byte(usize),
     Entry(usize, Def),
 }
 
-/// A packet, its answer (none where it is empty), and what it changes where it is carried out.
+// A packet, its answer (none where it is empty), and what it changes where it is carried out.
 const ANSWERS: [(&[u8], &[u8], Option<Change>); 27] = [
     (
         &[0x4E, 2, 0, 0, 0, 0, 7],

@@ -11,7 +11,7 @@ use link_frames::{
 use std::alloc::{AllocError, Global};
 use std::test::Fail;
 
-/// An answer to a write at address 24, in the frame of drone 1.
+// An answer to a write at address 24, in the frame of drone 1.
 const ANSWER: [u8; 10] = [0x50, 1, 7, 0x4E, 2, 0x18, 0, 0, 0, 0];
 
 // Takes one byte more, and puts what it gives into `out`: `T` for a tick; for a packet `P`, the drone, the packet and

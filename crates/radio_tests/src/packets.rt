@@ -7,7 +7,7 @@ use crtp_packets::{
 use std::alloc::AllocError;
 use std::test::Fail;
 
-/// The 28 bytes of a path of one metre along x at one metre's height in two seconds.
+// The 28 bytes of a path of one metre along x at one metre's height in two seconds.
 const PATH: [u8; 28] = [
     0, 0, 0, 0, 0xE8, 3, 0, 0, 3, 0xD0, 7, 0, 0, 0, 0, 0, 0, 0xE8, 3, 0xE8, 3, 0xE8, 3, 0xE8, 3, 0,
     0, 0,
@@ -78,19 +78,19 @@ fn packets_have_1_to_31_bytes(rt: HostRuntime) -> Result<(), Fail> {
     Ok(())
 }
 
-/// A packet of these bytes; the test ends where there is none.
+// A packet of these bytes; the test ends where there is none.
 fn packet_of(bytes: &[u8]) -> Result<Packet, Fail> {
     from_bytes(bytes).map_err(|_| Fail::from(AllocError))
 }
 
-/// The bytes as a piece.
+// The bytes as a piece.
 fn piece_of(bytes: &[u8]) -> Piece {
     let mut piece = Piece::new();
     let _ = piece.try_extend_from_slice(bytes);
     piece
 }
 
-/// Writes, with the memory id, the address and the bytes that they tell a drone.
+// Writes, with the memory id, the address and the bytes that they tell a drone.
 const WRITES: [(&[u8], u8, u32, &[u8]); 4] = [
     (&[0x4E, 2, 0x18, 0, 0, 0, 3, 0, 0, 0], 2, 24, &[3, 0, 0, 0]),
     (&[0x42, 2, 0x18, 0, 0, 0, 3], 2, 24, &[3]),
@@ -109,16 +109,16 @@ const WRITES: [(&[u8], u8, u32, &[u8]); 4] = [
     ),
 ];
 
-/// Reads, with the memory id, the address and the length that they tell a drone.
+// Reads, with the memory id, the address and the length that they tell a drone.
 const READS: [(&[u8], u8, u32, u8); 2] = [
     (&[0x4D, 2, 1, 2, 3, 4, 20], 2, 0x0403_0201, 20),
     (&[0x41, 2, 0, 0x10, 0, 0, 0, 7, 7], 2, 4096, 0),
 ];
 
-/// Commands, with the payload that they tell a drone.
+// Commands, with the payload that they tell a drone.
 const COMMANDS: [(&[u8], &[u8]); 2] = [(&[0x8C, 5], &[5]), (&[0x80, 9, 8, 7], &[9, 8, 7])];
 
-/// Packets that tell a drone nothing.
+// Packets that tell a drone nothing.
 const NOTHING_DOWN: [(&[u8], PacketFault); 6] = [
     (&[0x4E, 2, 0, 0, 0, 0], PacketFault::Short),
     (&[0x4D, 2, 0, 0, 0, 0], PacketFault::Short),
@@ -150,7 +150,7 @@ fn reads_what_a_drone_is_told(rt: HostRuntime) -> Result<(), Fail> {
     Ok(())
 }
 
-/// Answers to writes, with the memory id, the address and the status that they tell the host.
+// Answers to writes, with the memory id, the address and the status that they tell the host.
 const WRITE_ANSWERS: [(&[u8], u8, u32, u8); 5] = [
     (&[0x4E, 2, 0, 0, 0, 0, 0], 2, 0, 0),
     (&[0x4E, 2, 0, 0, 0, 0, 5], 2, 0, 5),
@@ -159,20 +159,20 @@ const WRITE_ANSWERS: [(&[u8], u8, u32, u8); 5] = [
     (&[0x42, 2, 0x18, 0, 0, 0, 0, 9, 9], 2, 24, 0),
 ];
 
-/// Answers to reads, with the memory id, the address, the status and the bytes that they tell the
-/// host.
+// Answers to reads, with the memory id, the address, the status and the bytes that they tell the
+// host.
 const READ_ANSWERS: [(&[u8], u8, u32, u8, &[u8]); 2] = [
     (&[0x4D, 2, 0, 0, 0, 0, 5], 2, 0, 5, &[]),
     (&[0x45, 2, 1, 2, 3, 4, 0, 7, 8], 2, 0x0403_0201, 0, &[7, 8]),
 ];
 
-/// Answers to commands, with the first bytes of the command and the status that they tell the host.
+// Answers to commands, with the first bytes of the command and the status that they tell the host.
 const COMMAND_ANSWERS: [(&[u8], [u8; 3], u8); 2] = [
     (&[0x8C, 6, 0, 1, 2], [6, 0, 1], 2),
     (&[0x88, 5, 0, 0, 0, 9], [5, 0, 0], 0),
 ];
 
-/// Packets that tell the host nothing.
+// Packets that tell the host nothing.
 const NOTHING_UP: [(&[u8], PacketFault); 6] = [
     (&[0x4E, 2, 0, 0, 0, 0], PacketFault::Short),
     (&[0x4D, 2, 0, 0, 0, 0], PacketFault::Short),
@@ -212,7 +212,7 @@ fn reads_what_the_host_is_told(rt: HostRuntime) -> Result<(), Fail> {
     Ok(())
 }
 
-/// The answer to a write as a packet of the greatest length: what follows the status is of no account.
+// The answer to a write as a packet of the greatest length: what follows the status is of no account.
 const LONG_ANSWER: [u8; 31] = [
     0x4E, 2, 0x18, 0, 0, 0, 5, 1, 2, 3, 4, 5, 6, 7, 8, 9, 10, 11, 12, 13, 14, 15, 16, 17, 18, 19,
     20, 21, 22, 23, 24,

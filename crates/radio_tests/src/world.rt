@@ -9,16 +9,16 @@ use std::alloc::{AllocError, Global};
 use std::test::Fail;
 use upload_core::{Listed, Load, Progress, Session, Settings};
 
-/// A trajectory of 28 bytes, so of two writes, with one segment.
+// A trajectory of 28 bytes, so of two writes, with one segment.
 const PATH: [u8; 28] = [
     0, 0, 0, 0, 0xE8, 3, 0, 0, 3, 0xD0, 7, 0, 0, 0, 0, 0, 0, 0xE8, 3, 0xE8, 3, 0xE8, 3, 0xE8, 3, 0,
     0, 0,
 ];
 
-/// A load of one write.
+// A load of one write.
 const FOUR_BYTES: [u8; 4] = [9, 8, 7, 6];
 
-/// The path for one drone.
+// The path for one drone.
 fn solo(alloc: Global, start: bool) -> Result<Session, AllocError>
     ensures { IfOk result (λ s. drone_count s ≡ 1) }
 {
@@ -35,7 +35,7 @@ fn solo(alloc: Global, start: bool) -> Result<Session, AllocError>
     Session::make(alloc, settings, &loads, false, start)
 }
 
-/// The path on its way to one drone whose memory is blank.
+// The path on its way to one drone whose memory is blank.
 fn solo_world(alloc: Global, start: bool) -> Result<World, AllocError>
     ensures { IfOk result (λ w. length w.drones ≡ 1) }
 {
@@ -45,7 +45,7 @@ fn solo_world(alloc: Global, start: bool) -> Result<World, AllocError>
     World::make(alloc, session, drones)
 }
 
-/// The path for one drone and four bytes with two segments for another, which are started.
+// The path for one drone and four bytes with two segments for another, which are started.
 fn pair(alloc: Global) -> Result<Session, AllocError>
     ensures { IfOk result (λ s. drone_count s ≡ 2) }
 {
@@ -66,7 +66,7 @@ fn pair(alloc: Global) -> Result<Session, AllocError>
     Session::make(alloc, settings, &loads, false, true)
 }
 
-/// The two loads on their way to two drones whose memories are blank.
+// The two loads on their way to two drones whose memories are blank.
 fn pair_world(alloc: Global) -> Result<World, AllocError>
     ensures { IfOk result (λ w. length w.drones ≡ 2) }
 {
@@ -77,14 +77,14 @@ fn pair_world(alloc: Global) -> Result<World, AllocError>
     World::make(alloc, session, drones)
 }
 
-/// A name of at most 16 bytes.
+// A name of at most 16 bytes.
 fn name_of(bytes: &[u8]) -> Name {
     let mut name = Name::new();
     let _ = name.try_extend_from_slice(bytes);
     name
 }
 
-/// The name of one drone.
+// The name of one drone.
 fn solo_name(alloc: Global) -> Result<Vec<Name>, AllocError>
     ensures { IfOk result (λ names. length names.items ≡ 1) }
 {
@@ -93,7 +93,7 @@ fn solo_name(alloc: Global) -> Result<Vec<Name>, AllocError>
     Ok(names)
 }
 
-/// The names of two drones.
+// The names of two drones.
 fn pair_names(alloc: Global, first: &[u8], second: &[u8]) -> Result<Vec<Name>, AllocError>
     ensures { IfOk result (λ names. length names.items ≡ 2) }
 {
@@ -103,7 +103,7 @@ fn pair_names(alloc: Global, first: &[u8], second: &[u8]) -> Result<Vec<Name>, A
     Ok(names)
 }
 
-/// What a schedule leads the world to.
+// What a schedule leads the world to.
 fn run(
     alloc: Global,
     world: &mut World,
@@ -124,7 +124,7 @@ fn run(
     Ok(world.progress())
 }
 
-/// Whether a drone has this load and its entry, and all else is blank.
+// Whether a drone has this load and its entry, and all else is blank.
 fn has_load(drone: &Drone, load: &[u8], pieces: u8) -> bool {
     load.len() <= drone.memory.len()
         && &drone.memory[..load.len()] == load
@@ -133,12 +133,12 @@ fn has_load(drone: &Drone, load: &[u8], pieces: u8) -> bool {
         && drone.defs[1..].iter().all(|def| def.is_none())
 }
 
-/// Whether a drone has the path and its entry, and all else is blank.
+// Whether a drone has the path and its entry, and all else is blank.
 fn has_path(drone: &Drone) -> bool {
     has_load(drone, &PATH, 1)
 }
 
-/// Whether a drone has no load, no entry, and isn't started.
+// Whether a drone has no load, no entry, and isn't started.
 fn is_blank(drone: &Drone) -> bool {
     drone.memory.iter().all(|byte| *byte == 0xFF)
         && drone.defs.iter().all(|def| def.is_none())
@@ -291,7 +291,7 @@ fn numbers_of_nine_digits_are_read(rt: HostRuntime) -> Result<(), Fail> {
     Ok(())
 }
 
-/// A load of 130 bytes, so of six writes, for each of four drones, which are started.
+// A load of 130 bytes, so of six writes, for each of four drones, which are started.
 fn four(alloc: Global) -> Result<Session, AllocError>
     ensures { IfOk result (λ s. drone_count s ≡ 4) }
 {
@@ -320,7 +320,7 @@ fn four(alloc: Global) -> Result<Session, AllocError>
     Session::make(alloc, settings, &loads, false, true)
 }
 
-/// The four loads on their way to four drones whose memories are blank.
+// The four loads on their way to four drones whose memories are blank.
 fn four_world(alloc: Global) -> Result<World, AllocError>
     ensures { IfOk result (λ w. length w.drones ≡ 4) }
 {
@@ -333,7 +333,7 @@ fn four_world(alloc: Global) -> Result<World, AllocError>
     World::make(alloc, session, drones)
 }
 
-/// The names of four drones.
+// The names of four drones.
 fn four_names(alloc: Global) -> Result<Vec<Name>, AllocError>
     ensures { IfOk result (λ names. length names.items ≡ 4) }
 {
@@ -343,7 +343,7 @@ fn four_names(alloc: Global) -> Result<Vec<Name>, AllocError>
     Ok(names)
 }
 
-/// These lines for each of the four drones in turn, whose name stands in them as `?`: at most 4,000 bytes.
+// These lines for each of the four drones in turn, whose name stands in them as `?`: at most 4,000 bytes.
 fn for_each(alloc: Global, lines: &[u8]) -> Result<Vec<u8>, AllocError>
     ensures { IfOk result (λ text. length text.items ≤ 4000) }
 {

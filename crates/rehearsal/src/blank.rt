@@ -15,7 +15,6 @@ use upload_core::Session;
 // What each byte of a drone's memory is before a rehearsal.
 const BLANK: u8 = 0xFF;
 
-// A blank drone for each of the session.
 fn blank_drones(alloc: Global, session: &Session) -> Result<Vec<Drone>, AllocError>
     ensures many { IfOk result (λ drones. length drones.items ≡ drone_count session.now) }
     ensures blank { IfOk result (λ drones. All (λ (d : Drone). shown d ≡ blank_drone session.now) drones.items) }

@@ -18,10 +18,8 @@ use integer_player::last_values;
 use std::alloc::{AllocError, Global};
 use traj_codec::Traj;
 
-// The bytes of a row.
 const ROW_BYTES: usize = 32;
 
-// The rows of a memory.
 const ROWS: usize = 128;
 
 fn address_word(address: u16) -> [u8; 4]
@@ -37,7 +35,6 @@ fn address_word(address: u16) -> [u8; 4]
     ]
 }
 
-// The bytes of row `k` of a memory.
 fn row_of(memory: &[u8; MEMORY_BYTES], k: usize) -> &[u8]
     requires { k < ROWS }
     ensures { result.now ≡ take 32 (drop (32 * k) memory.now) }
@@ -46,7 +43,6 @@ fn row_of(memory: &[u8; MEMORY_BYTES], k: usize) -> &[u8]
     &memory[from..from + ROW_BYTES]
 }
 
-// Row `k` of a memory.
 fn put_row(text: &mut Lines, memory: &[u8; MEMORY_BYTES], k: usize) -> Result<(), AllocError>
     requires { k < ROWS }
     ensures { OnOk result (text.new ≡ text.old ++ memory_line memory.now k) }
@@ -136,8 +132,7 @@ fn put_ending(text: &mut Lines, found: &Option<Traj>) -> Result<(), AllocError>
     }
 }
 
-// What is said of a drone.
-fn put_drone(
+fn put_drone_text(
     text: &mut Lines,
     name: &[u8],
     drone: &Drone,
@@ -153,7 +148,7 @@ fn put_drone(
 }
 
 // What is said of a drone, with how the trajectory ends to which its memory decodes under this id.
-fn put_found(
+fn put_decoded(
     alloc: Global,
     text: &mut Lines,
     name: &[u8],
@@ -165,7 +160,7 @@ fn put_found(
         × (text.new ≡ text.old ++ drone_text name.now (shown drone.now) found)) }
 {
     let found = curve_of(alloc, drone, id)?;
-    put_drone(text, name, drone, &found)
+    put_drone_text(text, name, drone, &found)
 }
 
 /// The text of what the drones of a world hold, with the trajectories to which their memories decode
@@ -188,7 +183,7 @@ pub fn memory_text(
     let mut text = Lines::make(alloc);
     text.line(b"rehearsal done", &[])?;
     for d in 0..names.len() {
-        put_found(alloc, &mut text, names[d].as_slice(), world.drone(d), id)?;
+        put_decoded(alloc, &mut text, names[d].as_slice(), world.drone(d), id)?;
     }
     Ok(text)
 }

@@ -1,8 +1,8 @@
 -- A packet that is acknowledged, and what it lets into flight.
-use Rattle.upload_core.proofs.Prelude.{common_steps, ◌≡◌, ◌≢◌, ◌==◌, ℕ, zero, suc, ◌+◌, ◌<◌, ◌≤◌, Bool, true, false, not, cond, ◌&&◌, ◌||◌, List, [], ◌∷◌, length, filter, set, refl, ap, sym, subst, ◌∙◌, arith, inl, inr, All, range_with_len, flat_map, cases_eq, cases_lt, eq-eqb, ne_eqb, false≢true, false_from_ne_true, or_parts, or_left, or_right, and_from, list_any-append, All-nil, All-cons, All-set, All-from_get_or, length-set, Phase, Sent, Upload, drone_count, first_of, count_of, phase_of, includes, flight_after, sent_to, Settled-from, allowed-few, InFlight, Row, packets_in, among, is_marked, row_at, marked, window_at, counted, count_in, IsBetween, IsBegun, IsLow, IsRow, RowStands, RowsStand, in_windows}
+use Rattle.upload_core.proofs.Prelude.{common_steps, ◌≡◌, ◌≢◌, ◌==◌, ℕ, ◌+◌, ◌<◌, ◌≤◌, Bool, true, false, not, cond, ◌&&◌, ◌||◌, List, [], ◌∷◌, length, filter, set, refl, ap, sym, subst, ◌∙◌, arith, inl, inr, All, range_with_len, cases_eq, cases_lt, eq-eqb, ne_eqb, false≢true, false_from_ne_true, or_parts, or_left, or_right, and_from, All-set, All-from_get_or, length-set, Phase, Sent, Upload, drone_count, first_of, count_of, phase_of, includes, flight_after, sent_to, Settled-from, allowed-few, InFlight, Row, packets_in, among, is_marked, row_at, marked, window_at, counted, count_in, IsBegun, IsLow, IsRow, RowStands, RowsStand, in_windows}
 use Rattle.std.proofs.lemmas.List.Filters.{length-filter_both}
 use Rattle.std.proofs.lemmas.List.FromFn.{length-range_with_len}
-use Rattle.upload_core.proofs.Numbers.{between-out, between-weaker, or_nothing, past-in}
+use Rattle.upload_core.proofs.Numbers.{between-weaker, or_nothing, past-in}
 use Rattle.upload_core.proofs.Beginning.{untired-rising}
 use Rattle.upload_core.proofs.Staying.{flight-open, includes-out}
 use Rattle.upload_core.proofs.Windows.{row_at-set_same, row_at-set_other, window-flight, windows-flight, includes-windows, all-settled, news-one, news-all}

@@ -20,7 +20,6 @@ use crtp_packets::{
 };
 use upload_model::{ACCEPTED, Phase, Progress, Reply};
 
-/// The write of a drone to this memory at this address.
 fn write_named(session: &Session, drone: usize, id: u8, address: u32) -> Option<usize>
     requires known { drone < drone_count session.now }
     ensures some { IfSome result (λ k. (k < write_count session.now drone) × (id ≡ session.now.memory_id) × (address ≡ session.now.offset + chunk_start k)) }
@@ -39,7 +38,6 @@ fn write_named(session: &Session, drone: usize, id: u8, address: u32) -> Option<
     Some(k)
 }
 
-/// The read of a drone from this memory at this address.
 fn read_named(session: &Session, drone: usize, id: u8, address: u32) -> Option<usize>
     requires known { drone < drone_count session.now }
     ensures some { IfSome result (λ k. (k < read_count session.now drone) × (id ≡ session.now.memory_id) × (address ≡ read_address session.now k)) }
@@ -58,7 +56,6 @@ fn read_named(session: &Session, drone: usize, id: u8, address: u32) -> Option<u
     Some(k)
 }
 
-/// The one write of a drone that a write answer may answer.
 fn write_for(session: &Session, drone: usize, id: u8, address: u32, status: u8) -> Option<u16>
     requires known { drone < drone_count session.now }
     ensures { IsFor session.now drone (Ok (Up.WriteAnswer id address status)) result }
@@ -72,7 +69,6 @@ fn write_for(session: &Session, drone: usize, id: u8, address: u32, status: u8) 
     }
 }
 
-/// The one read of a drone that a read answer may answer.
 fn read_for(
     session: &Session,
     drone: usize,
@@ -94,7 +90,7 @@ fn read_for(
     }
 }
 
-/// The define or the start of a drone, whichever a command answer may answer.
+// The define or the start of a drone, whichever a command answer may answer.
 fn command_for(session: &Session, drone: usize, first: &[u8; 3], status: u8) -> Option<u16>
     requires known { drone < drone_count session.now }
     ensures { IsFor session.now drone (Ok (Up.CommandAnswer first.now status)) result }
@@ -113,8 +109,8 @@ fn command_for(session: &Session, drone: usize, first: &[u8; 3], status: u8) -> 
     Some(session.first_of(Phase::Starting, drone) as u16)
 }
 
-/// The one packet of a drone that a message may answer: a write or a read by its address, the define or
-/// the start by the command.
+// The one packet of a drone that a message may answer: a write or a read by its address, the define or
+// the start by the command.
 fn candidate(session: &Session, drone: usize, message: &Up) -> Option<u16>
     requires known { drone < drone_count session.now }
     ensures { IsFor session.now drone (Ok message.now) result }
@@ -135,7 +131,7 @@ fn candidate(session: &Session, drone: usize, message: &Up) -> Option<u16>
     }
 }
 
-/// The status that a message carries for packet `k`, which is no read, if it matches it.
+// The status that a message carries for packet `k`, which is no read, if it matches it.
 #[tactic(auto, unfolding(upload_model::specs::Sessions::packet_at))]
 fn status_of(session: &Session, drone: usize, k: usize, message: &Up) -> Option<u8>
     requires known { drone < drone_count session.now }
@@ -174,7 +170,7 @@ fn status_of(session: &Session, drone: usize, k: usize, message: &Up) -> Option<
     }
 }
 
-/// The first place at which a read brought another byte than the load's.
+// The first place at which a read brought another byte than the load's.
 fn first_other(session: &Session, drone: usize, k: usize, bytes: &[u8]) -> Option<usize>
     requires known { drone < drone_count session.now }
     requires in_range { k < read_count session.now drone }
@@ -191,7 +187,7 @@ fn first_other(session: &Session, drone: usize, k: usize, bytes: &[u8]) -> Optio
     None
 }
 
-/// What the bytes that a read brought say of it, which is packet `n` of its drone.
+// What the bytes that a read brought say of it, which is packet `n` of its drone.
 fn compared(session: &Session, drone: u8, k: usize, bytes: &[u8]) -> Reply
     requires known { drone < drone_count session.now }
     requires in_range { k < read_count session.now drone }
@@ -217,7 +213,7 @@ fn compared(session: &Session, drone: u8, k: usize, bytes: &[u8]) -> Reply
     }
 }
 
-/// What a message says of read `k` of a drone, which is its packet `n`.
+// What a message says of read `k` of a drone, which is its packet `n`.
 fn read_said(session: &Session, drone: u8, n: u16, k: usize, message: &Up) -> Reply
     requires known { drone < drone_count session.now }
     requires in_range { k < read_count session.now drone }
@@ -256,7 +252,7 @@ fn read_said(session: &Session, drone: u8, n: u16, k: usize, message: &Up) -> Re
     }
 }
 
-/// What a message says of packet `k` of a drone.
+// What a message says of packet `k` of a drone.
 #[tactic(auto, unfolding(upload_model::specs::Replies::reply_in))]
 fn reply(session: &Session, drone: u8, k: u16, message: &Up) -> Reply
     requires known { drone < drone_count session.now }
@@ -282,8 +278,8 @@ fn reply(session: &Session, drone: u8, k: u16, message: &Up) -> Reply
     }
 }
 
-/// Whether an answer may end the upload for packet `k` of a drone in this phase. With read-back answers
-/// to reads and starts count once the first phase is complete.
+// Whether an answer may end the upload for packet `k` of a drone in this phase. With read-back answers
+// to reads and starts count once the first phase is complete.
 fn counts(session: &Session, phase: Phase, drone: usize, k: usize) -> bool
     requires { drone < drone_count session.now }
     ensures { (done : Packets) → phase ≡ phase_of session.now done → result ≡ counts_for session.now done drone k }
@@ -294,7 +290,7 @@ fn counts(session: &Session, phase: Phase, drone: usize, k: usize) -> bool
     !matches!(phase, Phase::Loading)
 }
 
-/// Takes packet `k` of a drone out of flight, and puts into `out` what comes in.
+// Takes packet `k` of a drone out of flight, and puts into `out` what comes in.
 fn settle(session: &Session, rows: &mut [Row], phase: Phase, drone: usize, k: u16, out: &mut Out)
     requires rows { RowsStand session.now phase rows.old }
     requires known { drone < drone_count session.now }
@@ -314,7 +310,7 @@ fn settle(session: &Session, rows: &mut [Row], phase: Phase, drone: usize, k: u1
     put_news(out, drone, before, rows[drone].next);
 }
 
-/// A good answer to packet `k` of a drone, which is in flight.
+// A good answer to packet `k` of a drone, which is in flight.
 fn acknowledge(
     session: &Session,
     rows: &mut [Row],

@@ -18,7 +18,6 @@ use std::alloc::{AllocError, Global};
 use std::marker::Model;
 use upload_model::{Event, Phase, Progress};
 
-/// The bits of a word.
 const WORD_BITS: usize = u64::BITS as usize;
 
 /// The host of one upload. A contract sees it by `view_of`, and `HostStandsFor` says which lists of
@@ -55,7 +54,7 @@ impl Model for Host {
         × (h.progress ≡ Going → IsReady h.session h.rows.items) };
 }
 
-/// Word `w` of the first `count` packets of a drone.
+// Word `w` of the first `count` packets of a drone.
 fn word_of(row: &Row, count: usize, w: usize) -> u64
     requires few { count ≤ MOST_PACKETS }
     requires in_range { 64 * w < count }
@@ -141,7 +140,6 @@ impl Host {
         }
     }
 
-    /// A tick.
     fn hear_tick(&mut self, out: &mut Out) -> Progress
         ensures session { self.new.session ≡ self.old.session }
         ensures stands { (h : List Event) → HostStandsFor (view_of self.old) h →
@@ -183,7 +181,6 @@ impl Host {
         word_of(&self.rows[drone], self.session.count(drone), w)
     }
 
-    /// A tick while the upload is going.
     fn on_tick(&mut self, out: &mut Out) -> Progress
         requires going { self.old.progress ≡ Progress.Going }
         ensures session { self.new.session ≡ self.old.session }
@@ -200,7 +197,6 @@ impl Host {
         answer
     }
 
-    /// An answer of these bytes while the upload is going.
     fn on_answer(&mut self, drone: u8, packet: &[u8], out: &mut Out) -> Progress
         requires going { self.old.progress ≡ Progress.Going }
         requires not_empty { 1 ≤ length packet.now }

@@ -32,7 +32,6 @@ pub struct Row {
     pub until: u16,
 }
 
-/// These packets without packet `k`.
 fn without(entries: &[InFlight], k: u16) -> Window
     requires { length entries.now ≤ PACKETS_IN_FLIGHT }
     ensures { result.items ≡ filter (λ e. not (e.packet == k)) entries.now }
@@ -46,8 +45,8 @@ fn without(entries: &[InFlight], k: u16) -> Window
     left
 }
 
-/// Brings packets from `next` on into flight, as many as there is room for. Returns the first one that
-/// is left.
+// Brings packets from `next` on into flight, as many as there is room for. Returns the first one that
+// is left.
 fn fill(window: &mut Window, next: u16, until: u16) -> u16
     requires past { next ≤ until }
     requires few { length window.old.items ≤ 4 }
@@ -69,7 +68,7 @@ fn fill(window: &mut Window, next: u16, until: u16) -> u16
     until
 }
 
-/// Counts one tick for each of these packets.
+// Counts one tick for each of these packets.
 fn age(entries: &mut [InFlight])
     requires { All (λ e. e.ticks < TICKS_TO_GIVE_UP) entries.old }
     ensures { entries.new ≡ map older entries.old }
@@ -79,7 +78,7 @@ fn age(entries: &mut [InFlight])
     }
 }
 
-/// The first packet for which the host gives up.
+// The first packet for which the host gives up.
 fn tired(entries: &[InFlight]) -> Option<u16>
     ensures { result ≡ tired_in entries.now }
 {

@@ -20,7 +20,7 @@ pub const MOST_SENT: usize = MOST_DRONES * PACKETS_IN_FLIGHT;
 /// The packets that are to be sent, by drone and number.
 pub type Out = ArrayVec<Sent, MOST_SENT>;
 
-/// The row of a drone to which nothing has happened.
+// The row of a drone to which nothing has happened.
 fn first_row(session: &Session, drone: usize) -> Row
     requires { drone < drone_count session.now }
     ensures { IsStarting session.now drone result }
@@ -41,7 +41,7 @@ pub fn first_rows(alloc: Global, session: &Session) -> Result<Vec<Row>, AllocErr
     Ok(rows)
 }
 
-/// Puts one drone's packets after the others.
+// Puts one drone's packets after the others.
 fn put_window(out: &mut Out, drone: usize, entries: &[InFlight])
     requires known { drone < MOST_DRONES }
     requires room { length out.old.items + length entries.now ≤ MOST_SENT }
@@ -105,7 +105,7 @@ pub fn is_settled(rows: &[Row]) -> bool
     true
 }
 
-/// Counts one tick for all that is in flight.
+// Counts one tick for all that is in flight.
 fn age(rows: &mut [Row])
     requires { All (λ (row : Row). All (λ e. e.ticks < TICKS_TO_GIVE_UP) row.window.items) rows.old }
     ensures { rows.new ≡ map older_row rows.old }
@@ -115,7 +115,7 @@ fn age(rows: &mut [Row])
     }
 }
 
-/// The first packet for which the host gives up.
+// The first packet for which the host gives up.
 fn first_tired(rows: &[Row]) -> Option<Sent>
     requires few { length rows.now ≤ MOST_DRONES }
     requires rows { (d : ℕ) → d < length rows.now → IsRow 0 (row_at rows.now d) }
@@ -159,7 +159,7 @@ pub fn tick(rows: &mut [Row], out: &mut Out) -> Progress
     }
 }
 
-/// Lets a phase's packets into flight, where all of the phase before are acknowledged.
+// Lets a phase's packets into flight, where all of the phase before are acknowledged.
 fn begin(session: &Session, rows: &mut [Row], before: Phase, phase: Phase)
     requires rows { RowsStand session.now before rows.old }
     requires settled { (d : ℕ) → d < drone_count session.now → (row_at rows.old d).window.items ≡ [] }

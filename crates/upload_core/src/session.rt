@@ -12,10 +12,10 @@ use std::alloc::{AllocError, Global};
 use std::marker::Model;
 use upload_model::{Listed, Load, MEMORY_BYTES, Phase};
 
-/// The most writes of a drone, one for each piece of a whole memory.
+// The most writes of a drone, one for each piece of a whole memory.
 const MOST_WRITES: usize = 171;
 
-/// The most reads of a drone, of a whole memory.
+// The most reads of a drone, of a whole memory.
 const MOST_READS: usize = (MEMORY_BYTES + READ_BYTES - 1) / READ_BYTES;
 
 /// The most packets of a drone: its writes, its define, its reads and its start.

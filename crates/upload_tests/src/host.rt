@@ -9,13 +9,13 @@ use std::alloc::{AllocError, Global};
 use std::test::Fail;
 use upload_core::{Event, Host, Listed, Load, Out, Progress, Sent, Session, Settings};
 
-/// A trajectory of 28 bytes, so of two writes, with one segment.
+// A trajectory of 28 bytes, so of two writes, with one segment.
 const PATH: [u8; 28] = [
     0, 0, 0, 0, 0xE8, 3, 0, 0, 3, 0xD0, 7, 0, 0, 0, 0, 0, 0, 0xE8, 3, 0xE8, 3, 0xE8, 3, 0xE8, 3, 0,
     0, 0,
 ];
 
-/// A session that brings the path to two drones.
+// A session that brings the path to two drones.
 fn two_drones(alloc: Global, start: bool) -> Result<Session, AllocError>
     ensures { IfOk result (λ s. drone_count s ≡ 2) }
 {
@@ -36,7 +36,7 @@ fn two_drones(alloc: Global, start: bool) -> Result<Session, AllocError>
     Session::make(alloc, settings, &loads, false, start)
 }
 
-/// One byte with 255 segments and the path with two, for the last places of two drones.
+// One byte with 255 segments and the path with two, for the last places of two drones.
 fn last_places(alloc: Global) -> Result<Session, AllocError>
     ensures { IfOk result (λ s. drone_count s ≡ 2) }
 {
@@ -57,7 +57,7 @@ fn last_places(alloc: Global) -> Result<Session, AllocError>
     Ok(Session::of_loads(settings, loads, false, true))
 }
 
-/// These bytes come up from a drone; the test ends where they are no packet.
+// These bytes come up from a drone; the test ends where they are no packet.
 fn up(drone: u8, bytes: &[u8]) -> Result<Event, Fail> {
     let packet = from_bytes(bytes).map_err(|_| Fail::from(AllocError))?;
     Ok(Event::Up { drone, packet })
@@ -67,7 +67,7 @@ fn sent(drone: u8, packet: u16) -> Sent {
     Sent { drone, packet }
 }
 
-/// Whether these are all packets of a drone, in order.
+// Whether these are all packets of a drone, in order.
 fn has_packets(session: &Session, drone: usize, wanted: &[&[u8]]) -> bool {
     if drone >= session.drones() || session.count(drone) != wanted.len() {
         return false;
@@ -80,7 +80,7 @@ fn has_packets(session: &Session, drone: usize, wanted: &[&[u8]]) -> bool {
     true
 }
 
-/// The packets that bring the path to place 0, and start it.
+// The packets that bring the path to place 0, and start it.
 const PATH_PACKETS: [&[u8]; 4] = [
     &[
         0x4E, 2, 0, 0, 0, 0, 0, 0, 0, 0, 0xE8, 3, 0, 0, 3, 0xD0, 7, 0, 0, 0, 0, 0, 0, 0xE8, 3,
@@ -91,14 +91,14 @@ const PATH_PACKETS: [&[u8]; 4] = [
     &[0x8C, 5, 0, 0, 0, 0, 0, 0, 0x80, 0x3F],
 ];
 
-/// The packets that bring one byte to place 4068.
+// The packets that bring one byte to place 4068.
 const LAST_BYTE: [&[u8]; 3] = [
     &[0x4E, 3, 0xE4, 0x0F, 0, 0, 7],
     &[0x8C, 6, 9, 1, 1, 0xE4, 0x0F, 0, 0, 255],
     &[0x8C, 5, 0, 0, 0, 9, 0, 0, 0x80, 0x3F],
 ];
 
-/// The packets that bring the path to place 4068.
+// The packets that bring the path to place 4068.
 const LAST_PATH: [&[u8]; 4] = [
     &[
         0x4E, 3, 0xE4, 0x0F, 0, 0, 0, 0, 0, 0, 0xE8, 3, 0, 0, 3, 0xD0, 7, 0, 0, 0, 0, 0, 0, 0xE8,
@@ -133,7 +133,7 @@ fn packets_are_those_of_the_format(rt: HostRuntime) -> Result<(), Fail> {
     Ok(())
 }
 
-/// Whether a drone's first open packet is this one, and these bits are those of its first 64 packets.
+// Whether a drone's first open packet is this one, and these bits are those of its first 64 packets.
 fn is_at(host: &Host, drone: usize, cursor: usize, word: u64) -> bool {
     drone < host.session().drones()
         && host.session().count(drone) > 0

@@ -12,7 +12,7 @@ use std::io::{self, Read};
 use std::test::Fail;
 use upload_core::{Host, Listed, Load, Session, Settings};
 
-/// A trajectory of 28 bytes, so of two writes, with one segment.
+// A trajectory of 28 bytes, so of two writes, with one segment.
 const PATH: [u8; 28] = [
     0, 0, 0, 0, 0xE8, 3, 0, 0, 3, 0xD0, 7, 0, 0, 0, 0, 0, 0, 0xE8, 3, 0xE8, 3, 0xE8, 3, 0xE8, 3, 0,
     0, 0,
@@ -300,7 +300,7 @@ fn the_twentieth_tick_gives_up(rt: HostRuntime) -> Result<(), Fail> {
 
 // A byte without a place and the last answer are judged before the next read.
 #[test]
-fn no_read_behind_the_end(rt: HostRuntime) -> Result<(), Fail> {
+fn no_read_after_the_end(rt: HostRuntime) -> Result<(), Fail> {
     let alloc = rt.alloc();
     let rows: [(&[u8], u8); 6] = [
         (b"\x50\x00", 11),

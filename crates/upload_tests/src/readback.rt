@@ -6,13 +6,13 @@ use std::alloc::{AllocError, Global};
 use std::test::Fail;
 use upload_core::{Event, Host, Listed, Load, Out, Progress, Sent, Session, Settings};
 
-/// A trajectory of 28 bytes, so of two writes and two reads, with one segment.
+// A trajectory of 28 bytes, so of two writes and two reads, with one segment.
 const PATH: [u8; 28] = [
     0, 0, 0, 0, 0xE8, 3, 0, 0, 3, 0xD0, 7, 0, 0, 0, 0, 0, 0, 0xE8, 3, 0xE8, 3, 0xE8, 3, 0xE8, 3, 0,
     0, 0,
 ];
 
-/// A session with read-back that brings the path to one drone.
+// A session with read-back that brings the path to one drone.
 fn one_drone(alloc: Global, start: bool) -> Result<Session, AllocError> {
     let mut loads = Vec::new(alloc);
     loads.push(Load {
@@ -27,7 +27,7 @@ fn one_drone(alloc: Global, start: bool) -> Result<Session, AllocError> {
     Session::make(alloc, settings, &loads, true, start)
 }
 
-/// These bytes come up from a drone; the test ends where they are no packet.
+// These bytes come up from a drone; the test ends where they are no packet.
 fn up(drone: u8, bytes: &[u8]) -> Result<Event, Fail> {
     let packet = from_bytes(bytes).map_err(|_| Fail::from(AllocError))?;
     Ok(Event::Up { drone, packet })

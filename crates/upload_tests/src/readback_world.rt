@@ -9,13 +9,13 @@ use std::alloc::{AllocError, Global};
 use std::test::Fail;
 use upload_core::{Listed, Load, Progress, Session, Settings};
 
-/// A trajectory of 28 bytes, so of two writes and two reads, with one segment.
+// A trajectory of 28 bytes, so of two writes and two reads, with one segment.
 const PATH: [u8; 28] = [
     0, 0, 0, 0, 0xE8, 3, 0, 0, 3, 0xD0, 7, 0, 0, 0, 0, 0, 0, 0xE8, 3, 0xE8, 3, 0xE8, 3, 0xE8, 3, 0,
     0, 0,
 ];
 
-/// A load of these bytes.
+// A load of these bytes.
 fn load_of(alloc: Global, bytes: &[u8]) -> Result<Load, AllocError>
     ensures len { IfOk result (λ l. length l.bytes ≡ length bytes.now) }
     ensures pieces { IfOk result (λ l. l.pieces ≡ 1) }
@@ -26,7 +26,7 @@ fn load_of(alloc: Global, bytes: &[u8]) -> Result<Load, AllocError>
     })
 }
 
-/// The same bytes for each of some drones, with read-back.
+// The same bytes for each of some drones, with read-back.
 fn session_of(
     alloc: Global,
     bytes: &[u8],
@@ -53,7 +53,7 @@ fn session_of(
     Session::make(alloc, settings, &loads, true, start)
 }
 
-/// The bytes on their way to drones whose memories are blank.
+// The bytes on their way to drones whose memories are blank.
 fn world_of(
     alloc: Global,
     bytes: &[u8],
@@ -75,14 +75,14 @@ fn world_of(
     World::make(alloc, session, blank)
 }
 
-/// A name of at most 16 bytes.
+// A name of at most 16 bytes.
 fn name_of(bytes: &[u8]) -> Name {
     let mut name = Name::new();
     let _ = name.try_extend_from_slice(bytes);
     name
 }
 
-/// What a schedule of two drones leads the world to.
+// What a schedule of two drones leads the world to.
 fn run(alloc: Global, world: &mut World, text: &[u8]) -> Result<Progress, AllocError>
     requires { length text.now ≤ 1048576 }
     ensures { length world.new.drones ≡ length world.old.drones }
@@ -98,7 +98,7 @@ fn run(alloc: Global, world: &mut World, text: &[u8]) -> Result<Progress, AllocE
     Ok(world.progress())
 }
 
-/// Whether a drone has these bytes from place 0 on, its entry, and all else is blank.
+// Whether a drone has these bytes from place 0 on, its entry, and all else is blank.
 fn has_bytes(drone: &Drone, bytes: &[u8]) -> bool {
     bytes.len() <= drone.memory.len()
         && &drone.memory[..bytes.len()] == bytes
@@ -111,14 +111,14 @@ fn has_bytes(drone: &Drone, bytes: &[u8]) -> bool {
         && drone.defs[1..].iter().all(|def| def.is_none())
 }
 
-/// The writes and the define are taken and heard.
+// The writes and the define are taken and heard.
 const LOADED: &[u8] =
     b"take solo 1\ntake solo 2\nhear solo 1\nhear solo 2\ntake solo 3\nhear solo 3\n";
 
-/// Both reads are taken, and then heard.
+// Both reads are taken, and then heard.
 const READ: &[u8] = b"take solo 4\ntake solo 5\nhear solo 4\nhear solo 5\n";
 
-/// Byte 3 of the first drone is read as 7.
+// Byte 3 of the first drone is read as 7.
 const DIFFERS: Progress = Progress::Differs {
     drone: 0,
     address: 3,
@@ -232,7 +232,7 @@ fn starts_wait_for_all_reads(rt: HostRuntime) -> Result<(), Fail> {
     Ok(())
 }
 
-/// Each packet from `first` on is taken and its answer heard at once, drone by drone.
+// Each packet from `first` on is taken and its answer heard at once, drone by drone.
 fn fly(world: &mut World, drones: u8, first: u32, packets: u32) -> Result<(), AllocError>
     requires { first + packets < 65536 }
     ensures { length world.new.drones ≡ length world.old.drones }

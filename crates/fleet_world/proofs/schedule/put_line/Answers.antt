@@ -1,6 +1,6 @@
-use Rattle.fleet_world.proofs.Prelude.{◌∙◌, ◌+◌, ◌<◌, ℕ, List, Option, Result, length, map, sym, ap, arith, common_steps, Absent, Line, numbered, WorldEvent, events_of, put_event, behind}
+use Rattle.fleet_world.proofs.Prelude.{◌∙◌, ◌+◌, ◌<◌, ℕ, List, Option, Result, length, map, sym, ap, arith, common_steps, Absent, Line, numbered, WorldEvent, events_of, put_event, prepended}
 use Rattle.fleet_world.proofs.LineLemmas.{blank_line, line_front}
-use Rattle.fleet_world.proofs.ScheduleLaws.{behind-more}
+use Rattle.fleet_world.proofs.ScheduleLaws.{prepended-more}
 use Rattle.fleet_world.proofs.schedule.put_line.Goals as goal
 
 pub returns-then-is_empty-clause-ok : goal.returns-then-is_empty-clause-ok
@@ -15,10 +15,10 @@ returns-in-Some-clause-ok c = λ later.
     let some : 0 < length c.in_ok-words.words.items = rw c.as_slice.ensures.value at (let n = c.line_word_count-count.ensures.some in let m = c.line_word_count-count.ensures.within in let l : 0 < length c.as_slice.result.now = omega arith in l) in
     let front = line_front c.requires.line.0 c.args.line.now c.requires.line.1 c.in_ok-words.words.items c.line_word_count-count.result _ c.args.number lines
     c.requires.line.2 c.in_ok-words.ensures some (rw c.as_slice.ensures.value at c.line_word_count-count.ensures.line c.args.line.now) in
-    ap (λ (es : List WorldEvent). behind es rest) c.in_ok-put-in-Some.ensures
-    ∙ behind-more old c.in-Some.event c.args.number rest
-    ∙ ap (λ (o : Option WorldEvent). behind old (put_event c.args.number o rest)) (sym c.in-Some.is ∙ (rw c.as_slice-2.ensures.value at c.event_on.ensures))
-    ∙ ap (λ (ls : List Line). behind old (events_of c.args.readback names ls)) (sym front)
+    ap (λ (es : List WorldEvent). prepended es rest) c.in_ok-put-in-Some.ensures
+    ∙ prepended-more old c.in-Some.event c.args.number rest
+    ∙ ap (λ (o : Option WorldEvent). prepended old (put_event c.args.number o rest)) (sym c.in-Some.is ∙ (rw c.as_slice-2.ensures.value at c.event_on.ensures))
+    ∙ ap (λ (ls : List Line). prepended old (events_of c.args.readback names ls)) (sym front)
 
 pub returns-clause-fault : goal.returns-clause-fault
 returns-clause-fault c = λ later.

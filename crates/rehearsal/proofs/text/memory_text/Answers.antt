@@ -5,7 +5,7 @@ use Rattle.rehearsal.proofs.text.memory_text.Goals as goal
 
 pub loop-d-preserved : goal.loop-d-preserved
 loop-d-preserved c =
-    let said = c.in_ok-put_found.ensures in
+    let said = c.in_ok-put_decoded.ensures in
     let drone : DroneState = shown c.drone.result.now in
     let same : state_at c.args.world.now.drones c.loop-d.d ≡ drone = ap state_of c.drone.ensures in
     let part : List ℕ = drone_text c.as_slice.result.now drone said.0 in
