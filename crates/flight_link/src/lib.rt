@@ -6,7 +6,8 @@
 //! `specs/Flights.antt`), what was sent where a read or a write failed, and that no answer waits for more than 4,096
 //! further bytes; `flight_link_law` says that each list of bytes leads to one end, and `orders_law` what drones were
 //! told. The crate stands on `fleet_io` for bytes in and out, on `flight_frames` for frames, on `flight_director` and
-//! `flight_model` for the director, on `link_frames` for the end frame, and on `arrayvec`.
+//! `flight_model` for the director, on `link_dialogue` for how any dialogue over a link ends, on `link_frames` for the
+//! bytes of the end frame, and on `arrayvec`.
 #![tactic(auto)]
 
 mod begun;
