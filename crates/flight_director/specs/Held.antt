@@ -1,5 +1,6 @@
 -- What the machine's functions are given.
 use Rattle.std.specs.Prelude.{◌≡◌, ℕ, ◌≤◌, ◌<◌, List, length, Option, Some, None, slice_get, All}
+use Rattle.fleet_math.specs.Limits.{most_drones}
 use Rattle.integer_player.specs.Played.{IsPlayable, duration_of}
 use Rattle.traj_codec.specs.declared.traj.Traj.{Traj}
 use Rattle.flight_model.specs.declared.flights.Orders.{Orders}
@@ -11,9 +12,9 @@ use Rattle.flight_model.specs.declared.events.Event.TheVariants.{Clock, Seen, An
 use Rattle.flight_model.specs.Directors.{State, drones}
 use Rattle.flight_model.specs.declared.states.Track.{Track}
 
--- orders to 32 drones at most
+-- one order for each drone of a show at most
 abbrev pub AreFew : Orders → Type 0
-AreFew (Each orders) = length orders ≤ 32
+AreFew (Each orders) = length orders ≤ most_drones
 AreFew (ToEach o) = Unit {0}
 
 -- Each curve of the show may be played, up to the show's end.
@@ -21,12 +22,12 @@ pub record IsCurve (f : Flight) (t : Traj) : Type 0 where
   pub playable : IsPlayable t
   pub lasts : f.show_ms ≤ duration_of t
 
--- A flight that fits the machine: at most 32 drones, and curves that last as long as the show.
+-- A flight that fits the machine: as few drones as a show, and curves that last as long as the show.
 pub record IsHeld (f : Flight) : Type 0 where
-  pub few : drones f ≤ 32
+  pub few : drones f ≤ most_drones
   pub short : f.show_ms ≤ 1000000000
   pub orders : All (λ (step : Step). AreFew step.orders) f.steps
-  pub conditions : All (λ (step : Step). length step.conditions ≤ 32) f.steps
+  pub conditions : All (λ (step : Step). length step.conditions ≤ most_drones) f.steps
   pub curves : All (IsCurve f) f.curves
 
 -- the director as a contract sees it

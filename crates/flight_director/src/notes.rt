@@ -7,10 +7,11 @@ ghost use Rattle.flight_model.specs.Directors.{note_if as word_note, falls_silen
 
 use crate::tracks::{is_astray, is_lost, is_silent, older};
 use arrayvec::ArrayVec;
+use fleet_math::MOST_DRONES;
 use flight_model::{Fault, Note, Sample, Track};
 
 /// The most notes of one event.
-pub const MOST_NOTES: usize = 33;
+pub const MOST_NOTES: usize = MOST_DRONES + 1;
 
 /// The notes of an event.
 pub type Notes = ArrayVec<Note, MOST_NOTES>;
@@ -18,7 +19,7 @@ pub type Notes = ArrayVec<Note, MOST_NOTES>;
 /// Puts one note after the others, if there is one.
 pub fn note_if(out: &mut Notes, noted: bool, drone: usize, fault: Fault)
     requires known { drone < 256 }
-    requires room { length out.old.items < 33 }
+    requires room { length out.old.items < MOST_NOTES }
     ensures noted { out.new.items ≡ out.old.items ++ word_note noted drone fault }
     ensures few { length out.new.items ≤ length out.old.items + 1 }
 {
@@ -30,7 +31,6 @@ pub fn note_if(out: &mut Notes, noted: bool, drone: usize, fault: Fault)
     }
 }
 
-// Whether a drone falls silent while this time passes.
 fn falls_silent(silence: u32, ms: u32, seen: &Option<Sample>) -> bool
     ensures { result ≡ word_falls silence ms seen.now }
 {
@@ -39,8 +39,8 @@ fn falls_silent(silence: u32, ms: u32, seen: &Option<Sample>) -> bool
 
 /// The drones that fall silent while this time passes.
 pub fn note_silent(out: &mut Notes, silence: u32, ms: u32, tracks: &[Track])
-    requires few { length tracks.now ≤ 32 }
-    requires room { length out.old.items + length tracks.now ≤ 32 }
+    requires few { length tracks.now ≤ MOST_DRONES }
+    requires room { length out.old.items + length tracks.now ≤ MOST_DRONES }
     ensures noted { out.new.items ≡ out.old.items ++ silent_from silence ms 0 tracks.now }
     ensures few { length out.new.items ≤ length out.old.items + length tracks.now }
 {
@@ -57,7 +57,7 @@ pub fn note_silent(out: &mut Notes, silence: u32, ms: u32, tracks: &[Track])
 /// What becomes known of a drone with a sample: its track before and after it.
 pub fn note_sample(out: &mut Notes, d: usize, before: &Track, after: &Track)
     requires known { d < 256 }
-    requires room { length out.old.items ≤ 31 }
+    requires room { length out.old.items < MOST_DRONES }
     ensures noted { out.new.items ≡ out.old.items ++ sample_notes d before.now after.now }
     ensures few { length out.new.items ≤ length out.old.items + 2 }
 {

@@ -11,22 +11,20 @@ ghost use Rattle.flight_director.specs.Held.{IsHeld, AreFew, with_tracks};
 
 use crate::curve::is_kept;
 use crate::fit::{all_fit, first_unfit};
-use crate::notes::{Notes, note_if, note_sample, note_silent};
+use crate::notes::{MOST_NOTES, Notes, note_if, note_sample, note_silent};
 use crate::tracks::{age, all_disarmed, all_down, any_silent, later, off_with};
 use arrayvec::ArrayVec;
+use fleet_math::MOST_DRONES;
 use flight_model::{
     Choice, Event, Fault, Flight, Frame, Note, Order, Orders, Phase, Sample, Signal, Step, Track,
 };
 use std::marker::Model;
 
-/// The most frames of one event: 33 notes, and one order for each drone.
-pub const MOST_OUT: usize = 65;
+/// The most frames of one event: its notes, and one order for each drone.
+pub const MOST_OUT: usize = MOST_NOTES + MOST_DRONES;
 
 /// What goes out at an event.
 pub type Out = ArrayVec<Frame, MOST_OUT>;
-
-// The most drones of a flight.
-const MOST_DRONES: usize = 32;
 
 // How long the director waits for drones after a step is over, and for the last of them to disarm.
 const PATIENCE_MS: u64 = 8000;
@@ -99,7 +97,6 @@ fn passed(e: &Event) -> u32
     }
 }
 
-// Whether this is a rise.
 fn is_rise_order(order: &Order) -> bool
     ensures { result ≡ word_rise (Some (Some order.now)) }
 {
@@ -147,10 +144,9 @@ fn landing(f: &Flight, n: usize, d: usize) -> Option<Order>
     }
 }
 
-// Puts an order to one drone after the others, if there is one.
 fn put_order(out: &mut Out, d: usize, order: Option<Order>)
     requires known { d < 256 }
-    requires room { length out.old.items < 65 }
+    requires room { length out.old.items < MOST_OUT }
     ensures put { out.new.items ≡ out.old.items ++ frames_from d (order ∷ []) }
     ensures few { length out.new.items ≤ length out.old.items + 1 }
 {
@@ -164,8 +160,8 @@ fn put_order(out: &mut Out, d: usize, order: Option<Order>)
 
 // Puts the landing of all that have risen after the others.
 fn put_landings(out: &mut Out, f: &Flight, n: usize)
-    requires few { drones f.now ≤ 32 }
-    requires room { length out.old.items ≤ 33 }
+    requires few { drones f.now ≤ MOST_DRONES }
+    requires room { length out.old.items ≤ MOST_NOTES }
     ensures { out.new.items ≡ out.old.items ++ frames_from 0 (landings f.now n) }
 {
     for d in 0..f.curves.as_slice().len() {
@@ -175,8 +171,8 @@ fn put_landings(out: &mut Out, f: &Flight, n: usize)
 
 // Puts what is ordered of each drone after the others.
 fn put_orders(out: &mut Out, orders: &[Option<Order>])
-    requires few { length orders.now ≤ 32 }
-    requires room { length out.old.items ≤ 33 }
+    requires few { length orders.now ≤ MOST_DRONES }
+    requires room { length out.old.items ≤ MOST_NOTES }
     ensures { out.new.items ≡ out.old.items ++ frames_from 0 orders.now }
 {
     for d in 0..orders.len() {
@@ -192,7 +188,7 @@ fn put_orders(out: &mut Out, orders: &[Option<Order>])
 // Puts the frames of these orders after the others.
 fn put_all(out: &mut Out, orders: &Orders)
     requires small { AreFew orders.now }
-    requires room { length out.old.items ≤ 33 }
+    requires room { length out.old.items ≤ MOST_NOTES }
     ensures { out.new.items ≡ out.old.items ++ frames_of orders.now }
 {
     match orders {
@@ -204,7 +200,7 @@ fn put_all(out: &mut Out, orders: &Orders)
 // Puts what step k orders after the others, if there is one.
 fn put_step_at(out: &mut Out, steps: &[Step], k: usize)
     requires small { All (λ (step : StepWord). AreFew step.orders) steps.now }
-    requires room { length out.old.items ≤ 33 }
+    requires room { length out.old.items ≤ MOST_NOTES }
     ensures { out.new.items ≡ out.old.items ++ frames_of_step (slice_get steps.now k) }
 {
     if k >= steps.len() {
@@ -213,17 +209,15 @@ fn put_step_at(out: &mut Out, steps: &[Step], k: usize)
     put_all(out, &steps[k].orders);
 }
 
-// Puts one frame after the others.
 fn put_one(out: &mut Out, frame: Frame)
-    requires { length out.old.items < 65 }
+    requires { length out.old.items < MOST_OUT }
     ensures { out.new.items ≡ out.old.items ++ frame ∷ [] }
 {
     out.push(frame);
 }
 
-// Puts the notes of an event first.
 fn put_notes(out: &mut Out, notes: &[Note])
-    requires few { length notes.now ≤ 33 }
+    requires few { length notes.now ≤ MOST_NOTES }
     requires empty { out.old.items ≡ [] }
     ensures { out.new.items ≡ map Noted notes.now }
 {
@@ -232,7 +226,6 @@ fn put_notes(out: &mut Out, notes: &[Note])
     }
 }
 
-// Puts one drone's track where it belongs.
 fn put_track(tracks: &mut [Track], d: usize, track: Track)
     requires { d < length tracks.old }
     ensures { tracks.new ≡ slice_set tracks.old d track }
@@ -240,7 +233,6 @@ fn put_track(tracks: &mut [Track], d: usize, track: Track)
     tracks[d] = track;
 }
 
-// Whether these orders start the show.
 fn is_start(orders: &Orders) -> bool
     ensures { result ≡ starts_with orders.now }
 {
@@ -274,14 +266,13 @@ impl State {
         }
     }
 
-    // Whether a sample was taken in the show.
     fn in_show(&self, f: &Flight, x: &Sample) -> bool
         ensures { result ≡ in_show f.now self.now x.now }
     {
         self.showing && x.age <= self.waited && self.waited - x.age <= f.show_ms
     }
 
-    // Whether it was taken in the show, and off the drone's curve.
+    // Whether a sample was taken in the show, and off the drone's curve.
     fn is_off(&self, f: &Flight, d: usize, x: &Sample) -> bool
         requires { IsHeld f.now }
         ensures { result ≡ word_off f.now self.now d x.now }
@@ -289,7 +280,6 @@ impl State {
         self.in_show(f, x) && !is_kept(f, d, self.waited - x.age, x)
     }
 
-    // A track with one sample more.
     fn track_with(&self, f: &Flight, d: usize, t: &Track, x: &Sample) -> Track
         requires { IsHeld f.now }
         ensures { result ≡ word_track f.now self.now d t.now x.now }
@@ -304,7 +294,6 @@ impl State {
         }
     }
 
-    // Whether an event harms the show.
     fn harms(&self, f: &Flight, e: &Event) -> bool
         requires { IsHeld f.now }
         ensures { result ≡ word_harms f.now self.now e.now }
@@ -324,7 +313,6 @@ impl State {
         }
     }
 
-    // The tracks take an event.
     #[tactic(auto, unfolding(flight_model::specs::Directors::tracks_after))]
     fn take(&mut self, f: &Flight, e: &Event)
         requires { IsHeld f.now }
@@ -379,7 +367,7 @@ impl State {
         requires held { IsHeld f.now }
         requires empty { out.old.items ≡ [] }
         ensures noted { out.new.items ≡ word_noticed f.now self.now e.now }
-        ensures few { length out.new.items ≤ 32 }
+        ensures few { length out.new.items ≤ MOST_DRONES }
     {
         match e {
             Event::Clock { ms } => note_silent(out, f.silence, *ms, self.tracks.as_slice()),
@@ -443,7 +431,7 @@ impl State {
     fn unfit(&self, f: &Flight) -> usize
         requires { IsHeld f.now }
         ensures value { result ≡ unfit_in f.now self.now (next_step f.now self.now) }
-        ensures few { result ≤ 32 }
+        ensures few { result ≤ MOST_DRONES }
     {
         match f.steps.as_slice().get(self.next) {
             None => 0,
@@ -455,7 +443,6 @@ impl State {
         }
     }
 
-    // Whether it is on its way.
     fn is_flying(&self) -> bool
         ensures { result ≡ word_flying self.now.phase }
     {
@@ -465,7 +452,7 @@ impl State {
     // Puts a note where the next step is due no more, in a state that has heard an event.
     fn overdue(&self, f: &Flight, e: &Event, out: &mut Notes)
         requires held { IsHeld f.now }
-        requires room { length out.old.items ≤ 32 }
+        requires room { length out.old.items ≤ MOST_DRONES }
         ensures noted { out.new.items ≡ out.old.items ++ word_overdue f.now self.now e.now }
         ensures few { length out.new.items ≤ length out.old.items + 1 }
     {
@@ -484,7 +471,6 @@ impl State {
         }
     }
 
-    // Whether one of these does.
     fn any_grave(&self, f: &Flight, notes: &[Note]) -> bool
         ensures { result ≡ list_any (λ (n : Note). word_grave f.now self.now n.fault) notes.now }
     {
@@ -548,16 +534,14 @@ impl State {
         }
     }
 
-    // Puts what the next step orders after the others.
     fn put_step(&self, f: &Flight, out: &mut Out)
         requires held { IsHeld f.now }
-        requires room { length out.old.items ≤ 33 }
+        requires room { length out.old.items ≤ MOST_NOTES }
         ensures { out.new.items ≡ out.old.items ++ frames_of_step (next_step f.now self.now) }
     {
         put_step_at(out, f.steps.as_slice(), self.next);
     }
 
-    // The end of the flight.
     fn end(&self, f: &Flight) -> Frame
         ensures { result ≡ Over (is_flown f.now self.now) (is_flown f.now self.now && self.now.kept) }
     {
@@ -572,7 +556,7 @@ impl State {
     #[tactic(auto, unfolding(flight_model::specs::Directors::done))]
     fn put(&self, f: &Flight, choice: Choice, out: &mut Out)
         requires held { IsHeld f.now }
-        requires room { length out.old.items ≤ 33 }
+        requires room { length out.old.items ≤ MOST_NOTES }
         ensures { out.new.items ≡ out.old.items ++ done f.now self.now choice }
     {
         match choice {
@@ -590,7 +574,6 @@ impl State {
         }
     }
 
-    // To a new phase.
     fn to_phase(&mut self, phase: Phase)
         ensures { self.new ≡ into self.old phase }
     {
@@ -600,7 +583,6 @@ impl State {
         self.showing = false;
     }
 
-    // The next step has begun.
     #[tactic(auto, unfolding(flight_model::specs::Directors::led))]
     fn begin(&mut self, f: &Flight)
         requires { self.old.next < length f.now.steps }
@@ -621,7 +603,6 @@ impl State {
         };
     }
 
-    // Where a choice leads.
     #[tactic(auto, unfolding(flight_model::specs::Directors::led))]
     fn lead(&mut self, f: &Flight, choice: Choice)
         requires { choice ≡ Begin → self.old.next < length f.now.steps }
