@@ -1,18 +1,19 @@
 //! Whether a sample of the show is at its drone's curve.
 
-ghost use Rattle.std.specs.Prelude.{◌≡◌, ℕ, ◌^◌, ◌<◌, ◌≤◌, ◌*◌, ◌*ℤ◌, ◌-ℤ◌, ◌≤ℤ◌, pos, slice_get, All};
+ghost use Rattle.std.specs.Prelude.{◌≡◌, ℕ, ◌^◌, ◌<◌, ◌≤◌, ◌*◌, ◌*ℤ◌, ◌-ℤ◌, pos, slice_get, All};
 ghost use Rattle.std.specs.List.{list_any};
 ghost use Rattle.fleet_math.specs.Numbers.{IsBelow};
 ghost use Rattle.integer_player.specs.Played.{IsPlayable, duration_of, played};
-ghost use Rattle.flight_model.specs.Samples.{square, is_within as word_within, is_kept as word_kept, instants_near};
+ghost use Rattle.flight_model.specs.Samples.{is_within as word_within, is_kept as word_kept, instants_near};
 ghost use Rattle.flight_director.specs.Held.{IsHeld};
 
+use crate::distance::is_short;
 use flight_model::{Flight, Sample};
 use integer_player::at;
 use traj_codec::Traj;
 
 // Micrometres in a millimetre.
-const SCALE: i64 = 1000;
+const MICROMETRES: u32 = 1000;
 
 // How far a sample is from a place on an axis, in micrometres.
 fn aside(x: i16, p: i64) -> i64
@@ -20,16 +21,7 @@ fn aside(x: i16, p: i64) -> i64
     ensures value { result ≡ pos 1000 *ℤ x -ℤ p }
     ensures small { IsBelow 1040000000 result }
 {
-    SCALE * x as i64 - p
-}
-
-fn squared(z: i64) -> i64
-    requires { IsBelow 1040000000 z }
-    ensures value { result ≡ square z }
-    ensures low { pos 0 ≤ℤ result }
-    ensures high { result ≤ℤ pos 1081600000000000000 }
-{
-    z * z
+    MICROMETRES as i64 * x as i64 - p
 }
 
 // Whether a sample is within `stray` of a place in micrometres.
@@ -37,10 +29,12 @@ fn is_within(stray: u16, p: &[i64; 4], x: &Sample) -> bool
     requires { All (IsBelow (10 ^ 9)) p.now }
     ensures { result ≡ word_within stray p.now x.now }
 {
-    let dx = squared(aside(x.x, p[0]));
-    let dy = squared(aside(x.y, p[1]));
-    let dz = squared(aside(x.z, p[2]));
-    dx + dy + dz <= squared(SCALE * stray as i64)
+    is_short(
+        MICROMETRES * stray as u32,
+        aside(x.x, p[0]),
+        aside(x.y, p[1]),
+        aside(x.z, p[2]),
+    )
 }
 
 // Whether a sample is within `stray` of a curve at one instant.

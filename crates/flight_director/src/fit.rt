@@ -1,33 +1,23 @@
 //! Whether drones meet the conditions of a step.
 
-ghost use Rattle.std.specs.Prelude.{◌≡◌, ℕ, ◌+◌, ◌≤◌, length, ◌-ℤ◌, pos, int_le};
-ghost use Rattle.flight_model.specs.Samples.{differ_by as words_differ, is_at as word_at, is_fit_by, is_fit as word_fit};
+ghost use Rattle.std.specs.Prelude.{◌≡◌, ℕ, ◌+◌, ◌≤◌, length};
+ghost use Rattle.flight_model.specs.Samples.{is_at as word_at, is_fit_by, is_fit as word_fit};
 ghost use Rattle.flight_model.specs.Directors.{all_fit as word_all, first_unfit as word_first};
 
+use crate::distance::is_short;
 use flight_model::{Condition, Position, Sample, Track};
 
-// Whether the second number is at least the first less this.
-fn is_less_by(most: u16, a: i16, b: i16) -> bool
-    ensures { result ≡ int_le (a -ℤ b) (pos most) }
-{
-    a as i32 - b as i32 <= most as i32
-}
-
-// Whether two numbers differ by at most this.
-fn differ_by(most: u16, a: i16, b: i16) -> bool
-    ensures { result ≡ words_differ most a b }
-{
-    is_less_by(most, a, b) && is_less_by(most, b, a)
-}
-
-// Whether a sample is at a position.
 fn is_at(bound: u16, p: &Position, x: &Sample) -> bool
     ensures { result ≡ word_at bound p.now x.now }
 {
-    differ_by(bound, x.x, p.x) && differ_by(bound, x.y, p.y) && differ_by(bound, x.z, p.z)
+    is_short(
+        bound as u32,
+        x.x as i64 - p.x as i64,
+        x.y as i64 - p.y as i64,
+        x.z as i64 - p.z as i64,
+    )
 }
 
-// Whether a sample meets a condition.
 fn is_fit_sample(silence: u32, w: &Condition, x: &Sample) -> bool
     ensures { result ≡ is_fit_by silence w.now x.now }
 {

@@ -6,6 +6,7 @@
 
 mod curve;
 mod director;
+mod distance;
 mod fit;
 mod notes;
 mod state;

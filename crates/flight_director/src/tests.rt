@@ -281,6 +281,34 @@ fn flies_a_whole_flight(rt: HostRuntime) -> Result<(), Fail> {
     Ok(())
 }
 
+// How many orders go out at the operator's go, with the first drone so far aside of its pad. 100 mm are allowed.
+fn orders_aside(alloc: Global, x: i16, y: i16, z: i16) -> Result<usize, AllocError> {
+    let mut d = Director::make(flight(alloc, true)?);
+    let mut all = Vec::new(alloc);
+    hear_both(&mut d, 0, 0, false, true, &mut all)?;
+    hear(
+        &mut d,
+        Event::Seen {
+            drone: 0,
+            sample: sample(x, y, z, false, true),
+        },
+        &mut all,
+    )?;
+    say(&mut d, Signal::Go, &mut all)?;
+    Ok(all.len())
+}
+
+#[test]
+fn measures_in_a_straight_line(rt: HostRuntime) -> Result<(), Fail> {
+    for (x, y, z) in [(0, -100, 0), (60, 80, 0), (-48, 64, -60), (57, -57, 57)] {
+        assert_eq!(rt; orders_aside(rt.alloc(), x, y, z)?, 2, "{x} {y} {z}");
+    }
+    for (x, y, z) in [(1, -100, 0), (60, 81, 0), (-48, 64, -61), (58, -58, 58), (100, 100, 100)] {
+        assert_eq!(rt; orders_aside(rt.alloc(), x, y, z)?, 0, "{x} {y} {z}");
+    }
+    Ok(())
+}
+
 #[test]
 fn lands_and_halts_at_the_word(rt: HostRuntime) -> Result<(), Fail> {
     let alloc = rt.alloc();
@@ -333,285 +361,6 @@ fn flies_on_past_a_silent_drone(rt: HostRuntime) -> Result<(), Fail> {
             }
         }]
         .as_slice()
-    );
-    Ok(())
-}
-
-// ---- random events against the clauses of the law
-
-fn random(seed: &mut u64) -> u64 {
-    let mut x = *seed;
-    x ^= x << 13;
-    x ^= x >> 7;
-    x ^= x << 17;
-    *seed = x;
-    x
-}
-
-fn random_clock(seed: &mut u64) -> Event {
-    let most = if random(seed) % 50 == 0 { 600 } else { 150 };
-    Event::Clock {
-        ms: (random(seed) % most) as u32,
-    }
-}
-
-fn random_sample(seed: &mut u64, armed: bool, z: i16) -> Event {
-    let drone = (random(seed) % 2) as u8;
-    let aside = if random(seed) % 400 == 0 { 400 } else { 0 };
-    Event::Seen {
-        drone,
-        sample: Sample {
-            age: (random(seed) % 30) as u32,
-            x: if drone == 0 { 0 } else { 2000 },
-            y: aside,
-            z,
-            ready: random(seed) % 50 != 0,
-            armed,
-            lost: random(seed) % 4000 == 0,
-            down: z == 0,
-        },
-    }
-}
-
-fn said(signal: Signal) -> Event {
-    Event::Said { signal }
-}
-
-fn answered(drone: u8, status: u8) -> Event {
-    Event::Answered { drone, status }
-}
-
-// An event that is likely to bring the flight on, and sometimes one that isn't.
-fn random_event(seed: &mut u64, armed: bool, z: i16) -> Event {
-    let kind = random(seed) % 1000;
-    if kind < 200 {
-        return random_clock(seed);
-    }
-    if kind < 920 {
-        return random_sample(seed, armed, z);
-    }
-    if kind < 998 {
-        return said(Signal::Go);
-    }
-    match random(seed) % 6 {
-        0 => said(Signal::Land),
-        1 => said(Signal::Stop),
-        2 => answered(0, 1),
-        _ => answered(1, 0),
-    }
-}
-
-// The place of an order in the plan of a drone: arm, rise, start, land, disarm; then landing and halt.
-fn rank(order: &Order) -> usize {
-    match order {
-        Order::Arm => 0,
-        Order::Rise { .. } => 1,
-        Order::Go { .. } => 9,
-        Order::Start => 2,
-        Order::Land { ms, .. } => if *ms == 4000 { 5 } else { 3 },
-        Order::Disarm => 6,
-        Order::Halt => 7,
-    }
-}
-
-// Whether these ranks are a front of arm, rise, start, land; then landing, disarm and halt, each at most once.
-fn is_only(ranks: &[usize]) -> bool {
-    let mut wanted = 0;
-    let mut last = 4;
-    for r in ranks {
-        if *r < 4 {
-            if *r != wanted || last > 4 {
-                return false;
-            }
-            wanted += 1;
-        } else {
-            if *r <= last && last > 4 || *r > 7 {
-                return false;
-            }
-            last = *r;
-        }
-    }
-    true
-}
-
-// The order of a frame to the first drone.
-fn order_in(frame: &Frame) -> Option<Order> {
-    match frame {
-        Frame::To { drone: 0, order } => Some(*order),
-        Frame::ToAll { order } => Some(*order),
-        _ => None,
-    }
-}
-
-fn is_signal(e: &Event, wanted: Signal) -> bool {
-    match e {
-        Event::Said { signal } => *signal == wanted,
-        _ => false,
-    }
-}
-
-// How many flights were flown, ended, were halted and were landed.
-#[derive(Drop)]
-struct Counts {
-    flown: u32,
-    over: u32,
-    stops: u32,
-    lands: u32,
-}
-
-impl Counts {
-    fn count(&mut self, frame: &Frame) {
-        if let Frame::Over { flown, .. } = frame {
-            self.over = self.over.saturating_add(1);
-            if *flown {
-                self.flown = self.flown.saturating_add(1);
-            }
-        }
-    }
-}
-
-// What was heard of both drones so far, and what the first one was told, which it obeys.
-#[derive(Drop)]
-struct Watch {
-    told: Vec<usize>,
-    ages: [u32; 2],
-    near: [bool; 2],
-    landed: bool,
-    halted: bool,
-    z: i16,
-    armed: bool,
-}
-
-impl Watch {
-    fn new(alloc: Global) -> Watch {
-        Watch {
-            told: Vec::new(alloc),
-            ages: [1_000_000; 2],
-            near: [false; 2],
-            landed: false,
-            halted: false,
-            z: 0,
-            armed: false,
-        }
-    }
-
-    fn hear(&mut self, e: &Event) {
-        match e {
-            Event::Clock { ms } => {
-                self.ages[0] = self.ages[0].saturating_add(*ms);
-                self.ages[1] = self.ages[1].saturating_add(*ms);
-            }
-            Event::Seen { drone, sample } => {
-                let k = (*drone % 2) as usize;
-                self.ages[k] = sample.age;
-                self.near[k] = sample.y == 0 && !sample.lost;
-            }
-            _ => {}
-        }
-    }
-
-    // Whether a step may order this: each drone is fresh and at its place; arm and start go out at the operator's
-    // go alone.
-    fn may_begin(&self, rank: usize, e: &Event) -> bool {
-        let fresh = self.ages[0] <= 500 && self.ages[1] <= 500;
-        let near = self.near[0] && self.near[1];
-        let waits = rank == 0 || rank == 2;
-        fresh && near && !self.landed && (!waits || is_signal(e, Signal::Go))
-    }
-
-    fn obey(&mut self, order: &Order) {
-        match order {
-            Order::Arm => self.armed = true,
-            Order::Rise { .. } => self.z = TOP,
-            Order::Land { .. } => self.z = 0,
-            Order::Disarm | Order::Halt => {
-                self.armed = false;
-                self.z = 0;
-            }
-            _ => {}
-        }
-    }
-
-    // An order to the first drone. The answer says whether it may come: after halt nothing does, and halt comes at
-    // the operator's stop alone.
-    fn take(&mut self, order: &Order, e: &Event) -> Result<bool, AllocError> {
-        let place = rank(order);
-        self.told.push(place)?;
-        self.obey(order);
-        let due = place >= 4 || self.may_begin(place, e);
-        let asked = place != 7 || is_signal(e, Signal::Stop);
-        Ok(due && asked && !self.halted)
-    }
-
-    // After the answer to an event.
-    fn note(&mut self, e: &Event, counts: &mut Counts) {
-        if is_signal(e, Signal::Stop) {
-            counts.stops = counts.stops.saturating_add(1);
-            self.halted = true;
-        }
-        if is_signal(e, Signal::Land) {
-            counts.lands = counts.lands.saturating_add(1);
-            self.landed = true;
-        }
-    }
-}
-
-// One event. An answer of `false` is a clause that does not hold.
-fn keeps_at(
-    d: &mut Director,
-    e: &Event,
-    watch: &mut Watch,
-    counts: &mut Counts,
-) -> Result<bool, AllocError> {
-    watch.hear(e);
-    let mut out = Out::new();
-    d.event(e, &mut out);
-    let mut holds = true;
-    for frame in out.as_slice() {
-        counts.count(frame);
-        if let Some(order) = order_in(frame) {
-            let allowed = watch.take(&order, e)?;
-            holds = holds && allowed;
-        }
-    }
-    watch.note(e, counts);
-    Ok(holds)
-}
-
-// One list of events.
-fn keeps_the_law(alloc: Global, seed: &mut u64, counts: &mut Counts) -> Result<bool, AllocError> {
-    let mut d = Director::make(flight(alloc, random(seed) % 2 == 0)?);
-    let mut watch = Watch::new(alloc);
-    for _ in 0..900 {
-        let e = random_event(seed, watch.armed, watch.z);
-        if !keeps_at(&mut d, &e, &mut watch, counts)? {
-            return Ok(false);
-        }
-    }
-    Ok(is_only(watch.told.as_slice()))
-}
-
-#[test]
-fn keeps_the_law_at_random(rt: HostRuntime) -> Result<(), Fail> {
-    let mut seed: u64 = 0x9E37_79B9_7F4A_7C15;
-    let mut counts = Counts {
-        flown: 0,
-        over: 0,
-        stops: 0,
-        lands: 0,
-    };
-    for run in 0..1000 {
-        let kept = keeps_the_law(rt.alloc(), &mut seed, &mut counts)?;
-        assert!(rt; kept, "run {run}");
-    }
-    println!(rt;
-        "flown {}, over {}, stops {}, lands {}",
-        counts.flown, counts.over, counts.stops, counts.lands
-    )?;
-    assert!(rt;
-        counts.flown > 50,
-        "too few flights were flown: {}",
-        counts.flown
     );
     Ok(())
 }

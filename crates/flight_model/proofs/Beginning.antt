@@ -1,6 +1,6 @@
 -- When a step begins, and what it may order.
 use Rattle.std.proofs.Common.{◌≡◌, ◌⊎◌, ◌<◌, ◌∷◌, ◌||◌, ◌&&◌, [], List, Bool, true, false, not, refl, sym, subst, None, Some, Option, ℕ, zero, suc, inl, inr, leb, ltb, arith}
-use Rattle.std.specs.Prelude.{ℤ, pos, int_le, map, slice_get, Contains, ◌≤ℤ◌, ◌-ℤ◌}
+use Rattle.std.specs.Prelude.{ℤ, pos, int_le, map, slice_get, Contains, ◌≤ℤ◌, ◌+ℤ◌, ◌-ℤ◌}
 use Rattle.std.proofs.lemmas.Bool.{and_parts, not-true, leb-true, ltb-true, ltb-false}
 use Rattle.std.proofs.lemmas.Int.{ints}
 use Rattle.flight_model.specs.declared.events.Order.{Order}
@@ -13,10 +13,10 @@ use Rattle.flight_model.specs.declared.flights.Condition.{Condition}
 use Rattle.flight_model.specs.declared.flights.Step.{Step}
 use Rattle.flight_model.specs.declared.flights.Flight.{Flight}
 unfoldable use Rattle.flight_model.specs.Samples.{is_fit_by}
-use Rattle.flight_model.specs.Samples.{is_fit, is_at, differ_by}
+use Rattle.flight_model.specs.Samples.{square, is_short, is_fit, is_at}
 unfoldable use Rattle.flight_model.specs.Directors.{heard, is_due, choice, done, led, happens, says}
 use Rattle.flight_model.specs.Directors.{Phase, Steps, Landing, Off, Halted, Ended, Track, State, Choice, Rest, Begin, Descend, Cut, Quit, Finish, chosen, is_fault, is_go, land_order, has_risen, drones, next_step, is_due_step, all_fit}
-use Rattle.flight_model.specs.Law.{orders_to, only_if, DifferBy, IsFit, MayBegin, IsOnward, DueLaw}
+use Rattle.flight_model.specs.Law.{orders_to, only_if, IsFit, MayBegin, IsOnward, DueLaw}
 use Rattle.flight_model.proofs.OrdersTo.{orders_to-landing, orders_to-no_landing}
 use Rattle.flight_model.proofs.Choices.{steps-has, landing-has, off-has, halted-has}
 use Rattle.flight_model.proofs.Telling.{orders_to-says}
@@ -26,16 +26,14 @@ use Rattle.flight_model.proofs.Telling.{orders_to-says}
 int_le-true : (a b : ℤ) → int_le a b ≡ true → a ≤ℤ b
 int_le-true a b h = omega (arith, ints, h)
 
-differ-true : (most : ℕ) (a b : ℤ) → differ_by most a b ≡ true → DifferBy most a b
-differ-true most a b h =
-    let p = and_parts (int_le (a -ℤ b) (pos most)) (int_le (b -ℤ a) (pos most)) h in
-    (int_le-true (a -ℤ b) (pos most) p.0, int_le-true (b -ℤ a) (pos most) p.1)
+short-true : (most : ℕ) (x y z : ℤ) → is_short most x y z ≡ true → (square x +ℤ square y +ℤ square z) ≤ℤ square (pos most)
+short-true most x y z h = int_le-true (square x +ℤ square y +ℤ square z) (square (pos most)) h
 
 implied : (a b : Bool) → (not a || b) ≡ true → a ≡ true → b ≡ true
 implied true b h e = h
 implied false b h e = absurd (cc)
 
-fit-true : (silence : ℕ) (w : Condition) (x : Sample) → is_fit_by silence w x ≡ true → IsFit silence w x
+pub fit-true : (silence : ℕ) (w : Condition) (x : Sample) → is_fit_by silence w x ≡ true → IsFit silence w x
 unfolding is_fit_by
 fit-true silence w x h =
     let fresh = leb x.age silence in
@@ -47,13 +45,9 @@ fit-true silence w x h =
     let q = and_parts ((fresh && there) && kept) ready p.0 in
     let r = and_parts (fresh && there) kept q.0 in
     let s = and_parts fresh there r.0 in
-    let u = and_parts (differ_by w.bound x.x w.position.x && differ_by w.bound x.y w.position.y) (differ_by w.bound x.z w.position.z) s.1 in
-    let v = and_parts (differ_by w.bound x.x w.position.x) (differ_by w.bound x.y w.position.y) u.0 in
     record {
       fresh = leb-true x.age silence s.0;
-      x_near = differ-true w.bound x.x w.position.x v.0;
-      y_near = differ-true w.bound x.y w.position.y v.1;
-      z_near = differ-true w.bound x.z w.position.z u.1;
+      near = short-true w.bound (x.x -ℤ w.position.x) (x.y -ℤ w.position.y) (x.z -ℤ w.position.z) s.1;
       not_lost = not-true x.lost r.1;
       ready = implied w.ready x.ready q.1;
       armed = implied w.armed x.armed p.1;
@@ -114,10 +108,10 @@ due-may f s e flying due = by_step (next_step f s) refl due where
 
 -- ---- only a step that begins orders what is onward
 
-contains-nil : (o : Order) → Contains [] o → ⊥
+pub contains-nil : (o : Order) → Contains [] o → ⊥
 contains-nil o c = omega (arith, c.1)
 
-contains-one : (a o : Order) → Contains (a ∷ []) o → a ≡ o
+pub contains-one : (a o : Order) → Contains (a ∷ []) o → a ≡ o
 contains-one a o c = by_place c.0 c.1 c.2 where
   by_place : (k : ℕ) → k < 1 → Rattle.std.specs.Prelude.slice_index_or (a ∷ []) k o ≡ o → a ≡ o
   by_place zero l e = e
@@ -133,7 +127,7 @@ not_disarm : IsOnward order.Disarm → ⊥
 not_disarm h = elim h [ ]
 
 -- what an event tells a drone, where it is onward, comes of a step
-onward-begins : (f : Flight) (h : State) (d : ℕ) (o : Order) (c : Choice) → IsOnward o → Contains (orders_to d (done f h c)) o → c ≡ Begin
+pub onward-begins : (f : Flight) (h : State) (d : ℕ) (o : Order) (c : Choice) → IsOnward o → Contains (orders_to d (done f h c)) o → c ≡ Begin
 unfolding done
 onward-begins f h d o Rest on has = absurd (contains-nil o has)
 onward-begins f h d o Begin on has = refl

@@ -135,10 +135,10 @@ way_down : (x : ℤ) → moves (leg (legs_of (down_at x)) 0) ≡ true → is_ver
 way_down x moving straight = record { rests = rests-down x; last = leg (legs_of (down_at x)) 0; is_last = rw moving refl; vertical = straight }
 
 -- the three ways of a drone meet
-abbrev pub Meet : Traj → Traj → Traj → Type 0
+abbrev Meet : Traj → Traj → Traj → Type 0
 Meet u s n = (way_ends u ≡ way_begins s) × (way_ends s ≡ way_begins n) × (way_ends n ≡ way_begins u)
 
-pub by_ways : (u v s t n m : Traj) → Some u ≡ Some v → Some s ≡ Some t → Some n ≡ Some m → Meet u s n → Meet v t m
+by_ways : (u v s t n m : Traj) → Some u ≡ Some v → Some s ≡ Some t → Some n ≡ Some m → Meet u s n → Meet v t m
 by_ways u v s t n m a b c meet =
     subst (λ x. Meet x t m) (some_is u v a) (subst (λ x. Meet u x m) (some_is s t b) (subst (λ x. Meet u s x) (some_is n m c) meet)) where
       some_is : (x y : Traj) → Some x ≡ Some y → x ≡ y

@@ -4,6 +4,7 @@ mod OrdersTo
 mod Choices
 mod Telling
 mod Beginning
+mod Rises
 mod Ending
 mod Flown
 mod Quiet
@@ -11,5 +12,5 @@ mod Sightings
 mod Shows
 mod Kept
 mod Planned
-mod RejectedFlights
+mod RejectedPositions
 mod RejectedShows

@@ -1,6 +1,6 @@
 -- The definitions at a small flight: two drones, one leg up, a show of one cue, one leg down.
 use Rattle.std.proofs.Common.{◌≡◌, ◌∷◌, ◌++◌, [], List, Bool, true, false, refl, None, Some, ℕ}
-use Rattle.std.specs.Prelude.{ℤ, pos}
+use Rattle.std.specs.Prelude.{ℤ, pos, negsuc}
 use Rattle.flight_model.specs.declared.events.Order.{Order}
 use Rattle.flight_model.specs.declared.events.Order.TheVariants as order
 use Rattle.flight_model.specs.declared.events.Signal.TheVariants as signal
@@ -12,6 +12,8 @@ use Rattle.flight_model.specs.declared.events.Frame.{Frame}
 use Rattle.flight_model.specs.declared.events.Frame.TheVariants.{To, ToAll, Noted, Over}
 unfoldable use Rattle.flight_model.specs.Legs.{steps_of}
 unfoldable use Rattle.flight_model.specs.Samples.{is_fit_by, is_kept}
+use Rattle.flight_model.specs.Samples.{is_fit}
+use Rattle.flight_model.specs.Rejected.{at_origin, standing}
 unfoldable use Rattle.flight_model.specs.Directors.{tracks_after, heard, is_due, notes, is_fault, choice, done, led, happens, says}
 use Rattle.flight_model.specs.Directors.{start, sent, after, State, Track, Steps}
 unfoldable use Rattle.fleet_math.specs.Decoded.{decoded}
@@ -29,6 +31,9 @@ ready = lift_off ++ (Clock 2000 ∷ second (pos 1000) true false)
 
 abbrev seen_at : ℤ → ℤ → Track
 seen_at x z = record { seen = Some (sample x (pos 0) z true false); off = None }
+
+unfoldable fits : ℤ → ℤ → ℤ → Bool
+fits x y z = is_fit 500 at_origin (Some (standing x y z))
 
 -- both hover at their first places, and have done so for a second
 abbrev at_ready : State
@@ -92,9 +97,13 @@ pub record Rows : Type 0 where
   -- one that doesn't come to its place
   lates : says_all true (record at_last { showing = false; next = 3 }) (both (pos 51) (pos 1000) true false ++ Clock 8999 ∷ Clock 1 ∷ []) ≡
       note 0 fault.Silent ∷ note 1 fault.Silent ∷ note 0 fault.Late ∷ all_land
+  -- near a position is a distance, not one by axis
+  near : fits (pos 48) (pos 64) (pos 0) ≡ true
+  past : fits (pos 80) (pos 1) (pos 0) ≡ false
+  corner : fits (pos 60) (negsuc 59) (pos 0) ≡ false
 
 pub rows : Rows
-unfolding steps_of is_fit_by is_kept tracks_after heard is_due notes is_fault choice done led happens says flight says_all comes_to begun plan decoded moment bernstein
+unfolding steps_of is_fit_by is_kept tracks_after heard is_due notes is_fault choice done led happens says flight says_all comes_to begun plan fits decoded moment bernstein
 rows = record {
   planned = refl;
   rises = refl;
@@ -110,4 +119,7 @@ rows = record {
   astray = refl;
   refuses = refl;
   lates = refl;
+  near = refl;
+  past = refl;
+  corner = refl;
 }

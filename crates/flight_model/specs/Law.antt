@@ -1,5 +1,5 @@
 -- The laws of the flight director: each holds of every flight and every list of events. Kept.antt has one more.
-use Rattle.std.specs.Prelude.{◌≡◌, ◌≢◌, ◌⊎◌, ℕ, ◌<◌, ◌≤◌, Bool, true, false, ◌==◌, if◌then◌else◌, List, [], ◌∷◌, ◌++◌, length, map, take, slice_get, Option, Some, None, ℤ, pos, ◌-ℤ◌, ◌≤ℤ◌, All, Contains, ◌+◌, suc}
+use Rattle.std.specs.Prelude.{◌≡◌, ◌≢◌, ◌⊎◌, ℕ, ◌<◌, ◌≤◌, Bool, true, false, ◌==◌, if◌then◌else◌, List, [], ◌∷◌, ◌++◌, length, map, take, slice_get, Option, Some, None, ℤ, pos, ◌+ℤ◌, ◌-ℤ◌, ◌≤ℤ◌, All, Contains, ◌+◌, suc}
 use Rattle.std.specs.List.{flat_map, list_any}
 use Rattle.flight_model.specs.declared.events.Order.{Order}
 use Rattle.flight_model.specs.declared.events.Order.TheVariants as order
@@ -10,9 +10,11 @@ use Rattle.flight_model.specs.declared.events.Event.TheVariants.{Seen, Answered,
 use Rattle.flight_model.specs.declared.events.Note.{Note}
 use Rattle.flight_model.specs.declared.events.Frame.{Frame}
 use Rattle.flight_model.specs.declared.events.Frame.TheVariants.{To, ToAll, Noted, Over}
+use Rattle.flight_model.specs.declared.flights.Position.{Position}
 use Rattle.flight_model.specs.declared.flights.Condition.{Condition}
 use Rattle.flight_model.specs.declared.flights.Step.{Step}
 use Rattle.flight_model.specs.declared.flights.Flight.{Flight}
+use Rattle.flight_model.specs.Samples.{square}
 use Rattle.flight_model.specs.Directors.{Phase, is_off, next_step, is_silent, all_fit, Steps, Landing, Off, Halted, Ended, Track, State, start, drones, order_in, land_order, landings, frames_from, has_risen, heard, notes, is_fault, happens, says, after, sent}
 
 -- ---- only: what a drone is told
@@ -56,16 +58,15 @@ OnlyLaw = (f : Flight) (events : List Event) (d : ℕ) → OnlyOrders f d (order
 
 -- ---- due: when a step begins
 
--- a and b differ by at most this
-abbrev pub DifferBy : ℕ → ℤ → ℤ → Type 0
-DifferBy most a b = ((a -ℤ b) ≤ℤ pos most) × ((b -ℤ a) ≤ℤ pos most)
+-- The sample is at most so far from the position, in a straight line: the squares on the three axes add up to at most
+-- the square of that.
+abbrev pub IsNear : ℕ → Position → Sample → Type 0
+IsNear most p x = (square (x.x -ℤ p.x) +ℤ square (x.y -ℤ p.y) +ℤ square (x.z -ℤ p.z)) ≤ℤ square (pos most)
 
--- The sample is fresh and meets the condition: within the bound on each axis, not lost, ready and armed where asked.
+-- The sample is fresh and meets the condition: it is within the bound, not lost, ready and armed where asked.
 pub record IsFit (silence : ℕ) (w : Condition) (x : Sample) : Type 0 where
   pub fresh : x.age ≤ silence
-  pub x_near : DifferBy w.bound x.x w.position.x
-  pub y_near : DifferBy w.bound x.y w.position.y
-  pub z_near : DifferBy w.bound x.z w.position.z
+  pub near : IsNear w.bound w.position x
   pub not_lost : x.lost ≡ false
   pub ready : w.ready ≡ true → x.ready ≡ true
   pub armed : w.armed ≡ true → x.armed ≡ true

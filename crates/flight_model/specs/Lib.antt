@@ -2,6 +2,7 @@ pub mod Legs
 pub mod Samples
 pub mod Directors
 pub mod Law
+pub mod Rises
 pub mod Kept
 pub mod Plan
 pub mod Example

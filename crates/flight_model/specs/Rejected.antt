@@ -1,9 +1,5 @@
--- What `IsFlight` and `IsKeptShow` reject, each beside a neighbour that they accept.
-use Rattle.std.specs.Prelude.{ℕ, Bool, true, false, not, List, [], ◌∷◌, ℤ, pos}
-use Rattle.traj_codec.specs.declared.traj.Segment.{Segment}
-use Rattle.traj_codec.specs.declared.traj.Traj.{Traj}
-use Rattle.traj_codec.specs.declared.traj.Element.{Element}
-use Rattle.traj_codec.specs.declared.traj.Element.TheVariants.{Constant, Cubic}
+-- What `IsFit` and `IsKeptShow` reject, each beside a neighbour that they accept.
+use Rattle.std.specs.Prelude.{ℕ, Bool, true, false, not, List, [], ◌∷◌, ℤ, pos, negsuc}
 use Rattle.flight_model.specs.declared.events.Order.TheVariants as order
 use Rattle.flight_model.specs.declared.events.Sample.{Sample}
 use Rattle.flight_model.specs.declared.events.Signal.TheVariants as signal
@@ -12,95 +8,32 @@ use Rattle.flight_model.specs.declared.events.Event.TheVariants.{Clock, Seen, Sa
 use Rattle.flight_model.specs.declared.flights.Condition.{Condition}
 use Rattle.flight_model.specs.declared.flights.Orders.TheVariants.{All as ToEach}
 use Rattle.flight_model.specs.declared.flights.Flight.{Flight}
-use Rattle.flight_model.specs.Legs.{Routes, IsFlight}
+use Rattle.flight_model.specs.Law.{IsFit}
 use Rattle.flight_model.specs.Kept.{IsKeptShow}
-use Rattle.flight_model.specs.Example.{rest, show_at}
+use Rattle.flight_model.specs.Example.{show_at}
 
--- ---- three ways
+-- ---- near a position
 
--- two seconds on x and z
-abbrev pub leg_by : Element → Element → Segment
-leg_by x z = record { ms = 2000; elements = x ∷ Constant ∷ z ∷ Constant ∷ [] }
+-- at most 80 mm from the origin, with nothing else asked
+abbrev pub at_origin : Condition
+at_origin = record { position = record { x = pos 0; y = pos 0; z = pos 0 }; bound = 80; ready = false; armed = false }
 
--- from x and z on, by these
-abbrev pub way_from : ℤ → ℤ → List Segment → Traj
-way_from x z segments = record { start = x ∷ pos 0 ∷ z ∷ pos 0 ∷ []; segments = segments }
+-- a drone stands there
+abbrev pub standing : ℤ → ℤ → ℤ → Sample
+standing x y z =
+    record { age = 0; x = x; y = y; z = z; ready = true; armed = false; lost = false; down = true }
 
--- straight up by a metre, and straight down again
-abbrev pub ascent : Segment
-ascent = leg_by Constant (rest (pos 0) (pos 1000))
-
-abbrev pub descent : Segment
-descent = leg_by Constant (rest (pos 1000) (pos 0))
-
--- aside by a millimetre, and back again
-abbrev pub aside : Segment
-aside = leg_by (rest (pos 0) (pos 1)) Constant
-
-abbrev pub back : Segment
-back = leg_by (rest (pos 1) (pos 0)) Constant
-
--- up and aside at once, and down and back at once
-abbrev pub slanted_up : Segment
-slanted_up = leg_by (rest (pos 0) (pos 1)) (rest (pos 0) (pos 1000))
-
-abbrev pub slanted_down : Segment
-slanted_down = leg_by (rest (pos 1) (pos 0)) (rest (pos 1000) (pos 0))
-
--- up by a metre, and not from rest to rest
-abbrev pub restless : Segment
-restless = leg_by Constant (Cubic (pos 0 ∷ pos 1000 ∷ pos 1000 ∷ []))
-
--- holds at this x and z
-abbrev pub held_at : ℤ → ℤ → Traj
-held_at x z = way_from x z (leg_by Constant Constant ∷ [])
-
--- the ways of one drone
-abbrev pub alone : Traj → Traj → Traj → Routes
-alone up show down = record { up = up ∷ []; show = show ∷ []; down = down ∷ []; stray = 100; near = 100; at_place = 50 }
-
--- a metre up, a hold and a metre down
-abbrev pub hop : Routes
-hop =
-    alone (way_from (pos 0) (pos 0) (ascent ∷ [])) (held_at (pos 0) (pos 1000))
-    (way_from (pos 0) (pos 1000) (descent ∷ []))
-
--- up, then aside; a hold; back, then down
-abbrev pub bent_hop : Routes
-bent_hop =
-    alone (way_from (pos 0) (pos 0) (ascent ∷ aside ∷ [])) (held_at (pos 1) (pos 1000))
-    (way_from (pos 1) (pos 1000) (back ∷ descent ∷ []))
-
--- Each has one thing in another way than `hop` or `bent_hop`.
-pub record FlightRows : Type 0 where
-  pub straight : IsFlight hop
-  pub bent : IsFlight bent_hop
-  -- as many drones up, in the show and down
-  pub none_up : IsFlight (record hop { up = [] }) → ⊥
-  pub none_down : IsFlight (record hop { down = [] }) → ⊥
-  -- the ends are a millimetre apart: before the show, after it, and at the pad
-  pub high_show : IsFlight (alone (way_from (pos 0) (pos 0) (ascent ∷ [])) (held_at (pos 0) (pos 1001))
-      (way_from (pos 0) (pos 1001) (leg_by Constant (rest (pos 1001) (pos 0)) ∷ []))) → ⊥
-  pub low_return : IsFlight (alone (way_from (pos 0) (pos 0) (ascent ∷ [])) (held_at (pos 0) (pos 1000))
-      (way_from (pos 0) (pos 999) (leg_by Constant (rest (pos 999) (pos 0)) ∷ []))) → ⊥
-  pub high_pad : IsFlight (alone (way_from (pos 0) (pos 0) (ascent ∷ [])) (held_at (pos 0) (pos 1000))
-      (way_from (pos 0) (pos 1000) (leg_by Constant (rest (pos 1000) (pos 1)) ∷ []))) → ⊥
-  -- from rest to rest
-  pub restless_up : IsFlight (record hop { up = way_from (pos 0) (pos 0) (restless ∷ []) ∷ [] }) → ⊥
-  pub restless_down : IsFlight (alone (way_from (pos 0) (pos 0) (ascent ∷ [])) (held_at (pos 0) (pos 1000))
-      (way_from (pos 0) (pos 1000) (leg_by Constant (Cubic (pos 1000 ∷ pos 0 ∷ pos 0 ∷ [])) ∷ []))) → ⊥
-  -- each drone moves
-  pub still_up : IsFlight (alone (held_at (pos 0) (pos 1000)) (held_at (pos 0) (pos 1000))
-      (way_from (pos 0) (pos 1000) (leg_by Constant (rest (pos 1000) (pos 0)) ∷ ascent ∷ []))) → ⊥
-  pub still_down : IsFlight (alone (way_from (pos 0) (pos 1000) (descent ∷ ascent ∷ [])) (held_at (pos 0) (pos 1000))
-      (held_at (pos 0) (pos 1000))) → ⊥
-  -- at first straight up, at last straight down
-  pub slant_up : IsFlight (alone (way_from (pos 0) (pos 0) (slanted_up ∷ [])) (held_at (pos 1) (pos 1000))
-      (way_from (pos 1) (pos 1000) (back ∷ descent ∷ []))) → ⊥
-  pub slant_down : IsFlight (alone (way_from (pos 0) (pos 0) (ascent ∷ aside ∷ [])) (held_at (pos 1) (pos 1000))
-      (way_from (pos 1) (pos 1000) (slanted_down ∷ []))) → ⊥
-  -- drones may stand as far from their pads as they may stray from their ways up, and no farther
-  pub narrow : IsFlight (record hop { stray = 99 }) → ⊥
+-- The bound is a distance: what is within it on each axis may be too far.
+pub record NearRows : Type 0 where
+  pub on_an_axis : IsFit 500 at_origin (standing (pos 0) (negsuc 79) (pos 0))
+  pub off_it : IsFit 500 at_origin (standing (pos 1) (negsuc 79) (pos 0)) → ⊥
+  -- 48 and 64 make 80
+  pub aslant : IsFit 500 at_origin (standing (pos 48) (pos 64) (pos 0))
+  pub farther : IsFit 500 at_origin (standing (pos 48) (pos 65) (pos 0)) → ⊥
+  pub in_a_corner : IsFit 500 at_origin (standing (pos 60) (pos 60) (pos 0)) → ⊥
+  -- on all three axes: 6,372 and 6,457, where the bound has 6,400
+  pub in_space : IsFit 500 at_origin (standing (pos 48) (pos 48) (pos 42))
+  pub higher : IsFit 500 at_origin (standing (pos 48) (pos 48) (pos 43)) → ⊥
 
 -- ---- a kept show
 
@@ -162,5 +95,5 @@ pub record KeptRows : Type 0 where
   pub early_go : IsKeptShow brief (Said signal.Go ∷ heard_at 0 (pos 0) true ∷ flown_by 0 500 (pos 255) 500) → ⊥
 
 pub record RejectedLaw : Type 0 where
-  pub flights : FlightRows
+  pub positions : NearRows
   pub shows : KeptRows

@@ -11,13 +11,16 @@ use Rattle.flight_model.specs.declared.flights.Condition.{Condition}
 
 -- ---- at a position
 
--- two numbers differ by at most this
-abbrev pub differ_by : ℕ → ℤ → ℤ → Bool
-differ_by most a b = int_le (a -ℤ b) (pos most) && int_le (b -ℤ a) (pos most)
+abbrev pub square : ℤ → ℤ
+square z = z *ℤ z
 
--- on each axis the sample is at most `bound` from the position
+-- the straight line that goes this far on each axis is at most this long
+abbrev pub is_short : ℕ → ℤ → ℤ → ℤ → Bool
+is_short most x y z = int_le (square x +ℤ square y +ℤ square z) (square (pos most))
+
+-- the sample is at most `bound` mm from the position, in a straight line
 abbrev pub is_at : ℕ → Position → Sample → Bool
-is_at bound p x = differ_by bound x.x p.x && differ_by bound x.y p.y && differ_by bound x.z p.z
+is_at bound p x = is_short bound (x.x -ℤ p.x) (x.y -ℤ p.y) (x.z -ℤ p.z)
 
 -- The sample meets the condition: it is fresh, at the position, not lost, and ready and armed where the condition asks
 -- for that.
@@ -33,15 +36,10 @@ is_fit silence w (Some x) = is_fit_by silence w x
 
 -- ---- on its curve
 
-abbrev pub square : ℤ → ℤ
-square z = z *ℤ z
-
 -- the sample is within `stray` mm of a point in micrometres, in a straight line
 abbrev pub is_within : ℕ → List ℤ → Sample → Bool
 is_within stray p x =
-    int_le
-    (square (pos 1000 *ℤ x.x -ℤ at p 0) +ℤ square (pos 1000 *ℤ x.y -ℤ at p 1) +ℤ square (pos 1000 *ℤ x.z -ℤ at p 2))
-    (square (pos (1000 * stray)))
+    is_short (1000 * stray) (pos 1000 *ℤ x.x -ℤ at p 0) (pos 1000 *ℤ x.y -ℤ at p 1) (pos 1000 *ℤ x.z -ℤ at p 2)
 
 -- the instants of a show that are at most half of `late` from this one, in whole milliseconds
 abbrev pub instants_near : (late total ms : ℕ) → List ℕ

@@ -24,7 +24,7 @@ pub struct Leg {
 #[derive(Clone, Copy, Debug, PartialEq, Eq)]
 pub struct Condition {
     pub position: Position,
-    /// How far from the position it may be on each axis, in millimetres.
+    /// How far from the position it may be in a straight line, in millimetres.
     pub bound: u16,
     /// Whether it has to be ready, and armed.
     pub ready: bool,

@@ -3,6 +3,7 @@
 ghost use Rattle.std.specs.Prelude.{◌≡◌};
 ghost use Rattle.flight_model.specs.Plan.{PlanLaw};
 ghost use Rattle.flight_model.specs.Law.{OnlyLaw, DueLaw, LandLaw, FaultLaw, HaltLaw, OverLaw, QuietLaw};
+ghost use Rattle.flight_model.specs.Rises.{RiseLaw};
 ghost use Rattle.flight_model.specs.Kept.{KeptLaw};
 ghost use Rattle.flight_model.specs.Example.{ExampleLaw};
 ghost use Rattle.flight_model.specs.Rejected.{RejectedLaw};
@@ -16,6 +17,7 @@ pub fn plan_law()
 pub fn director_law()
     ensures only { OnlyLaw }
     ensures due { DueLaw }
+    ensures rise { RiseLaw }
     ensures land { LandLaw }
     ensures fault { FaultLaw }
     ensures halt { HaltLaw }
@@ -29,7 +31,7 @@ pub fn example_law()
     ensures { ExampleLaw }
 {}
 
-/// Small flights and shows that `IsFlight` and `IsKeptShow` reject, each beside a neighbour that they accept.
+/// Positions and shows that `IsFit` and `IsKeptShow` reject, each beside a neighbour that they accept.
 pub fn rejected_law()
     ensures { RejectedLaw }
 {}

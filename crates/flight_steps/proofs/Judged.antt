@@ -289,7 +289,7 @@ narrow-to w l =
     let t : nat_le w.near w.stray ≡ true = grind (arith, nat_tests) in
     ap (λ (b : Bool). cond b None (Some (fault.Narrow w.near w.stray))) t
 
-route-of : (w : Routes) → length w.up ≡ length w.show → length w.down ≡ length w.show → route_fault w ≡ None → IsFlight w
+pub route-of : (w : Routes) → length w.up ≡ length w.show → length w.down ≡ length w.show → route_fault w ≡ None → IsFlight w
 route-of w ups downs e =
     let f = or-of (seams_fault 0 w.up w.show w.down) (option_or (ups_fault 0 w.up) (option_or (downs_fault 0 w.down) (narrow w))) e in
     let g = or-of (ups_fault 0 w.up) (option_or (downs_fault 0 w.down) (narrow w)) f.1 in
@@ -303,7 +303,7 @@ route-of w ups downs e =
       joined = seams-of 0 w.up w.show w.down f.0;
     }
 
-route-to : (w : Routes) → IsFlight w → route_fault w ≡ None
+pub route-to : (w : Routes) → IsFlight w → route_fault w ≡ None
 route-to w f =
     or-to (seams_fault 0 w.up w.show w.down) _ (seams-to 0 w.up w.show w.down f.joined)
     (or-to (ups_fault 0 w.up) _ (ups-to 0 w.up f.rise) (or-to (downs_fault 0 w.down) (narrow w) (downs-to 0 w.down f.return) (narrow-to w f.strays)))

@@ -1,3 +1,4 @@
 pub mod Walks
 pub mod Judged
 pub mod Counted
+pub mod Rejections

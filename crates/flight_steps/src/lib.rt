@@ -8,6 +8,7 @@
 mod conditions;
 mod faults;
 mod judging;
+mod law;
 mod legs;
 mod lists;
 mod moves;
@@ -18,5 +19,6 @@ mod tests;
 mod ways;
 
 pub use faults::{FlightFault, Seam, StepsError, Way};
+pub use law::ways_law;
 pub use steps::steps_of;
 pub use ways::{Crews, Name, Ways};

@@ -1,4 +1,5 @@
-//! Three shows that are a flight, beside those that aren't. All values were computed by hand.
+//! Crews that aren't the same, and the steps of a flight of two drones. All values were computed by hand; those of ways
+//! that are no flight are in specs/Rejected.antt.
 
 ghost use Rattle.std.specs.Prelude.{◌≡◌, ◌∷◌, [], drop, length, IfOk};
 ghost use Rattle.traj_codec.specs.Positions.{durations};
@@ -12,53 +13,33 @@ use std::alloc::{AllocError, Global};
 use std::test::Fail;
 use traj_codec::{Element, Segment, Traj};
 
-// How a leg goes on z: from rest to rest, or it holds; by a cubic; at constant speed.
-#[derive(Clone, Copy)]
-enum Kind {
-    Rests,
-    Eases,
-    Runs,
-}
+// A leg of two seconds and a half, from rest to rest: the x, and from where to where on z.
+type Move = (i16, i16, i16);
 
-const RESTS: Kind = Kind::Rests;
+const UP: &[Move] = &[(0, 0, 1000)];
 
-const EASES: Kind = Kind::Eases;
+const DOWN: &[Move] = &[(0, 1000, 0)];
 
-const RUNS: Kind = Kind::Runs;
-
-// A leg of two seconds and a half: from where to where on x, and on z. On x it rests.
-type Move = (Kind, i16, i16, i16, i16);
-
-const UP: &[Move] = &[(RESTS, 0, 0, 0, 1000)];
-
-const DOWN: &[Move] = &[(RESTS, 0, 0, 1000, 0)];
-
-// A way up, where the show stands on x and z, and a way down.
-type Route<'a> = (&'a [Move], i16, i16, &'a [Move]);
-
-const GOOD: Route = (UP, 0, 1000, DOWN);
-
-fn element(kind: Kind, from: i16, to: i16) -> Element {
-    match kind {
-        Kind::Eases => Element::Cubic { v: [from, to, to] },
-        Kind::Runs => Element::Linear { v: to },
-        Kind::Rests if from == to => Element::Constant,
-        Kind::Rests => Element::Seven {
+fn element(from: i16, to: i16) -> Element {
+    if from == to {
+        Element::Constant
+    } else {
+        Element::Seven {
             v: [from, from, from, to, to, to, to],
-        },
+        }
     }
 }
 
 fn segment(m: &Move) -> Segment
     ensures { result.ms ≡ 2500 }
 {
-    let (kind, x, x_to, z, z_to) = *m;
+    let (_, z, to) = *m;
     Segment {
         ms: 2500,
         elements: [
-            element(RESTS, x, x_to),
             Element::Constant,
-            element(kind, z, z_to),
+            Element::Constant,
+            element(z, to),
             Element::Constant,
         ],
     }
@@ -68,7 +49,7 @@ fn segment(m: &Move) -> Segment
 fn way(alloc: Global, moves: &[Move]) -> Result<Traj, AllocError> {
     let (x, z) = match moves.first() {
         None => (0, 0),
-        Some(m) => (m.1, m.3),
+        Some(m) => (m.0, m.1),
     };
     let mut segments = Vec::new(alloc);
     for m in moves {
@@ -95,7 +76,7 @@ fn hover(alloc: Global, x: i16, z: i16) -> Result<Traj, AllocError>
     ensures { IfOk result (λ t. durations t.segments ≡ 2500 ∷ []) }
 {
     let mut segments = Vec::new(alloc);
-    segments.push(segment(&(RESTS, x, x, z, z)))?;
+    segments.push(segment(&(x, z, z)))?;
     Ok(Traj {
         start: [x, 0, z, 0],
         segments: Listed::from_vec(segments),
@@ -146,136 +127,6 @@ fn said(
     steps_of(alloc, crews, &ways)
 }
 
-// What is wrong with a drone.
-#[derive(Clone, Copy)]
-enum Wrong {
-    Nothing,
-    Gap { seam: Seam },
-    Restless { way: Way, cue: usize },
-    Still { way: Way },
-    Slanted { way: Way },
-}
-
-fn error_of(wrong: Wrong, drone: usize) -> Option<StepsError> {
-    let fault = match wrong {
-        Wrong::Nothing => return None,
-        Wrong::Gap { seam } => FlightFault::Gap { seam, drone },
-        Wrong::Restless { way, cue } => FlightFault::Restless { way, drone, cue },
-        Wrong::Still { way } => FlightFault::Still { way, drone },
-        Wrong::Slanted { way } => FlightFault::Slanted { way, drone },
-    };
-    Some(StepsError::Fault { fault })
-}
-
-const ROUTES: [(Route, Wrong); 10] = [
-    (GOOD, Wrong::Nothing),
-    // Ends that are a millimetre apart.
-    (
-        (UP, 0, 1001, &[(RESTS, 0, 0, 1001, 0)]),
-        Wrong::Gap {
-            seam: Seam::UpToShow,
-        },
-    ),
-    (
-        (UP, 0, 1000, &[(RESTS, 0, 0, 999, 0)]),
-        Wrong::Gap {
-            seam: Seam::ShowToDown,
-        },
-    ),
-    (
-        (UP, 0, 1000, &[(RESTS, 0, 0, 1000, 1)]),
-        Wrong::Gap {
-            seam: Seam::DownToUp,
-        },
-    ),
-    (
-        (&[(EASES, 0, 0, 0, 1000)], 0, 1000, DOWN),
-        Wrong::Restless {
-            way: Way::Up,
-            cue: 0,
-        },
-    ),
-    (
-        (
-            UP,
-            0,
-            1000,
-            &[(RESTS, 0, 0, 1000, 1000), (RUNS, 0, 0, 1000, 0)],
-        ),
-        Wrong::Restless {
-            way: Way::Down,
-            cue: 1,
-        },
-    ),
-    // It stands in the air where its way up begins, and where its way down ends.
-    (
-        (
-            &[(RESTS, 0, 0, 1000, 1000)],
-            0,
-            1000,
-            &[(RESTS, 0, 0, 1000, 0), (RESTS, 0, 0, 0, 1000)],
-        ),
-        Wrong::Still { way: Way::Up },
-    ),
-    (
-        (
-            &[(RESTS, 0, 0, 1000, 0), (RESTS, 0, 0, 0, 1000)],
-            0,
-            1000,
-            &[(RESTS, 0, 0, 1000, 1000)],
-        ),
-        Wrong::Still { way: Way::Down },
-    ),
-    // A millimetre aside.
-    (
-        (
-            &[(RESTS, 0, 1, 0, 1000)],
-            1,
-            1000,
-            &[(RESTS, 1, 0, 1000, 1000), (RESTS, 0, 0, 1000, 0)],
-        ),
-        Wrong::Slanted { way: Way::Up },
-    ),
-    (
-        (
-            &[(RESTS, 0, 0, 0, 1000), (RESTS, 0, 1, 1000, 1000)],
-            1,
-            1000,
-            &[(RESTS, 1, 0, 1000, 0)],
-        ),
-        Wrong::Slanted { way: Way::Down },
-    ),
-];
-
-// Each drone alone, and as the second of two.
-#[test]
-fn first_faults_of_routes(rt: HostRuntime) -> Result<(), Fail> {
-    let alloc = rt.alloc();
-    let (both, last) = ([name(97), name(98)], [name(98)]);
-    let crews = Crews {
-        up: &both,
-        show: &both,
-        down: &both,
-    };
-    let alone = Crews {
-        up: &last,
-        show: &last,
-        down: &last,
-    };
-    for ((up, x, z, down), wrong) in ROUTES {
-        let ups = two(alloc, UP, up)?;
-        let shows = hovers(alloc, x, z)?;
-        let downs = two(alloc, DOWN, down)?;
-        let (ups, shows, downs) = (ups.as_slice(), shows.as_slice(), downs.as_slice());
-        let of_both = said(alloc, &crews, 100, ups, shows, downs).err();
-        assert_eq!(rt; of_both, error_of(wrong, 1));
-        let (ups, shows, downs) = (&ups[1..], &shows[1..], &downs[1..]);
-        let of_last = said(alloc, &alone, 100, ups, shows, downs).err();
-        assert_eq!(rt; of_last, error_of(wrong, 0));
-    }
-    Ok(())
-}
-
 // The letters of two drones in each of the three, and the first that is another.
 const CREWS: [([u8; 2], [u8; 2], [u8; 2], Option<(Way, usize)>); 5] = [
     (*b"ab", *b"ab", *b"ab", None),
@@ -306,38 +157,6 @@ fn first_faults_of_names(rt: HostRuntime) -> Result<(), Fail> {
     Ok(())
 }
 
-#[test]
-fn drones_stand_within_their_stray(rt: HostRuntime) -> Result<(), Fail> {
-    let alloc = rt.alloc();
-    let names = [name(97), name(98)];
-    let crews = Crews {
-        up: &names,
-        show: &names,
-        down: &names,
-    };
-    let ups = two(alloc, UP, UP)?;
-    let shows = hovers(alloc, 0, 1000)?;
-    let downs = two(alloc, DOWN, DOWN)?;
-    let said = said(
-        alloc,
-        &crews,
-        101,
-        ups.as_slice(),
-        shows.as_slice(),
-        downs.as_slice(),
-    );
-    assert_eq!(rt;
-        said.err(),
-        Some(StepsError::Fault {
-            fault: FlightFault::Narrow {
-                near: 101,
-                stray: 100,
-            },
-        })
-    );
-    Ok(())
-}
-
 const ARM: Option<Order> = Some(Order::Arm);
 
 const RISE: Option<Order> = Some(Order::Rise { z: 1000, ms: 2500 });
@@ -354,13 +173,13 @@ const LAND: Option<Order> = Some(Order::Land { z: 0, ms: 2500 });
 
 // Two drones that rise one after the other, and land so.
 const RISES: [&[Move]; 2] = [
-    &[(RESTS, 0, 0, 0, 1000), (RESTS, 0, 0, 1000, 1000)],
-    &[(RESTS, 500, 500, 0, 0), (RESTS, 500, 500, 0, 1000)],
+    &[(0, 0, 1000), (0, 1000, 1000)],
+    &[(500, 0, 0), (500, 0, 1000)],
 ];
 
 const LANDS: [&[Move]; 2] = [
-    &[(RESTS, 0, 0, 1000, 1000), (RESTS, 0, 0, 1000, 0)],
-    &[(RESTS, 500, 500, 1000, 0), (RESTS, 500, 500, 0, 0)],
+    &[(0, 1000, 1000), (0, 1000, 0)],
+    &[(500, 1000, 0), (500, 0, 0)],
 ];
 
 // When a step begins; the second drone's height then, its bound, and whether it is ready and armed; and the orders to

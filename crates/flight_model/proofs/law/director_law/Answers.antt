@@ -1,5 +1,6 @@
 use Rattle.flight_model.proofs.Telling as telling
 use Rattle.flight_model.proofs.Beginning as beginning
+use Rattle.flight_model.proofs.Rises as rises
 use Rattle.flight_model.proofs.Ending as ending
 use Rattle.flight_model.proofs.Flown as flown
 use Rattle.flight_model.proofs.Kept as kept
@@ -11,6 +12,9 @@ returns-clause-only c = telling.only_law
 
 pub returns-clause-due : goal.returns-clause-due
 returns-clause-due c = beginning.due_law
+
+pub returns-clause-rise : goal.returns-clause-rise
+returns-clause-rise c = rises.rise_law
 
 pub returns-clause-land : goal.returns-clause-land
 returns-clause-land c = ending.land_law
