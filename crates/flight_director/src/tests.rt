@@ -303,7 +303,13 @@ fn measures_in_a_straight_line(rt: HostRuntime) -> Result<(), Fail> {
     for (x, y, z) in [(0, -100, 0), (60, 80, 0), (-48, 64, -60), (57, -57, 57)] {
         assert_eq!(rt; orders_aside(rt.alloc(), x, y, z)?, 2, "{x} {y} {z}");
     }
-    for (x, y, z) in [(1, -100, 0), (60, 81, 0), (-48, 64, -61), (58, -58, 58), (100, 100, 100)] {
+    for (x, y, z) in [
+        (1, -100, 0),
+        (60, 81, 0),
+        (-48, 64, -61),
+        (58, -58, 58),
+        (100, 100, 100),
+    ] {
         assert_eq!(rt; orders_aside(rt.alloc(), x, y, z)?, 0, "{x} {y} {z}");
     }
     Ok(())
