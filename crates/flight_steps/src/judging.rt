@@ -17,7 +17,6 @@ use flight_model::Leg;
 use listed::Listed;
 use traj_codec::{Element, Segment, Traj};
 
-// Whether two names are the same.
 fn is_same_name(a: &Name, b: &Name) -> bool
     ensures { result ≡ bytes_eq a.now.items b.now.items }
 {
@@ -159,7 +158,6 @@ fn restless(t: &Traj) -> Option<usize>
     None
 }
 
-// What is wrong with a way.
 fn way_fault(way: Way, drone: usize, cue: Option<usize>, one: Option<Leg>) -> Option<FlightFault>
     ensures { result ≡ word_way way drone cue one }
 {
@@ -178,7 +176,6 @@ fn way_fault(way: Way, drone: usize, cue: Option<usize>, one: Option<Leg>) -> Op
     }
 }
 
-// What is wrong with the ways up.
 fn ups_fault(ways: &[Traj], all: &[Listed<Leg>]) -> Option<FlightFault>
     requires { all.now ≡ map legs_of ways.now }
     ensures { result ≡ word_ups 0 ways.now }
@@ -193,7 +190,6 @@ fn ups_fault(ways: &[Traj], all: &[Listed<Leg>]) -> Option<FlightFault>
     None
 }
 
-// What is wrong with the ways down.
 fn downs_fault(ways: &[Traj], all: &[Listed<Leg>]) -> Option<FlightFault>
     requires { all.now ≡ map legs_of ways.now }
     ensures { result ≡ word_downs 0 ways.now }
@@ -222,7 +218,6 @@ fn narrow(w: &Ways) -> Option<FlightFault>
     }
 }
 
-// What is wrong with the ways.
 fn route_fault(w: &Ways, ups: &[Listed<Leg>], downs: &[Listed<Leg>]) -> Option<FlightFault>
     requires ups { ups.now ≡ map legs_of w.now.up.now }
     requires downs { downs.now ≡ map legs_of w.now.down.now }

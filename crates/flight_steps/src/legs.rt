@@ -26,7 +26,6 @@ pub fn way_ends(t: &Traj) -> [i16; 4]
     here
 }
 
-// The legs of a way.
 fn legs_of(alloc: Global, t: &Traj) -> Result<Listed<Leg>, AllocError>
     ensures { IfOk result (λ legs. legs ≡ word_legs t.now) }
 {

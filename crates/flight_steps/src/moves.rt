@@ -29,7 +29,6 @@ pub fn is_vertical(l: &Leg) -> bool
     same_on(l, 0) && same_on(l, 1) && same_on(l, 3)
 }
 
-// Whether the drone moves in one of these legs.
 fn any_moves(legs: &[Leg]) -> bool
     ensures { result ≡ list_any word_moves legs.now }
 {

@@ -23,7 +23,6 @@ use std::alloc::{AllocError, Global};
 // How long drones have to be at their places before a step that isn't the first.
 const SETTLE_MS: u32 = 1000;
 
-// How many legs a way has.
 fn leg_count(all: &[Listed<Leg>]) -> usize
     ensures { result ≡ word_count all.now }
 {
@@ -33,7 +32,6 @@ fn leg_count(all: &[Listed<Leg>]) -> usize
     }
 }
 
-// How long leg k lasts.
 fn leg_ms(all: &[Listed<Leg>], k: usize) -> u32
     ensures { result ≡ word_ms all.now k }
 {
@@ -80,7 +78,6 @@ fn up_step(alloc: Global, w: &Ways, all: &[Listed<Leg>], k: usize) -> Result<Ste
     })
 }
 
-// The show.
 fn start_step(alloc: Global, w: &Ways, ups: &[Listed<Leg>]) -> Result<Step, AllocError>
     ensures { IfOk result (λ step. step ≡ word_start (routes w.now) ups.now) }
 {
@@ -111,7 +108,6 @@ fn down_step(alloc: Global, w: &Ways, all: &[Listed<Leg>], k: usize) -> Result<S
     })
 }
 
-// The end.
 fn last_step(alloc: Global, w: &Ways, downs: &[Listed<Leg>]) -> Result<Step, AllocError>
     ensures { IfOk result (λ step. step ≡ word_last (routes w.now) downs.now) }
 {
@@ -163,7 +159,6 @@ fn put_downs(
     Ok(())
 }
 
-// All steps, from the legs.
 fn all_steps(
     alloc: Global,
     w: &Ways,

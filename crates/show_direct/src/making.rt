@@ -55,7 +55,6 @@ fn make_steps(
     steps_of(alloc, &crews, &ways)
 }
 
-// The height of the floor.
 fn floor_of(options: &Options) -> i16
     ensures value { result ≡ options.now.floor }
     ensures fits { FitsSigned w16 result }
@@ -66,7 +65,6 @@ fn floor_of(options: &Options) -> i16
 // The longest silence that the director would find, which counts times up to 1,000,000,000 ms.
 const MOST_SILENCE: u32 = 999_999_999;
 
-// After how long a drone is silent.
 fn silence_of(options: &Options) -> u32
     ensures { result ≡ min options.now.silence most_silence }
 {
