@@ -1,6 +1,6 @@
 -- Small ways that are no flight, beside ways that are one.
 use Rattle.std.proofs.Common.{◌≡◌, refl, Some, arith}
-use Rattle.flight_model.specs.Legs.{Routes, IsFlight}
+use Rattle.flight_model.specs.Legs.{Routes}
 use Rattle.flight_steps.specs.declared.faults.FlightFault.{FlightFault}
 use Rattle.flight_steps.specs.Faults.{route_fault}
 use Rattle.flight_steps.specs.Rejected.{hop, bent_hop, Refuses, FlightRows}
