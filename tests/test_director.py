@@ -181,10 +181,12 @@ class Process(unittest.TestCase):
         self.assertEqual(self.said([*up, director.answer(0, 5)]), refused)
 
     def test_no_flight(self):
-        self.assertEqual(director.judged(["--near", "100"], [UP, SHOW, DOWN]), [Ended(8)])
-        self.assertEqual(director.judged(["--near", "101"], [UP, SHOW, DOWN])[-1], Ended(19))
-        self.assertEqual(director.judged([], [UP, SHOW.replace(b"1000000", b"900000"), DOWN])[-1], Ended(19))
-        self.assertEqual(director.judged([], [UP, b"choreo 2\n", DOWN]), [Ended(3)])
+        def judged(words, *texts):
+            return director.judged(director.Director(words, texts))
+        self.assertEqual(judged(["--near", "100"], UP, SHOW, DOWN), [Ended(8)])
+        self.assertEqual(judged(["--near", "101"], UP, SHOW, DOWN)[-1], Ended(19))
+        self.assertEqual(judged([], UP, SHOW.replace(b"1000000", b"900000"), DOWN)[-1], Ended(19))
+        self.assertEqual(judged([], UP, b"choreo 2\n", DOWN), [Ended(3)])
 
     def test_it_reads(self):
         it = director.Director(["--near", "100"], [UP, SHOW, DOWN])

@@ -13,6 +13,8 @@ from hemtoghai.language import choreo
 from hemtoghai.geometry import curves
 from hemtoghai.flying import landings
 from hemtoghai.flying import legs
+from hemtoghai.flying import routes
+from hemtoghai.flying import stages
 
 ABOVE = """choreo 1
 drone a 0 0 500000 0
@@ -119,7 +121,7 @@ class Legs(unittest.TestCase):
         leg = up(pads, [(1600, 1600, 1000), (4600, 1600, 1000), *pads[2:]])
         self.assertEqual([sorted(stage.to) for stage in leg.stages], [[0, 1]] * 2)
         self.assertFalse(leg.whole)
-        self.assertNotEqual(check(legs.text_of(leg.names, leg.places(1), leg.yaws, leg.stages[1:], leg.rules)), 0)
+        self.assertNotEqual(check(stages.text_of(leg.names, leg.places(1), leg.yaws, leg.stages[1:], leg.rules)), 0)
         with self.assertRaisesRegex(legs.NoWay, "d0 and d1 come too near: pads 100 mm apart from above, places 700; put their pads 396 mm apart"):
             up([(100 * k, 0, 0) for k in range(3)], [(700 * k, 0, 1000) for k in range(3)])
         # 250 mm aside of one that stands a drone with this ellipsoid and stray can't go up
@@ -132,7 +134,7 @@ class Legs(unittest.TestCase):
                 ([(0, 0, 0), (500, 0, 0)], [(500, 0, 1000), (0, 0, 1000)], "exchange d0 and d1 on their pads"),
                 ([(0, 0, 0), (500, 0, 0), (1000, 0, 0)], [(500, 0, 1000), (1000, 0, 1000), (0, 0, 1000)],
                  "deal the drones over the pads: d0 to that of d1, d1 to that of d2, d2 to that of d0")):
-            planner = legs.Planner(["d0", "d1", "d2"][:len(pads)], pads, firsts, [0] * len(pads), rules())
+            planner = routes.Planner(["d0", "d1", "d2"][:len(pads)], pads, firsts, [0] * len(pads), rules())
             self.assertEqual(planner.dealt(), said)
 
     def test_thirty_two_shuffled(self):
@@ -258,15 +260,15 @@ class AllLand(unittest.TestCase):
     def test_silent(self):
         # b is silent and flies on below a: while b is still to come, a must not land; once b is past, it may.
         it = self.of(UNDER)
-        self.assertIsNotNone(it.with_silent(4500, {1}))
-        self.assertIsNone(it.with_silent(6800, {1}))
-        self.assertIsNone(it.with_silent(500, {1}), "a is on the floor when b comes, 750 mm higher")
+        self.assertIsNotNone(it.beside(4500, {1}))
+        self.assertIsNone(it.beside(6800, {1}))
+        self.assertIsNone(it.beside(500, {1}), "a is on the floor when b comes, 750 mm higher")
 
     def test_silent_may_hear(self):
         # b hovers silent above a: it may hear of the landing, and come down where a does. Beside a it may land or hover.
         for x, may in ((0, False), (1000000, True)):
             it = self.of("choreo 1\ndrone a 0 0 500000 0\ndrone b %d 0 1600000 0\ncue 4000\na hold\nb hold\nend\n" % x)
-            self.assertIsNone(it.with_silent(2000, {1}))
+            self.assertIsNone(it.beside(2000, {1}))
             self.assertEqual(it.beside_silent(2000, {1}) is None, may)
 
     def test_what_flies_is_apart(self):
@@ -292,7 +294,7 @@ class AllLand(unittest.TestCase):
                     size = math.hypot(*turn)
                     aside = [low.show_stray * v / size for v in turn]
                     rows.append((curve.at(at), it.speed(k, at), aside))
-                length = landings.landing_ms([row[0][2] for row in rows]) / 1000
+                length = stages.milliseconds_for(stages.LAND, [row[0][2] for row in rows]) / 1000
                 for n in range(60):
                     seconds = length * n / 59
                     s, here = common.air.smooth(n / 59), []
@@ -356,7 +358,7 @@ class AllLand(unittest.TestCase):
         # Ten minutes: the language's thousand cues are enough.
         it = self.of("choreo 1\ndrone a 0 0 1000000 0\ndrone b 1000000 0 1000000 0\nrepeat 60\ncue 10000\nb move 1000000 500000 1000000 0\n"
                      "end\nend\n", step=60000)
-        self.assertIsNone(it.with_silent(100, {1}))
+        self.assertIsNone(it.beside(100, {1}))
 
     def test_examples(self):
         for name in ("ring", "grid_to_ring_dealt"):

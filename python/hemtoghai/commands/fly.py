@@ -29,12 +29,14 @@ from typing import Dict, List, Sequence, Tuple
 from hemtoghai import program
 from hemtoghai.companion import ask_check, flown_of, missing, parser, stop
 from hemtoghai.flying import clock, crazyradio, finite, legs
+from hemtoghai.flying.crazyradio import Trouble
 from hemtoghai.flying.bridge import Bridge, confirm
 from hemtoghai.flying.crew import Answers, Cut, Interrupted, say, TELLER, Watch
 from hemtoghai.flying.descent import Descent, EARLY, LANDING
-from hemtoghai.flying.fleet import Fleet, FLIGHT, Log, Trouble
+from hemtoghai.flying.fleet import Fleet, FLIGHT, Log
 from hemtoghai.flying.preflight import preflight
 from hemtoghai.flying.simulation import set_simulation, simulated
+from hemtoghai.flying.stages import Place
 from hemtoghai.flying.uploads import carry, ENDS, Events, Host, Traffic, wanted_packets
 from hemtoghai.flying.ways import Ways
 from hemtoghai.language.choreo import Flown
@@ -149,11 +151,6 @@ def say_promises(flown: Flown, options: argparse.Namespace) -> None:
             % options.late)
 
 
-def pads_of(flown: Flown, options: argparse.Namespace) -> List[legs.Place]:
-    """The pads, in whole mm."""
-    return legs.read_pads(options.pads, flown.names) if options.pads else legs.below(legs.places_of(flown)[0])
-
-
 # ---- with drones that answer
 
 def upload(radio: crazyradio.Radio, flown: Flown, text: bytes) -> None:
@@ -181,7 +178,7 @@ def upload(radio: crazyradio.Radio, flown: Flown, text: bytes) -> None:
     say("uploaded and read back: each drone has its trajectory (%.1f s)" % (clock.now() - begin))
 
 
-def fly(radio: crazyradio.Radio, flown: Flown, text: bytes, pads: Sequence[legs.Place], options: argparse.Namespace,
+def fly(radio: crazyradio.Radio, flown: Flown, text: bytes, pads: Sequence[Place], options: argparse.Namespace,
         log: Log, watch: Watch, answers: Answers) -> int:
     """All steps with drones that answer; the status."""
     fleet, ways, bridge = Fleet(radio, log), None, None
@@ -227,8 +224,8 @@ def only(radio: crazyradio.Radio, floors: Dict[str, float], options: argparse.Na
             return descent.cut()
         watch.flies = watch.lands = True
         _, quiet, refused = fleet.land(descent.floors, descent.all, LAND, watch.look)
-        say("told to land, in %.0f s%s%s" % (LAND, "; NO ANSWER: " + ", ".join(quiet) if quiet else "",
-                                            "; REFUSED: " + ", ".join(refused) if refused else ""))
+        say("told to land, in %.0f s%s%s" % (LAND, "; NO ANSWER: " + descent.words_of(quiet) if quiet else "",
+                                            "; REFUSED: " + ", ".join(refused.values()) if refused else ""))
         begin_logs(fleet, heard)
         descent.wait_down(heard, LAND)
         return 0 if descent.land(LANDING) else EARLY
@@ -242,7 +239,7 @@ def begin_logs(fleet: Fleet, drones: Sequence[int]) -> None:
         try:
             if k in drones:
                 fleet.begin_logs(k, EVERY, (FLIGHT,))
-        except (Trouble, crazyradio.Dead) as error:
+        except Trouble as error:
             say(str(error))
     fleet.radio.each(begin)
 
@@ -262,7 +259,7 @@ def emergency(options: argparse.Namespace, watch: Watch, answers: Answers, radio
     that was opened is added to a list, to be closed."""
     if options.simulate:
         flown = flown_of(options.show)[1]
-        pads = pads_of(flown, options)
+        pads = legs.pads_of(options.pads, flown)
         uris, floors = dict(zip(flown.names, set_simulation(flown, pads, options))), dict(zip(flown.names, pads))
     else:
         uris, floors = crazyradio.everybody(options.radio), {}
@@ -275,7 +272,7 @@ def emergency(options: argparse.Namespace, watch: Watch, answers: Answers, radio
 def show(options: argparse.Namespace, watch: Watch, answers: Answers, radios: List[crazyradio.Radio]) -> int:
     """Flies the show. The status; the radio that was opened is added to a list, to be closed."""
     text, flown = judged_show(options)
-    pads = pads_of(flown, options)
+    pads = legs.pads_of(options.pads, flown)
     Ways(flown, text, pads, options)  # refused before the link is opened, as a log is that can't be written
     log = Log(options.log, say)
     uris = set_simulation(flown, pads, options) if options.simulate else crazyradio.addresses(
@@ -291,7 +288,7 @@ def main(words: list[str]) -> int:
     signal.signal(signal.SIGPIPE, signal.SIG_IGN)
     try:
         return (emergency if options.only in ("land", "stop") else show)(options, watch, answers, radios)
-    except (Trouble, crazyradio.Dead) as trouble:
+    except Trouble as trouble:
         say(str(trouble))
         return EARLY
     except Interrupted:

@@ -23,13 +23,13 @@ import os
 from hemtoghai.companion import ask_check, flown_of, many, missing, parser, stop
 from hemtoghai.flying import legs
 from hemtoghai.flying.landings import Landings
-from hemtoghai.language.choreo import Flown
+from hemtoghai.flying.stages import Leg
 from hemtoghai.program import COMMAND
 
 NO_WAY = 16
 
 
-def write(leg: legs.Leg, path: str, name: str, show: str, top: int) -> None:
+def write(leg: Leg, path: str, name: str, show: str, top: int) -> None:
     """Writes a leg as a show, and its summary; the show's own curves stay below `top`."""
     words = "judged as a whole" if leg.whole else "judged stage by stage: the next begins when the one before has ended"
     with open(path, "wb") as file:
@@ -42,19 +42,6 @@ def write(leg: legs.Leg, path: str, name: str, show: str, top: int) -> None:
         print(line)
     if leg.top() > top:
         print("  goes up to %.2f m, and the show to %.2f: --ceiling keeps it lower" % (leg.top() / 1000, top / 1000))
-
-
-def way_of(name: str, flown: Flown, pads: list[legs.Place], rules: legs.Rules, is_below: bool) -> legs.Leg:
-    """The way up or down; raises legs.NoWay."""
-    firsts, lasts, begin, end = legs.places_of(flown)
-    if name == "up":
-        leg = legs.way_up(flown.names, pads, firsts, begin, rules)
-        legs.refuse_still(leg, "begins")
-        return leg
-    leg = legs.down(flown.names, pads, lasts, begin, rules, is_below)
-    legs.refuse_still(leg, "ends")
-    leg.first_yaws = end
-    return leg
 
 
 def main(words: list[str]) -> int:
@@ -75,7 +62,7 @@ def main(words: list[str]) -> int:
     if answer[0]:
         return answer[0]
     try:
-        pads = legs.read_pads(options.pads, flown.names) if options.pads else legs.below(legs.places_of(flown)[0])
+        pads = legs.pads_of(options.pads, flown)
     except (OSError, ValueError) as error:
         stop(str(error))
     rules = legs.Rules(flown.show.settings, ceiling=options.ceiling)
@@ -84,7 +71,7 @@ def main(words: list[str]) -> int:
     for name in ("up", "down"):
         try:
             path = os.devnull if options.dry else os.path.join(options.out, name + ".choreo")
-            write(way_of(name, flown, pads, rules, options.below), path, name, options.show, legs.top_of(flown))
+            write(legs.way_of(name, flown, pads, rules, options.below), path, name, options.show, legs.top_of(flown))
         except legs.NoWay as why:
             print("no way %s: %s" % (name, why))
             status = NO_WAY

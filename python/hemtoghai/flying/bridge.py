@@ -14,13 +14,14 @@ from collections import deque
 from typing import Callable, Deque, Dict, List, Optional, Set, Tuple
 
 from hemtoghai.companion import many
-from hemtoghai.flying import clock, director, firmware, landings, legs
-from hemtoghai.flying.crazyradio import Dead
+from hemtoghai.flying import clock, director, firmware, landings
+from hemtoghai.flying.crazyradio import Trouble
 from hemtoghai.flying.crew import Answers, Cut, Interrupted, say, Watch
 from hemtoghai.flying.descent import EARLY, LANDING
 from hemtoghai.flying.director import Noted, Order, Over, Said, To
-from hemtoghai.flying.fleet import Fleet, Trouble
+from hemtoghai.flying.fleet import Fleet
 from hemtoghai.flying.home import Home
+from hemtoghai.flying.stages import Leg, TAKE_OFF
 from hemtoghai.flying.ways import Ways
 from hemtoghai.language.choreo import Flown
 
@@ -55,28 +56,29 @@ class Bridge(Home):
         self.told_at, self.went, self.due_by = clock.now(), 0.0, math.inf
         self.over: Optional[Over] = None
         self.told: List[Tuple[Optional[float], int]] = [(None, 0)] * len(self.names)
-        self.ahead: List[Deque[Tuple[legs.Leg, int]]] = [deque(self.stages_of(k)) for k in self.all]
+        self.ahead: List[Deque[Tuple[Leg, int]]] = [deque(self.stages_of(k)) for k in self.all]
         self.came: "queue.SimpleQueue[Tuple[int, Optional[str], float, int]]" = queue.SimpleQueue()
         self.to_arm: Set[int] = set()
         self.sinking: Set[int] = set()
         self.refusals: Dict[int, str] = {}
         self.is_said_late = False
 
-    def stages_of(self, k: int) -> List[Tuple[legs.Leg, int]]:
+    def stages_of(self, k: int) -> List[Tuple[Leg, int]]:
         """The stages in which a drone has an order: from its first move up, to its last move down."""
-        up = [number for number, stage in enumerate(self.ways.up.stages) if k in stage.to]
-        down = [number for number, stage in enumerate(self.ways.down.stages) if k in stage.to]
-        return [*((self.ways.up, number) for number in range(up[0], len(self.ways.up.stages))),
-                *((self.ways.down, number) for number in range(down[-1] + 1))]
+        up, down = ([(leg, number, k in stage.to) for number, stage in enumerate(leg.stages)]
+                    for leg in (self.ways.up, self.ways.down))
+        first = next(row for row in up if row[2])
+        last = next(row for row in reversed(down) if row[2])
+        return [row[:2] for row in up[up.index(first):] + down[:down.index(last) + 1]]
 
     # ---- what the director is told
 
     def flags(self, k: int) -> int:
         """What a drone says of itself, as the director has it."""
-        info = self.fleet.states[k].info
-        is_armed = k in self.armed if info is None else bool(info & firmware.IS_ARMED)
-        is_ready = info is None or info & (firmware.CAN_ARM | firmware.IS_ARMED) and not info & firmware.WRECKED
-        return (director.READY * bool(is_ready) | director.ARMED * is_armed | director.DOWN * self.is_down(k)
+        state = self.fleet.states[k]
+        is_armed = k in self.armed if state.info is None else state.says(firmware.IS_ARMED)
+        is_ready = not state.denies(firmware.CAN_ARM | firmware.IS_ARMED) and not state.says(firmware.WRECKED)
+        return (director.READY * is_ready | director.ARMED * is_armed | director.DOWN * self.is_down(k)
                 | director.LOST * (self.wrong_with(k) is not None))
 
     def tell(self) -> None:
@@ -95,8 +97,7 @@ class Bridge(Home):
             at = states[k].measured
             if at is not None:
                 self.told[k] = rows[k]
-                age = 1000 * (self.told_at - at)
-                frames += director.sample(k, age, [1000 * v for v in states[k].where()], rows[k][1])
+                frames += director.sample(k, 1000 * (self.told_at - at), self.at(k), rows[k][1])
         self.director.hear(frames)
 
     def tell_answers(self) -> None:
@@ -115,7 +116,7 @@ class Bridge(Home):
     def look(self) -> None:
         """Notes who is armed, and who has landed."""
         for k, state in enumerate(self.fleet.states):
-            if k in self.to_arm and state.info is not None and state.info & firmware.IS_ARMED:
+            if k in self.to_arm and state.says(firmware.IS_ARMED):
                 self.armed.add(k)
             if k in self.sinking and self.is_down(k):
                 self.landed.add(k)
@@ -163,16 +164,16 @@ class Bridge(Home):
             raise Trouble(self.wrong_with(k) or "%s is lost" % name)
         if fault == director.ASTRAY and self.ways.rules.show_stray:
             say("OUTSIDE OF THE PROMISE since %.1f s: %s is off its curve, and the show's `stray` is %d" % (
-                max(0.0, clock.now() - self.began() - 0.3), name, self.ways.rules.show_stray))
+                max(0.0, self.since(self.zero) / 1000 - 0.3), name, self.ways.rules.show_stray))
 
     def unfit(self, k: int, flags: int) -> Optional[str]:
         """How a drone isn't as the next step wants it, which may want some of its flags, or None."""
         name, lacks = self.names[k], flags & ~self.flags(k)
         if not self.is_fresh(k):
             return "%s is silent" % name
-        far = math.dist(self.fleet.states[k].where(), [v / 1000 for v in self.aims[k]])
-        if 1000 * far > min(self.options.at_start, self.ways.rules.stray):
-            return "%s is %.0f mm from its place" % (name, 1000 * far)
+        far = math.dist(self.at(k), self.aims[k])
+        if far > min(self.options.at_start, self.ways.rules.stray):
+            return "%s is %.0f mm from its place" % (name, far)
         return "%s %s" % (name, "isn't armed" if lacks & director.ARMED else "can't be armed") if lacks else None
 
     def carry_to_all(self, order: Order) -> None:
@@ -214,21 +215,19 @@ class Bridge(Home):
             self.watch.lands = True  # the last ones land: a first Ctrl-C changes nothing any more
         self.give(k, lambda since: self.fleet.command(k, data, word, since))
 
-    def begin_stage(self, leg: legs.Leg, number: int) -> None:
+    def begin_stage(self, leg: Leg, number: int) -> None:
         """The orders of a stage go out now."""
         if leg is self.ways.down and self.in_show:
             self.leave_show()
         stage, now = leg.stages[number], clock.now()
-        seconds, names = stage.milliseconds / 1000, " ".join(self.names[k] for k in stage.to)
+        seconds = stage.milliseconds / 1000
         self.leg, self.begun, self.stage_began, self.stage_ends = leg, number + 1, now, now + seconds + 1
         self.unheard, self.rising, self.is_said_late = {}, set(), len(stage.to) == 1
         self.due_by = math.inf if stage is self.ways.up.stages[-1] else now + seconds + PATIENCE
-        if stage.kind == legs.TAKE_OFF:
+        if stage.kind == TAKE_OFF:
             self.flying, self.rising = True, set(stage.to)
             self.watch.flies = True
-            say("taking off, %s: %s, %.1f s" % (many(len(stage.to), "drone"), names, seconds))
-        elif stage.kind == legs.LAND:
-            say("landing, %s: %s, %.1f s" % (many(len(stage.to), "drone"), names, seconds))
+        self.say_stage(stage)
 
     def give(self, k: int, ask: Callable[[int], object]) -> None:
         """Has an order go to a drone by a thread, until it is answered; nowhere once all questions are dropped."""
@@ -238,7 +237,7 @@ class Bridge(Home):
             words = None
             try:
                 ask(since)
-            except (Trouble, Dead) as why:
+            except Trouble as why:
                 words = str(why)
             except Exception as error:
                 words = "%s: %r" % (self.names[k], error)
@@ -250,8 +249,8 @@ class Bridge(Home):
     def ready(self) -> None:
         """Looks, just before anybody takes off, whether drones are still as they were looked over; raises where not."""
         faults = []
-        for k, (name, state, pad) in enumerate(zip(self.names, self.fleet.states, self.ways.pads)):
-            moved = 1000 * math.dist(state.where(), [v / 1000 for v in pad])
+        for k, (name, state) in enumerate(zip(self.names, self.fleet.states)):
+            moved = math.dist(self.at(k), self.ways.pads[k])
             if not self.is_fresh(k):
                 faults.append("%s is silent" % name)
             elif state.senseless is not None:
@@ -259,7 +258,7 @@ class Bridge(Home):
             elif moved > self.ways.rules.aim:
                 faults.append("%s is %.0f mm from where it stood, and %d were judged" % (
                     name, moved, self.ways.rules.aim))
-            elif state.says_it_flies():
+            elif state.says(firmware.IS_FLYING):
                 faults.append("%s says that it flies" % name)
         if not faults:
             memory, data = self.flown.show.settings["memory"], self.flown.data()
@@ -304,9 +303,8 @@ class Bridge(Home):
             if off and clock.now() > until:
                 raise Trouble("not at the first place: %s" % ", ".join(off))
         self.rising = set()
-        say("at the first places: %s" % ", ".join("%s %.0f mm off" % (
-            name, 1000 * math.dist(state.where(), [v / 1000 for v in first]))
-            for name, state, first in zip(self.names, self.fleet.states, self.ways.firsts)))
+        say("at the first places: %s" % ", ".join(
+            "%s %.0f mm off" % (self.names[k], math.dist(self.at(k), first)) for k, first in firsts.items()))
 
     def start(self) -> None:
         """Starts all drones, and says how far apart their starts may be."""
@@ -349,8 +347,8 @@ class Bridge(Home):
         told = 0.0
         while self.in_show and clock.now() < self.ends():
             self.step()
-            if clock.now() - self.began() > told + TELLS:
-                told = clock.now() - self.began()
+            if self.since(self.zero) > 1000 * (told + TELLS):
+                told = self.since(self.zero) / 1000
                 self.tell_crew(told)
         say("flown: %.1f s; farthest from their curves: %s" % (self.flown.milliseconds / 1000, ", ".join(
             "%s %.0f mm" % it for it in zip(self.names, self.strays))))
@@ -415,22 +413,13 @@ class Bridge(Home):
         try:
             self.fly()
             status = EARLY if self.over is not None and not self.over.is_flown else 0
-        except (Trouble, Dead, Interrupted) as why:
+        except (Trouble, Interrupted) as why:
             if not self.flying:
                 return self.not_flown(why)
-            status, words = EARLY, self.words_after(why) or self.down_after_all()
+            status, words = EARLY, self.words_after(why)
             if not self.up(self.all) and not self.is_said:
                 say(words)  # all are down by now: else the landing says it
         return status if self.land_all(words) else EARLY
-
-    def down_after_all(self) -> str:
-        """After a fault with which the show was flown to its end: has all come down; words to land who isn't down."""
-        try:
-            self.leave_show()
-            self.come_down()
-        except (Trouble, Dead, Interrupted) as why:
-            return self.words_after(why) or "landing all"
-        return LANDING
 
     def run(self) -> int:
         """Flies from take-off to landing, and lands all where this program itself fails; the status."""

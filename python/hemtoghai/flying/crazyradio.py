@@ -28,7 +28,7 @@ import time
 from collections import Counter
 from typing import Any, Callable, Dict, Iterable, List, Optional, Sequence, Set, Tuple
 
-from hemtoghai.flying import clock, firmware
+from hemtoghai.flying import clock, finite, firmware
 from hemtoghai.flying.links import COMMAND, Heard, Key, key_of, Link as AnyLink, MEMORY
 
 ANSWER, PATIENCE = 0.3, 5.0  # seconds until a question is put again, and until a drone that is heard counts as mute
@@ -51,30 +51,27 @@ Asked = Tuple[int, int, int, Optional[int], int, bytes]  # drone, port, channel,
 def everybody(path: str) -> Dict[str, str]:
     """The drones' URIs by their names, from a text of lines `NAME URI`; raises ValueError where that is none."""
     found: Dict[str, str] = {}
-    with open(path, encoding="utf-8") as lines:
-        for number, line in enumerate(lines, 1):
-            words = line.partition("#")[0].split()
-            if len(words) == 2 and URI.fullmatch(words[1]):
-                words[1] = words[1][:-10] + words[1][-10:].upper()
-            if words and (len(words) != 2 or words[0] in found or words[1] in found.values()):
-                raise ValueError("%s, line %d: `NAME URI` is wanted, each once" % (path, number))
-            if words and not URI.fullmatch(words[1]):
-                raise ValueError("%s, line %d: %s isn't radio://DONGLE/CHANNEL/RATE/ADDRESS with 250K, 1M or 2M" % (
-                    path, number, words[1]))
-            found.update({words[0]: words[1]} if words else {})
+    for number, (name, *words) in finite.lines_of(path):
+        uri = words[0][:-10] + words[0][-10:].upper() if words else ""
+        if len(words) != 1 or name in found or uri in found.values():
+            raise ValueError("%s, line %d: `NAME URI` is wanted, each once" % (path, number))
+        if not URI.fullmatch(uri):
+            raise ValueError("%s, line %d: %s isn't radio://DONGLE/CHANNEL/RATE/ADDRESS with 250K, 1M or 2M" % (
+                path, number, words[0]))
+        found[name] = uri
     return found
 
 
 def addresses(path: str, names: Sequence[str]) -> List[str]:
-    """The URIs of these drones, in their order."""
-    found = everybody(path)
-    missing = [name for name in names if name not in found]
-    if missing:
-        raise ValueError("%s has no address for %s" % (path, ", ".join(missing)))
-    return [found[name] for name in names]
+    """The URIs of these drones, in their order; raises ValueError where one is missing."""
+    return finite.in_order(everybody(path), names, path, "address")
 
 
-class Dead(Exception):
+class Trouble(Exception):
+    """What keeps a flight from going on."""
+
+
+class Dead(Trouble):
     """Drones that don't answer."""
 
 
@@ -319,13 +316,17 @@ class Radio:
         return [firmware.memory_of(self.ask(drone, firmware.MEMORY, 0, firmware.ask_memory(k), least=7))
                 for k in range(count)]
 
+    def pass_by(self, drone: int, seconds: float = PATIENCE) -> None:
+        """Waits until a drone has answered all commands before: it does so in order. The question has a mark by chance,
+        which the commander gives back, so that no answer to an earlier one is taken for its own."""
+        mark = bytes([0x80 | random.randrange(0x80)])
+        self.ask(drone, firmware.COMMANDER, 0, firmware.group() + mark, 3, seconds=seconds)
+
     def fence(self, drone: int, memory: int) -> None:
-        """Waits until all that a drone was sent before is answered: each port answers in order. Both questions have a
-        mark by chance, so that no answer to an earlier one is taken for theirs: a byte of the memory, of which an
-        upload reads more at once, and a byte that the commander gives back."""
-        mark = random.randrange(MEMORY)
-        self.ask(drone, firmware.MEMORY, 1, firmware.read(memory, mark, 1), 5, length=7)
-        self.ask(drone, firmware.COMMANDER, 0, firmware.group() + bytes([0x80 | mark & 0x7F]), 3)
+        """The same of all that a drone was sent before; the mark in the memory's port is a byte that is read, since an
+        upload reads more at once."""
+        self.ask(drone, firmware.MEMORY, 1, firmware.read(memory, random.randrange(MEMORY), 1), 5, length=7)
+        self.pass_by(drone)
 
     def dongles(self) -> List[Dongle]:
         """The dongles, channels and rates of all drones, opened for broadcasts."""

@@ -1,12 +1,15 @@
 """Drones that are brought down, whatever happened before, and looked after until they are: for ./show fly."""
+from math import inf
 from typing import Callable, Iterable, List, Optional, Sequence, Set
 
 from hemtoghai.flying import clock, firmware
 from hemtoghai.flying.crew import Answers, Cut, say, Watch
-from hemtoghai.flying.fleet import Fleet, LEAST, SINK
+from hemtoghai.flying.fleet import Fleet
+from hemtoghai.flying.stages import LAND, milliseconds_for
 
 DOWN = 0.12  # metres above its pad up to which a drone counts as down
 HIGHEST = 40.0  # metres above its floor at which a drone may be, whatever it says: the language ends at 33
+UNKNOWN = 2.0  # metres that are taken for the height of drones that never said where they are
 STAYS = 4.0  # seconds that a landing may take longer than it should
 REPEAT = 5.0  # seconds after which drones are told to land once more where nobody answers
 AIRBORNE = 900.0  # seconds that no battery of these drones lasts: one that is silent for longer isn't in the air
@@ -17,16 +20,22 @@ LANDING = "landing"  # the words of a landing without a fault
 class Descent:
     """Drones that are brought down. `floors` are the heights, in metres, of what they land on, and `silence` the
     seconds without a sample after which nothing is known of a drone. Only what a drone says counts: one is down where
-    its last sample, no older than that, says so."""
+    its last sample, no older than that, says so. `landed` aren't looked after any more, and `rising` were told to take
+    off a moment ago: on the floor they aren't down."""
 
     def __init__(self, fleet: Fleet, floors: Sequence[float], silence: float, watch: Watch, answers: Answers) -> None:
         self.fleet, self.floors, self.longest, self.watch, self.answers = fleet, floors, silence, watch, answers
         self.names, self.all = fleet.names, list(range(len(fleet.names)))
         self.landed: Set[int] = set()
-        self.rising: Set[int] = set()  # told to take off a moment ago: on the floor they aren't down
+        self.rising: Set[int] = set()
         watch.stop_motors = fleet.cut
 
     # ---- what is known
+
+    def quiet_for(self, k: int) -> float:
+        """The seconds since anything came from a drone."""
+        last = self.fleet.radio.last[k]
+        return inf if last is None else clock.now() - last
 
     def is_fresh(self, k: int) -> bool:
         """Whether a drone's last sample isn't too old."""
@@ -34,7 +43,6 @@ class Descent:
         return heard is not None and clock.now() - heard <= self.longest
 
     def is_down(self, k: int) -> bool:
-        """Whether a drone says that it is down."""
         return self.is_fresh(k) and self.fleet.states[k].where()[2] <= self.floors[k] + DOWN
 
     def up(self, drones: Iterable[int]) -> List[int]:
@@ -48,7 +56,7 @@ class Descent:
         """How long a landing of drones takes. None sets the pace of the others by a height that no room has."""
         heights = [min(HIGHEST, place[2] - self.floors[k]) for k in drones
                    for place in [self.fleet.states[k].place] if place]
-        return max([LEAST, *(height / SINK for height in heights or [HIGHEST / 20])])
+        return milliseconds_for(LAND, [1000 * height for height in heights or [UNKNOWN]]) / 1000
 
     def account(self) -> None:
         """Says of each drone what is known of it in the end."""
@@ -57,26 +65,25 @@ class Descent:
             age = 0.0 if state.measured is None else clock.now() - state.measured
             if not state.place:
                 words = "NOT KNOWN: no sample of it came: WHERE IT IS NOBODY KNOWS"
-            elif not self.is_fresh(k) and state.senseless is not None:
-                words = "NOT KNOWN: sends a place that is no number, and was at %s %.1f s ago: IT MAY BE IN THE AIR" % (
-                    at, age)
             elif not self.is_fresh(k):
-                words = "NOT KNOWN: silent for %.1f s, and was at %s then: IT MAY BE IN THE AIR" % (age, at)
+                words = "NOT KNOWN: %s: IT MAY BE IN THE AIR" % (
+                    "silent for %.1f s, and was at %s then" % (age, at) if state.senseless is None else
+                    "sends a place that is no number, and was at %s %.1f s ago" % (at, age))
             elif not self.is_down(k):
                 words = "IN THE AIR, it said %.1f s ago, at %s" % (age, at)
             else:
-                words = "down, it says, at %s, %s" % (at, self.arming(state.info))
+                words = "down, it says, at %s, %s%s" % (
+                    at, "and doesn't say whether it is armed" if state.info is None else
+                    "ARMED" if state.says(firmware.IS_ARMED) else "disarmed",
+                    ", and has tumbled" if state.says(firmware.WRECKED) else "")
             say("end: %s: %s" % (name, words))
 
-    @staticmethod
-    def arming(info: Optional[int]) -> str:
-        """What a supervisor's bits say of arming and of a fall."""
-        if info is None:
-            return "and doesn't say whether it is armed"
-        return "%s%s" % ("ARMED" if info & firmware.IS_ARMED else "disarmed",
-                         ", and has tumbled" if info & firmware.WRECKED else "")
-
     # ---- landing
+
+    def attend(self) -> None:
+        """Hears the crew, and has drones that lost their logs send again."""
+        self.watch.look()
+        self.fleet.revive()
 
     def wait_down(self, drones: List[int], seconds: float) -> List[int]:
         """Waits as long as a landing takes, and longer where not all are down then, but not for long; who isn't."""
@@ -86,7 +93,7 @@ class Descent:
             clock.wait(0.05)
         return self.up(drones)
 
-    def bring_down(self, drones: List[int], seconds: Optional[float] = None, told: float = float("inf")) -> List[int]:
+    def bring_down(self, drones: List[int], seconds: Optional[float] = None, told: float = inf) -> List[int]:
         """Lands drones, and waits; who isn't down. Where commands are answered later than in `told` seconds it says so.
         Ctrl-C counts as long as others are still in the air."""
         if not set(self.all) - self.landed - set(drones):
@@ -97,15 +104,15 @@ class Descent:
             say("OUTSIDE OF WHAT WAS JUDGED: landings were answered within %.0f ms, and %.0f were judged" % (
                 1000 * late, 1000 * told))
         if quiet:
-            say("NO ANSWER to the landing: %s" % ", ".join(quiet))
-        refused = [words for words in refused if not self.is_down(self.names.index(words.partition(" ")[0]))]
-        if refused:  # by drones on the floor it may be: they have nothing to land from
-            say("THE LANDING IS REFUSED: %s" % ", ".join(refused))
+            say("NO ANSWER to the landing: %s" % self.words_of(quiet))
+        lasting = [words for k, words in refused.items() if not self.is_down(k)]
+        if lasting:  # by drones on the floor it may be refused: they have nothing to land from
+            say("THE LANDING IS REFUSED: %s" % ", ".join(lasting))
         up = self.wait_down(drones, seconds)
         self.landed |= set(drones) - set(up)
         return up
 
-    def land(self, words: str, warn: Callable[[], None] = lambda: None, told: float = float("inf"),
+    def land(self, words: str, warn: Callable[[], None] = lambda: None, told: float = inf,
              seconds: Optional[float] = None) -> bool:
         """Lands all drones that aren't down, in so many seconds where they are given, and once more those that aren't
         then; disarms those that are down, since a drone that is disarmed in the air falls. A second Ctrl-C stops the
@@ -116,12 +123,13 @@ class Descent:
         if up:
             say(words)
             warn()
-        for _ in range(2):
-            up = self.bring_down(up, seconds, told) if up else []
+        for _ in range(2 if up else 0):
+            up = self.bring_down(up, seconds, told)
             if not up:
                 break
-            told, seconds = float("inf"), None
-            self.say_up(up)
+            told, seconds = inf, None
+            say("NOT SEEN TO BE DOWN: %s; %s" % (self.words_of(up), self.watch.stops() if any(
+                self.quiet_for(k) < self.longest for k in up) else "nothing from here reaches them"))
         self.disarm(self.all)
         return self.finish(self.stay(self.up(self.all)))
 
@@ -132,12 +140,6 @@ class Descent:
             self.words_of(up))
         self.account()
         return not up
-
-    def say_up(self, up: List[int]) -> None:
-        """Says who isn't seen to be down, and what reaches them."""
-        heard = [k for k in up if clock.now() - (self.fleet.radio.last[k] or 0.0) < self.longest]
-        say("NOT SEEN TO BE DOWN: %s; %s" % (
-            self.words_of(up), self.watch.stops() if heard else "nothing from here reaches them"))
 
     def stay(self, up: List[int]) -> List[int]:
         """Stays with drones that aren't down: asks what to do with them, and where nobody answers tells them to land
@@ -155,7 +157,7 @@ class Descent:
             up = self.down_now(up)
         if up:
             say("NOBODY ANSWERS: %s are told to land every %.0f s" % (self.words_of(up), REPEAT))
-        while up and any(self.may_fly(k) for k in up):
+        while up and any(self.quiet_for(k) < AIRBORNE for k in up):
             self.bring_down(up)
             until = clock.now() + REPEAT
             while clock.now() < until and self.look_after(up) is None:
@@ -163,27 +165,16 @@ class Descent:
             up = self.down_now(up)
         return up
 
-    def may_fly(self, k: int) -> bool:
-        """Whether a drone that isn't seen to be down may still be in the air."""
-        return any(at is not None and clock.now() - at < AIRBORNE
-                   for at in (self.fleet.radio.last[k], self.fleet.states[k].heard))
-
     def look_after(self, up: List[int]) -> Optional[str]:
-        """Looks whether drones are down now, and what is pressed."""
+        """Hears the crew, and looks whether one of these drones is down now."""
         self.attend()
         return None if len(self.up(up)) == len(up) else "down"
-
-    def attend(self) -> None:
-        """Hears the crew, and has drones that lost their logs send again."""
-        self.watch.look()
-        self.fleet.revive()
 
     def down_now(self, up: List[int]) -> List[int]:
         """Disarms those of these drones that are down now; the others."""
         down = [k for k in up if self.is_down(k)]
-        if down:
-            self.landed |= set(down)
-            self.disarm(down)
+        self.landed |= set(down)
+        self.disarm(down)
         return [k for k in up if k not in down]
 
     def disarm(self, drones: Iterable[int]) -> None:
@@ -193,8 +184,8 @@ class Descent:
             return
         self.fleet.radio.drop()
         self.fleet.rest(drones)
-        wrong = self.fleet.arm(False, drones)
-        auto = [k for k in drones if (self.fleet.states[k].info or 0) & firmware.AUTO_ARM]
+        wrong = self.fleet.disarm(drones)
+        auto = [k for k in drones if self.fleet.states[k].says(firmware.AUTO_ARM)]
         if wrong:
             say("STILL ARMED: %s" % ", ".join(wrong))
         if auto:
@@ -204,7 +195,7 @@ class Descent:
         """Stops all motors; the status."""
         self.watch.over = True
         self.fleet.cut()
-        mute = [k for k in self.all if clock.now() - (self.fleet.radio.last[k] or 0.0) > self.longest]
+        mute = [k for k in self.all if self.quiet_for(k) > self.longest]
         say("MOTORS STOPPED: emergency stop sent to all%s" % (
             "; NOT KNOWN TO HAVE REACHED %s, silent for more than %.1f s" % (self.words_of(mute), self.longest)
             if mute else ""))

@@ -235,10 +235,8 @@ class Director:
             self.process.stdout.close()
 
 
-def judged(words: Sequence[str], texts: Sequence[bytes]) -> List[Said]:
-    """What the director says where nothing happens: three texts that are a flight have an end without a cause. Raises
-    program.Unusable or OSError where it can't be started."""
-    director = Director(words, texts)
+def judged(director: Director) -> List[Said]:
+    """What a director says where nothing happens: three texts that are a flight have an end without a cause."""
     out: List[Said] = []
     try:
         director.close()

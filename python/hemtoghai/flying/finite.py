@@ -2,8 +2,9 @@
 comparison further on meets one that is none. For ./show fly, ./show flown and ./show legs."""
 import argparse
 import math
-from typing import Callable, Iterable
+from typing import Callable, Dict, Iterable, Iterator, List, Sequence, Tuple, TypeVar
 
+Value = TypeVar("Value")
 FAR = 100.0  # metres from the origin beyond which a place is none: the language ends at 33
 
 
@@ -32,3 +33,20 @@ def option(least: float, most: float, is_whole: bool = False) -> Callable[[str],
 def is_place(values: Iterable[float]) -> bool:
     """Whether these are coordinates of a place in metres: finite, and no farther from the origin than any room is."""
     return all(math.isfinite(v) and abs(v) <= FAR for v in values)
+
+
+def lines_of(path: str) -> Iterator[Tuple[int, List[str]]]:
+    """The lines of a text that have words before a `#`: their numbers, and these words."""
+    with open(path, encoding="utf-8") as lines:
+        for number, line in enumerate(lines, 1):
+            words = line.partition("#")[0].split()
+            if words:
+                yield number, words
+
+
+def in_order(found: Dict[str, Value], names: Sequence[str], path: str, word: str) -> List[Value]:
+    """What was found in a text for these drones, in their order; raises ValueError where one has none of it."""
+    lacking = [name for name in names if name not in found]
+    if lacking:
+        raise ValueError("%s has no %s for %s" % (path, word, ", ".join(lacking)))
+    return [found[name] for name in names]

@@ -5,12 +5,11 @@ As firmware.py it is from memory, and was run with simulated drones alone.
 import contextlib
 import csv
 import math
-import random
 import threading
 from typing import Callable, Dict, Iterable, List, Optional, Sequence, Set, TextIO, Tuple
 
 from hemtoghai.flying import clock, finite, firmware
-from hemtoghai.flying.crazyradio import ANSWER, Dead, Radio
+from hemtoghai.flying.crazyradio import ANSWER, Dead, Radio, Trouble
 from hemtoghai.flying.stages import SAME_FLOOR
 
 FLIGHT, SETTLING = 1, 2  # log blocks
@@ -20,9 +19,8 @@ LOGGED = {FLIGHT: ["stateEstimate.x", "stateEstimate.y", "stateEstimate.z", "sta
           SETTLING: ["kalman.varPX", "kalman.varPY", "kalman.varPZ"]}
 OPTIONAL = ("supervisor.info", "stateEstimate.yaw")  # old firmware hasn't them all
 REVIVE = 1.0  # seconds without samples of a drone whose link is heard, after which its blocks are made anew
-SINK, LEAST = 0.4, 2.0  # metres a second of a landing, and its least seconds
 AGAIN = 0.05  # seconds after which a landing that isn't answered is commanded again
-TAKEN = (0, 1)  # statuses of a landing: carried out; refused, since the drone lands already or is on the floor
+OBEYS = 2.0  # seconds in which a drone is seen to be disarmed
 WRAP = 2 ** 24  # milliseconds after which a drone's stamps begin anew
 HISTORY = 20  # samples that are kept to see whether a drone is settled
 
@@ -30,10 +28,6 @@ Look = Callable[[], None]  # what looks after a flight while others wait
 Table = Dict[str, Tuple[int, int]]  # by an item's name its number and its type
 # When a start went out first and last, when it was answered, and with which status.
 Started = Tuple[float, float, Optional[float], Optional[int]]
-
-
-class Trouble(Exception):
-    """What keeps a flight from going on."""
 
 
 class State:
@@ -61,17 +55,20 @@ class State:
     def take(self, values: Dict[str, float], at: float, stamp: int) -> bool:
         """Takes a sample that came at an instant; whether it has numbers. One that has none changes nothing else, so
         that the drone goes silent."""
-        place = [values["stateEstimate." + axis] for axis in "xyz"]
+        place, info = [values["stateEstimate." + axis] for axis in "xyz"], values.get("supervisor.info")
         yaw, volts = values.get("stateEstimate.yaw", 0.0), values["pm.vbat"]
         if not (finite.is_place(place) and math.isfinite(yaw) and math.isfinite(volts)):
             self.senseless = at if self.senseless is None else self.senseless
             return False
-        info = values.get("supervisor.info")
         self.place, self.info, self.yaw = place, None if info is None else int(info), values.get("stateEstimate.yaw")
-        self.senseless = None
-        self.measure(at, stamp)
-        self.weigh(volts, at)
-        self.places = (self.places + [place])[-HISTORY:]
+        self.senseless, self.places, self.volts = None, (self.places + [place])[-HISTORY:], volts
+        self.low = None if volts >= self.least_volts else self.low if self.low is not None else at
+        turns = 0 if self.stamp is None else round((self.stamp - stamp) / WRAP)
+        self.between = 0 if self.stamp is None else stamp + turns * WRAP - self.stamp
+        self.stamp = stamp + turns * WRAP
+        late = at - self.stamp / 1000
+        self.least = late if self.least is None else min(self.least, late)
+        self.heard, self.measured = at, self.stamp / 1000 + self.least
         return True
 
     def where(self) -> List[float]:
@@ -79,26 +76,17 @@ class State:
         assert self.place is not None
         return self.place
 
-    def weigh(self, volts: float, at: float) -> None:
-        """Notes a voltage: under thrust single samples sag."""
-        self.volts = volts
-        self.low = None if volts >= self.least_volts else self.low if self.low is not None else at
-
     def is_empty(self, seconds: float) -> bool:
-        """Whether the voltage was too low for so long."""
+        """Whether the voltage was too low for so long: under thrust single samples sag."""
         return self.low is not None and self.heard is not None and self.heard - self.low >= seconds
 
-    def measure(self, heard: float, stamp: int) -> None:
-        """Notes when a sample came, and the drone's milliseconds in it, which begin anew after WRAP."""
-        turns = 0 if self.stamp is None else round((self.stamp - stamp) / WRAP)
-        self.between = 0 if self.stamp is None else stamp + turns * WRAP - self.stamp
-        self.stamp = stamp + turns * WRAP
-        late = heard - self.stamp / 1000
-        self.least = late if self.least is None else min(self.least, late)
-        self.heard, self.measured = heard, self.stamp / 1000 + self.least
+    def says(self, bits: int) -> bool:
+        """Whether it has a supervisor that says one of these."""
+        return self.info is not None and bool(self.info & bits)
 
-    def says_it_flies(self) -> bool:
-        return self.info is not None and bool(self.info & firmware.IS_FLYING)
+    def denies(self, bits: int) -> bool:
+        """Whether it has a supervisor that says none of these."""
+        return self.info is not None and not self.info & bits
 
     def speed(self) -> float:
         """Its speed in metres a second by its last two samples, by its own clock."""
@@ -286,10 +274,10 @@ class Fleet:
         for drone in range(len(self.names)):
             self.radio.send(drone, firmware.packet(firmware.LOGS, 1, firmware.RESET_LOGS))
 
-    def deaf(self, tries: int = 3) -> List[int]:
-        """The drones that answer no broadcast of a question that changes nothing."""
+    def deaf(self) -> List[int]:
+        """The drones that answer no broadcast of a question that changes nothing, of three."""
         raw = firmware.packet(firmware.COMMANDER, 0, firmware.group() + bytes([MARK]))
-        for _ in range(tries):
+        for _ in range(3):
             self.radio.broadcast(raw)
             until = clock.now() + 1
             while clock.now() < until and len(self.heard_broadcast) < len(self.names):
@@ -298,17 +286,15 @@ class Fleet:
 
     # ---- commands
 
-    def command(self, drone: int, data: bytes, word: str, since: Optional[int] = None) -> Tuple[float, float]:
-        """A command to one drone, until it is answered; when it went out first and when it was answered. A take-off
-        that is asked for once more, since its answer was lost, is refused: then it was taken. So is a landing of one
-        that lands already. Nothing goes out where all questions were dropped `since`, a count of the radio's."""
+    def command(self, drone: int, data: bytes, word: str, since: Optional[int] = None, seconds: float = 2.0) -> None:
+        """A command to one drone, until it is answered. A take-off that is asked for once more, since its answer was
+        lost, is refused: then it was taken. So is a landing of one that lands already, or is on the floor. Nothing goes
+        out where all questions were dropped `since`, a count of the radio's."""
         begin, lands = clock.now(), data[:1] == firmware.LAND
-        answer = self.radio.ask(drone, firmware.COMMANDER, 0, data, 3, seconds=2, least=4,
-                                every=AGAIN if lands else ANSWER, since=since)
-        again = answer[3] == 1 and (lands or clock.now() - begin > 0.9 * ANSWER)
-        if answer[3] and not again:
-            raise Trouble("%s refuses to %s: status %d" % (self.names[drone], word, answer[3]))
-        return begin, clock.now()
+        status = self.radio.ask(drone, firmware.COMMANDER, 0, data, 3, seconds=seconds, least=4,
+                                every=AGAIN if lands else ANSWER, since=since)[3]
+        if status and not (status == 1 and (lands or clock.now() - begin > 0.9 * ANSWER)):
+            raise Trouble("%s refuses to %s: status %d" % (self.names[drone], word, status))
 
     def ask_arm(self, drone: int, since: Optional[int] = None) -> None:
         """Arms a drone; one that says itself whether it is armed needs no answer."""
@@ -324,27 +310,25 @@ class Fleet:
         return self.radio.ask(drone, firmware.MEMORY, 1, firmware.read(memory[0], memory[1], len(data)), 5, seconds=2,
                               length=6 + len(data))[6:] == data
 
-    def arm(self, on: bool, drones: Sequence[int], look: Optional[Look] = None) -> List[str]:
-        """Arms or disarms drones; which of them aren't as they should be afterwards, by their own supervisors, or
-        didn't answer where they have none. A drone that arms by itself can't be disarmed."""
+    def disarm(self, drones: Sequence[int]) -> List[str]:
+        """Disarms drones; which of them are armed afterwards, by their own supervisors, or didn't answer where they
+        have none. A drone that arms by itself can't be disarmed."""
         quiet: Set[int] = set()
 
-        def arm(drone: int) -> None:
+        def disarm(drone: int) -> None:
             try:
                 if drone in drones:
-                    self.radio.ask(drone, firmware.PLATFORM, 0, firmware.arm(on), 1, seconds=2)
+                    self.radio.ask(drone, firmware.PLATFORM, 0, firmware.arm(False), 1, seconds=2)
             except Dead:
                 quiet.add(drone)
-        self.radio.each(arm, look)
-        until, wrong = clock.now() + 2, []
+        self.radio.each(disarm)
+        until, wrong = clock.now() + OBEYS, []
         while clock.now() < until:
-            wrong = [self.names[drone] for drone in drones for info in [self.states[drone].info] if (
-                drone in quiet if info is None else
-                bool(info & firmware.IS_ARMED) != on and (on or not info & firmware.AUTO_ARM))]
+            wrong = [self.names[k] for k in drones for state in [self.states[k]] if (
+                k in quiet if state.info is None else
+                state.says(firmware.IS_ARMED) and not state.says(firmware.AUTO_ARM))]
             if not wrong:
                 break
-            if look:
-                look()
             clock.wait(0.05)
         return wrong
 
@@ -360,17 +344,14 @@ class Fleet:
         for drone in [] if by_broadcast else drones:
             sent[drone] = (clock.now(),) * 2
             self.radio.send(drone, raw)
-        self.radio.each(self.pass_by)
+
+        def pass_by(drone: int) -> None:
+            with contextlib.suppress(Dead):
+                self.radio.pass_by(drone, 1)
+        self.radio.each(pass_by)
         nothing: Tuple[Optional[float], Optional[int]] = (None, None)
         with self.lock:
             return {drone: (*sent[drone], *self.started.get(drone, nothing)) for drone in sent}
-
-    def pass_by(self, drone: int) -> None:
-        """Waits until a drone has answered all commands before, but not for long. The question has a mark by chance, so
-        that no answer to an earlier one is taken for its own."""
-        mark = firmware.group() + bytes([0x80 | random.randrange(0x80)])
-        with contextlib.suppress(Dead):
-            self.radio.ask(drone, firmware.COMMANDER, 0, mark, 3, seconds=1)
 
     def beside(self, raw: bytes, copies: int) -> None:
         """A broadcast that goes out beside commands to each drone, so that nothing rests on it, nor waits for it."""
@@ -378,26 +359,24 @@ class Fleet:
             self.radio.broadcast_beside(raw, copies)
 
     def land(self, floors: Sequence[float], drones: List[int], seconds: float,
-             look: Optional[Look] = None) -> Tuple[float, List[str], List[str]]:
+             look: Optional[Look] = None) -> Tuple[float, List[int], Dict[int, str]]:
         """Lands drones where they are within so many seconds, each by a command of its own, and beside that by a
-        broadcast where all land on floors of one height: the seconds until the last one that answers did, who didn't
-        answer, and who refused, with the status."""
+        broadcast where all land on floors of one height: the seconds until the last one that obeys answered, who didn't
+        answer, and who refused, in words."""
         self.radio.drop()
-        begin, answered, quiet, refused = clock.now(), [0.0], [], []
+        begin, answered, quiet, refused = clock.now(), [0.0], list[int](), dict[int, str]()
         if len(drones) == len(self.names) and 1000 * (max(floors) - min(floors)) <= SAME_FLOOR:
             self.beside(firmware.packet(firmware.COMMANDER, 0, firmware.land(min(floors), seconds)), 2)
 
         def land(drone: int) -> None:
-            if drone not in drones:
-                return
             try:
-                status = self.radio.ask(drone, firmware.COMMANDER, 0, firmware.land(floors[drone], seconds), 3,
-                                        seconds=1.5, least=4, every=AGAIN)[3]
-                answered.append(clock.now() - begin)
-                if status not in TAKEN:
-                    refused.append("%s with status %d" % (self.names[drone], status))
+                if drone in drones:
+                    self.command(drone, firmware.land(floors[drone], seconds), "land", seconds=1.5)
+                    answered.append(clock.now() - begin)
             except Dead:
-                quiet.append(self.names[drone])
+                quiet.append(drone)
+            except Trouble as why:
+                refused[drone] = str(why)
         self.radio.each(land, look)
         return max(answered), quiet, refused
 

@@ -11,12 +11,14 @@ import time
 from typing import Callable, Dict, Iterator, List, Optional, Set, Tuple
 
 from hemtoghai.companion import many
-from hemtoghai.flying import clock, firmware, landings, legs
-from hemtoghai.flying.crazyradio import Dead
+from hemtoghai.flying import clock, firmware, landings
+from hemtoghai.flying.crazyradio import Trouble
 from hemtoghai.flying.crew import Interrupted, say
-from hemtoghai.flying.director import Director, Ended, LAND, Order, signal, SINK, To
-from hemtoghai.flying.fleet import Trouble
-from hemtoghai.flying.watched import in_mm, Watched
+from hemtoghai.flying.descent import LANDING
+from hemtoghai.flying.director import Director, Ended, LAND as TO_LAND, Order, signal, SINK, To
+from hemtoghai.flying.stages import (apart, GO_TO, judge_stages, LAND, LATE, Leg, milliseconds_for, MOST, Place,
+                                     place_of, Rules, SAME_FLOOR, Stage)
+from hemtoghai.flying.watched import Watched
 
 LEAD = 100  # milliseconds until a landing that is decided is begun
 MOST_PAIRS = 10  # that are named where all land
@@ -47,13 +49,14 @@ class Home(Watched):
         """Has the director order the landing of all, where that is what was judged: from where all are, at once, to one
         height. Its seconds, or None where the director isn't asked, or doesn't answer. It has one time for every
         height, and isn't asked where that is much longer than it takes."""
-        floors, is_landing = self.ways.floors, self.begun and self.leg.stages[self.begun - 1].kind == legs.LAND
-        if (not self.director.is_well or is_landing or max(floors) - min(floors) > legs.SAME_FLOOR
+        floors, seconds = self.ways.floors, self.ways.descent / 1000
+        is_landing = self.begun and self.leg.stages[self.begun - 1].kind == LAND
+        if (not self.director.is_well or is_landing or max(floors) - min(floors) > SAME_FLOOR
                 or len(self.up(self.all)) < len(self.all) or self.silent or self.out
-                or self.ways.descent / 1000 > self.seconds_down(self.all) + SLOWER):
+                or seconds > self.seconds_down(self.all) + SLOWER):
             return None
         left, until = set(self.all), time.monotonic() + ORDERED
-        self.director.hear(signal(LAND))
+        self.director.hear(signal(TO_LAND))
         while left:
             said = self.director.wait(max(0.0, until - time.monotonic()))
             if said is None or isinstance(said, Ended):
@@ -61,20 +64,19 @@ class Home(Watched):
                 return None
             if isinstance(said, To) and said.drone is not None and self.is_landing(said.order):
                 left.discard(said.drone)
-        return self.ways.descent / 1000
+        return seconds
 
     # ---- in the show
 
     def refusal(self) -> Optional[str]:
         """Why not all may land now in the show, or None; after a wait for the instant looked at if some are silent."""
-        t, off = 1000 * (clock.now() - self.began()), self.off()
+        t, off = self.since(self.zero), self.off()
         if not self.silent and not off:
             return self.ways.landings.now(t) or self.ways.landings.now(t + LEAD)
         at, told, silent = t + self.takes + LEAD, self.told_now(), set(self.silent)
         why = self.meanwhile(lambda: self.ways.landings.beside_silent(at, silent, off, told))
-        took = 1000 * (clock.now() - self.began()) - t
-        self.takes = max(1.2 * took, 0.8 * self.takes)
-        left = at - LEAD / 2 - 1000 * (clock.now() - self.began())
+        self.takes = max(1.2 * (self.since(self.zero) - t), 0.8 * self.takes)
+        left = at - LEAD / 2 - self.since(self.zero)
         if why is None and left < -LEAD / 2:
             return "it took too long to look"
         if why is None:
@@ -89,7 +91,7 @@ class Home(Watched):
             if why is None:
                 return False
             if not told:
-                free = self.ways.landings.next(1000 * (clock.now() - self.began()))
+                free = self.ways.landings.next(self.since(self.zero))
                 say("FAULT: %s; flying on%s: a landing of all now isn't shown apart (%s)" % (
                     fault, "" if free is None or self.silent or self.off() else " to %.1f s" % (free / 1000),
                     landings.short(why)))
@@ -103,69 +105,68 @@ class Home(Watched):
 
     def refusal_ready(self) -> Optional[str]:
         """Why not all may land from the stage that is flown, by what was judged before take-off, or None. Where a drone
-        isn't where the stage has it nothing was judged."""
-        row, began = self.ways.landings_at(self.leg, self.begun), self.stage_began
-        unsure = self.out | set(self.unheard)
-        if self.zero is not None and self.leg is self.ways.up:
-            return self.refusal_of_start()
-        if row is None:
-            return NO_ANSWER
-        for k, state in enumerate(self.fleet.states):
-            t = 0.0 if began is None or state.measured is None else 1000 * (state.measured - began)
-            if k in unsure or not self.is_fresh(k) or not row.has(k, t, [1000 * v for v in state.where()]):
-                return NO_ANSWER
-        return row.now(0.0 if began is None else 1000 * (clock.now() - began))
-
-    def refusal_of_start(self) -> Optional[str]:
-        """The same after a start that not all took: each is somewhere on its curve up to this instant."""
-        t, far = 1000 * (clock.now() - self.began()), self.ways.rules.stray
+        isn't where the stage has it nothing was judged. After a start that not all took each is somewhere on its curve
+        up to this instant."""
+        row, t, far = self.ways.landings_at(self.leg, self.begun), self.since(self.zero), self.ways.rules.stray
+        has_started = self.zero is not None and self.leg is self.ways.up
         for k, (curve, state) in enumerate(zip(self.curves, self.fleet.states)):
-            if k in self.out or not self.is_fresh(k) or (
-                    curve.nearest([1000 * v for v in state.where()], 0, t + 50, far)[0] > far):
+            if k in self.out or not self.is_fresh(k):
                 return NO_ANSWER
-        return self.ways.after_start(t)
+            if has_started:
+                is_there = curve.nearest(self.at(k), 0, t + 50, far)[0] <= far
+            else:
+                began = 0.0 if self.stage_began is None or state.measured is None else 1000 * (
+                    state.measured - self.stage_began)
+                is_there = row is not None and k not in self.unheard and row.has(k, began, self.at(k))
+            if not is_there:
+                return NO_ANSWER
+        if has_started:
+            return self.ways.after_start(t)
+        return row.now(self.since(self.stage_began)) if row else NO_ANSWER
 
     def refusal_here(self) -> Optional[str]:
         """Why not all may land straight down from where they are on the ways, or None: with how far they are carried
-        on by the speed of their last two samples, and how far they fly until all are told."""
-        lost = self.lost()
-        if lost and clock.now() < self.stage_ends:
+        on by the speed of their last two samples, and how far they fly until all are told. Who isn't heard stays where
+        it is, or is told to land as all are: in each pair both land, or one of them alone."""
+        lost, at, is_flown = self.lost(), self.places_here(), clock.now() < self.stage_ends
+        if lost and is_flown:
             return "%s may not have heard where to go" % self.words_of(lost)
-        at = self.places_here()
-        whys = (self.refusal_from({**at, **{k: places[k] for k in lost}})
-                for places in ((self.aims, self.unheard) if lost else (at,)))
-        return next(filter(None, whys), None)
+        for places in (self.aims, self.unheard) if lost else (at,):
+            here = {**at, **{k: places[k] for k in lost}}
+            land = set(self.all) - self.hold(here)
+            moving = [k for k in self.silent if here[k] != self.ways.pads[k]] if is_flown else []
+            if moving:
+                return "%s silent on the way" % self.words_of(moving)
+            mute = {k for k in self.mute() if here[k] != self.ways.pads[k]}
+            for drones in [land | mute, *((land | mute) - {k} for k in mute)]:
+                why = self.refusal_of(here, drones, is_flown)
+                if why:
+                    return why
+        return None
 
-    def refusal_from(self, at: Dict[int, legs.Place]) -> Optional[str]:
-        """The same, with drones at these places: who isn't heard stays where it is, or is told to land as all are."""
-        now, land = clock.now(), set(self.all) - self.hold(at)
-        moving = [k for k in self.silent if at[k] != self.ways.pads[k]] if now < self.stage_ends else []
-        if moving:
-            return "%s silent on the way" % self.words_of(moving)
-        mute = {k for k in self.mute() if at[k] != self.ways.pads[k]}
-        cases = [land | mute, *((land | mute) - {k} for k in mute)]  # each pair: both land, or one of them alone
-        return next(filter(None, (self.refusal_of(at, drones) for drones in cases)), None)
-
-    def refusal_of(self, at: Dict[int, legs.Place], drones: Set[int]) -> Optional[str]:
-        """The same, where some land and all others stay."""
+    def refusal_of(self, at: Dict[int, Place], drones: Set[int], is_flown: bool) -> Optional[str]:
+        """The same, where some land from places and all others stay, and a stage may still be flown."""
         to = {k: (*at[k][:2], self.ways.pads[k][2]) for k in drones}
-        flown = self.leg.stages[self.begun - 1] if self.begun and clock.now() < self.stage_ends else None
-        if flown and flown.kind == legs.LAND and not set(to) <= set(flown.to):
+        flown = self.leg.stages[self.begun - 1] if self.begun and is_flown else None
+        if flown and flown.kind == LAND and not set(to) <= set(flown.to):
             return "%s on the way down" % self.words_of(flown.to)  # a landing isn't broken off by another
-        if not to or flown and flown.kind == legs.LAND:
+        if not to or flown and flown.kind == LAND:
             return None
-        speed = max(1000 * self.fleet.states[k].speed() for k in to)
-        more = landings.carried(speed) + speed * (legs.LATE / 1000 + OLD + ANSWERS)
-        if self.ways.rules.stray + more > landings.MOST:
+        return self.refusal_of_stage(LAND, at, to, [at[k][2] - place[2] for k, place in to.items()])
+
+    def refusal_of_stage(self, kind: str, at: Dict[int, Place], to: Dict[int, Place],
+                         ways: List[float]) -> Optional[str]:
+        """Why some may not go so far to places from where they fly now, or None."""
+        speed = max(map(self.speed, to), default=0.0)
+        more = landings.carried(speed) + speed * (LATE / 1000 + OLD + ANSWERS)
+        if self.ways.rules.stray + more > MOST:
             return landings.TOO_FAR
-        leg = legs.Leg(self.names, at, self.ways.yaws, legs.Rules(self.flown.show.settings, self.ways.rules.aim + more))
-        stage = legs.Stage(legs.LAND, landings.landing_ms([at[k][2] - place[2] for k, place in to.items()]), to)
-        return legs.judge_stages(leg, [stage], self.ways.standing(), at)
+        leg = Leg(self.names, at, self.ways.yaws, Rules(self.flown.show.settings, self.ways.rules.aim + more))
+        return judge_stages(leg, [Stage(kind, milliseconds_for(kind, ways), to)], self.ways.pads, at)
 
     def soon(self, refusal: Callable[[], Optional[str]], late: Optional[str]) -> Optional[str]:
         """A refusal that `check` says, or this where it takes too long."""
-        found = self.within(refusal, ANSWERS)
-        return found[0] if found else late
+        return self.meanwhile(refusal, ANSWERS, late)
 
     # ---- on the ways: home by a way that is judged
 
@@ -220,7 +221,7 @@ class Home(Watched):
         while (self.lost() or self.mute()) and clock.now() < until:
             self.pause(clock.now() + 0.1)
 
-    def places_planned(self) -> Dict[int, legs.Place]:
+    def places_planned(self) -> Dict[int, Place]:
         """Where drones are, those who are where their leg has them after its stage by the leg's own places: from there
         the ways back were judged beforehand."""
         at, planned = self.places_here(), self.leg.places(self.begun)
@@ -229,63 +230,62 @@ class Home(Watched):
 
     def break_off(self, front: str, why: str) -> None:
         """After a start that not all took: has all go back to their first places, from which the rest is judged."""
-        at, speed = self.places_here(), max(1000 * state.speed() for state in self.fleet.states)
+        at = self.places_here()
         to = {k: place for k, place in enumerate(self.ways.firsts) if at[k] != self.ways.pads[k]}
-        milliseconds = legs.milliseconds_for(legs.GO_TO, [math.dist(at[k], place) for k, place in to.items()])
-        stage = legs.Stage(legs.GO_TO, milliseconds, to)
-        more = self.ways.rules.aim + landings.carried(speed) + speed * (legs.LATE / 1000 + OLD + ANSWERS)
-        leg = legs.Leg(self.names, at, self.ways.yaws, legs.Rules(self.flown.show.settings, more))
+        ways = [math.dist(at[k], place) for k, place in to.items()]
         mute = [k for k in to if not self.is_fresh(k)]
         doubt = "%s silent, and may fly the show" % self.words_of(mute) if mute else self.soon(
-            lambda: legs.judge_stages(leg, [stage], self.ways.standing(), at), NO_ANSWER)
+            lambda: self.refusal_of_stage(GO_TO, at, to, ways), NO_ANSWER)
         say("%s; a landing of all now isn't shown apart (%s): all go back to their first places%s" % (
             front, landings.short(why), ", which is NOT JUDGED: %s" % landings.short(doubt) if doubt else ""))
-        self.home_stage(stage)
+        self.home_stage(Stage(GO_TO, milliseconds_for(GO_TO, ways), to))
 
-    def way_home(self, at: Dict[int, legs.Place]) -> Tuple[Optional[legs.Leg], str]:
+    def way_home(self, at: Dict[int, Place]) -> Tuple[Optional[Leg], str]:
         """A judged way down from places on the ways, and words for it; None where there is none."""
         if self.lost():
             return None, ""  # each is in one of two places
         hold, is_up = self.hold(at), self.leg is self.ways.up
-        back = legs.Leg(self.names, self.leg.begin, self.ways.yaws, self.ways.rules)
+        back = Leg(self.names, self.leg.begin, self.ways.yaws, self.ways.rules)
         back.stages = self.leg.stages[:self.begun]
         again = 1 if self.unheard and self.begun else 0  # the stage that not all heard of is flown once more
         way, count = (back.reversed(), 0) if is_up else (self.leg, self.begun - again)
         rest = self.ways.rest_judged(way, count, at, hold)
         if rest:
             return rest, "the way that they came" if is_up else "by the rest of the way down"
-        return self.ways.new_judged(at, hold) or self.beside_wrecks(way, count, at, hold), "by a new way"
+        return self.new_way(way, count, at, hold), "by a new way"
 
-    def beside_wrecks(self, leg: legs.Leg, count: int, at: Dict[int, legs.Place],
-                      hold: Set[int]) -> Optional[legs.Leg]:
-        """The rest of a leg, judged without the drones that don't fly any more: better than to come down on one that
-        lies below. None where there are none, or it isn't accepted."""
-        wrecks = self.out - self.silent
-        rest = self.ways.rest_judged(leg, count, {k: at[k] for k in at if k not in wrecks}, hold) if wrecks else None
+    def new_way(self, leg: Leg, count: int, at: Dict[int, Place], hold: Set[int]) -> Optional[Leg]:
+        """A new way down from places; else the rest of a leg, judged without the drones that don't fly any more: better
+        than to come down on one that lies below. None where neither is accepted."""
+        wrecks, new = self.out - self.silent, self.ways.new_judged(at, hold)
+        if new or not wrecks:
+            return new
+        rest = self.ways.rest_judged(leg, count, {k: at[k] for k in at if k not in wrecks}, hold)
         if rest:
             say("NOT JUDGED beside %s: nothing leads clear of where it lies" % self.words_of(wrecks))
         return rest
 
-    def home_stage(self, stage: legs.Stage, look: Callable[[], None] = lambda: None) -> List[str]:
+    def home_stage(self, stage: Stage, look: Callable[[], None] = lambda: None) -> List[str]:
         """A stage of the way home: it is flown whatever is wrong, but for what a look raises, and a second Ctrl-C stops
         all motors. Who didn't answer, or isn't down, in words."""
         seconds, mute = stage.milliseconds / 1000, []
         before = {k: self.aims[k] for k in stage.to}
         self.aims.update(stage.to)
-        if stage.kind == legs.LAND:
+        if stage.kind == LAND:
             up = self.bring_down(list(stage.to), seconds, self.ways.rules.late / 1000)
             self.unheard = {k: before[k] for k in up}
             return ["%s isn't down" % self.names[k] for k in up]
-        rows = {k: firmware.go_to(x / 1000, y / 1000, z / 1000, math.radians(self.ways.yaws[k] / 10), seconds)
-                for k, (x, y, z) in stage.to.items()}
         self.unheard = before
 
         def go(drone: int) -> None:
+            if drone not in stage.to:
+                return
+            x, y, z = (v / 1000 for v in stage.to[drone])
             try:
-                if drone in rows:
-                    self.fleet.command(drone, rows[drone], "go back")
-                    self.unheard.pop(drone, None)
-            except (Trouble, Dead) as error:
+                data = firmware.go_to(x, y, z, math.radians(self.ways.yaws[drone] / 10), seconds)
+                self.fleet.command(drone, data, "go back")
+                self.unheard.pop(drone, None)
+            except Trouble as error:
                 mute.append(str(error))
         self.fleet.radio.each(go, self.watch.look)
         for words in mute:
@@ -310,43 +310,42 @@ class Home(Watched):
             stage = whole.without(self.out | self.silent)
             self.begun, self.stage_began = number, clock.now()
             self.stage_ends = self.stage_began + stage.milliseconds / 1000 + 1
-            if stage.to:
-                self.fly_stage(stage)
+            if not stage.to:
+                continue
+            self.say_stage(stage)
+            wrong = [*self.home_stage(stage, self.guard), *self.noted()]
+            far = [] if stage.kind == LAND else self.far_from(stage.to, self.options.at_start)
+            if wrong or far:
+                raise Trouble("; ".join([*wrong, *("%s isn't at the next place" % name for name in far)]))
 
-    def way_beside(self, hold: Set[int]) -> legs.Leg:
+    def say_stage(self, stage: Stage) -> None:
+        """Says who takes off or lands in a stage."""
+        if stage.kind != GO_TO:
+            say("%s, %s: %s, %.1f s" % ("landing" if stage.kind == LAND else "taking off", many(len(stage.to), "drone"),
+                                        " ".join(self.names[k] for k in stage.to), stage.milliseconds / 1000))
+
+    def way_beside(self, hold: Set[int]) -> Leg:
         """A judged way down from the last places that keeps clear of some; raises Trouble where there is none."""
         say("silent, and hovering at the end of its curve, as is assumed: %s" % self.words_of(self.silent)
             if self.silent else "doesn't fly any more: %s" % self.words_of(self.out))
         at = dict(enumerate(self.ways.lasts))
-        at.update((k, in_mm(self.fleet.states[k].where())) for k in self.out if k not in self.silent)
-        leg = self.meanwhile(lambda: self.ways.new_judged(at, hold) or self.beside_wrecks(self.ways.down, 0, at, hold))
+        at.update((k, place_of(self.at(k))) for k in self.out - self.silent)
+        leg = self.meanwhile(lambda: self.new_way(self.ways.down, 0, at, hold))
         if leg is None:
             raise Trouble("NO WAY DOWN is judged apart from %s" % self.words_of(hold))
         for line in leg.lines():
             say(line)
         return leg
 
-    def fly_stage(self, stage: legs.Stage) -> None:
-        """Flies a stage of it, on guard."""
-        if stage.kind == legs.LAND:
-            say("landing, %s: %s, %.1f s" % (many(len(stage.to), "drone"), " ".join(self.names[k] for k in stage.to),
-                                            stage.milliseconds / 1000))
-        wrong = [*self.home_stage(stage, self.guard), *self.noted()]
-        far = [] if stage.kind == legs.LAND else self.far_from(stage.to, self.options.at_start)
-        if wrong or far:
-            raise Trouble("; ".join([*wrong, *("%s isn't at the next place" % name for name in far)]))
-
     # ---- landing
 
     def doubt_now(self) -> Optional[str]:
         """Why a landing that begins now in the show isn't shown apart, by what was judged before, or None."""
-        t = 1000 * (clock.now() - self.began())
-        if t >= self.flown.milliseconds:
-            return self.ways.landings.now(self.flown.milliseconds)
-        if self.silent or self.off():
+        t, over = self.since(self.zero), self.flown.milliseconds
+        if t < over and (self.silent or self.off()):
             return "not looked at with %s" % (
                 self.words_of(self.silent) + " silent" if self.silent else self.words_of(self.off()) + " off the curve")
-        return self.ways.landings.now(t)
+        return self.ways.landings.now(min(t, over))
 
     def warn(self) -> None:
         """Says where the landing that begins now isn't shown apart, and names pairs that may come down on each other.
@@ -354,29 +353,28 @@ class Home(Watched):
         if self.doubt is None:
             return
         say("THIS LANDING ISN'T SHOWN APART: %s" % landings.short(self.doubt))
-        t = 1000 * (clock.now() - self.began()) if self.zero is not None else 0.0
-        for pair in list(self.near_pairs(t))[:MOST_PAIRS]:
+        for pair in list(self.near_pairs(self.since(self.zero)))[:MOST_PAIRS]:
             say("MAY COME DOWN ON EACH OTHER: %s and %s" % pair)
 
     def told_now(self) -> int:
         """The milliseconds within which all hear of a landing: a broadcast goes out where none is down."""
-        return self.ways.landings.told if self.in_show and len(self.up(self.all)) == len(self.all) else legs.LATE
+        return self.ways.landings.told if self.in_show and len(self.up(self.all)) == len(self.all) else LATE
 
     def near_pairs(self, t: float) -> Iterator[Tuple[str, str]]:
         """The pairs that are nearer from above than their ellipsoids, with how far they may be carried on."""
-        places, carried = [in_mm(state.where()) for state in self.fleet.states], [0.0] * len(self.names)
+        places, carried = [self.at(k) for k in self.all], [0.0] * len(self.names)
         for k in self.all if self.in_show else ():
             carried[k] = landings.carried(math.hypot(*self.ways.landings.speed(k, min(t, self.flown.milliseconds))))
             if k in self.silent:
-                places[k] = legs.place_of(self.curves[k].at(t))
+                places[k] = self.curves[k].at(t)
         for i in self.all:
             for j in range(i):
-                far = legs.apart(places[i], places[j]) - carried[i] - carried[j]
+                far = apart(places[i], places[j]) - carried[i] - carried[j]
                 if far <= 2 * self.ways.rules.radius and not {i, j} <= self.landed:
                     yield self.names[j], self.names[i]
 
-    def words_after(self, why: BaseException) -> Optional[str]:
-        """Does what a fault or a Ctrl-C wants; the words for the landing that follows, or None after the whole show."""
+    def words_after(self, why: BaseException) -> str:
+        """Does what a fault or a Ctrl-C wants; the words for the landing that follows."""
         if isinstance(why, Interrupted):
             words, front = "Ctrl-C: landing all; once more stops the motors", "Ctrl-C, once more stops the motors"
         else:
@@ -389,7 +387,9 @@ class Home(Watched):
         else:
             try:
                 if self.fly_on(why):
-                    return None
-            except Interrupted as pressed:
-                return self.words_after(pressed)
+                    self.leave_show()
+                    self.come_down()
+                    return LANDING
+            except (Trouble, Interrupted) as more:
+                return self.words_after(more)
         return words

@@ -13,23 +13,22 @@ A drone that is silent flies its curve on: that is judged with those who land by
 left its curve is judged from where it says that it is. The stages of the ways up and down have landings of their own,
 judged alike. Millimetres and milliseconds.
 """
-from itertools import combinations
+from itertools import combinations, groupby
 from math import ceil, dist, hypot
 from typing import Dict, Iterable, Iterator, List, Optional, Protocol, Sequence, Set, Tuple
 
 from hemtoghai.companion import begins, value
-from hemtoghai.flying.legs import (apart, ask_all, LAND, LATE, Leg, LIFT, Place, place_of, refusal_of, Rules,
-                                   SAME_FLOOR, Stage, stage_texts, standing_apart, text_of)
+from hemtoghai.flying.routes import LIFT
+from hemtoghai.flying.stages import (apart, LAND, LATE, Leg, milliseconds_for, MOST, Place, place_of, refusal_of, Rules,
+                                     SAME_FLOOR, side_by_side, Stage, stage_texts, standing_apart)
 from hemtoghai.geometry.curves import curves_of, ease
 from hemtoghai.language.choreo import Flown
 
 BRAKE, REACT = 5.0, 0.1  # m/s^2 with which a drone brakes at least, and seconds until it does
 TOLD = 100  # until a drone that missed the broadcast is told by a packet of its own; without a broadcast it is LATE
 FINE = 20  # between the instants that are looked at around one
-LEAST, SINK = 2000, 400  # of a landing, and mm a second
 STEP = 200  # between instants of a stage of a way
 PIECE = 250  # of the curves of a silent drone
-MOST = 1000  # of a stray and of lateness, in the language
 MOST_CUES = 900  # of the show of a silent drone
 ROUNDED = 2  # by which a cut curve may be off by rounding
 TOO_FAR = "drones are carried on too far"
@@ -43,11 +42,6 @@ class Moving(Protocol):
 
     def at(self, t: float) -> List[float]:
         """The place at a time."""
-
-
-def landing_ms(heights: Iterable[float]) -> int:
-    """How long a landing takes from such heights above the floors."""
-    return max(LEAST, ceil(1000 * max(heights) / SINK))
 
 
 def carried(speed: float) -> float:
@@ -67,7 +61,10 @@ def off_reach(place: Sequence[float], speed: float) -> Reach:
 
 class Landings:
     """The landings of a show: `floors` are by drone, in mm. A step is how far apart the instants are that stand for
-    all. Drones are `before` late at most in what they fly, and told of a landing within `told`."""
+    all. Drones are `before` late at most in what they fly, and told of a landing within `told`. Some may be `standing`
+    on the floor, at these places, or be `landing` already."""
+    standing: Dict[int, Place] = {}
+    landing: Set[int] = set()
 
     def __init__(self, flown: Flown, floors: Sequence[int], rules: Rules, step: Optional[int] = None) -> None:
         self.names, self.floors, self.rules = flown.names, floors, rules
@@ -88,11 +85,14 @@ class Landings:
 
     def reach(self, k: int, t: float, told: Optional[int] = None) -> Reach:
         """What a drone may reach where all land at an instant, and are told within so many milliseconds."""
+        curve = self.curves[k]
+        if isinstance(curve, Mover) and curve.first == curve.last:
+            return curve.first, 0.0
         low, high, points = t - self.before - self.step / 2, t + (told or self.told) + self.step / 2, []
         count = ceil((high - low) / FINE)
         for n in range(count + 1):
             at = min(max(low + (high - low) * n / count, 0), self.end)
-            place, speed = self.curves[k].at(at), self.speed(k, at)
+            place, speed = curve.at(at), self.speed(k, at)
             size = hypot(*speed)
             on = carried(size) / size if size > 0.01 else 0.0
             points += [place, [v + on * w for v, w in zip(place, speed)]]
@@ -124,23 +124,24 @@ class Landings:
     def stage(self, at: Dict[int, Place]) -> Stage:
         """The stage in which drones land from places."""
         to = {k: (*place[:2], self.floors[k]) for k, place in at.items()}
-        return Stage(LAND, landing_ms([at[k][2] - self.floors[k] for k in at]), to)
-
-    def texts(self, rows: Dict[int, Reach], more: float, told: Optional[int] = None) -> List[bytes]:
-        """The show that a landing is from the middle of what drones may reach, with so much more stray."""
-        at = {k: row[0] for k, row in rows.items()}
-        return [text_of(self.names, at, [0] * len(self.names), [self.stage(at)], self.rules, late=self.late(told),
-                        stray=self.stray + ceil(more))]
+        return Stage(LAND, milliseconds_for(LAND, [at[k][2] - self.floors[k] for k in at]), to)
 
     def ask(self, rows: Dict[int, Reach], more: float, told: Optional[int] = None) -> Optional[str]:
-        """The refusal of a landing, or None."""
-        if self.stray + ceil(more) > MOST:
-            return TOO_FAR
-        return next((why for why in map(refusal_of, self.texts(rows, more, told)) if why), None)
+        """The refusal of a landing from the middle of what drones may reach, with so much more stray, or None."""
+        at, stray = {k: row[0] for k, row in rows.items()}, self.stray + ceil(more)
+        fly = {k: place for k, place in at.items() if k not in self.standing}
+        if stray > MOST or not fly:
+            return TOO_FAR if fly else None
+        texts = stage_texts(self.names, [0] * len(self.names), self.stage(fly), self.standing, at, self.rules, stray,
+                            self.late(told))
+        return next(filter(None, map(refusal_of, texts)), None)
 
     def refusal(self, t: float, off: Optional[Dict[int, Reach]] = None, told: Optional[int] = None) -> Optional[str]:
         """Why not all may land at an instant, or None; `off` are drones that aren't on their curves. Where drones are
-        carried on by various ways, they are judged in sets that have each pair with no more stray than that has."""
+        carried on by various ways, they are judged in sets that have each pair with no more stray than that has. Who
+        lands already goes on: it refuses another landing."""
+        if self.landing:
+            return self.beside(t, self.landing, off, told)
         rows = self.reaches(t, range(len(self.names)), off or {}, told)
         line = self.ask(rows, max(row[1] for row in rows.values()), told)
         if line is None or len(rows) < 2:
@@ -179,12 +180,7 @@ class Landings:
         """The instants that stand for all, each with why not all may land then, or None."""
         if self.rows is None:
             instants = range(0, self.end + self.step, self.step)
-            texts = []
-            for t in instants:
-                rows = self.reaches(t, range(len(self.names)), {})
-                texts += self.texts(rows, max(row[1] for row in rows.values()))
-            ask_all(texts)
-            self.rows = [(t, self.refusal(t)) for t in instants]
+            self.rows = list(zip(instants, side_by_side(self.refusal, instants)))
         return self.rows
 
     def now(self, t: float) -> Optional[str]:
@@ -200,22 +196,20 @@ class Landings:
 
     def lines(self) -> Iterator[str]:
         """A line for each cue, or for cues that follow each other in all of which all may land at every instant."""
-        first = None
-        for number, (begin, end) in enumerate([*self.cues, (self.end, self.end)], 1):
-            last = number > len(self.cues)
+        cues = []
+        for number, (begin, end) in enumerate(self.cues, 1):
             rows = [row for row in self.table() if begin <= row[0] < end] or [(begin, self.now(begin))]
-            bad = [(at, why) for at, why in rows if why]
-            if not bad and not last:
-                first = first or (number, begin)
-                continue
-            if first:
+            cues.append((number, begin, end, [(at, why) for at, why in rows if why]))
+        for is_bad, group in groupby(cues, lambda it: bool(it[3])):
+            parts = list(group)
+            if is_bad:
+                yield from ("cue %d, %.1f to %.1f s: %s" % (
+                    number, begin / 1000, end / 1000, self.words(begin, end, bad)) for number, begin, end, bad in parts)
+            else:
+                first, last = parts[0], parts[-1]
                 yield "%s, %.1f to %.1f s: land now" % (
-                    "cue %d" % first[0] if first[0] == number - 1 else "cues %d to %d" % (first[0], number - 1),
-                    first[1] / 1000, begin / 1000)
-                first = None
-            if last:
-                return
-            yield "cue %d, %.1f to %.1f s: %s" % (number, begin / 1000, end / 1000, self.words(begin, end, bad))
+                    "cue %d" % first[0] if first is last else "cues %d to %d" % (first[0], last[0]),
+                    first[1] / 1000, last[2] / 1000)
 
     def words(self, begin: int, end: int, bad: Sequence[Tuple[int, str]]) -> str:
         """What to do in a cue at some of whose instants not all may land."""
@@ -232,38 +226,39 @@ class Landings:
                       told: Optional[int] = None) -> Optional[str]:
         """Why not all may land at an instant, or None, where each silent drone may hear of it and land as others do, or
         hear nothing and fly its curve on: so in each pair both land, or one of the two does."""
-        whys = (self.with_silent(t, {k}, off, told) for k in silent)
+        whys = (self.beside(t, {k}, off, told) for k in silent)
         return self.refusal(t, off, told) or next(filter(None, whys), None)
 
-    def with_silent(self, t: float, silent: Iterable[int], off: Optional[Dict[int, Reach]] = None,
-                    told: Optional[int] = None) -> Optional[str]:
-        """Why others may not land at an instant while silent drones fly their curves on to the end, or None; `off` are
-        drones that aren't on their curves."""
-        land = [k for k in range(len(self.names)) if k not in silent]
+    def beside(self, t: float, on: Iterable[int], off: Optional[Dict[int, Reach]] = None,
+               told: Optional[int] = None) -> Optional[str]:
+        """Why others may not land at an instant while some fly on to the end as they do, or None; `off` are drones that
+        aren't on their curves."""
+        land = [k for k in range(len(self.names)) if k not in on and k not in self.standing]
         if not land:
             return None
         rows = self.reaches(t, land, off or {}, told)
-        at = {k: row[0] for k, row in rows.items()}
-        stage = self.stage(at)
-        ways = {k: (at[k], stage.to[k], stage.milliseconds) for k in land}
-        more = max(row[1] for row in rows.values())
-        text = self.cut_text(self.times(t, stage.milliseconds), ways, silent, more, told)
-        return TOO_FAR if text is None else refusal_of(text)
+        stage, more = self.stage({k: row[0] for k, row in rows.items()}), max(row[1] for row in rows.values())
+        ways = {k: (rows[k][0], stage.to[k], stage.milliseconds) for k in land}
+        for row in standing_apart(self.standing, self.rules, self.stray + ceil(more), self.late(told)):
+            hold = {k: (self.standing[k], self.standing[k], stage.milliseconds) for k in row}
+            text = self.cut_text(self.times(t, stage.milliseconds), {**ways, **hold}, on, more, told)
+            why = TOO_FAR if text is None else refusal_of(text)
+            if why:
+                return why
+        return None
 
     def times(self, t: float, milliseconds: int) -> List[int]:
         """The instants at which curves are cut: the ends of cues, of the landing, and so that no stretch is longer than
         a piece, and each cue has four, as far as the language's number of cues lets that be."""
         t = round(t)
-        marks, piece = sorted({t, t + milliseconds, *(end for _, end in self.cues if end > t)}), PIECE
-        for least in (4, 2, 1, 1, 1, 1):
+        marks, out = sorted({t, t + milliseconds, *(end for _, end in self.cues if end > t)}), [t]
+        for least, times in (4, 1), (2, 1), (1, 1), (1, 2), (1, 4), (1, 8):
             out = [t]
-            for mark in marks[1:]:
-                first = out[-1]
-                pieces = min(mark - first, max(least, ceil((mark - first) / piece)))
+            for first, mark in zip(marks, marks[1:]):
+                pieces = min(mark - first, max(least, ceil((mark - first) / (times * PIECE))))
                 out += [first + (mark - first) * n // pieces for n in range(1, pieces + 1)]
             if len(out) <= MOST_CUES:
                 break
-            piece *= 2 if least == 1 else 1
         return out
 
     def cut_text(self, times: Sequence[int], ways: Dict[int, Tuple[Place, Place, int]], silent: Iterable[int],
@@ -295,50 +290,12 @@ class StageLandings(Landings):
 
     def __init__(self, leg: Leg, number: int, floors: Sequence[int]) -> None:
         stage, at = leg.stages[number], leg.places(number)
-        self.leg, self.names, self.floors, self.rules = leg, list(leg.names), floors, leg.rules
-        self.movers = [Mover(0, (at[k], stage.to.get(k, at[k]), stage.milliseconds)) for k in range(len(at))]
-        self.curves = list(self.movers)
+        self.names, self.floors, self.rules = list(leg.names), floors, leg.rules
+        self.curves = [Mover(0, (at[k], stage.to.get(k, at[k]), stage.milliseconds)) for k in range(len(at))]
         self.end, self.stray, self.before, self.told = stage.milliseconds, leg.rules.stray, leg.rules.late, LATE
         self.standing = {k: place for k, place in at.items() if k not in stage.to and place[2] <= floors[k]}
         self.step, self.rows, self.cues = STEP, None, [(0, self.end)]
         self.landing = set(stage.to) if stage.kind == LAND else set()
-
-    def reach(self, k: int, t: float, told: Optional[int] = None) -> Reach:
-        """What a drone may reach: one that holds stays where it is."""
-        return (self.movers[k].first, 0.0) if self.movers[k].holds() else super().reach(k, t, told)
-
-    def texts(self, rows: Dict[int, Reach], more: float, told: Optional[int] = None) -> List[bytes]:
-        """The shows that a landing is of those who don't stand."""
-        at = {k: row[0] for k, row in rows.items()}
-        fly = {k: place for k, place in at.items() if k not in self.standing}
-        if not fly:
-            return []
-        return stage_texts(self.names, [0] * len(self.names), self.stage(fly), self.standing, at, self.rules,
-                           stray=self.stray + ceil(more), late=self.late(told))
-
-    def refusal(self, t: float, off: Optional[Dict[int, Reach]] = None, told: Optional[int] = None) -> Optional[str]:
-        """Why not all may land at an instant, or None. Who lands already goes on: it refuses another landing."""
-        if not self.landing:
-            return super().refusal(t, off, told)
-        land = [k for k in range(len(self.names)) if k not in self.standing and k not in self.landing]
-        if not land:
-            return None
-        rows = self.reaches(t, land, {})
-        stage, more = self.stage({k: row[0] for k, row in rows.items()}), max(row[1] for row in rows.values())
-        ways = {k: (rows[k][0], stage.to[k], stage.milliseconds) for k in land}
-        for row in standing_apart(self.standing, self.rules, self.stray + ceil(more), self.late()):
-            hold = {k: (self.standing[k], self.standing[k], stage.milliseconds) for k in row}
-            text = self.cut_text(self.times(t, stage.milliseconds), {**ways, **hold}, self.landing, more)
-            why = TOO_FAR if text is None else refusal_of(text)
-            if why:
-                return why
-        return None
-
-    def table(self) -> List[Tuple[int, Optional[str]]]:
-        """The instants that stand for all, each with why not all may land then, or None."""
-        if self.rows is None and self.landing:
-            self.rows = [(t, self.refusal(t)) for t in range(0, self.end + self.step, self.step)]
-        return super().table()
 
     def has(self, k: int, t: float, place: Sequence[float]) -> bool:
         """Whether a drone that says that it is at a place, in mm, is where the stage has it at a time."""
@@ -354,9 +311,6 @@ class Mover:
 
     def __init__(self, begin: float, way: Tuple[Place, Place, int]) -> None:
         self.begin, (self.first, self.last, self.milliseconds) = begin, way
-
-    def holds(self) -> bool:
-        return self.first == self.last
 
     def at(self, t: float) -> List[float]:
         s = ease((t - self.begin) / self.milliseconds)

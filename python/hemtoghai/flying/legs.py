@@ -6,16 +6,10 @@ program's `check`: what searches proves nothing, and has not to. Millimetres and
 import re
 from typing import Dict, Iterable, List, Optional, Sequence, Tuple
 
-from hemtoghai.flying.routes import GROUND, LIFT, place_of, Planner
-from hemtoghai.flying.stages import (AIM, apart, ask_all, GO_TO, judge_stages, judged, LAND, LATE, Leg,
-                                     milliseconds_for, NoWay, Place, refusal_of, Rules, SAME_FLOOR, Stage, stage_texts,
-                                     standing_apart, TAKE_OFF, text_of)
+from hemtoghai.flying import finite
+from hemtoghai.flying.routes import GROUND, LIFT, Planner
+from hemtoghai.flying.stages import Leg, NoWay as NoWay, Place, place_of, Rules as Rules
 from hemtoghai.language.choreo import Flown
-
-__all__ = ["AIM", "GO_TO", "GROUND", "LAND", "LATE", "LIFT", "Leg", "NoWay", "Place", "Planner", "Rules", "SAME_FLOOR",
-           "Stage", "TAKE_OFF", "apart", "ask_all", "below", "down", "judge_stages", "judged", "milliseconds_for",
-           "pads_by_name", "place_of", "places_of", "read_pads", "refusal_of", "refuse_still", "stage_texts",
-           "standing_apart", "text_of", "top_of", "way_down", "way_up"]
 
 
 def way_up(names: Sequence[str], pads: Sequence[Place], firsts: Sequence[Place], yaws: Sequence[int],
@@ -53,13 +47,20 @@ def down(names: Sequence[str], pads: Sequence[Place], lasts: Sequence[Place], ya
     return leg
 
 
-def refuse_still(leg: Leg, word: str) -> None:
-    """Raises NoWay where a drone has no move on a leg, since the show begins or ends at its pad: the flight director
-    takes none that doesn't rise and land."""
+def way_of(name: str, flown: Flown, pads: Sequence[Place], rules: Rules, is_below: bool = False) -> Leg:
+    """The way up or down of a show; raises NoWay where there is none, or a drone has no move on it, since the show
+    begins or ends at its pad: the flight director takes none that doesn't rise and land."""
+    firsts, lasts, begin, end = places_of(flown)
+    if name == "up":
+        leg = way_up(flown.names, pads, firsts, begin, rules)
+    else:
+        leg = down(flown.names, pads, lasts, begin, rules, is_below)
     still = [leg.names[k] for k in leg.begin if not any(k in stage.to for stage in leg.stages)]
     if still:
         raise NoWay("the show of %s %s on the floor, and each drone has to be brought %s: have it %d mm above its pad "
-                    "there" % (", ".join(still), word, "up" if word == "begins" else "down", LIFT))
+                    "there" % (", ".join(still), "begins" if name == "up" else "ends", name, LIFT))
+    leg.first_yaws = begin if name == "up" else end
+    return leg
 
 
 def places_of(flown: Flown) -> Tuple[List[Place], List[Place], List[int], List[int]]:
@@ -77,24 +78,16 @@ def top_of(flown: Flown) -> int:
 def pads_by_name(path: str) -> Dict[str, Place]:
     """The pads of a text with lines `NAME X Y Z` in micrometres, as a show has them, in whole mm; raises ValueError."""
     found: Dict[str, Place] = {}
-    with open(path, encoding="utf-8") as lines:
-        for number, line in enumerate(lines, 1):
-            words = line.partition("#")[0].split()
-            if words and (len(words) != 4 or words[0] in found
-                          or not all(re.fullmatch("-?[0-9]{1,8}", word) for word in words[1:])):
-                raise ValueError("%s, line %d: `NAME X Y Z` in micrometres is wanted, each once" % (path, number))
-            if words:
-                found[words[0]] = place_of(int(word) / 1000 for word in words[1:])
+    for number, words in finite.lines_of(path):
+        if len(words) != 4 or words[0] in found or not all(re.fullmatch("-?[0-9]{1,8}", word) for word in words[1:]):
+            raise ValueError("%s, line %d: `NAME X Y Z` in micrometres is wanted, each once" % (path, number))
+        found[words[0]] = place_of(int(word) / 1000 for word in words[1:])
     return found
 
 
-def read_pads(path: str, names: Sequence[str]) -> List[Place]:
-    """The pads of these drones, in their order; raises ValueError where one is missing."""
-    found = pads_by_name(path)
-    lacking = [name for name in names if name not in found]
-    if lacking:
-        raise ValueError("%s has no pad for %s" % (path, ", ".join(lacking)))
-    return [found[name] for name in names]
+def pads_of(path: Optional[str], flown: Flown) -> List[Place]:
+    """The pads of a show's drones, by a text, or straight below their first places; raises OSError and ValueError."""
+    return finite.in_order(pads_by_name(path), flown.names, path, "pad") if path else below(places_of(flown)[0])
 
 
 def below(places: Iterable[Place], height: int = 0) -> List[Place]:

@@ -4,10 +4,10 @@ import math
 from typing import List, Sequence
 
 from hemtoghai.flying import clock, firmware
-from hemtoghai.flying.crazyradio import trajectory_memories
+from hemtoghai.flying.crazyradio import trajectory_memories, Trouble
 from hemtoghai.flying.crew import say
-from hemtoghai.flying.fleet import Fleet, HISTORY, State, Trouble
-from hemtoghai.flying.legs import Place, place_of
+from hemtoghai.flying.fleet import Fleet, HISTORY, State
+from hemtoghai.flying.stages import Place, place_of
 from hemtoghai.language import choreo
 
 SETTLES = 10  # seconds in which an estimator that began anew has to be settled
@@ -59,7 +59,7 @@ def settle(fleet: Fleet, options: argparse.Namespace) -> None:
         clock.wait(0.05)
 
     def begin_anew(k: int) -> None:
-        if fleet.states[k].place is not None and not fleet.states[k].says_it_flies():
+        if fleet.states[k].place is not None and not fleet.states[k].says(firmware.IS_FLYING):
             fleet.reset_estimator(k)
     fleet.radio.each(begin_anew)
     for state in fleet.states:
@@ -77,7 +77,7 @@ def judge_state(state: State, report: Report, pad: Sequence[int], yaw: float, op
     if state.place is None or not state.places or not state.variances:
         report.faults.append("sends no samples")
         return
-    if state.says_it_flies():
+    if state.says(firmware.IS_FLYING):
         report.faults.append("says that it flies: nothing is uploaded to a drone in the air")
     volts = state.volts or 0.0
     if volts < options.battery:
@@ -85,9 +85,9 @@ def judge_state(state: State, report: Report, pad: Sequence[int], yaw: float, op
     if not is_settled(state, options):
         report.faults.append("its estimator isn't settled: variance %.4f, %.0f mm of wander" % (
             max(state.variances), 1000 * wander_of(state)))
-    if state.info is not None and not state.info & (firmware.CAN_ARM | firmware.IS_ARMED):
+    if state.denies(firmware.CAN_ARM | firmware.IS_ARMED):
         report.faults.append("can't be armed, it says")
-    if state.info is not None and state.info & firmware.WRECKED:
+    if state.says(firmware.WRECKED):
         report.faults.append("has tumbled, or is locked: start it anew")
     judge_place(state, report, pad, yaw, options)
 

@@ -13,7 +13,8 @@ import re
 from math import dist, sqrt
 from typing import Dict, Iterable, List, Optional, Sequence, Tuple
 
-from hemtoghai.flying.stages import apart, GO_TO, Leg, milliseconds_for, NoWay, PEAK, Place, Rules, Stage, TAKE_OFF
+from hemtoghai.flying.stages import (apart, GO_TO, Leg, milliseconds_for, NoWay, PEAK, Place, place_of, Rules, Stage,
+                                     TAKE_OFF)
 from hemtoghai.writing import dealing
 
 GROUND, LIFT = 50, 200  # a first place is this near to the pad and flown from there, or at least so high above it
@@ -24,12 +25,6 @@ LONG = 60000  # milliseconds of a way from which on it is said how drones could 
 REFUSED = re.compile("error 5 pair ([a-z0-9_]+) ([a-z0-9_]+) cue ([0-9]+)")
 
 Way = List[Place]
-
-
-def place_of(values: Iterable[float]) -> Place:
-    """The place of three numbers."""
-    x, y, z = (round(v) for v in values)
-    return x, y, z
 
 
 def nearest(one: Sequence[Sequence[float]], two: Sequence[Sequence[float]], sizes: Sequence[float]) -> float:

@@ -13,9 +13,9 @@ with each other: their pads have to be PADS mm apart. Millimetres and millisecon
 """
 import concurrent.futures
 import subprocess
-from itertools import chain, combinations
+from itertools import combinations
 from math import ceil, dist
-from typing import Dict, Iterable, Iterator, List, Mapping, Optional, Sequence, Tuple
+from typing import Callable, Dict, Iterable, Iterator, List, Mapping, Optional, Sequence, Tuple, TypeVar, Union
 
 from hemtoghai import program
 from hemtoghai.companion import missing, no_program
@@ -32,6 +32,8 @@ AT_ONCE = 4  # texts that `check` is asked about side by side
 MOST = 1000  # of a stray and of lateness, in the language
 
 Place = Tuple[int, int, int]
+Asked = TypeVar("Asked")
+Found = TypeVar("Found")
 
 
 class NoWay(Exception):
@@ -85,38 +87,38 @@ def text_of(names: Sequence[str], at: Dict[int, Place], yaws: Sequence[int], sta
     return ("\n".join(rows) + "\n").encode()
 
 
-ASKED: Dict[bytes, Tuple[int, str]] = {}
+ANSWERS: Dict[bytes, Optional[str]] = {}
 
 
-def judged(text: bytes) -> Tuple[int, str]:
-    """The status and the line of `check` on a text, which is asked once. Where it can't be asked, or doesn't answer,
-    the status isn't 0 and the line says why. It has a process group of its own: Ctrl-C ends the terminal's."""
-    if text in ASKED:
-        return ASKED[text]
+def refusal_of(text: bytes) -> Optional[str]:
+    """Why `check` doesn't accept a text, or None where it does. It is asked once; where it can't be asked, or doesn't
+    answer, that is why. It has a process group of its own: Ctrl-C ends the terminal's."""
+    if text in ANSWERS:
+        return ANSWERS[text]
     if no_program():
-        return -1, missing()
+        return missing()
     try:
         done = subprocess.run([program.PROGRAM, "check"], input=text, stdout=subprocess.PIPE, stderr=subprocess.DEVNULL,
                               timeout=PATIENCE, start_new_session=True)
     except (OSError, subprocess.TimeoutExpired) as error:
-        return -1, "`check` doesn't answer: %s" % error
-    line = done.stdout.decode(errors="replace").strip()
-    if done.returncode not in (0, 3, 4, 5):
-        return -1, "`check` ended with %d: %s" % (done.returncode, line)
-    ASKED[text] = done.returncode, line
-    return ASKED[text]
+        return "`check` doesn't answer: %s" % error
+    status, line = done.returncode, done.stdout.decode(errors="replace").strip()
+    if status not in (0, 3, 4, 5):
+        return "`check` ended with %d: %s" % (status, line)
+    ANSWERS[text] = (line or "`check` ended with %d" % status) if status else None
+    return ANSWERS[text]
 
 
-def ask_all(texts: Iterable[bytes]) -> None:
-    """Asks `check` about texts side by side, so that each is answered at once afterwards."""
+def side_by_side(work: Callable[[Asked], Found], items: Iterable[Asked]) -> List[Found]:
+    """What a function that asks `check` gives for each of these, some at a time."""
     with concurrent.futures.ThreadPoolExecutor(AT_ONCE) as pool:
-        list(pool.map(judged, texts))
+        return list(pool.map(work, items))
 
 
-def refusal_of(text: bytes) -> Optional[str]:
-    """Why `check` doesn't accept a text, or None where it does."""
-    status, line = judged(text)
-    return line or "`check` ended with %d" % status if status else None
+def place_of(values: Iterable[float]) -> Place:
+    """The place of three numbers."""
+    x, y, z = (round(v) for v in values)
+    return x, y, z
 
 
 def apart(one: Sequence[float], other: Sequence[float]) -> float:
@@ -189,18 +191,6 @@ class Leg:
             yield "%3d. %-8s %5.1f s  %s" % (number, stage.kind, stage.milliseconds / 1000, "; ".join(rows))
 
 
-def classes_of(standing: Iterable[int], at: Dict[int, Place], side: float) -> List[List[int]]:
-    """The drones that stand, in lists in each of which all are farther apart than this."""
-    out: List[List[int]] = []
-    for k in standing:
-        row = next((row for row in out if all(apart(at[k], at[other]) > side for other in row)), None)
-        if row is None:
-            out.append([k])
-        else:
-            row.append(k)
-    return out or [[]]
-
-
 def stage_texts(names: Sequence[str], yaws: Sequence[int], stage: Stage, standing: Iterable[int],
                 at: Dict[int, Place], rules: Rules, stray: int, late: int) -> List[bytes]:
     """The texts by which a stage is judged by itself, from places, with a stray and a lateness: those who move with
@@ -221,29 +211,30 @@ def stage_texts(names: Sequence[str], yaws: Sequence[int], stage: Stage, standin
 def standing_apart(standing: Dict[int, Place], rules: Rules, stray: int, late: int) -> List[List[int]]:
     """Those who hold, in lists in which `check` refuses no two: it adds to all what the fastest flies in that time."""
     side = 2.12 * (rules.radius + stray) + PEAK * late * max(CLIMB, GO, SINK) / 1000 + 10
-    return classes_of(standing, standing, side)
-
-
-def pads_refusal(leg: Leg, standing: Iterable[int], at: Dict[int, Place]) -> Optional[str]:
-    """The first two of those who stand whose pads are too near to each other, or None."""
-    return next(("pads of %s and %s are %.0f mm apart, and %d are wanted" % (
-        leg.names[i], leg.names[j], dist(at[i], at[j]), PADS)
-        for i, j in combinations(standing, 2) if dist(at[i], at[j]) < PADS), None)
+    out: List[List[int]] = []
+    for k, place in standing.items():
+        row = next((row for row in out if all(apart(place, standing[other]) > side for other in row)), None)
+        if row is None:
+            out.append([k])
+        else:
+            row.append(k)
+    return out or [[]]
 
 
 def judge_stages(leg: Leg, stages: Iterable[Stage], pads: Dict[int, Place], at: Dict[int, Place]) -> Optional[str]:
     """Judges stages that follow each other from places, each by itself; the first refusal, or None."""
-    rows, at = [], dict(at)
+    found: List[Union[bytes, str]] = []  # texts to ask about, and refusals without that
+    at = dict(at)
     for stage in stages:
         standing = [k for k in at if k in pads and k not in stage.to and at[k] == tuple(pads[k])]
-        late = leg.rules.late
-        if sum(place != at[k] for k, place in stage.to.items()) < 2:
-            late = 0  # where one drone moves, nobody is late
-        rows.append((pads_refusal(leg, standing, at), stage_texts(
-            leg.names, leg.yaws, stage, standing, at, leg.rules, leg.rules.stray, late)))
+        found += ["pads of %s and %s are %.0f mm apart, and %d are wanted" % (
+            leg.names[i], leg.names[j], dist(at[i], at[j]), PADS)
+            for i, j in combinations(standing, 2) if dist(at[i], at[j]) < PADS]
+        is_alone = sum(place != at[k] for k, place in stage.to.items()) < 2  # where one drone moves, nobody is late
+        found += stage_texts(leg.names, leg.yaws, stage, standing, at, leg.rules, leg.rules.stray,
+                             0 if is_alone else leg.rules.late)
         at.update(stage.to)
-    ask_all(text for _, texts in rows for text in texts)
-    return next(filter(None, chain.from_iterable([refusal, *map(refusal_of, texts)] for refusal, texts in rows)), None)
+    return next(filter(None, side_by_side(lambda it: it if isinstance(it, str) else refusal_of(it), found)), None)
 
 
 def milliseconds_for(kind: str, ways: Sequence[float]) -> int:

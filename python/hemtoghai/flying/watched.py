@@ -9,11 +9,13 @@ import threading
 import time
 from typing import Callable, Dict, Iterator, List, Optional, Sequence, Set, TypeVar
 
-from hemtoghai.flying import clock, firmware, landings, legs
-from hemtoghai.flying.crazyradio import Silence
+from hemtoghai.flying import clock, firmware, landings
+from hemtoghai.flying.crazyradio import Silence, Trouble
 from hemtoghai.flying.crew import Answers, say, Watch
 from hemtoghai.flying.descent import Descent
-from hemtoghai.flying.fleet import Fleet, Trouble
+from hemtoghai.flying.fleet import Fleet
+from hemtoghai.flying.routes import LIFT
+from hemtoghai.flying.stages import Place, place_of
 from hemtoghai.flying.ways import Ways
 from hemtoghai.geometry.curves import curves_of
 from hemtoghai.language.choreo import Flown
@@ -23,20 +25,17 @@ UNHEARD = 0.5  # seconds that the sample of one that didn't answer may be old
 Found = TypeVar("Found")
 
 
-def in_mm(place: Sequence[float]) -> legs.Place:
-    return legs.place_of(1000 * v for v in place)
-
-
 class Watched(Descent):
     """Drones in flight. `silent` are drones that are silent and, as it is assumed, fly on to where they were told to;
     `failed` those whose fault was said, and `out` those of them that don't fly any more. `armed` are those that were
     seen armed. `aims` has where each was told to go last, `unheard` who didn't answer that and where it was told to be
     before, and `leg`, `begun`, `stage_began` and `stage_ends` the leg that is flown, its stage, when its orders went
-    out, and when it has ended. `zero` is when the show was started."""
+    out, and when it has ended. `zero` is when the show was started, and `slack` the seconds after it within which all
+    have."""
 
     def __init__(self, fleet: Fleet, flown: Flown, ways: Ways, options: argparse.Namespace, watch: Watch,
                  answers: Answers) -> None:
-        super().__init__(fleet, [pad[2] / 1000 for pad in ways.pads], options.silence, watch, answers)
+        super().__init__(fleet, [floor / 1000 for floor in ways.floors], options.silence, watch, answers)
         self.flown, self.ways, self.options = flown, ways, options
         self.curves, self.flying, self.in_show = list(curves_of(flown).values()), False, False
         self.zero: Optional[float] = None
@@ -47,11 +46,59 @@ class Watched(Descent):
         self.silent: Set[int] = set()
         self.failed: Set[int] = set()
         self.out: Set[int] = set()
-        self.slack = 0.0  # seconds after the zero within which all have started
-        self.leg, self.begun, self.stage_ends = ways.up, 0, 0.0
+        self.leg, self.begun, self.stage_ends, self.slack = ways.up, 0, 0.0, 0.0
         self.stage_began: Optional[float] = None
-        self.aims: Dict[int, legs.Place] = ways.standing()
-        self.unheard: Dict[int, legs.Place] = {}
+        self.aims: Dict[int, Place] = dict(ways.pads)
+        self.unheard: Dict[int, Place] = {}
+
+    # ---- where drones are, in mm, and when
+
+    def at(self, k: int) -> List[float]:
+        """Where a drone says that it is."""
+        return [1000 * v for v in self.fleet.states[k].where()]
+
+    def speed(self, k: int) -> float:
+        return 1000 * self.fleet.states[k].speed()
+
+    def since(self, begin: Optional[float]) -> float:
+        """The milliseconds since an instant; 0 where it didn't come."""
+        return 0.0 if begin is None else 1000 * (clock.now() - begin)
+
+    def ends(self) -> float:
+        """When the show is over."""
+        return (self.zero or 0.0) + self.flown.milliseconds / 1000 + 0.5
+
+    def far_from(self, places: Dict[int, Place], limit: float) -> List[str]:
+        """The names of drones that are farther than this from their places."""
+        return [self.names[k] for k, place in places.items() if math.dist(place_of(self.at(k)), place) > limit]
+
+    def places_here(self) -> Dict[int, Place]:
+        """Where drones are: on their pads, where they say that they are, or, if they say nothing, were told to go."""
+        out = {}
+        for k, pad in self.ways.pads.items():
+            place = self.aims[k] if not self.is_fresh(k) else place_of(self.at(k))
+            out[k] = pad if self.is_down(k) and math.dist(place, pad) < LIFT else place
+        return out
+
+    def hold(self, at: Dict[int, Place]) -> Set[int]:
+        """Who isn't led any more: on its pad, silent, or not flying."""
+        return {k for k in self.all if at[k] == self.ways.pads[k] or not self.is_fresh(k)} | self.out
+
+    def mute(self) -> Set[int]:
+        """Who isn't heard, and isn't known to be on its pad: it may land where it is told to, or stay where it is."""
+        return {k for k, place in self.places_here().items()
+                if not self.is_fresh(k) and k not in self.out and place != self.ways.pads[k]}
+
+    def lost(self) -> List[int]:
+        """Who may not have heard where to go and doesn't say now where it is: it is there, or where it was before."""
+        times = {k: self.fleet.states[k].measured for k, place in self.unheard.items() if place != self.aims[k]}
+        return [k for k, at in times.items() if at is None or clock.now() - at > UNHEARD]
+
+    def off(self) -> Dict[int, landings.Reach]:
+        """The drones that aren't on their curves, as far as they are heard, and what they may reach."""
+        limit = self.ways.rules.show_stray or self.options.stray
+        return {k: landings.off_reach(self.at(k), self.speed(k))
+                for k in self.all if k not in self.silent and (k in self.out or self.far[k] > limit)}
 
     # ---- faults
 
@@ -60,9 +107,9 @@ class Watched(Descent):
         name, state = self.names[k], self.fleet.states[k]
         if k in self.landed:
             return None
-        if state.info is not None and state.info & firmware.WRECKED:
+        if state.says(firmware.WRECKED):
             return "%s has tumbled" % name
-        if k in self.armed and state.info is not None and not state.info & firmware.IS_ARMED:
+        if self.is_out(k):
             return "%s is no longer armed" % name
         if state.senseless is not None and clock.now() - state.senseless > FAR_FOR:
             return "%s sends a place that is no number" % name
@@ -74,19 +121,17 @@ class Watched(Descent):
 
     def is_out(self, k: int) -> bool:
         """Whether a drone says that it doesn't fly any more."""
-        info = self.fleet.states[k].info
-        return info is not None and bool(info & firmware.WRECKED or k in self.armed and not info & firmware.IS_ARMED)
+        state = self.fleet.states[k]
+        return state.says(firmware.WRECKED) or k in self.armed and state.denies(firmware.IS_ARMED)
 
     def faults(self) -> Iterator[str]:
         """What is wrong with drones that are heard, and wasn't said before; that one is out is said once more."""
         for k in self.all:
             words = None if k in self.silent | self.out else self.wrong_with(k)
-            if words and self.is_out(k):
-                self.out.add(k)
-            elif k in self.failed:
-                continue
-            if words:
+            is_out = words is not None and self.is_out(k)
+            if words and (is_out or k not in self.failed):
                 self.failed.add(k)
+                self.out |= {k} if is_out else set()
                 yield words
 
     def listen(self) -> Iterator[str]:
@@ -107,70 +152,26 @@ class Watched(Descent):
                 self.silent.discard(k)
                 say("%s is heard again" % self.names[k])
 
-    def noted(self) -> List[str]:
-        """Looks at all drones, and what is pressed; the faults that are new."""
-        self.watch.look()
-        if self.in_show:
-            self.measure()
-        return [*self.listen(), *self.faults()]
-
     def measure(self) -> None:
+        """Looks how far drones are from their curves, as far as they are heard."""
         late, now, promised = self.options.late, clock.now(), self.ways.rules.show_stray
         for k, (state, curve) in enumerate(zip(self.fleet.states, self.curves)):
             if k in self.silent or state.heard is None or state.measured is None or now - state.heard > 1:
                 continue
-            t, place = 1000 * (state.measured - self.began()), [1000 * v for v in state.where()]
-            low, enough = t - late - 50 - 1000 * self.slack, min(self.options.stray, promised) / 4
-            self.far[k] = curve.nearest(place, low, t + late, enough)[0]
+            t, enough = 1000 * (state.measured - (self.zero or 0.0)), min(self.options.stray, promised) / 4
+            self.far[k] = curve.nearest(self.at(k), t - late - 50 - 1000 * self.slack, t + late, enough)[0]
             self.strays[k] = max(self.strays[k], self.far[k])
             if self.far[k] <= self.options.stray:
                 self.far_since.pop(k, None)
             else:
                 self.far_since.setdefault(k, now)
 
-    def off(self) -> Dict[int, landings.Reach]:
-        """The drones that aren't on their curves, as far as they are heard, and what they may reach."""
-        limit = self.ways.rules.show_stray or self.options.stray
-        return {k: landings.off_reach([1000 * v for v in self.fleet.states[k].where()],
-                                      1000 * self.fleet.states[k].speed())
-                for k in self.all if k not in self.silent and (k in self.out or self.far[k] > limit)}
-
-    # ---- where drones are
-
-    def began(self) -> float:
-        assert self.zero is not None
-        return self.zero
-
-    def ends(self) -> float:
-        return self.began() + self.flown.milliseconds / 1000 + 0.5
-
-    def far_from(self, places: Dict[int, legs.Place], limit: float) -> List[str]:
-        """The names of drones that are farther from their places, in mm and by drone, than this."""
-        return [self.names[k] for k, place in places.items()
-                if math.dist(in_mm(self.fleet.states[k].where()), place) > limit]
-
-    def places_here(self) -> Dict[int, legs.Place]:
-        """Where drones are: on their pads, where they say that they are, or, if they say nothing, were told to go."""
-        out = {}
-        for k in self.all:
-            place = self.aims[k] if not self.is_fresh(k) else in_mm(self.fleet.states[k].where())
-            is_home = self.is_down(k) and math.dist(place, self.ways.pads[k]) < legs.LIFT
-            out[k] = self.ways.pads[k] if is_home else place
-        return out
-
-    def hold(self, at: Dict[int, legs.Place]) -> Set[int]:
-        """Who isn't led any more: on its pad, silent, or not flying."""
-        return {k for k in self.all if at[k] == self.ways.pads[k] or not self.is_fresh(k)} | self.out
-
-    def mute(self) -> List[int]:
-        """Who isn't heard, and isn't known to be on its pad: it may land where it is told to, or stay where it is."""
-        return [k for k, place in self.places_here().items()
-                if not self.is_fresh(k) and k not in self.out and place != self.ways.pads[k]]
-
-    def lost(self) -> List[int]:
-        """Who may not have heard where to go and doesn't say now where it is: it is there, or where it was before."""
-        times = {k: self.fleet.states[k].measured for k, place in self.unheard.items() if place != self.aims[k]}
-        return [k for k, at in times.items() if at is None or clock.now() - at > UNHEARD]
+    def noted(self) -> List[str]:
+        """Looks at all drones, and what is pressed; the faults that are new."""
+        self.watch.look()
+        if self.in_show:
+            self.measure()
+        return [*self.listen(), *self.faults()]
 
     # ---- waits in which the crew is heard
 
@@ -187,12 +188,9 @@ class Watched(Descent):
             look()
             clock.wait(min(0.05, max(0.0, until - clock.now())))
 
-    def meanwhile(self, work: Callable[[], Found]) -> Found:
-        """What a function gives that asks `check`, while the crew is heard."""
-        return self.within(work, math.inf)[0]
-
-    def within(self, work: Callable[[], Found], seconds: float) -> List[Found]:
-        """The same within so many real seconds; nothing where it takes longer: then it goes on, and nobody waits."""
+    def meanwhile(self, work: Callable[[], Found], seconds: float = math.inf, *late: Found) -> Found:
+        """What a function gives that asks `check`, while the crew is heard; where it takes longer than so many real
+        seconds it goes on, nobody waits, and something else is given."""
         out: List[Found] = []
         failed: List[Exception] = []
 
@@ -208,4 +206,4 @@ class Watched(Descent):
             self.attend()
         if failed:
             raise failed[0]
-        return out
+        return [*out, *late][0]

@@ -9,10 +9,11 @@ import time
 from typing import Callable, Dict, Iterable, List, Optional, Sequence, Tuple
 
 from hemtoghai import program
-from hemtoghai.flying import director, landings, legs
+from hemtoghai.flying import director, legs
+from hemtoghai.flying.crazyradio import Trouble
 from hemtoghai.flying.crew import say
-from hemtoghai.flying.fleet import Trouble
-from hemtoghai.flying.legs import Place
+from hemtoghai.flying.landings import Landings, StageLandings
+from hemtoghai.flying.stages import AIM, judge_stages, LAND, Leg, milliseconds_for, NoWay, Place, Rules
 from hemtoghai.language.choreo import Flown
 
 STARTS = range(0, 2001, 400)  # milliseconds after a start, at which it is judged as one that not all took
@@ -39,60 +40,51 @@ class Ways:
     way, or the flight director doesn't take them."""
 
     def __init__(self, flown: Flown, text: bytes, pads: Sequence[Place], options: argparse.Namespace) -> None:
-        self.flown, self.pads, self.at_start, self.silence = flown, list(pads), options.at_start, options.silence
+        self.flown, self.pads, self.floors = flown, dict(enumerate(pads)), [pad[2] for pad in pads]
         settings = flown.show.settings
-        aim = max(legs.AIM, options.wander, options.at_start - settings["stray"][0])
-        self.rules = legs.Rules(settings, aim, options.ceiling)
-        self.firsts, self.lasts, self.yaws, self.last_yaws = legs.places_of(flown)
-        try:
-            self.up = legs.way_up(flown.names, pads, self.firsts, self.yaws, self.rules)
-            legs.refuse_still(self.up, "begins")
-        except legs.NoWay as why:
-            raise Trouble("not flown: no way up: %s" % why) from None
-        try:
-            self.down = self.way_down(self.lasts)
-            legs.refuse_still(self.down, "ends")
-        except legs.NoWay as why:
-            raise Trouble("not flown: no way down: %s" % why) from None
+        self.rules = Rules(settings, max(AIM, options.wander, options.at_start - settings["stray"][0]), options.ceiling)
+        self.firsts, self.lasts, self.yaws, _ = legs.places_of(flown)
+        self.up, self.down = self.way("up"), self.way("down")
         if self.down.why_below:
             raise Trouble("not flown: no way down to the pads: %s" % self.down.why_below)
-        self.down.first_yaws = self.last_yaws
-        self.floors = [pad[2] for pad in pads]
-        # The milliseconds of the director's landing of all. They are no multiple of a hundred, by which it is told from
-        # the landings of the way down.
-        self.descent = 100 * (landings.landing_ms([self.top() - min(self.floors)]) // 100 + 1) + 1
+        # The milliseconds of the director's landing of all, from the highest place of the flight. They are no multiple
+        # of a hundred, by which it is told from the landings of the way down.
+        top = max(self.up.top(), self.down.top(), legs.top_of(flown))
+        self.descent = milliseconds_for(LAND, [top - min(self.floors)]) + 1
+        # Drones may stand so far aside of their pads as the way up is judged for.
+        self.words = ["--near", "%d" % self.rules.stray, "--at", "%d" % options.at_start, "--silence",
+                      "%d" % (1000 * options.silence), "--floor", "%d" % max(0, min(self.floors)), "--descent",
+                      "%d" % self.descent, "--then", "fly"]
         self.texts = [self.up.text(), text, self.down.text()]
         self.ask_director()
-        self.landings = landings.Landings(flown, self.floors, self.rules)
-        self.rows: Dict[int, List[landings.StageLandings]] = {
-            id(leg): [landings.StageLandings(leg, number, self.floors) for number in range(len(leg.stages))]
+        self.landings = Landings(flown, self.floors, self.rules)
+        self.rows: Dict[int, List[StageLandings]] = {
+            id(leg): [StageLandings(leg, number, self.floors) for number in range(len(leg.stages))]
             for leg in (self.up, self.down)}
         self.broken: List[Tuple[int, Optional[str]]] = []
         self.preparing: Optional[threading.Thread] = None
         self.is_prepared = self.over = False
 
-    # ---- the flight director
+    def way(self, name: str) -> Leg:
+        """The way up or down; raises Trouble."""
+        try:
+            return legs.way_of(name, self.flown, list(self.pads.values()), self.rules)
+        except NoWay as why:
+            raise Trouble("not flown: no way %s: %s" % (name, why)) from None
 
-    def director_words(self) -> List[str]:
-        """The director's options. Drones may stand so far aside of their pads as the way up is judged for."""
-        return ["--near", "%d" % self.rules.stray, "--at", "%d" % self.at_start, "--silence",
-                "%d" % (1000 * self.silence), "--floor", "%d" % max(0, min(self.floors)), "--descent",
-                "%d" % self.descent, "--then", "fly"]
+    # ---- the flight director
 
     def begin_director(self) -> director.Director:
         """The director of this flight, as a process that waits for what happens; raises Trouble."""
         try:
-            return director.Director(self.director_words(), self.texts)
+            return director.Director(self.words, self.texts)
         except (program.Unusable, OSError) as why:
             raise Trouble("not flown: the flight director can't be started: %s" % why) from None
 
     def ask_director(self) -> None:
         """Raises Trouble where the ways and the show are no flight to the director."""
-        begin = time.monotonic()
-        try:
-            *before, end = director.judged(self.director_words(), self.texts)
-        except (program.Unusable, OSError) as why:
-            raise Trouble("not flown: the flight director can't be started: %s" % why) from None
+        begin, it = time.monotonic(), self.begin_director()
+        *before, end = director.judged(it)
         self.took = time.monotonic() - begin
         status = end.status if isinstance(end, director.Ended) else None
         if status == director.NOT_FLOWN:
@@ -118,7 +110,7 @@ class Ways:
                     row.table()
             self.broken = [(t, self.landings.after_start(t)) for t in STARTS]
             for leg in (self.up.reversed(), self.down):
-                legs.judge_stages(leg, leg.stages, self.standing(), leg.begin)
+                judge_stages(leg, leg.stages, self.pads, leg.begin)
             self.is_prepared = True
         except RuntimeError:  # no thread begins any more: the tool ends
             if not self.over:
@@ -133,7 +125,7 @@ class Ways:
         if not self.is_prepared:
             say("LANDINGS ON THE WAYS AREN'T ALL JUDGED: at a fault there the stage that is flown goes to its end")
 
-    def landings_at(self, leg: legs.Leg, number: int) -> Optional[landings.StageLandings]:
+    def landings_at(self, leg: Leg, number: int) -> Optional[StageLandings]:
         """The landings from a stage of a leg, by its number from 1, as far as they are judged; 0 is before them all."""
         rows = self.rows.get(id(leg), ())
         row = rows[min(max(number, 1), len(rows)) - 1] if rows else None
@@ -145,33 +137,23 @@ class Ways:
 
     # ---- ways that are judged in flight
 
-    def way_down(self, places: Sequence[Place], fixed: Iterable[int] = ()) -> legs.Leg:
-        """A way down from places, clear of drones that hold there; raises NoWay."""
-        return legs.down(self.flown.names, self.pads, places, self.yaws, self.rules, False, fixed)
-
-    def standing(self) -> Dict[int, Place]:
-        """The pads by drone, as they are judged."""
-        return dict(enumerate(self.pads))
-
-    def top(self) -> int:
-        """How high anybody goes, in mm."""
-        return max(self.up.top(), self.down.top(), legs.top_of(self.flown))
-
-    def rest_judged(self, leg: legs.Leg, count: int, at: Dict[int, Place], hold: Iterable[int]) -> Optional[legs.Leg]:
+    def rest_judged(self, leg: Leg, count: int, at: Dict[int, Place], hold: Iterable[int]) -> Optional[Leg]:
         """What is left of a leg after so many stages, from where drones are, while some hold; None where that isn't
         accepted, or nothing is left. It is judged stage by stage, as it is flown, and was before take-off."""
         rest = leg.rest(count, at, hold)
-        return None if not rest.stages or legs.judge_stages(rest, rest.stages, self.standing(), rest.begin) else rest
+        return None if not rest.stages or judge_stages(rest, rest.stages, self.pads, rest.begin) else rest
 
-    def new_judged(self, at: Dict[int, Place], hold: Iterable[int]) -> Optional[legs.Leg]:
+    def new_judged(self, at: Dict[int, Place], hold: Iterable[int]) -> Optional[Leg]:
         """A new way down from where drones are, while some hold; None where none is found."""
+        pads, places = list(self.pads.values()), [at[k] for k in self.pads]
         try:
-            return self.way_down([at[k] for k in range(len(self.pads))], hold)
-        except legs.NoWay:
+            return legs.down(self.flown.names, pads, places, self.yaws, self.rules, False, hold)
+        except NoWay:
             return None
 
     def tell(self) -> None:
         """Prints the ways, and when all may land."""
+        top = legs.top_of(self.flown)
         for name, leg in (("up", self.up), ("down", self.down)):
             say("way %s: %.1f s, judged %s" % (name, leg.milliseconds() / 1000,
                                                "as a whole" if leg.whole else "stage by stage"))
@@ -179,9 +161,9 @@ class Ways:
                 say(line)
             if leg.hint:
                 say("  it would be shorter so: %s" % leg.hint)
-            if leg.top() > legs.top_of(self.flown):
+            if leg.top() > top:
                 say("  goes up to %.2f m, and the show to %.2f: --ceiling keeps it lower" % (
-                    leg.top() / 1000, legs.top_of(self.flown) / 1000))
+                    leg.top() / 1000, top / 1000))
         say("landing of all from the show:")
         for line in self.landings.lines():
             say("  " + line)
