@@ -74,6 +74,7 @@ class Descent:
             else:
                 words = "down, it says, at %s, %s%s" % (
                     at, "and doesn't say whether it is armed" if state.info is None else
+                    "and hasn't said since whether it is armed" if not self.fleet.has_said(k) else
                     "ARMED" if state.says(firmware.IS_ARMED) else "disarmed",
                     ", and has tumbled" if state.says(firmware.WRECKED) else "")
             say("end: %s: %s" % (name, words))

@@ -165,6 +165,7 @@ class Fleet:
         self.heard_broadcast: Set[int] = set()
         self.lock = threading.Lock()
         self.every, self.revived = 100, [0.0] * len(self.names)
+        self.told_off = [-math.inf] * len(self.names)  # when each was told to disarm, or to stop, last
         radio.listeners.append(self.came)
 
     # ---- what drones say
@@ -323,14 +324,21 @@ class Fleet:
                 quiet.add(drone)
         self.radio.each(disarm)
         until, wrong = clock.now() + OBEYS, []
+        for drone in drones:
+            self.told_off[drone] = clock.now()
         while clock.now() < until:
             wrong = [self.names[k] for k in drones for state in [self.states[k]] if (
                 k in quiet if state.info is None else
                 state.says(firmware.IS_ARMED) and not state.says(firmware.AUTO_ARM))]
-            if not wrong:
+            if not wrong and all(map(self.has_said, drones)):  # a sample of before says nothing of arming
                 break
             clock.wait(0.05)
         return wrong
+
+    def has_said(self, drone: int) -> bool:
+        """Whether the last sample of a drone is of after it was told to disarm, or to stop."""
+        measured = self.states[drone].measured
+        return measured is not None and measured > self.told_off[drone]
 
     def start(self, trajectory: int, copies: int, by_broadcast: bool) -> Dict[int, Started]:
         """Starts a trajectory in all drones: by a broadcast that each hears at once, or one by one. By drone when its
@@ -388,6 +396,7 @@ class Fleet:
     def cut(self) -> None:
         """Stops all motors, at once and for good: each drone falls, and has to be started anew."""
         self.radio.drop()
+        self.told_off = [clock.now()] * len(self.names)
         for raw in (firmware.packet(firmware.PLACES, 1, firmware.EMERGENCY_STOP),
                     firmware.packet(firmware.COMMANDER, 0, firmware.STOP)):
             for drone in range(len(self.names)):

@@ -1,0 +1,62 @@
+"""The end of a flight by itself, over simulated drones: what is said of each drone was said by it after its last order."""
+import types
+import unittest
+import unittest.mock
+
+import common
+from hemtoghai.flying import clock, crazyradio, crew, descent, fleet
+
+
+class Last(unittest.TestCase):
+    def setUp(self):
+        self.said = []
+        patch = unittest.mock.patch.object(descent, "say", self.said.append)
+        patch.start()
+        self.addCleanup(patch.stop)
+        self.flown = common.example("crossing_cured")[1]
+
+    def of(self, faults=(), every=100):
+        """A descent of two drones that stand on their pads, armed, and send samples; and the second of them."""
+        where = common.world(self.flown, faults, speed=4)
+        common.make_ready(self.flown)
+        radio = crazyradio.Radio(self.flown.names, where)
+        self.addCleanup(radio.close)
+        it = fleet.Fleet(radio, fleet.Log(None, self.said.append))
+        radio.each(lambda drone: it.begin_logs(drone, every, (fleet.FLIGHT,)))
+        until = clock.now() + 5
+        while clock.now() < until and any(state.place is None for state in it.states):
+            clock.wait(0.02)
+        watch = types.SimpleNamespace(look=lambda: None, end=lambda: None, over=False)
+        return descent.Descent(it, [0.0, 0.0], 1.5, watch, crew.Answers()), common.drone(self.flown, "b")
+
+    def test_disarmed(self):
+        it, _ = self.of()
+        it.disarm(it.all)
+        it.account()
+        self.assertEqual(self.said, ["end: a: down, it says, at (0.00, 0.00, 0.00) m, disarmed",
+                                     "end: b: down, it says, at (1.00, 0.00, 0.00) m, disarmed"])
+
+    def test_one_that_arms_by_itself(self):
+        # It obeys, and arms again with its next sample: what is said is of that one, and not of the one before.
+        for _ in range(5):
+            it, b = self.of([("b", "auto", 0), ("b", "unarmed", 0)], every=300)
+            it.disarm(it.all)
+            del self.said[:]
+            it.account()
+            self.assertEqual("ARMED" in self.said[1], b.armed, self.said)
+            self.assertGreater(it.fleet.states[1].measured, it.fleet.told_off[1])
+            it.fleet.radio.close()
+
+    def test_one_that_says_nothing_any_more(self):
+        # Its link is gone when it is told: its last sample is of before, and says nothing of arming.
+        for order in (lambda it: it.disarm(it.all), lambda it: it.cut()):
+            it, b = self.of()
+            it.longest, b.faults["dead"] = 100.0, 0
+            order(it)
+            it.account()
+            self.assertRegex(self.said[-1], "end: b: down, it says, .*, and hasn't said since whether it is armed")
+            it.fleet.radio.close()
+
+
+if __name__ == "__main__":
+    unittest.main()
