@@ -17,7 +17,6 @@ refused by a drone; 11 a faulty frame; 13 too many frames; 14 a memory holds som
 import contextlib
 import importlib.util
 import os
-import queue
 import sys
 from argparse import ArgumentTypeError, Namespace
 from collections.abc import Callable, Iterator, Sequence
@@ -25,7 +24,7 @@ from collections.abc import Callable, Iterator, Sequence
 from hemtoghai import program
 from hemtoghai.companion import add_depth, decoded, flown_of, many, no_program, parser, stop
 from hemtoghai.flying import links
-from hemtoghai.flying.uploads import carry, Carrying, ENDS, Events, Host, Traffic, wanted_packets
+from hemtoghai.flying.uploads import Carrying, ENDS, Traffic, uploaded, wanted_packets
 from hemtoghai.language.choreo import Flown
 
 
@@ -187,30 +186,6 @@ def print_end(options: Namespace, done: Carrying, ended: int) -> int:
     return status
 
 
-def uploaded(options: Namespace, text: bytes, flown: Flown,
-             drones: Sequence[links.Drone]) -> tuple[Carrying, int, list[str]]:
-    """Uploads; what was carried, the program's own status, and what the link says of itself."""
-    events: Events = queue.Queue()
-
-    def heard(drone: int, packet: bytes) -> None:
-        events.put(("heard", drone, packet))
-    link = (radio_of(options, flown, heard) if options.radio else
-            link_of(options.link, flown.names, heard) if options.link else
-            links.SimulatedLink(flown.names, heard, drones, options))
-    words = ["--start"] * options.start + ["--readback"] * options.readback
-    traffic = Traffic(flown.names, wanted_packets(flown, options.start, options.readback))
-    host = None
-    try:
-        host = Host([os.path.abspath(options.program), "upload", "--depth", str(options.depth), *words], text, events)
-        done = carry(host, link, events, options.tick, traffic, lambda line: print(line, file=sys.stderr))
-        ended = host.end()
-    finally:
-        if host:
-            host.kill()
-        link.close()
-    return done, ended, link.report()
-
-
 def main(words: list[str]) -> int:
     options = options_of(words)
     text, flown = flown_of(options.show)
@@ -221,11 +196,20 @@ def main(words: list[str]) -> int:
         stop(fault)
     memory_id = flown.show.settings["memory"][0] if options.id is None else options.id
     drones = [links.Drone(memory_id) for _ in flown.names]
-    done, ended, lines = uploaded(options, text, flown, drones)
+    command = [os.path.abspath(options.program), "upload", "--depth", str(options.depth),
+               *["--start"] * options.start, *["--readback"] * options.readback]
+
+    def link(heard: links.Heard) -> links.Link:
+        if options.radio:
+            return radio_of(options, flown, heard)
+        return link_of(options.link, flown.names, heard) if options.link else links.SimulatedLink(
+            flown.names, heard, drones, options)
+    traffic = Traffic(flown.names, wanted_packets(flown, options.start, options.readback))
+    done, ended = uploaded(command, text, link, traffic, options.tick, lambda line: print(line, file=sys.stderr))
     status = print_end(options, done, ended)
     if status in (3, 4, 5):
         return status  # no packet was sent
-    for line in lines:
+    for line in done.link.report():
         print(line)
     print("%s, %.2f s from the first packet to the end" % (many(done.pace.ticks, "tick"), done.traffic.seconds()))
     if not (options.link or options.radio):

@@ -22,7 +22,6 @@ Status 0: flown and landed. 1: not flown, or landed early. 2: wrong words. 3 to 
 stopped. 70: no answer.
 """
 import argparse
-import queue
 import signal
 from typing import Dict, List, Sequence, Tuple
 
@@ -37,7 +36,7 @@ from hemtoghai.flying.fleet import Fleet, FLIGHT, Log
 from hemtoghai.flying.preflight import preflight
 from hemtoghai.flying.simulation import set_simulation, simulated
 from hemtoghai.flying.stages import Place
-from hemtoghai.flying.uploads import carry, ENDS, Events, Host, Traffic, wanted_packets
+from hemtoghai.flying.uploads import ENDS, Traffic, uploaded, wanted_packets
 from hemtoghai.flying.ways import Ways
 from hemtoghai.language.choreo import Flown
 from hemtoghai.writing import flyable
@@ -155,22 +154,10 @@ def say_promises(flown: Flown, options: argparse.Namespace) -> None:
 
 def upload(radio: crazyradio.Radio, flown: Flown, text: bytes) -> None:
     """Uploads by the proved program, with read-back and without starts."""
-    events: Events = queue.Queue()
-    begin, host, link = clock.now(), None, None
+    begin, memory = clock.now(), flown.show.settings["memory"][0]
     traffic = Traffic(flown.names, wanted_packets(flown, False, True))
-
-    def heard(drone: int, packet: bytes) -> None:
-        events.put(("heard", drone, packet))
-    try:
-        link = crazyradio.Link(flown.names, heard, radio, flown.show.settings["memory"][0])
-        host = Host([program.PROGRAM, "upload", "--readback"], text, events)
-        done = carry(host, link, events, None, traffic, say)
-        ended = host.end()
-    finally:
-        if host:
-            host.kill()
-        if link:
-            radio.listeners.remove(link.came)
+    done, ended = uploaded([program.PROGRAM, "upload", "--readback"], text, lambda heard: crazyradio.Link(
+        flown.names, heard, radio, memory, stays_open=True), traffic, None, say)
     if (done.status, ended) != (0, 0):
         words = [ENDS.get(done.status or 0, "") if done.status else done.rest.decode(errors="replace")[:60], done.fault,
                  *traffic.end_lines(done.status)]
@@ -226,22 +213,12 @@ def only(radio: crazyradio.Radio, floors: Dict[str, float], options: argparse.Na
         _, quiet, refused = fleet.land(descent.floors, descent.all, LAND, watch.look)
         say("told to land, in %.0f s%s%s" % (LAND, "; NO ANSWER: " + descent.words_of(quiet) if quiet else "",
                                             "; REFUSED: " + ", ".join(refused.values()) if refused else ""))
-        begin_logs(fleet, heard)
+        for why in radio.failures(heard, lambda k: fleet.begin_logs(k, EVERY, (FLIGHT,))).values():
+            say(str(why))
         descent.wait_down(heard, LAND)
         return 0 if descent.land(LANDING) else EARLY
     except Cut:
         return descent.cut()
-
-
-def begin_logs(fleet: Fleet, drones: Sequence[int]) -> None:
-    """Has drones send where they are, as far as they let that be done."""
-    def begin(k: int) -> None:
-        try:
-            if k in drones:
-                fleet.begin_logs(k, EVERY, (FLIGHT,))
-        except Trouble as error:
-            say(str(error))
-    fleet.radio.each(begin)
 
 
 # ---- all of it

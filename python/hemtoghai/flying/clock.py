@@ -1,5 +1,6 @@
 """The clock of the tools that fly: real time, or over simulated drones time that runs so many times faster."""
 import time
+from typing import Callable
 
 _speed = [1.0]
 
@@ -17,6 +18,13 @@ def now() -> float:
 def wait(seconds: float) -> None:
     """Waits for so many seconds of this clock."""
     time.sleep(max(0.0, seconds) / _speed[0])
+
+
+def wait_for(is_so: Callable[[], bool], seconds: float) -> None:
+    """Waits until something is so, but no longer than so many seconds of this clock."""
+    until = now() + seconds
+    while now() < until and not is_so():
+        wait(0.05)
 
 
 def real(seconds: float) -> float:

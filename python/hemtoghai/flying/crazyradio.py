@@ -162,7 +162,7 @@ class Radio:
         self.waiting: "List[queue.SimpleQueue[Waiting]]" = [queue.SimpleQueue() for _ in names]
         self.drivers: List[Any] = []
         self.threads: List[threading.Thread] = []
-        self.shared: Dict[Tuple[str, str, str], Dongle] = {}
+        self.shared: Dict[Tuple[str, ...], Dongle] = {}
         try:
             if not getattr(cflib.crtp, "CLASSES", None):
                 cflib.crtp.init_drivers()
@@ -179,11 +179,10 @@ class Radio:
             if driver is None:
                 raise ValueError("no driver opens %s" % uri)
             self.drivers.append(driver)
-        for work in (self.send_all, self.hear_all):
-            for drone in range(len(self.names)):
-                thread = threading.Thread(target=work, args=(drone,), daemon=True)
-                self.threads.append(thread)
-                thread.start()
+        self.threads = [threading.Thread(target=work, args=(drone,), daemon=True)
+                        for work in (self.send_all, self.hear_all) for drone in range(len(self.names))]
+        for thread in self.threads:
+            thread.start()
 
     def wait_for_all(self, all_wanted: bool = True) -> None:
         """Waits two seconds at most until each drone was heard; raises where all are wanted, and names the others."""
@@ -222,9 +221,8 @@ class Radio:
             try:
                 came = self.drivers[drone].receive_packet(0.05)
             except Exception as error:
-                self.faults[drone] = "nothing can be received from it: %s" % error
+                self.faults[drone], came = "nothing can be received from it: %s" % error, None
                 time.sleep(0.05)
-                continue
             if came is None:
                 continue
             raw = bytes([came.header]) + bytes(came.data)
@@ -291,7 +289,7 @@ class Radio:
     def each(self, work: Callable[[int], Any], look: Optional[Work] = None) -> List[Any]:
         """What a function gives for each drone, side by side; the first failure is raised once all have ended. All the
         while `look` is called, where one is given, and what it raises ends the wait."""
-        out, failed = [None] * len(self.names), []
+        out, failed = [None] * len(self.names), list[Exception]()
 
         def run(drone: int) -> None:
             try:
@@ -308,6 +306,20 @@ class Radio:
                     look()
         if failed:
             raise failed[0]
+        return out
+
+    def failures(self, drones: Sequence[int], work: Callable[[int], object],
+                 look: Optional[Work] = None) -> Dict[int, Trouble]:
+        """Does something for these drones, side by side; by drone what kept it from being done. `look` is as above."""
+        out: Dict[int, Trouble] = {}
+
+        def run(drone: int) -> None:
+            try:
+                if drone in drones:
+                    work(drone)
+            except Trouble as why:
+                out[drone] = why
+        self.each(run, look)
         return out
 
     def memories(self, drone: int) -> List[Tuple[int, int]]:
@@ -330,9 +342,8 @@ class Radio:
 
     def dongles(self) -> List[Dongle]:
         """The dongles, channels and rates of all drones, opened for broadcasts."""
-        for number, channel, rate in sorted({(*uri.split("/")[2:5],) for uri in self.uris}):
-            if (number, channel, rate) not in self.shared:
-                self.shared[number, channel, rate] = Dongle(number, channel, rate)
+        for where in sorted({(*uri.split("/")[2:5],) for uri in self.uris} - set(self.shared)):
+            self.shared[where] = Dongle(*where)
         return list(self.shared.values())
 
     def crowded(self) -> List[Tuple[str, int]]:
@@ -387,34 +398,27 @@ class Radio:
 
 class Link(AnyLink):
     """The link of ./show bridge and ./show fly over a radio, to drones whose trajectory memory has this id. `fault` is
-    why it sends no more, or None. `starts` has by drone when its start went out first and was answered last."""
-    answer_time = 0.1
+    why it sends no more, or None. `starts` has by drone when its start went out first and was answered last. At its
+    end the radio is closed, unless it stays open for more."""
 
-    def __init__(self, names: Sequence[str], heard: Heard, radio: Radio, memory: int,
-                 repeat_starts: bool = False) -> None:
+    def __init__(self, names: Sequence[str], heard: Heard, radio: Radio, memory: int, repeat_starts: bool = False,
+                 stays_open: bool = False) -> None:
         super().__init__(names, heard)
-        self.radio, self.memory, self.repeat_starts = radio, memory, repeat_starts
+        self.radio, self.memory, self.repeat_starts, self.stays_open = radio, memory, repeat_starts, stays_open
         self.lock, self.silence = threading.Lock(), Silence(len(names))
         self.fault: Optional[str] = None
         self.asked: Set[Tuple[int, Key]] = set()
         self.starts: Dict[int, List[Optional[float]]] = {}
         self.copies, self.strangers, self.answer_time = 0, 0, clock.real(self.answer_time)
-        self.lists = radio.each(radio.memories)
-        wrong = [line for line in map(self.wrong_memory, range(len(names))) if line]
+        wrong = ["%s: memory %d is %s; its trajectory memory is %s" % (
+            name, memory, "of type %02X" % rows[memory][0] if memory < len(rows) else "not there",
+            " ".join(map(str, trajectory_memories(rows))) or "missing")
+            for name, rows in zip(names, radio.each(radio.memories)) if memory not in trajectory_memories(rows)]
         if wrong:
             raise ValueError("%s; the show's line `memory` has to name the drones' memory of type 12, one id for all"
                              % "; ".join(wrong))
         radio.each(lambda drone: radio.fence(drone, memory))
         radio.listeners.append(self.came)
-
-    def wrong_memory(self, drone: int) -> Optional[str]:
-        """What is wrong with the show's memory id for a drone, or None."""
-        good, rows = trajectory_memories(self.lists[drone]), self.lists[drone]
-        if self.memory in good:
-            return None
-        kind = "of type %02X" % rows[self.memory][0] if self.memory < len(rows) else "not there"
-        return "%s: memory %d is %s; its trajectory memory is %s" % (
-            self.names[drone], self.memory, kind, " ".join(map(str, good)) or "missing")
 
     def send(self, drone: int, packet: bytes) -> None:
         key = key_of(packet, False)
@@ -423,24 +427,20 @@ class Link(AnyLink):
         is_start = key is not None and key[0] == COMMAND and packet[1] == 5
         with self.lock:
             again = is_start and drone in self.starts and not self.repeat_starts
-            if is_start and drone not in self.starts:
-                self.starts[drone] = [None, None]
             if self.fault or again:
                 self.left, self.copies = self.left + 1, self.copies + again
                 return
             if key is not None:
                 self.asked.add((drone, key))
-        self.radio.send(drone, packet, lambda: self.going(drone, is_start), self.gone)
+            row = self.starts.setdefault(drone, [None, None]) if is_start else [0.0]
 
-    def going(self, drone: int, is_start: bool) -> None:
-        """A packet goes to the driver: a start isn't taken before."""
-        if is_start and self.starts[drone][0] is None:
-            self.starts[drone][0] = clock.now()
+        def going() -> None:
+            row[0] = clock.now() if row[0] is None else row[0]  # a start isn't taken before
 
-    def gone(self) -> None:
-        """The driver has a packet."""
-        with self.lock:
-            self.left += 1
+        def gone() -> None:
+            with self.lock:
+                self.left += 1
+        self.radio.send(drone, packet, going, gone)
 
     def came(self, drone: int, raw: bytes) -> None:
         """A packet came from a drone: an answer to one that was sent is handed on."""
@@ -457,22 +457,22 @@ class Link(AnyLink):
 
     def ailing(self) -> Optional[str]:
         """Why the upload can't go on, or None."""
-        silent = self.silence.look(self.radio.last)
-        self.radio.nudge([drone for drone, quiet in enumerate(silent) if quiet > QUIET / 2])
+        silent = list(enumerate(self.silence.look(self.radio.last)))
+        self.radio.nudge([drone for drone, quiet in silent if quiet > QUIET / 2])
         return next(("%s is silent for %.0f s: %s" % (
             self.names[drone], QUIET, self.radio.faults.get(drone, "no packet came"))
-            for drone, quiet in enumerate(silent) if quiet > QUIET), self.fault)
+            for drone, quiet in silent if quiet > QUIET), self.fault)
 
     def close(self) -> None:
         if self.came in self.radio.listeners:
             self.radio.listeners.remove(self.came)
-        self.radio.close()
+        if not self.stays_open:
+            self.radio.close()
 
     def report(self) -> List[str]:
-        out = ["trajectory memories: %s" % ", ".join("%s %d" % (name, self.memory) for name in self.names)]
-        if self.strangers:
-            out.append("%d answers came to packets that were not sent, and were dropped" % self.strangers)
-        return out + start_lines(self.names, self.starts, self.repeat_starts)
+        words = "%d answers came to packets that were not sent, and were dropped" % self.strangers
+        return ["trajectory memories: %s" % ", ".join("%s %d" % (name, self.memory) for name in self.names),
+                *([words] if self.strangers else []), *start_lines(self.names, self.starts, self.repeat_starts)]
 
 
 def trajectory_memories(rows: Iterable[Tuple[int, int]]) -> List[int]:
@@ -485,16 +485,15 @@ def start_lines(names: Sequence[str], starts: Dict[int, List[Optional[float]]], 
     the spread of all. Milliseconds count from when the first one went out."""
     if not starts:
         return []
-    rows = {names[drone]: row for drone, row in sorted(starts.items())}
-    zero = min([sent for sent, _ in rows.values() if sent is not None] or [0.0])
-    taken = {name: (sent, heard) for name, (sent, heard) in rows.items() if sent is not None and heard is not None}
-    quiet = [name for name in rows if name not in taken]
-    out = ["%s can have taken its start from %.0f to %.0f ms" % (name, 1000 * (sent - zero), 1000 * (heard - zero))
-           for name, (sent, heard) in taken.items()]
+    zero = min([sent for sent, _ in starts.values() if sent is not None] or [0.0])
+    taken = {drone: (1000 * (sent - zero), 1000 * (heard - zero)) for drone, (sent, heard) in sorted(starts.items())
+             if sent is not None and heard is not None}
+    quiet = [names[drone] for drone in sorted(starts) if drone not in taken]
+    out = ["%s can have taken its start from %.0f to %.0f ms" % (names[drone], *row) for drone, row in taken.items()]
     if quiet:
         return out + ["started, or not: %s: the start %s and wasn't answered" % (
             ", ".join(quiet), "was repeated" if repeated else "went out once")]
-    sent_at, heard_at = [row[0] for row in taken.values()], [row[1] for row in taken.values()]
+    sent_at, heard_at = zip(*taken.values())
     words = "starts were REPEATED, and a drone begins anew at each" if repeated else "each drone was sent one start"
     return out + ["%s; taken within %.0f ms of one another at most, %.0f at least" % (
-        words, 1000 * (max(heard_at) - min(sent_at)), 1000 * max(0, max(sent_at) - min(heard_at)))]
+        words, max(heard_at) - min(sent_at), max(0, max(sent_at) - min(heard_at)))]

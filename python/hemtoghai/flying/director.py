@@ -21,7 +21,9 @@ GO, LAND, STOP = 0, 1, 2  # the crew's words
 READY, ARMED, LOST, DOWN = 1, 2, 4, 8  # the flags of a sample
 TO_ONE, TO_ALL, NOTE, OVER, CAUSE, END = 1, 2, 3, 4, 5, 0x45  # the first bytes of what it says
 ARM, RISE, GO_TO, SINK, START, HALT, DISARM = range(7)  # orders
-SIZES = {RISE: 6, GO_TO: 12, SINK: 6}  # bytes after an order's first
+# What follows the first byte of a frame, and of an order, in the forms of `struct`.
+FRAMES = {TO_ONE: "B", TO_ALL: "", NOTE: "BB", OVER: "B", CAUSE: "BBBH", END: "B"}
+ORDERS = {ARM: "", RISE: "hI", GO_TO: "hhhhI", SINK: "hI", START: "", HALT: "", DISARM: ""}
 SILENT, ASTRAY, WRONG, REFUSED, LATE = range(5)  # faults; the director calls WRONG `lost`
 NOT_FLOWN = 8  # the status of a flight to whose director nothing happened
 MOST_MS, MOST_AGE, MOST_MM = 65535, 65535, 32767
@@ -71,48 +73,27 @@ class Ended(NamedTuple):
 Said = Union[To, Noted, Over, Cause, Ended]
 
 
+def numbers_of(stream: IO[bytes], form: str) -> Tuple[int, ...]:
+    """The numbers that follow in a form of `struct`; raises struct.error where there are fewer."""
+    return struct.unpack("<" + form, stream.read(struct.calcsize("<" + form)))
+
+
 def order_of(stream: IO[bytes]) -> Order:
-    """The order that follows; raises ValueError where none does."""
-    kind = byte_of(stream)
-    if kind not in (ARM, START, HALT, DISARM, *SIZES):
-        raise ValueError
-    data = exactly(stream, SIZES.get(kind, 0))
-    if not data:
-        return Order(kind)
-    *at, milliseconds = struct.unpack("<%dhI" % ((len(data) - 4) // 2), data)
+    """The order that follows; raises struct.error or KeyError where none does."""
+    kind, = numbers_of(stream, "B")
+    *at, milliseconds = numbers_of(stream, ORDERS[kind]) or (0,)
     return Order(kind, tuple(at), milliseconds)
 
 
-def exactly(stream: IO[bytes], count: int) -> bytes:
-    """So many bytes; raises ValueError where there are fewer."""
-    data = stream.read(count)
-    if len(data) < count:
-        raise ValueError
-    return data
-
-
-def byte_of(stream: IO[bytes]) -> int:
-    """The next byte; raises ValueError where there is none."""
-    return exactly(stream, 1)[0]
-
-
 def said_by(stream: IO[bytes]) -> Said:
-    """The next frame of the director; raises ValueError where there is none."""
-    kind = byte_of(stream)
-    if kind == TO_ONE:
-        return To(byte_of(stream), order_of(stream))
-    if kind == TO_ALL:
-        return To(None, order_of(stream))
-    if kind == NOTE:
-        return Noted(byte_of(stream), byte_of(stream))
+    """The next frame of the director; raises struct.error or KeyError where there is none."""
+    kind, = numbers_of(stream, "B")
+    numbers = numbers_of(stream, FRAMES[kind])
+    if kind in (TO_ONE, TO_ALL):
+        return To(numbers[0] if numbers else None, order_of(stream))
     if kind == OVER:
-        flags = byte_of(stream)
-        return Over(bool(flags & 1), bool(flags & 2))
-    if kind == CAUSE:
-        return Cause(*struct.unpack("<BBBH", exactly(stream, 5)))
-    if kind == END:
-        return Ended(byte_of(stream))
-    raise ValueError
+        return Over(bool(numbers[0] & 1), bool(numbers[0] & 2))
+    return Noted(*numbers) if kind == NOTE else Cause(*numbers) if kind == CAUSE else Ended(*numbers)
 
 
 def sample(drone: int, age: float, place: Sequence[float], flags: int) -> bytes:
@@ -214,7 +195,7 @@ class Director:
             while not isinstance(said, Ended):
                 try:
                     said = said_by(stream)
-                except (ValueError, OSError):
+                except (struct.error, KeyError, OSError):
                     said = Ended(None)
                 self.said.put(said)
 

@@ -280,9 +280,7 @@ class Fleet:
         raw = firmware.packet(firmware.COMMANDER, 0, firmware.group() + bytes([MARK]))
         for _ in range(3):
             self.radio.broadcast(raw)
-            until = clock.now() + 1
-            while clock.now() < until and len(self.heard_broadcast) < len(self.names):
-                clock.wait(0.02)
+            clock.wait_for(lambda: len(self.heard_broadcast) == len(self.names), 1)
         return [drone for drone in range(len(self.names)) if drone not in self.heard_broadcast]
 
     # ---- commands
@@ -314,26 +312,18 @@ class Fleet:
     def disarm(self, drones: Sequence[int]) -> List[str]:
         """Disarms drones; which of them are armed afterwards, by their own supervisors, or didn't answer where they
         have none. A drone that arms by itself can't be disarmed."""
-        quiet: Set[int] = set()
-
-        def disarm(drone: int) -> None:
-            try:
-                if drone in drones:
-                    self.radio.ask(drone, firmware.PLATFORM, 0, firmware.arm(False), 1, seconds=2)
-            except Dead:
-                quiet.add(drone)
-        self.radio.each(disarm)
-        until, wrong = clock.now() + OBEYS, []
+        quiet = self.radio.failures(drones, lambda drone: self.radio.ask(
+            drone, firmware.PLATFORM, 0, firmware.arm(False), 1, seconds=2))
         for drone in drones:
             self.told_off[drone] = clock.now()
-        while clock.now() < until:
-            wrong = [self.names[k] for k in drones for state in [self.states[k]] if (
+
+        def wrong() -> List[str]:
+            return [self.names[k] for k in drones for state in [self.states[k]] if (
                 k in quiet if state.info is None else
                 state.says(firmware.IS_ARMED) and not state.says(firmware.AUTO_ARM))]
-            if not wrong and all(map(self.has_said, drones)):  # a sample of before says nothing of arming
-                break
-            clock.wait(0.05)
-        return wrong
+        # a sample of before says nothing of arming
+        clock.wait_for(lambda: not wrong() and all(map(self.has_said, drones)), OBEYS)
+        return wrong()
 
     def has_said(self, drone: int) -> bool:
         """Whether the last sample of a drone is of after it was told to disarm, or to stop."""
@@ -352,11 +342,7 @@ class Fleet:
         for drone in [] if by_broadcast else drones:
             sent[drone] = (clock.now(),) * 2
             self.radio.send(drone, raw)
-
-        def pass_by(drone: int) -> None:
-            with contextlib.suppress(Dead):
-                self.radio.pass_by(drone, 1)
-        self.radio.each(pass_by)
+        self.radio.failures(drones, lambda drone: self.radio.pass_by(drone, 1))
         nothing: Tuple[Optional[float], Optional[int]] = (None, None)
         with self.lock:
             return {drone: (*sent[drone], *self.started.get(drone, nothing)) for drone in sent}
@@ -372,21 +358,16 @@ class Fleet:
         broadcast where all land on floors of one height: the seconds until the last one that obeys answered, who didn't
         answer, and who refused, in words."""
         self.radio.drop()
-        begin, answered, quiet, refused = clock.now(), [0.0], list[int](), dict[int, str]()
+        begin, answered = clock.now(), [0.0]
         if len(drones) == len(self.names) and 1000 * (max(floors) - min(floors)) <= SAME_FLOOR:
             self.beside(firmware.packet(firmware.COMMANDER, 0, firmware.land(min(floors), seconds)), 2)
 
         def land(drone: int) -> None:
-            try:
-                if drone in drones:
-                    self.command(drone, firmware.land(floors[drone], seconds), "land", seconds=1.5)
-                    answered.append(clock.now() - begin)
-            except Dead:
-                quiet.append(drone)
-            except Trouble as why:
-                refused[drone] = str(why)
-        self.radio.each(land, look)
-        return max(answered), quiet, refused
+            self.command(drone, firmware.land(floors[drone], seconds), "land", seconds=1.5)
+            answered.append(clock.now() - begin)
+        failures = self.radio.failures(drones, land, look)
+        return (max(answered), [k for k, why in failures.items() if isinstance(why, Dead)],
+                {k: str(why) for k, why in failures.items() if not isinstance(why, Dead)})
 
     def rest(self, drones: Iterable[int]) -> None:
         """Has the commanders of drones that are down stop: some let motors idle until then."""

@@ -268,7 +268,7 @@ class Home(Watched):
     def home_stage(self, stage: Stage, look: Callable[[], None] = lambda: None) -> List[str]:
         """A stage of the way home: it is flown whatever is wrong, but for what a look raises, and a second Ctrl-C stops
         all motors. Who didn't answer, or isn't down, in words."""
-        seconds, mute = stage.milliseconds / 1000, []
+        seconds = stage.milliseconds / 1000
         before = {k: self.aims[k] for k in stage.to}
         self.aims.update(stage.to)
         if stage.kind == LAND:
@@ -278,16 +278,11 @@ class Home(Watched):
         self.unheard = before
 
         def go(drone: int) -> None:
-            if drone not in stage.to:
-                return
             x, y, z = (v / 1000 for v in stage.to[drone])
-            try:
-                data = firmware.go_to(x, y, z, math.radians(self.ways.yaws[drone] / 10), seconds)
-                self.fleet.command(drone, data, "go back")
-                self.unheard.pop(drone, None)
-            except Trouble as error:
-                mute.append(str(error))
-        self.fleet.radio.each(go, self.watch.look)
+            yaw = math.radians(self.ways.yaws[drone] / 10)
+            self.fleet.command(drone, firmware.go_to(x, y, z, yaw, seconds), "go back")
+            self.unheard.pop(drone, None)
+        mute = [str(why) for why in self.fleet.radio.failures(list(stage.to), go, self.watch.look).values()]
         for words in mute:
             say(words)
         self.pause(clock.now() + seconds + 1, look)

@@ -1,7 +1,7 @@
 """The look at all drones before a flight: firmware, memory, battery, estimator, supervisor and place. For `fly`."""
 import argparse
 import math
-from typing import List, Sequence
+from typing import Iterator, List, Sequence, Tuple
 
 from hemtoghai.flying import clock, firmware
 from hemtoghai.flying.crazyradio import trajectory_memories, Trouble
@@ -15,30 +15,20 @@ SENDS = 3  # seconds in which each drone has to send a sample
 PAD_HEIGHT = 0.1  # metres that a pad may be higher or lower than it is said to be
 OLDEST = 4  # the protocol from which on this tool knows it
 
-
-class Report:
-    """What the look finds of a drone, in the order of the columns, and its faults."""
-
-    def __init__(self) -> None:
-        self.version, self.protocol = "?", 0
-        self.memories: List[int] = []
-        self.faults: List[str] = []
+Looks = Tuple[str, str, List[str]]  # a drone's firmware, its trajectory memories, and what is wrong with it
 
 
-def looked_over(fleet: Fleet, drone: int, options: argparse.Namespace, memory: int) -> Report:
-    """Looks a drone over that was heard, and sets it up; its report."""
-    report = Report()
-    report.protocol, report.version = fleet.versions(drone)
-    if report.protocol < OLDEST:
-        report.faults.append("protocol %d is older than this tool knows" % report.protocol)
-        return report
-    report.memories = trajectory_memories(fleet.radio.memories(drone))
-    if memory not in report.memories:
-        report.faults.append("its trajectory memory is %s, and the show's line `memory` names %d" % (
-            " ".join(map(str, report.memories)) or "missing", memory))
+def looked_over(fleet: Fleet, drone: int, options: argparse.Namespace, memory: int) -> Looks:
+    """Looks a drone over that was heard, and sets it up."""
+    protocol, version = fleet.versions(drone)
+    if protocol < OLDEST:
+        return version, "", ["protocol %d is older than this tool knows" % protocol]
+    memories = trajectory_memories(fleet.radio.memories(drone))
+    words = " ".join(map(str, memories))
     fleet.set(drone, "commander.enHighLevel", 1)
     fleet.begin_logs(drone, options.every)
-    return report
+    return version, words, [] if memory in memories else [
+        "its trajectory memory is %s, and the show's line `memory` names %d" % (words or "missing", memory)]
 
 
 def wander_of(state: State) -> float:
@@ -54,65 +44,50 @@ def is_settled(state: State, options: argparse.Namespace) -> bool:
 def settle(fleet: Fleet, options: argparse.Namespace) -> None:
     """Has the estimators begin anew of drones that say that they don't fly, and waits until all are settled. Nothing is
     done to one that says nothing: it may be in the air."""
-    until = clock.now() + SENDS
-    while clock.now() < until and any(state.place is None for state in fleet.states):
-        clock.wait(0.05)
-
-    def begin_anew(k: int) -> None:
-        if fleet.states[k].place is not None and not fleet.states[k].says(firmware.IS_FLYING):
-            fleet.reset_estimator(k)
-    fleet.radio.each(begin_anew)
+    clock.wait_for(lambda: all(state.place for state in fleet.states), SENDS)
+    still = [k for k, state in enumerate(fleet.states) if state.place and not state.says(firmware.IS_FLYING)]
+    for why in fleet.radio.failures(still, fleet.reset_estimator).values():
+        raise why
     for state in fleet.states:
         state.places, state.variances = [], []
-    until = clock.now() + SETTLES + HISTORY * options.every / 1000
-    while clock.now() < until and not all(is_settled(state, options) for state in fleet.states):
-        clock.wait(0.05)
+    clock.wait_for(lambda: all(is_settled(state, options) for state in fleet.states),
+                   SETTLES + HISTORY * options.every / 1000)
 
 
-def judge_state(state: State, report: Report, pad: Sequence[int], yaw: float, options: argparse.Namespace) -> None:
-    """Adds the faults of a drone's battery, estimator, supervisor and place to its report."""
+def faults_of(state: State, pad: Place, yaw: float, options: argparse.Namespace) -> Iterator[str]:
+    """What is wrong with a drone's battery, estimator, supervisor and place, beside its pad in mm."""
     if state.senseless is not None:
-        report.faults.append("sends a place, a yaw or a voltage that is no number: start it anew")
+        yield "sends a place, a yaw or a voltage that is no number: start it anew"
         return
     if state.place is None or not state.places or not state.variances:
-        report.faults.append("sends no samples")
+        yield "sends no samples"
         return
     if state.says(firmware.IS_FLYING):
-        report.faults.append("says that it flies: nothing is uploaded to a drone in the air")
+        yield "says that it flies: nothing is uploaded to a drone in the air"
     volts = state.volts or 0.0
     if volts < options.battery:
-        report.faults.append("%.2f V, and %.2f are wanted" % (volts, options.battery))
+        yield "%.2f V, and %.2f are wanted" % (volts, options.battery)
     if not is_settled(state, options):
-        report.faults.append("its estimator isn't settled: variance %.4f, %.0f mm of wander" % (
-            max(state.variances), 1000 * wander_of(state)))
+        yield "its estimator isn't settled: variance %.4f, %.0f mm of wander" % (
+            max(state.variances), 1000 * wander_of(state))
     if state.denies(firmware.CAN_ARM | firmware.IS_ARMED):
-        report.faults.append("can't be armed, it says")
+        yield "can't be armed, it says"
     if state.says(firmware.WRECKED):
-        report.faults.append("has tumbled, or is locked: start it anew")
-    judge_place(state, report, pad, yaw, options)
-
-
-def judge_place(state: State, report: Report, pad: Sequence[int], yaw: float, options: argparse.Namespace) -> None:
-    """Adds to a drone's report how it stands beside its pad."""
-    aside = 1000 * math.dist(state.where()[:2], [v / 1000 for v in pad[:2]])
+        yield "has tumbled, or is locked: start it anew"
+    aside, high = aside_of(state, pad), state.place[2] - pad[2] / 1000
     if aside > options.near:
-        report.faults.append("stands %.0f mm aside of its pad, and %.0f are allowed" % (aside, options.near))
-    high = state.where()[2] - pad[2] / 1000
+        yield "stands %.0f mm aside of its pad, and %.0f are allowed" % (aside, options.near)
     if abs(high) > PAD_HEIGHT:
-        report.faults.append("is %.0f mm %s than its pad, it estimates: --pads says how high pads are" % (
-            1000 * abs(high), "higher" if high > 0 else "lower"))
-    if state.yaw is not None:
-        off = (state.yaw - yaw + 180) % 360 - 180
-        if abs(off) > options.turned:
-            report.faults.append("looks %.0f degrees off: turn its nose to yaw %.0f" % (off, yaw))
+        yield "is %.0f mm %s than its pad, it estimates: --pads says how high pads are" % (
+            1000 * abs(high), "higher" if high > 0 else "lower")
+    off = 0.0 if state.yaw is None else (state.yaw - yaw + 180) % 360 - 180
+    if abs(off) > options.turned:
+        yield "looks %.0f degrees off: turn its nose to yaw %.0f" % (off, yaw)
 
 
-def print_report(name: str, state: State, report: Report, pad: Sequence[int]) -> None:
-    if state.place:
-        x, y, z = state.place
-        say("%-16s %-16s %6s %7.2f %9.5f %9.0f  (%.2f, %.2f, %.2f)" % (
-            name, report.version[:16], " ".join(map(str, report.memories)), state.volts or 0.0,
-            max(state.variances or [0]), 1000 * math.dist((x, y), [v / 1000 for v in pad[:2]]), x, y, z))
+def aside_of(state: State, pad: Place) -> float:
+    """How far a drone stands from its pad, in mm, as seen from above."""
+    return math.dist([1000 * v for v in state.where()[:2]], pad[:2])
 
 
 def preflight(fleet: Fleet, flown: choreo.Flown, pads: Sequence[Place], options: argparse.Namespace) -> List[Place]:
@@ -123,16 +98,19 @@ def preflight(fleet: Fleet, flown: choreo.Flown, pads: Sequence[Place], options:
     for state in fleet.states:
         state.least_volts = options.empty
     # One after the other: the first reads the tables, which the others share.
-    reports = [looked_over(fleet, drone, options, memory) for drone in range(len(fleet.names))]
+    looks = [looked_over(fleet, drone, options, memory) for drone in range(len(fleet.names))]
     settle(fleet, options)
     for drone in [] if options.unicast else fleet.deaf():
-        reports[drone].faults.append("doesn't answer a broadcast: another channel, or group? --unicast does without")
+        looks[drone][2].append("doesn't answer a broadcast: another channel, or group? --unicast does without")
     say("%-16s %-16s %6s %7s %9s %9s  %s" % (
         "drone", "firmware", "memory", "volts", "variance", "aside mm", "stands at, m"))
-    for name, state, report, pad, start in zip(fleet.names, fleet.states, reports, pads, flown.starts):
-        judge_state(state, report, pad, start[3] / 10, options)
-        print_report(name, state, report, pad)
-    faults = ["%s: %s" % (name, fault) for name, report in zip(fleet.names, reports) for fault in report.faults]
+    faults = []
+    for name, state, (version, memories, wrong), pad, start in zip(fleet.names, fleet.states, looks, pads, flown.starts):
+        faults += ["%s: %s" % (name, fault) for fault in [*wrong, *faults_of(state, pad, start[3] / 10, options)]]
+        if state.place:
+            say("%-16s %-16s %6s %7.2f %9.5f %9.0f  (%.2f, %.2f, %.2f)" % (
+                name, version[:16], memories, state.volts or 0.0, max(state.variances or [0]), aside_of(state, pad),
+                state.place[0], state.place[1], state.place[2]))
     if faults:
         raise Trouble("not flown:\n  " + "\n  ".join(faults))
     fleet.end_settling()

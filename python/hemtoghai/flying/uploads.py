@@ -11,7 +11,7 @@ from typing import Any, Callable, Dict, List, Optional, Sequence, Set, Tuple
 
 from hemtoghai import program as proved
 from hemtoghai.companion import stop
-from hemtoghai.flying.links import COMMAND, Key, key_of, Link, READ, words_of, WRITE
+from hemtoghai.flying.links import COMMAND, Heard, Key, key_of, Link, READ, words_of, WRITE
 from hemtoghai.language.choreo import Flown
 
 TICK, PACKET, END = 0x54, 0x50, 0x45
@@ -304,16 +304,25 @@ class Carrying:
             self.tell(self.traffic.line())
 
 
-def carry(host: Host, link: Link, events: Events, tick: Optional[float], traffic: Traffic,
-          tell: Optional[Tell] = None) -> Carrying:
-    """Carries packets until the program ends; what came of it. Ctrl-C stops the upload, the second one this loop."""
-    carrying = Carrying(host, link, events, tick, traffic, tell)
-    while not carrying.done:
-        try:
-            carrying.step()
-        except KeyboardInterrupt:
-            carrying.stop("Ctrl-C")
-    return carrying
+def uploaded(command: List[str], text: bytes, link_of: Callable[[Heard], Link], traffic: Traffic,
+             tick: Optional[float], tell: Tell) -> Tuple[Carrying, int]:
+    """Uploads a show by a program over a link that is made and closed here: what was carried, and the program's own
+    status. Ctrl-C stops the upload, the second one this loop."""
+    events: Events = queue.Queue()
+    link, host = link_of(lambda drone, packet: events.put(("heard", drone, packet))), None
+    try:
+        host = Host(command, text, events)
+        carrying = Carrying(host, link, events, tick, traffic, tell)
+        while not carrying.done:
+            try:
+                carrying.step()
+            except KeyboardInterrupt:
+                carrying.stop("Ctrl-C")
+        return carrying, host.end()
+    finally:
+        if host:
+            host.kill()
+        link.close()
 
 
 def wanted_packets(flown: Flown, start: bool, readback: bool) -> List[int]:
