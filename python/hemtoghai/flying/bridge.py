@@ -292,13 +292,11 @@ class Bridge(Home):
         while self.leg is not self.ways.up or self.begun < len(self.ways.up.stages):
             self.step()
         firsts, near = dict(enumerate(self.ways.firsts)), self.options.at_start
-        steady, until = math.inf, self.stage_ends + PLACES
+        steady, until = clock.now(), self.stage_ends + PLACES
         while clock.now() < steady + 1.1:
             self.step()
             off = self.far_from(firsts, near)
             if clock.now() < self.stage_ends - 1 or off:
-                steady = math.inf
-            elif steady == math.inf:
                 steady = clock.now()
             if off and clock.now() > until:
                 raise Trouble("not at the first place: %s" % ", ".join(off))

@@ -36,7 +36,6 @@ TRAJECTORY_MEMORY = 0x12
 
 
 def ask_memory(number: int) -> bytes:
-    """The question for a memory of the list."""
     return bytes([2, number])
 
 
@@ -58,7 +57,6 @@ LOG_TYPES = {1: "B", 2: "H", 3: "I", 4: "b", 5: "h", 6: "i", 7: "f", 8: "e"}
 
 
 def ask_item(number: int) -> bytes:
-    """The question for an item of a table."""
     return struct.pack("<BH", 2, number)
 
 
@@ -97,7 +95,6 @@ def start_block(block: int, milliseconds: int) -> bytes:
 
 
 def stop_block(block: int) -> bytes:
-    """The data that has a block sent no more."""
     return bytes([4, block])
 
 
@@ -112,7 +109,6 @@ def logged(data: bytes, kinds: Iterable[int]) -> Optional[Tuple[int, int, Tuple[
 # ---- arming, port 13 channel 0 (the request 85 %, its answer 60 %: `supervisor.info` is what is believed)
 
 def arm(on: bool) -> bytes:
-    """The data that arms or disarms a drone."""
     return bytes([1, 1 if on else 0])
 
 
@@ -139,7 +135,6 @@ def land(height: float, seconds: float) -> bytes:
 
 
 def go_to(x: float, y: float, z: float, yaw: float, seconds: float) -> bytes:
-    """The data that takes a drone to a place."""
     return struct.pack("<BBBfffff", 4, 0, 0, x, y, z, yaw, seconds)
 
 

@@ -73,8 +73,8 @@ class Home(Watched):
         t, off = self.since(self.zero), self.off()
         if not self.silent and not off:
             return self.ways.landings.now(t) or self.ways.landings.now(t + LEAD)
-        at, told, silent = t + self.takes + LEAD, self.told_now(), set(self.silent)
-        why = self.meanwhile(lambda: self.ways.landings.beside_silent(at, silent, off, told))
+        at, it, silent = t + self.takes + LEAD, self.ways.landings.where(off, self.told_now()), set(self.silent)
+        why = self.meanwhile(lambda: it.beside_silent(at, silent))
         self.takes = max(1.2 * (self.since(self.zero) - t), 0.8 * self.takes)
         left = at - LEAD / 2 - self.since(self.zero)
         if why is None and left < -LEAD / 2:

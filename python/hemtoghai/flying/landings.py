@@ -13,6 +13,7 @@ A drone that is silent flies its curve on: that is judged with those who land by
 left its curve is judged from where it says that it is. The stages of the ways up and down have landings of their own,
 judged alike. Millimetres and milliseconds.
 """
+from copy import copy
 from itertools import combinations, groupby
 from math import ceil, dist, hypot
 from typing import Dict, Iterable, Iterator, List, Optional, Protocol, Sequence, Set, Tuple
@@ -62,9 +63,10 @@ def off_reach(place: Sequence[float], speed: float) -> Reach:
 class Landings:
     """The landings of a show: `floors` are by drone, in mm. A step is how far apart the instants are that stand for
     all. Drones are `before` late at most in what they fly, and told of a landing within `told`. Some may be `standing`
-    on the floor, at these places, or be `landing` already."""
+    on the floor, at these places, be `landing` already, or be `off` their curves, and reach something else."""
     standing: Dict[int, Place] = {}
     landing: Set[int] = set()
+    off: Dict[int, Reach] = {}
 
     def __init__(self, flown: Flown, floors: Sequence[int], rules: Rules, step: Optional[int] = None) -> None:
         self.names, self.floors, self.rules = flown.names, floors, rules
@@ -76,6 +78,12 @@ class Landings:
         self.cues = list(zip(edges, edges[1:]))
         self.rows: Optional[List[Tuple[int, Optional[str]]]] = None
 
+    def where(self, off: Dict[int, Reach], told: int) -> "Landings":
+        """The same where some are off their curves, and all are told of the landing within so many milliseconds."""
+        out = copy(self)
+        out.off, out.told = off, told
+        return out
+
     # ---- what drones may reach
 
     def speed(self, k: int, t: float) -> List[float]:
@@ -83,12 +91,13 @@ class Landings:
         low, high = max(0, t - 2), min(self.end, t + 2)
         return [1000 * (b - a) / (high - low) for a, b in zip(self.curves[k].at(low), self.curves[k].at(high))]
 
-    def reach(self, k: int, t: float, told: Optional[int] = None) -> Reach:
-        """What a drone may reach where all land at an instant, and are told within so many milliseconds."""
+    def reach(self, k: int, t: float) -> Reach:
+        """What a drone may reach where all land at an instant, but nothing below its floor."""
         curve = self.curves[k]
-        if isinstance(curve, Mover) and curve.first == curve.last:
-            return curve.first, 0.0
-        low, high, points = t - self.before - self.step / 2, t + (told or self.told) + self.step / 2, []
+        if k in self.off or isinstance(curve, Mover) and curve.first == curve.last:
+            middle, far = self.off[k] if k in self.off else (place_of(curve.at(0)), 0.0)
+            return (*middle[:2], max(middle[2], self.floors[k])), far
+        low, high, points = t - self.before - self.step / 2, t + self.told + self.step / 2, []
         count = ceil((high - low) / FINE)
         for n in range(count + 1):
             at = min(max(low + (high - low) * n / count, 0), self.end)
@@ -97,7 +106,7 @@ class Landings:
             on = carried(size) / size if size > 0.01 else 0.0
             points += [place, [v + on * w for v, w in zip(place, speed)]]
         middle = place_of((min(row) + max(row)) / 2 for row in zip(*points))
-        return middle, max(dist(middle, point) for point in points)
+        return (*middle[:2], max(middle[2], self.floors[k])), max(dist(middle, point) for point in points)
 
     def after_start(self, t: float) -> Optional[str]:
         """Why not all may land so long after a start that some took and others didn't, or None: each drone is anywhere
@@ -109,15 +118,9 @@ class Landings:
             rows[k] = middle, max(dist(middle, place) + more for place, more in [*points, (curve.at(0), 0.0)])
         return self.ask(rows, max(row[1] for row in rows.values()))
 
-    def reaches(self, t: float, drones: Iterable[int], off: Dict[int, Reach],
-                told: Optional[int] = None) -> Dict[int, Reach]:
-        """What drones may reach, none of them below its floor; `off` has those that aren't on their curves."""
-        rows = {k: off[k] if k in off else self.reach(k, t, told) for k in drones}
-        return {k: ((*at[:2], max(at[2], self.floors[k])), more) for k, (at, more) in rows.items()}
-
-    def late(self, told: Optional[int] = None) -> int:
+    def late(self) -> int:
         """How far apart landings may begin."""
-        return min(MOST, self.before + (told or self.told))
+        return min(MOST, self.before + self.told)
 
     # ---- landings of all
 
@@ -126,32 +129,31 @@ class Landings:
         to = {k: (*place[:2], self.floors[k]) for k, place in at.items()}
         return Stage(LAND, milliseconds_for(LAND, [at[k][2] - self.floors[k] for k in at]), to)
 
-    def ask(self, rows: Dict[int, Reach], more: float, told: Optional[int] = None) -> Optional[str]:
+    def ask(self, rows: Dict[int, Reach], more: float) -> Optional[str]:
         """The refusal of a landing from the middle of what drones may reach, with so much more stray, or None."""
         at, stray = {k: row[0] for k, row in rows.items()}, self.stray + ceil(more)
         fly = {k: place for k, place in at.items() if k not in self.standing}
         if stray > MOST or not fly:
             return TOO_FAR if fly else None
         texts = stage_texts(self.names, [0] * len(self.names), self.stage(fly), self.standing, at, self.rules, stray,
-                            self.late(told))
+                            self.late())
         return next(filter(None, map(refusal_of, texts)), None)
 
-    def refusal(self, t: float, off: Optional[Dict[int, Reach]] = None, told: Optional[int] = None) -> Optional[str]:
-        """Why not all may land at an instant, or None; `off` are drones that aren't on their curves. Where drones are
-        carried on by various ways, they are judged in sets that have each pair with no more stray than that has. Who
-        lands already goes on: it refuses another landing."""
+    def refusal(self, t: float) -> Optional[str]:
+        """Why not all may land at an instant, or None. Where drones are carried on by various ways, they are judged in
+        sets that have each pair with no more stray than that has. Who lands already goes on: it refuses another
+        landing."""
         if self.landing:
-            return self.beside(t, self.landing, off, told)
-        rows = self.reaches(t, range(len(self.names)), off or {}, told)
-        line = self.ask(rows, max(row[1] for row in rows.values()), told)
+            return self.beside(t, self.landing)
+        rows = {k: self.reach(k, t) for k in range(len(self.names))}
+        line = self.ask(rows, max(row[1] for row in rows.values()))
         if line is None or len(rows) < 2:
             return line
         for drones in self.sets_of(rows):
             pairs = list(combinations(drones, 2))
-            part = {k: rows[k] for k in drones}
-            if self.ask(part, max((rows[i][1] + rows[j][1]) / 2 for i, j in pairs), told) is None:
+            if self.ask({k: rows[k] for k in drones}, max((rows[i][1] + rows[j][1]) / 2 for i, j in pairs)) is None:
                 continue
-            whys = (self.ask({i: rows[i], j: rows[j]}, (rows[i][1] + rows[j][1]) / 2, told) for i, j in pairs)
+            whys = (self.ask({i: rows[i], j: rows[j]}, (rows[i][1] + rows[j][1]) / 2) for i, j in pairs)
             line = next(filter(None, whys), None)
             if line:
                 return line
@@ -222,26 +224,22 @@ class Landings:
 
     # ---- where some fly on
 
-    def beside_silent(self, t: float, silent: Iterable[int], off: Optional[Dict[int, Reach]] = None,
-                      told: Optional[int] = None) -> Optional[str]:
+    def beside_silent(self, t: float, silent: Iterable[int]) -> Optional[str]:
         """Why not all may land at an instant, or None, where each silent drone may hear of it and land as others do, or
         hear nothing and fly its curve on: so in each pair both land, or one of the two does."""
-        whys = (self.beside(t, {k}, off, told) for k in silent)
-        return self.refusal(t, off, told) or next(filter(None, whys), None)
+        return self.refusal(t) or next(filter(None, (self.beside(t, {k}) for k in silent)), None)
 
-    def beside(self, t: float, on: Iterable[int], off: Optional[Dict[int, Reach]] = None,
-               told: Optional[int] = None) -> Optional[str]:
-        """Why others may not land at an instant while some fly on to the end as they do, or None; `off` are drones that
-        aren't on their curves."""
+    def beside(self, t: float, on: Set[int]) -> Optional[str]:
+        """Why others may not land at an instant while some fly on to the end as they do, or None."""
         land = [k for k in range(len(self.names)) if k not in on and k not in self.standing]
         if not land:
             return None
-        rows = self.reaches(t, land, off or {}, told)
+        rows = {k: self.reach(k, t) for k in land}
         stage, more = self.stage({k: row[0] for k, row in rows.items()}), max(row[1] for row in rows.values())
         ways = {k: (rows[k][0], stage.to[k], stage.milliseconds) for k in land}
-        for row in standing_apart(self.standing, self.rules, self.stray + ceil(more), self.late(told)):
+        for row in standing_apart(self.standing, self.rules, self.stray + ceil(more), self.late()):
             hold = {k: (self.standing[k], self.standing[k], stage.milliseconds) for k in row}
-            text = self.cut_text(self.times(t, stage.milliseconds), {**ways, **hold}, on, more, told)
+            text = self.cut_text(self.times(t, stage.milliseconds), {**ways, **hold}, on, more)
             why = TOO_FAR if text is None else refusal_of(text)
             if why:
                 return why
@@ -262,7 +260,7 @@ class Landings:
         return out
 
     def cut_text(self, times: Sequence[int], ways: Dict[int, Tuple[Place, Place, int]], silent: Iterable[int],
-                 more: float, told: Optional[int] = None) -> Optional[bytes]:
+                 more: float) -> Optional[bytes]:
         """A show of cubics: drones that land by their ways, and silent ones on their curves. By how much the cubics are
         off, where it is looked, comes to the stray, half of it more, and the rounding. None where that is too much."""
         movers: Dict[int, Moving] = {k: Mover(times[0], ways[k]) for k in ways}
@@ -276,7 +274,7 @@ class Landings:
         if stray > MOST or len(cues) > MOST:
             return None
         out = ["choreo 1", "ellipsoid %d %d" % (self.rules.radius, self.rules.height), "stray %d" % stray,
-               "late %d" % self.late(told)]
+               "late %d" % self.late()]
         for k, mover in movers.items():
             out.append("drone %s %d %d %d 0" % (self.names[k], *(round(1000 * v) for v in mover.at(times[0]))))
         for milliseconds, cue in cues:

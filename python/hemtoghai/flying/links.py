@@ -81,30 +81,17 @@ class Drone:
         port, payload = packet[0] & 0xF3, packet[1:]
         head = bytes([port | 0x0C])  # the link bits are written as 3
         if port in (READ, WRITE) and len(payload) >= 6:
-            memory_id, address = payload[0], int.from_bytes(payload[1:5], "little")
-            if port == WRITE:
-                return head + payload[:5] + self.write(memory_id, address, payload[5:])
-            return head + payload[:5] + self.read(memory_id, address, payload[5])
+            address, data = int.from_bytes(payload[1:5], "little"), payload[5:]
+            length = len(data) if port == WRITE else data[0]
+            is_held = address + length <= MEMORY and (port == WRITE or 1 <= length <= 20)
+            status = 2 if payload[0] != self.memory_id else 0 if is_held else 5
+            if port == WRITE and status == 0:
+                self.memory[address:address + length] = data
+            held = self.memory[address:address + length] if port == READ and status == 0 else b""
+            return head + payload[:5] + bytes([status]) + held
         if port == COMMAND and len(payload) >= 9 and payload[0] in (5, 6):
             return head + payload[:3] + bytes([self.define(payload) if payload[0] == 6 else self.start(payload)])
         return None
-
-    def write(self, memory_id: int, address: int, data: bytes) -> bytes:
-        """Stores bytes; the status."""
-        if memory_id != self.memory_id:
-            return bytes([2])
-        if address + len(data) > MEMORY:
-            return bytes([5])
-        self.memory[address:address + len(data)] = data
-        return bytes([0])
-
-    def read(self, memory_id: int, address: int, length: int) -> bytes:
-        """The status and, where it is 0, the bytes."""
-        if memory_id != self.memory_id:
-            return bytes([2])
-        if not 1 <= length <= 20 or address + length > MEMORY:
-            return bytes([5])
-        return bytes([0]) + self.memory[address:address + length]
 
     def define(self, payload: bytes) -> int:
         """Puts an entry into the table; the status."""
