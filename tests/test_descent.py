@@ -4,7 +4,7 @@ import unittest
 import unittest.mock
 
 import common
-from hemtoghai.flying import clock, crazyradio, crew, descent, fleet
+from hemtoghai.flying import clock, crazyradio, descent, fleet
 
 
 class Last(unittest.TestCase):
@@ -27,7 +27,7 @@ class Last(unittest.TestCase):
         while clock.now() < until and any(state.place is None for state in it.states):
             clock.wait(0.02)
         watch = types.SimpleNamespace(look=lambda: None, end=lambda: None, over=False)
-        return descent.Descent(it, [0.0, 0.0], 1.5, watch, crew.Answers()), common.drone(self.flown, "b")
+        return descent.Descent(it, [0.0, 0.0], 1.5, watch), common.drone(self.flown, "b")
 
     def test_disarmed(self):
         it, _ = self.of()

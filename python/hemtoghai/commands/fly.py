@@ -29,8 +29,8 @@ from hemtoghai import program
 from hemtoghai.companion import ask_check, flown_of, missing, parser, stop
 from hemtoghai.flying import clock, crazyradio, finite, legs
 from hemtoghai.flying.crazyradio import Trouble
-from hemtoghai.flying.bridge import Bridge, confirm
-from hemtoghai.flying.crew import Answers, Cut, Interrupted, say, TELLER, Watch
+from hemtoghai.flying.bridge import Bridge
+from hemtoghai.flying.crew import Cut, Interrupted, say, TELLER, Watch
 from hemtoghai.flying.descent import Descent, EARLY, LANDING
 from hemtoghai.flying.fleet import Fleet, FLIGHT, Log
 from hemtoghai.flying.preflight import preflight
@@ -166,7 +166,7 @@ def upload(radio: crazyradio.Radio, flown: Flown, text: bytes) -> None:
 
 
 def fly(radio: crazyradio.Radio, flown: Flown, text: bytes, pads: Sequence[Place], options: argparse.Namespace,
-        log: Log, watch: Watch, answers: Answers) -> int:
+        log: Log, watch: Watch) -> int:
     """All steps with drones that answer; the status."""
     fleet, ways, bridge = Fleet(radio, log), None, None
     try:
@@ -175,13 +175,13 @@ def fly(radio: crazyradio.Radio, flown: Flown, text: bytes, pads: Sequence[Place
         if options.only is None:
             ways.prepare()
         if options.only != "look":
-            confirm(options, answers, "Upload?", watch.look)
+            watch.confirm("Upload?")
             upload(radio, flown, text)
         if options.only:
             return 0
-        bridge = Bridge(fleet, flown, ways, options, watch, answers)
+        bridge = Bridge(fleet, ways, watch)
         ways.wait(watch.look)
-        confirm(options, answers, "Take off?", watch.look)
+        watch.confirm("Take off?")
         return bridge.run()
     finally:
         watch.over = True  # what is left is to close all
@@ -196,18 +196,17 @@ def fly(radio: crazyradio.Radio, flown: Flown, text: bytes, pads: Sequence[Place
                 options.log, program.COMMAND, options.show, options.log))
 
 
-def only(radio: crazyradio.Radio, floors: Dict[str, float], options: argparse.Namespace, watch: Watch,
-         answers: Answers) -> int:
+def only(radio: crazyradio.Radio, floors: Dict[str, float], options: argparse.Namespace, watch: Watch) -> int:
     """Lands all drones and stays until they are down, or stops their motors; the status. Some may not be heard."""
     names, fleet = radio.names, Fleet(radio, Log(None, say))
     heard = [k for k in range(len(names)) if radio.last[k] is not None]
     mute = [name for name, last in zip(names, radio.last) if last is None]
     quiet_words = "; not heard: " + ", ".join(mute) if mute else ""
     say("heard: %s%s" % (", ".join(names[k] for k in heard) or "NONE", quiet_words))
-    descent = Descent(fleet, [floors.get(name, 0.0) for name in names], options.silence, watch, answers)
+    descent = Descent(fleet, [floors.get(name, 0.0) for name in names], options.silence, watch)
     try:
         if options.only == "stop":
-            confirm(options, answers, "Stop all motors? Drones in the air fall.", lambda: None)
+            watch.confirm("Stop all motors? Drones in the air fall.", lambda: None)
             return descent.cut()
         watch.flies = watch.lands = True
         _, quiet, refused = fleet.land(descent.floors, descent.all, LAND, watch.look)
@@ -231,7 +230,7 @@ def opened(names: Sequence[str], uris: Sequence[str], all_wanted: bool) -> crazy
         return stop("no radio: %s" % error)
 
 
-def emergency(options: argparse.Namespace, watch: Watch, answers: Answers, radios: List[crazyradio.Radio]) -> int:
+def emergency(options: argparse.Namespace, watch: Watch, radios: List[crazyradio.Radio]) -> int:
     """Lands drones or stops their motors: those of a text of addresses, whatever the show is; the status. The radio
     that was opened is added to a list, to be closed."""
     if options.simulate:
@@ -243,10 +242,10 @@ def emergency(options: argparse.Namespace, watch: Watch, answers: Answers, radio
     if options.pads:
         floors = legs.pads_by_name(options.pads)
     radios.append(opened(list(uris), list(uris.values()), False))
-    return only(radios[0], {name: pad[2] / 1000 for name, pad in floors.items()}, options, watch, answers)
+    return only(radios[0], {name: pad[2] / 1000 for name, pad in floors.items()}, options, watch)
 
 
-def show(options: argparse.Namespace, watch: Watch, answers: Answers, radios: List[crazyradio.Radio]) -> int:
+def show(options: argparse.Namespace, watch: Watch, radios: List[crazyradio.Radio]) -> int:
     """Flies the show. The status; the radio that was opened is added to a list, to be closed."""
     text, flown = judged_show(options)
     pads = legs.pads_of(options.pads, flown)
@@ -255,16 +254,16 @@ def show(options: argparse.Namespace, watch: Watch, answers: Answers, radios: Li
     uris = set_simulation(flown, pads, options) if options.simulate else crazyradio.addresses(
         options.radio, flown.names)
     radios.append(opened(flown.names, uris, True))
-    return fly(radios[0], flown, text, pads, options, log, watch, answers)
+    return fly(radios[0], flown, text, pads, options, log, watch)
 
 
 def main(words: list[str]) -> int:
     options = options_of(words)
-    watch, answers = Watch(), Answers()
+    watch = Watch(options.yes)
     radios: List[crazyradio.Radio] = []
     signal.signal(signal.SIGPIPE, signal.SIG_IGN)
     try:
-        return (emergency if options.only in ("land", "stop") else show)(options, watch, answers, radios)
+        return (emergency if options.only in ("land", "stop") else show)(options, watch, radios)
     except Trouble as trouble:
         say(str(trouble))
         return EARLY

@@ -5,7 +5,6 @@ to its drone, repeating it until it is answered. When all arm, rise, go, start, 
 director's to say alone. Where a drone has a fault, the director refuses to go on, or its process ends, flying/home.py
 brings all home. A second Ctrl-C stops all motors, whatever the director says.
 """
-import argparse
 import math
 import queue
 import threading
@@ -16,14 +15,13 @@ from typing import Callable, Deque, Dict, List, Optional, Set, Tuple
 from hemtoghai.companion import many
 from hemtoghai.flying import clock, director, firmware, landings
 from hemtoghai.flying.crazyradio import Trouble
-from hemtoghai.flying.crew import Answers, Cut, Interrupted, say, Watch
+from hemtoghai.flying.crew import Cut, Interrupted, say, Watch
 from hemtoghai.flying.descent import EARLY, LANDING
 from hemtoghai.flying.director import Noted, Order, Over, Said, To
 from hemtoghai.flying.fleet import Fleet
 from hemtoghai.flying.home import Home
 from hemtoghai.flying.stages import Leg, TAKE_OFF
 from hemtoghai.flying.ways import Ways
-from hemtoghai.language.choreo import Flown
 
 LOOK = 0.05  # seconds between two looks at all drones
 AT_ONCE = 8  # samples that the director is told at once in the show
@@ -37,21 +35,14 @@ PATIENCE = 12.0  # seconds after the end of a step until which the director has 
 MUTE = 255  # the status that the director is told of a drone that refuses, or has no answer
 
 
-def confirm(options: argparse.Namespace, answers: Answers, text: str, look: Callable[[], None]) -> None:
-    """Asks the crew, and looks after what flies; anything but `yes` ends the flight."""
-    if not options.yes and answers.line(text + " Type yes: ", look) != "yes":
-        raise Trouble("nobody said yes")
-
-
 class Bridge(Home):
     """A flight by the director. `told_at` is up to when it was told of the time, `went` the same at the last go, and
     `told` what it was told of each drone last. `ahead` are by drone the stages in which orders come, `to_arm` who was
     told to arm, `sinking` who was told to land on the way down, `refusals` what drones refused, and `came` the answers
     that the director wasn't told yet. `due_by` is when it has to have said something."""
 
-    def __init__(self, fleet: Fleet, flown: Flown, ways: Ways, options: argparse.Namespace, watch: Watch,
-                 answers: Answers) -> None:
-        super().__init__(fleet, flown, ways, options, watch, answers)
+    def __init__(self, fleet: Fleet, ways: Ways, watch: Watch) -> None:
+        super().__init__(fleet, ways, watch)
         self.director = ways.begin_director()
         self.told_at, self.went, self.due_by = clock.now(), 0.0, math.inf
         self.over: Optional[Over] = None
@@ -379,7 +370,7 @@ class Bridge(Home):
     def fly(self) -> None:
         """From the floor to the floor, as the director has it; raises what is wrong."""
         self.rise()
-        confirm(self.options, self.answers, "All are at their first places. Start?", self.step)
+        self.watch.confirm("All are at their first places. Start?", self.step)
         self.say_go(lambda: self.zero is not None)
         self.show()
         self.down()

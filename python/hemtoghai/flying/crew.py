@@ -14,6 +14,8 @@ import time
 import termios
 from typing import Callable, Optional
 
+from hemtoghai.flying.crazyradio import Trouble
+
 
 class Interrupted(BaseException):
     """Ctrl-C, or another signal that ends programs. No `except Exception` catches it."""
@@ -24,7 +26,7 @@ class Cut(BaseException):
 
 
 class Watch:
-    """What the crew presses, and a terminal that is closed.
+    """What the crew presses and types, and a terminal that is closed.
 
     On the ground a signal raises `Interrupted` at once, the first time. In flight it is only noted: nothing is broken
     off in the middle, `look` raises it where the flight looks, every 50 ms, and all land; where all land already it
@@ -33,7 +35,8 @@ class Watch:
     one, and none of them may stop motors. Ctrl-Z does nothing, since a program that stands still lands nobody. It is
     told once drones fly, once all land, and once it is `over`: from then on a signal does nothing."""
 
-    def __init__(self) -> None:
+    def __init__(self, says_yes: bool = False) -> None:
+        self.says_yes, self.answers = says_yes, Answers()
         self.flies, self.lands, self.was_pressed, self.presses, self.over = False, False, False, 0, False
         self.is_answered = False  # whether the crew was told what the first signal did
         self.stop_motors: Callable[[], None] = lambda: None
@@ -72,6 +75,12 @@ class Watch:
         if not self.is_answered:
             say("the landing goes on; %s" % self.stops())
         self.is_answered = True
+
+    def confirm(self, text: str, look: Optional[Callable[[], None]] = None) -> None:
+        """Asks the crew, unless it said yes to all before, and looks after what flies; anything but `yes` ends the
+        flight."""
+        if not self.says_yes and self.answers.line(text + " Type yes: ", look or self.look) != "yes":
+            raise Trouble("nobody said yes")
 
     def stops(self) -> str:
         return "Ctrl-C%s stops all motors" % ("" if self.presses else " twice")

@@ -3,7 +3,7 @@ from math import inf
 from typing import Callable, Iterable, List, Optional, Sequence, Set
 
 from hemtoghai.flying import clock, firmware
-from hemtoghai.flying.crew import Answers, Cut, say, Watch
+from hemtoghai.flying.crew import Cut, say, Watch
 from hemtoghai.flying.fleet import Fleet
 from hemtoghai.flying.stages import LAND, milliseconds_for
 
@@ -23,8 +23,8 @@ class Descent:
     its last sample, no older than that, says so. `landed` aren't looked after any more, and `rising` were told to take
     off a moment ago: on the floor they aren't down."""
 
-    def __init__(self, fleet: Fleet, floors: Sequence[float], silence: float, watch: Watch, answers: Answers) -> None:
-        self.fleet, self.floors, self.longest, self.watch, self.answers = fleet, floors, silence, watch, answers
+    def __init__(self, fleet: Fleet, floors: Sequence[float], silence: float, watch: Watch) -> None:
+        self.fleet, self.floors, self.longest, self.watch = fleet, floors, silence, watch
         self.names, self.all = fleet.names, list(range(len(fleet.names)))
         self.landed: Set[int] = set()
         self.rising: Set[int] = set()
@@ -146,9 +146,9 @@ class Descent:
         """Stays with drones that aren't down: asks what to do with them, and where nobody answers tells them to land
         again and again. It goes on until all are down, until somebody leaves them, or until those who aren't seen to
         be down can't be in the air any more; who isn't down then."""
-        while up and not self.answers.ended:
+        while up and not self.watch.answers.ended:
             text = "%s: type land, stop or leave: " % self.words_of(up)
-            answer = self.answers.line(text, lambda: self.look_after(up))
+            answer = self.watch.answers.line(text, lambda: self.look_after(up))
             if answer == "stop":
                 raise Cut
             if answer == "leave":

@@ -65,22 +65,17 @@ class Host:
         """Reads frames until the end, and puts them into `events`."""
         assert self.process.stdout
         with open(self.process.stdout.fileno(), "rb", closefd=False) as stream:
-            while True:
-                kind = stream.read(1)
-                if kind == bytes([PACKET]):
-                    head = stream.read(2)
-                    packet = stream.read(head[1]) if len(head) == 2 else b""
-                    if len(head) == 2 and len(packet) == head[1]:
-                        self.events.put(("packet", head[0] - 1, packet))
-                        continue
-                    kind += head + packet
-                elif kind == bytes([END]):
-                    status = stream.read(1)
-                    if len(status) == 1:
-                        self.events.put(("end", status[0]))
-                        return
-                self.events.put(("closed", kind + stream.read(200)))
-                return
+            front = stream.read(1)
+            while front == bytes([PACKET]):
+                head = stream.read(2)
+                packet = stream.read(head[1]) if len(head) == 2 else b""
+                if len(head) < 2 or len(packet) < head[1]:
+                    front += head + packet
+                    break
+                self.events.put(("packet", head[0] - 1, packet))
+                front = stream.read(1)
+            status = stream.read(1) if front == bytes([END]) else b""
+            self.events.put(("end", status[0]) if status else ("closed", front + stream.read(200)))
 
     def close_input(self) -> None:
         """Ends the program's input: an upload that is still going ends with 8."""
@@ -150,10 +145,6 @@ class Traffic:
         else:
             self.good[drone].add(key)
 
-    def open(self, drone: int) -> List[Key]:
-        """The keys of a drone's packets that have no good answer yet, in the order of their numbers."""
-        return [key for key in self.packets[drone] if key not in self.good[drone]]
-
     def seconds(self) -> float:
         """How long it took from the first packet to the end, or now."""
         return 0.0 if self.begun is None else (self.ended or time.monotonic()) - self.begun
@@ -162,15 +153,12 @@ class Traffic:
         return "%.0f s: %s" % (self.seconds(), ", ".join(
             "%s %d/%d" % row for row in zip(self.names, map(len, self.good), self.wanted)))
 
-    def about(self, drone: int, key: Key) -> str:
-        """A drone, a packet's number and what it is."""
-        return "%s, packet %d: %s" % (
-            self.names[drone], list(self.packets[drone]).index(key), words_of(self.packets[drone][key]))
-
-    def times_of(self, drone: int, key: Key) -> str:
-        """How often a packet was sent, in words."""
+    def about(self, drone: int, key: Key, words: str = "") -> str:
+        """A drone, a packet's number and what it is; after words how often it was sent."""
         times = self.times[drone][key]
-        return "sent once" if times == 1 else "sent %d times" % times
+        return "%s, packet %d: %s%s" % (
+            self.names[drone], list(self.packets[drone]).index(key), words_of(self.packets[drone][key]),
+            words and "%s, sent %s" % (words, "once" if times == 1 else "%d times" % times))
 
     def end_lines(self, status: Optional[int]) -> List[str]:
         """Which drone, packet and address an end is about."""
@@ -181,13 +169,14 @@ class Traffic:
             drone, key, at, wanted, got = self.differs
             return ["%s: address %d holds %02X, and %s is wanted" % (
                 self.about(drone, key), at, got, "nothing" if wanted is None else "%02X" % wanted)]
-        rows = [(drone, key) for drone in range(len(self.names)) for key in self.open(drone)]
+        rows = [(drone, key) for drone, packets in enumerate(self.packets) for key in packets
+                if key not in self.good[drone]]  # without a good answer, in the order of their numbers
         if status == 9 and rows:
             late = [row for row in rows if self.times[row[0]][row[1]] >= GIVES_UP]
             row = late[0] if late else max(rows, key=lambda it: self.times[it[0]][it[1]])
-            return ["%s had no good answer, %s" % (self.about(*row), self.times_of(*row))]
+            return [self.about(*row, " had no good answer")]
         firsts = dict(reversed(rows)) if status == 8 else {}  # the first of each drone
-        return ["%s is open, %s" % (self.about(*row), self.times_of(*row)) for row in sorted(firsts.items())]
+        return [self.about(*row, " is open") for row in sorted(firsts.items())]
 
 
 class Pace:
@@ -274,19 +263,17 @@ class Carrying:
         elif self.fault:
             return
         elif what == "packet":
-            self.give(*rest)
+            drone, packet = rest
+            if drone >= len(self.link.names):
+                stop("the program sends to drone %d, and the show has %d" % (drone + 1, len(self.link.names)))
+            self.traffic.sent(drone, packet)
+            self.pace.gives(drone)
+            self.link.send(drone, packet)
         elif what == "heard":
             self.traffic.heard(*rest)
             self.pace.hears(rest[0])
             self.host.hear(*rest)
         self.look()
-
-    def give(self, drone: int, packet: bytes) -> None:
-        if drone >= len(self.link.names):
-            stop("the program sends to drone %d, and the show has %d" % (drone + 1, len(self.link.names)))
-        self.traffic.sent(drone, packet)
-        self.pace.gives(drone)
-        self.link.send(drone, packet)
 
     def look(self) -> None:
         """Ticks where it is time, looks whether the link is well, and says how far the drones are."""

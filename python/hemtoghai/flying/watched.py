@@ -3,7 +3,6 @@
 Faults are found here. What is done about them is decided by the proved flight director (flying/bridge.py), and from the
 first fault on by flying/home.py.
 """
-import argparse
 import math
 import threading
 import time
@@ -11,14 +10,13 @@ from typing import Callable, Dict, Iterator, List, Optional, Sequence, Set, Type
 
 from hemtoghai.flying import clock, firmware, landings
 from hemtoghai.flying.crazyradio import Silence, Trouble
-from hemtoghai.flying.crew import Answers, say, Watch
+from hemtoghai.flying.crew import say, Watch
 from hemtoghai.flying.descent import Descent
 from hemtoghai.flying.fleet import Fleet
 from hemtoghai.flying.routes import LIFT
 from hemtoghai.flying.stages import Place, place_of
 from hemtoghai.flying.ways import Ways
 from hemtoghai.geometry.curves import curves_of
-from hemtoghai.language.choreo import Flown
 
 FAR_FOR = 0.3  # seconds for which a drone has to be far from its curve, or to send no numbers
 UNHEARD = 0.5  # seconds that the sample of one that didn't answer may be old
@@ -33,11 +31,10 @@ class Watched(Descent):
     out, and when it has ended. `zero` is when the show was started, and `slack` the seconds after it within which all
     have."""
 
-    def __init__(self, fleet: Fleet, flown: Flown, ways: Ways, options: argparse.Namespace, watch: Watch,
-                 answers: Answers) -> None:
-        super().__init__(fleet, [floor / 1000 for floor in ways.floors], options.silence, watch, answers)
-        self.flown, self.ways, self.options = flown, ways, options
-        self.curves, self.flying, self.in_show = list(curves_of(flown).values()), False, False
+    def __init__(self, fleet: Fleet, ways: Ways, watch: Watch) -> None:
+        super().__init__(fleet, [floor / 1000 for floor in ways.floors], ways.options.silence, watch)
+        self.ways, self.flown, self.options = ways, ways.flown, ways.options
+        self.curves, self.flying, self.in_show = list(curves_of(ways.flown).values()), False, False
         self.zero: Optional[float] = None
         self.strays, self.far = [0.0] * len(self.names), [0.0] * len(self.names)
         self.far_since: Dict[int, float] = {}

@@ -40,7 +40,8 @@ class Ways:
     way, or the flight director doesn't take them."""
 
     def __init__(self, flown: Flown, text: bytes, pads: Sequence[Place], options: argparse.Namespace) -> None:
-        self.flown, self.pads, self.floors = flown, dict(enumerate(pads)), [pad[2] for pad in pads]
+        self.flown, self.options, self.pads = flown, options, dict(enumerate(pads))
+        self.floors = [pad[2] for pad in pads]
         settings = flown.show.settings
         self.rules = Rules(settings, max(AIM, options.wander, options.at_start - settings["stray"][0]), options.ceiling)
         self.firsts, self.lasts, self.yaws, _ = legs.places_of(flown)
