@@ -23,7 +23,7 @@ from collections.abc import Callable, Iterator, Sequence
 
 from hemtoghai import program
 from hemtoghai.companion import add_depth, decoded, flown_of, many, no_program, parser, stop
-from hemtoghai.flying import links
+from hemtoghai.flying import finite, links
 from hemtoghai.flying.uploads import Carrying, ENDS, Traffic, uploaded, wanted_packets
 from hemtoghai.language.choreo import Flown
 
@@ -92,12 +92,6 @@ share = number(lambda v: 0 <= v <= 100, "a share is 0 to 100 percent, not %s")
 positive = number(lambda v: 0 < v <= 1000000, "a number above 0 and up to 1000000 is wanted, not %s")
 
 
-def byte(word: str) -> int:
-    if not word.isdigit() or len(word) > 3 or int(word) > 255:
-        raise ArgumentTypeError("a memory's id is 0 to 255, not %s" % word)
-    return int(word)
-
-
 def options_of(words: list[str]) -> Namespace:
     reader = parser(__doc__)
     add_depth(reader)
@@ -115,7 +109,8 @@ def options_of(words: list[str]) -> Namespace:
     reader.add_argument("--seed", type=int, default=1, metavar="N", help="chooses the packets that are spoilt")
     reader.add_argument("--tick", type=positive, metavar="MS",
                        help="milliseconds in which an answer comes; without it the link's own")
-    reader.add_argument("--id", type=byte, metavar="ID", help="the id of the drones' memory; without it the show's")
+    reader.add_argument("--id", type=finite.option(0, 255, True), metavar="ID",
+                       help="the id of the drones' memory; without it the show's")
     reader.add_argument("--memory", metavar="FOLDER", help="write each drone's memory to FOLDER/NAME.memory")
     reader.add_argument("--link", metavar="FILE", help="a Python file whose class Link replaces the simulated link")
     reader.add_argument("--radio", metavar="DRONES", help="real drones: a text with a line `NAME URI` for each")

@@ -40,19 +40,13 @@ LONGEST = 1e6  # seconds of a log, before and after its zero
 Sample = Tuple[float, List[float]]  # milliseconds, and a place in mm
 
 
-def rows_of(path: str) -> List[List[str]]:
-    """The rows of a CSV file that have cells."""
-    try:
-        return [row for row in csv.reader(read_file(path).decode(errors="replace").split("\n")) if row]
-    except csv.Error as error:
-        return stop("%s: this is no CSV file: %s" % (path, error))
-
-
 def read_log(path: str) -> Dict[str, List[Tuple[float, List[float], Optional[float]]]]:
     """The samples by drone: (seconds, place in mm, the drone's seconds or None)."""
-    rows = rows_of(path)
-    names = ["time", "drone", "x", "y", "z"]
-    out: Dict[str, List[Tuple[float, List[float], Optional[float]]]] = {}
+    names, out = ["time", "drone", "x", "y", "z"], dict[str, List[Tuple[float, List[float], Optional[float]]]]()
+    try:
+        rows = [row for row in csv.reader(read_file(path).decode(errors="replace").split("\n")) if row]
+    except csv.Error as error:
+        stop("%s: this is no CSV file: %s" % (path, error))
     if rows and set(names) <= {cell.strip() for cell in rows[0]}:
         names, rows = [cell.strip() for cell in rows[0]], rows[1:]
     at = {name: names.index(name) for name in names}
@@ -93,14 +87,6 @@ def farthest(samples: Iterable[Sample], curve: Curve, late: float, bound: float 
     return far
 
 
-def best_of(samples: Sequence[Sample], curve: Curve, offsets: Iterable[int]) -> Tuple[float, int]:
-    """The offset with the least greatest distance, after that distance."""
-    best = (inf, 0)
-    for late in offsets:
-        best = min(best, (farthest(samples, curve, late, best[0]), late))
-    return best
-
-
 def offset_of(samples: Sequence[Sample], curve: Curve) -> Optional[int]:
     """How late a drone was, in milliseconds: the middle of the offsets at which its greatest distance is least, but
     for FLAT. None where that hardly depends on it."""
@@ -113,9 +99,11 @@ def offset_of(samples: Sequence[Sample], curve: Curve) -> Optional[int]:
     rows.sort()
     if rows[-1][0] - rows[0][0] < TOLD:
         return None
-    best = best_of(samples, curve, [late for _, late in rows[:3]])
-    for step in (25, 10, 3, 1):
-        best = best_of(samples, curve, range(best[1] - 3 * step, best[1] + 3 * step + 1, step))
+    best, near = (inf, 0), [late for _, late in rows[:3]]
+    for step in (25, 10, 3, 1, 0):  # the first look is at the offsets that were found
+        for late in near:
+            best = min(best, (farthest(samples, curve, late, best[0]), late))
+        near = [best[1] + k * step for k in range(-3, 4)]
     return round((edge(samples, curve, best, -1) + edge(samples, curve, best, 1)) / 2)
 
 

@@ -160,9 +160,7 @@ class Descent:
             say("NOBODY ANSWERS: %s are told to land every %.0f s" % (self.words_of(up), REPEAT))
         while up and any(self.quiet_for(k) < AIRBORNE for k in up):
             self.bring_down(up)
-            until = clock.now() + REPEAT
-            while clock.now() < until and self.look_after(up) is None:
-                clock.wait(0.05)
+            clock.wait_for(lambda: self.look_after(up) is not None, REPEAT)
             up = self.down_now(up)
         return up
 

@@ -251,20 +251,16 @@ class Fleet:
         for block in blocks:
             names = LOGGED[block]
             missing = [name for name in names if name not in table and name not in OPTIONAL]
-            if missing:
-                raise Trouble("%s has no log %s: another firmware or estimator?" % (
-                    self.names[drone], ", ".join(missing)))
             items = [(name, *table[name]) for name in names if name in table]
             strange = [name for name, _, kind in items if kind not in firmware.LOG_TYPES]
-            if strange:
-                raise Trouble("%s: its log %s is of a type that this tool doesn't know" % (
-                    self.names[drone], ", ".join(strange)))
+            if missing or strange:
+                raise Trouble("%s has no log %s, or of a type that this tool doesn't know: another firmware or "
+                              "estimator?" % (self.names[drone], ", ".join(missing + strange)))
             self.kinds[drone][block] = [(name, kind) for name, _, kind in items]
-            made = self.radio.ask(drone, firmware.LOGS, 1, firmware.create_block(block, [it[1:] for it in items]), 2,
-                                  least=3)
-            begun = self.radio.ask(drone, firmware.LOGS, 1, firmware.start_block(block, milliseconds), 2, least=3)
-            if (made[2], begun[2]) != (0, 0):
-                raise Trouble("%s refuses to log: %d %d" % (self.names[drone], made[2], begun[2]))
+            made, begun = (self.radio.ask(drone, firmware.LOGS, 1, data, 2, least=3)[2] for data in (
+                firmware.create_block(block, [it[1:] for it in items]), firmware.start_block(block, milliseconds)))
+            if made or begun:
+                raise Trouble("%s refuses to log: %d %d" % (self.names[drone], made, begun))
 
     def end_settling(self) -> None:
         """Has all drones send no variances any more: a radio has no room for them in flight."""

@@ -16,13 +16,13 @@ judged alike. Millimetres and milliseconds.
 from copy import copy
 from itertools import combinations, groupby
 from math import ceil, dist, hypot
-from typing import Dict, Iterable, Iterator, List, Optional, Protocol, Sequence, Set, Tuple
+from typing import Dict, Iterable, Iterator, List, Optional, Sequence, Set, Tuple, Union
 
 from hemtoghai.companion import begins, value
 from hemtoghai.flying.routes import LIFT
 from hemtoghai.flying.stages import (apart, LAND, LATE, Leg, milliseconds_for, MOST, Place, place_of, refusal_of, Rules,
                                      SAME_FLOOR, side_by_side, Stage, stage_texts, standing_apart)
-from hemtoghai.geometry.curves import curves_of, ease
+from hemtoghai.geometry.curves import Curve, curves_of, ease
 from hemtoghai.language.choreo import Flown
 
 BRAKE, REACT = 5.0, 0.1  # m/s^2 with which a drone brakes at least, and seconds until it does
@@ -36,23 +36,12 @@ TOO_FAR = "drones are carried on too far"
 
 Reach = Tuple[Place, float]  # the middle of what a drone may reach, and how far it is from that at most
 Cubic = List[List[float]]  # four control points
-
-
-class Moving(Protocol):
-    """What has a place at each time, in mm."""
-
-    def at(self, t: float) -> List[float]:
-        """The place at a time."""
+Moving = Union[Curve, "Mover"]  # what has a place at each time, in mm
 
 
 def carried(speed: float) -> float:
     """How far a drone is carried on, in mm, by its speed in mm a second."""
     return speed * speed / (2000 * BRAKE) + REACT * speed
-
-
-def told_within(floors: Sequence[float]) -> int:
-    """The milliseconds within which all hear of a landing on floors of such heights, in mm."""
-    return TOLD if max(floors) - min(floors) <= SAME_FLOOR else LATE
 
 
 def off_reach(place: Sequence[float], speed: float) -> Reach:
@@ -71,8 +60,8 @@ class Landings:
     def __init__(self, flown: Flown, floors: Sequence[int], rules: Rules, step: Optional[int] = None) -> None:
         self.names, self.floors, self.rules = flown.names, floors, rules
         self.curves: List[Moving] = list(curves_of(flown).values())
-        self.end, self.stray, self.before, self.told = (
-            flown.milliseconds, rules.show_stray, rules.show_late, told_within(floors))
+        self.end, self.stray, self.before = flown.milliseconds, rules.show_stray, rules.show_late
+        self.told = TOLD if max(floors) - min(floors) <= SAME_FLOOR else LATE
         self.step = step or max(100, 50 * ceil(self.end / 60000))
         edges = begins(flown)
         self.cues = list(zip(edges, edges[1:]))

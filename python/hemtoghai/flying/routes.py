@@ -194,16 +194,12 @@ class Planner:
         why = self.why
         for room in ROOMS:
             self.room, self.wide = room, room * self.rules.side()
-            for leg in self.found(drones)[:TRIES]:
+            found = filter(None, [self.layered(drones, layers) for layers in range(LAYERS + 1)])
+            for leg in sorted(found, key=Leg.milliseconds)[:TRIES]:
                 if self.is_good(leg):
                     return leg
         self.why = why
         return None
-
-    def found(self, drones: Sequence[int]) -> List[Leg]:
-        """Legs by groups that aren't judged yet, the shortest first."""
-        found = [self.layered(drones, layers) for layers in range(LAYERS + 1)]
-        return sorted((leg for leg in found if leg is not None), key=Leg.milliseconds)
 
     def plan(self) -> Leg:
         """The leg, judged; raises NoWay where there is none."""
