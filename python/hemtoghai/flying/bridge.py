@@ -299,22 +299,20 @@ class Bridge(Home):
         """Starts all drones, and says how far apart their starts may be."""
         (trajectory,) = self.flown.show.settings["trajectory"]
         self.zero = clock.now()  # whatever comes of it: a start that isn't known to have gone out may have been taken
-        rows = self.fleet.start(trajectory, self.options.copies, not self.options.unicast)
-        begin, end = min(row[0] for row in rows.values()), max(row[1] for row in rows.values())
-        self.zero = begin
-        self.fleet.log.zero = begin
+        begin, end, answers = self.fleet.start(trajectory, self.options.copies, not self.options.unicast)
+        self.zero = self.fleet.log.zero = begin
         # Drones start within `late` after it went out: the show's time begins in the middle of that.
         self.told_at += (begin + end + self.ways.rules.show_late / 1000) / 2 - self.went
-        for k, row in rows.items():
-            if row[3] is None:
-                self.refusals[k] = "%s didn't take the start" % self.names[k]
-            elif row[3]:
-                self.refusals[k] = "%s refuses the start with status %d" % (self.names[k], row[3])
+        for k, name in enumerate(self.names):
+            if k not in answers:
+                self.refusals[k] = "%s didn't take the start" % name
+            elif answers[k][1]:
+                self.refusals[k] = "%s refuses the start with status %d" % (name, answers[k][1])
             self.director.hear(director.answer(k, MUTE if k in self.refusals else 0))
         if self.refusals:
             raise Trouble(", ".join(self.refusals.values()))
         # A start was taken between when it went out and when it was answered: all may be so much later than the zero.
-        answered = max([row[2] for row in rows.values() if row[2] is not None]) - begin
+        answered = max(at for at, _ in answers.values()) - begin
         self.slack = min(0.5, answered)
         self.say_spread(1000 * (end - begin), 1000 * answered)
         self.aims.update(enumerate(self.ways.lasts))

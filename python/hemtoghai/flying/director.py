@@ -3,7 +3,6 @@
 Its frames are those of docs/PROMISES.md, 'Its frames'. Nothing is decided here: what is written and what is read is
 handed on. The process has a group of its own, since Ctrl-C at a terminal ends all that the terminal's group has.
 """
-import contextlib
 import fcntl
 import os
 import queue
@@ -15,6 +14,7 @@ import time
 from typing import IO, Iterator, List, NamedTuple, Optional, Sequence, Tuple, Union
 
 from hemtoghai import program
+from hemtoghai.flying.piped import Piped
 
 CLOCK, SAMPLE, ANSWER, SIGNAL = 1, 2, 3, 4  # the first bytes of what it hears
 GO, LAND, STOP = 0, 1, 2  # the crew's words
@@ -121,21 +121,16 @@ def signal(word: int) -> bytes:
     return bytes([SIGNAL, word])
 
 
-class Director:
+class Director(Piped):
     """The process over its pipes. `is_well` is whether it still takes what is written, and `since` when it last had
     read all of it; what it says waits in a queue."""
 
     def __init__(self, words: Sequence[str], texts: Sequence[bytes]) -> None:
         """Raises program.Unusable or OSError where it can't be started."""
-        self.process = subprocess.Popen([program.runs(), "direct", *words], stdin=subprocess.PIPE,
-                                        stdout=subprocess.PIPE, stderr=subprocess.DEVNULL, bufsize=0,
-                                        start_new_session=True)
         self.waiting, self.since, self.is_well, self.lock = b"", time.monotonic(), True, threading.Lock()
         self.said: "queue.SimpleQueue[Said]" = queue.SimpleQueue()
-        self.reader = threading.Thread(target=self.listen, daemon=True)
-        self.reader.start()
-        assert self.process.stdin
-        self.writes_to = self.process.stdin.fileno()
+        super().__init__([program.runs(), "direct", *words], stderr=subprocess.DEVNULL, start_new_session=True)
+        self.writes_to = self.input.fileno()
         for text in texts:
             self.write_all(text + (b"" if text.endswith(b"\n") else b"\n") + MARKER)
         os.set_blocking(self.writes_to, False)
@@ -189,8 +184,7 @@ class Director:
             return None
 
     def listen(self) -> None:
-        assert self.process.stdout
-        with open(self.process.stdout.fileno(), "rb", closefd=False) as stream:
+        with open(self.output.fileno(), "rb", closefd=False) as stream:
             said: Optional[Said] = None
             while not isinstance(said, Ended):
                 try:
@@ -199,28 +193,17 @@ class Director:
                     said = Ended(None)
                 self.said.put(said)
 
-    def close(self) -> None:
+    def close_input(self) -> None:
         """Ends its input: it lands nobody then, and ends."""
         self.is_well = False
-        with contextlib.suppress(OSError):
-            if self.process.stdin:
-                self.process.stdin.close()
-
-    def kill(self) -> None:
-        """Ends the process where it still runs."""
-        self.close()
-        self.process.kill()
-        self.process.wait()
-        self.reader.join(1)
-        if self.process.stdout and not self.reader.is_alive():
-            self.process.stdout.close()
+        super().close_input()
 
 
 def judged(director: Director) -> List[Said]:
     """What a director says where nothing happens: three texts that are a flight have an end without a cause."""
     out: List[Said] = []
     try:
-        director.close()
+        director.close_input()
         while not out or not isinstance(out[-1], Ended):
             said = director.wait(LONGEST)
             out.append(Ended(None) if said is None else said)

@@ -26,8 +26,7 @@ HISTORY = 20  # samples that are kept to see whether a drone is settled
 
 Look = Callable[[], None]  # what looks after a flight while others wait
 Table = Dict[str, Tuple[int, int]]  # by an item's name its number and its type
-# When a start went out first and last, when it was answered, and with which status.
-Started = Tuple[float, float, Optional[float], Optional[int]]
+Started = Tuple[float, float, Dict[int, Tuple[float, int]]]  # when it went out first and last, and its answers
 
 
 class State:
@@ -326,22 +325,21 @@ class Fleet:
         measured = self.states[drone].measured
         return measured is not None and measured > self.told_off[drone]
 
-    def start(self, trajectory: int, copies: int, by_broadcast: bool) -> Dict[int, Started]:
-        """Starts a trajectory in all drones: by a broadcast that each hears at once, or one by one. By drone when its
-        start went out first and last, and when it was answered last and with which status, or None. Nobody is sent a
-        second start of its own, since it would begin anew. A drone answers in order: one that answers a question
-        after the start and not the start didn't take it."""
+    def start(self, trajectory: int, copies: int, by_broadcast: bool) -> Started:
+        """Starts a trajectory in all drones, by a broadcast that each hears at once, or one by one: when starts went
+        out first and last, and by drone when it answered last, and with which status. Nobody is sent a second start of
+        its own, since it would begin anew. A drone answers in order: one that answers a question after the start and
+        not the start didn't take it."""
         with self.lock:
             self.started = {}
         raw, drones = firmware.packet(firmware.COMMANDER, 0, firmware.start(trajectory)), range(len(self.names))
-        sent = dict.fromkeys(drones, self.radio.broadcast(raw, copies)) if by_broadcast else {}
+        begin = clock.now()
         for drone in [] if by_broadcast else drones:
-            sent[drone] = (clock.now(),) * 2
             self.radio.send(drone, raw)
+        begin, end = self.radio.broadcast(raw, copies) if by_broadcast else (begin, clock.now())
         self.radio.failures(drones, lambda drone: self.radio.pass_by(drone, 1))
-        nothing: Tuple[Optional[float], Optional[int]] = (None, None)
         with self.lock:
-            return {drone: (*sent[drone], *self.started.get(drone, nothing)) for drone in sent}
+            return begin, end, dict(self.started)
 
     def beside(self, raw: bytes, copies: int) -> None:
         """A broadcast that goes out beside commands to each drone, so that nothing rests on it, nor waits for it."""

@@ -85,17 +85,16 @@ class Home(Watched):
 
     def fly_on(self, fault: BaseException) -> bool:
         """After a fault in the show: flies on until all may land, or to the end; whether it went on to the end."""
-        told = False
         while clock.now() < self.ends():
             why = self.refusal()
             if why is None:
                 return False
-            if not told:
+            if not self.is_said:
                 free = self.ways.landings.next(self.since(self.zero))
                 say("FAULT: %s; flying on%s: a landing of all now isn't shown apart (%s)" % (
                     fault, "" if free is None or self.silent or self.off() else " to %.1f s" % (free / 1000),
                     landings.short(why)))
-                told = self.is_said = True
+                self.is_said = True
             for words in self.noted():
                 say("FAULT besides: %s" % words)
             clock.wait(0.1)
@@ -180,7 +179,7 @@ class Home(Watched):
         why = why and self.soon(self.refusal_here, why)
         if why is None:
             return None
-        self.director.close()  # what follows is none of its flight
+        self.director.close_input()  # what follows is none of its flight
         self.is_said = True
         gone_back = self.zero is not None and self.leg is self.ways.up
         if gone_back:
@@ -298,7 +297,7 @@ class Home(Watched):
     def come_down(self) -> None:
         """Flies the way down, which the director isn't led by any more; where some are silent, and hover at the end of
         their curves as is assumed, or don't fly any more, one that keeps clear of them. Raises what is new on it."""
-        self.director.close()
+        self.director.close_input()
         hold = self.silent | self.out
         self.leg = self.way_beside(hold) if hold else self.ways.down
         for number, whole in enumerate(self.leg.stages, 1):

@@ -4,14 +4,13 @@ carries packets between it and a link. Shared by ./show bridge and ./show fly; n
 import contextlib
 import os
 import queue
-import subprocess
-import threading
 import time
 from typing import Any, Callable, Dict, List, Optional, Sequence, Set, Tuple
 
 from hemtoghai import program as proved
 from hemtoghai.companion import stop
 from hemtoghai.flying.links import COMMAND, Heard, Key, key_of, Link, READ, words_of, WRITE
+from hemtoghai.flying.piped import Piped
 from hemtoghai.language.choreo import Flown
 
 TICK, PACKET, END = 0x54, 0x50, 0x45
@@ -27,7 +26,7 @@ Events = queue.Queue[Tuple[Any, ...]]  # what comes: a word, and what belongs to
 Tell = Callable[[str], None]
 
 
-class Host:
+class Host(Piped):
     """The program's `upload` over pipes. What it sends comes by `events`: ("packet", drone, bytes), ("end", status),
     and ("closed", bytes that are no frame) where it ends without an end frame."""
 
@@ -39,19 +38,16 @@ class Host:
         except proved.Unusable as why:
             stop(str(why))
         try:
-            self.process = subprocess.Popen(command, stdin=subprocess.PIPE, stdout=subprocess.PIPE, bufsize=0)
+            super().__init__(command)
         except OSError as error:
             stop("%s: %s" % (command[0], error.strerror))
         self.write(text + (b"" if text.endswith(b"\n") or not text else b"\n") + b"%%\n")
-        self.reader = threading.Thread(target=self.listen, daemon=True)
-        self.reader.start()
 
     def write(self, data: bytes) -> None:
         """Writes to the program; where it has ended, its end frame is under way."""
-        assert self.process.stdin
         with contextlib.suppress(BrokenPipeError, ValueError):
             while data:
-                data = data[self.process.stdin.write(data):]
+                data = data[self.input.write(data):]
 
     def tick(self) -> None:
         self.write(bytes([TICK]))
@@ -63,8 +59,7 @@ class Host:
 
     def listen(self) -> None:
         """Reads frames until the end, and puts them into `events`."""
-        assert self.process.stdout
-        with open(self.process.stdout.fileno(), "rb", closefd=False) as stream:
+        with open(self.output.fileno(), "rb", closefd=False) as stream:
             front = stream.read(1)
             while front == bytes([PACKET]):
                 head = stream.read(2)
@@ -77,25 +72,10 @@ class Host:
             status = stream.read(1) if front == bytes([END]) else b""
             self.events.put(("end", status[0]) if status else ("closed", front + stream.read(200)))
 
-    def close_input(self) -> None:
-        """Ends the program's input: an upload that is still going ends with 8."""
-        assert self.process.stdin
-        with contextlib.suppress(OSError):
-            self.process.stdin.close()
-
     def end(self) -> int:
-        """Ends the program's input and waits for it; its status."""
+        """Ends the program's input, so that an upload that is still going ends with 8, and waits for it; its status."""
         self.close_input()
         return self.process.wait()
-
-    def kill(self) -> None:
-        """Ends the program where it still runs, and all that belongs to it here."""
-        assert self.process.stdout
-        self.process.kill()
-        self.process.wait()
-        self.close_input()
-        self.reader.join(5)
-        self.process.stdout.close()
 
 
 class Traffic:
