@@ -348,6 +348,21 @@ class Links(Closed):
             radio.each(lambda drone: clock.wait(20), unittest.mock.Mock(side_effect=KeyboardInterrupt))
         radio.close()
 
+    def test_failures(self):
+        # Each of these drones is asked, and no other; what one doesn't do keeps no other from it.
+        radio, _ = opened(self.flown, common.world(self.flown))
+        common.drone(self.flown, "b").faults["dead"], asked = 0, []
+
+        def ask(drone):
+            asked.append(drone)
+            radio.pass_by(drone, 0.5)
+        failed = radio.failures([0, 1], ask)
+        self.assertEqual((sorted(asked), list(failed), type(failed[1])), ([0, 1], [1], crazyradio.Dead))
+        self.assertEqual((radio.failures([0], ask), asked[2:]), ({}, [0]))
+        with self.assertRaises(ZeroDivisionError):  # what is no trouble of a drone is raised
+            radio.failures([0], lambda drone: 1 / 0)
+        radio.close()
+
     def test_crowded(self):
         where = common.world(self.flown)
         radio, _ = opened(self.flown, where)

@@ -271,6 +271,16 @@ class AllLand(unittest.TestCase):
             self.assertIsNone(it.beside(2000, {1}))
             self.assertEqual(it.beside_silent(2000, {1}) is None, may)
 
+    def test_off_its_curve(self):
+        # b says that it is above a, and reaches 0.2 m around: then not all may land, and else they may.
+        it = self.of("choreo 1\ndrone a 0 0 800000 0\ndrone b 1500000 0 1600000 0\ncue 4000\na hold\nb hold\nend\n")
+        off = it.where({1: ((100, 0, 1600), 200.0)}, stages.LATE)
+        self.assertEqual((off.late(), off.reach(1, 0), off.reach(0, 0)), (300, ((100, 0, 1600), 200.0), ((0, 0, 800), 0.0)))
+        self.assertIsNotNone(off.refusal(2000))
+        self.assertIsNone(it.where({1: ((1400, 0, 1600), 200.0)}, stages.LATE).refusal(2000))
+        self.assertEqual((it.refusal(2000), it.late(), it.where({1: ((0, 0, -40), 0.0)}, 100).reach(1, 0)), (
+            None, 100, ((0, 0, 0), 0.0)))
+
     def test_what_flies_is_apart(self):
         # Landings by chance at instants that are said to be good: each drone up to half of `late` earlier or later, carried
         # on along its way as the simulated drones are, and as far aside as `stray` says. Their ellipsoids share no point.

@@ -151,17 +151,16 @@ class Judged:
 def judge_all(judged: Dict[str, Judged], offsets: Sequence[int], options: argparse.Namespace) -> None:
     """Judges all drones by the setting of the common clock, between the least and the greatest offset, that leaves
     the fewest samples outside."""
-    low, high = offsets[0], offsets[-1]
-    best = inf, 0.0
-    for middle in [offsets[len(offsets) // 2], *(low + (high - low) * k / 8 for k in range(9))]:
+    def outside(middle: float) -> int:
         for it in judged.values():
             it.judge(middle, options.late, options.stray)
-        outside = sum(len(it.outside) for it in judged.values())
-        if outside == 0:
+        return sum(len(it.outside) for it in judged.values())
+    low, high, counts = offsets[0], offsets[-1], dict[float, int]()
+    for middle in [offsets[len(offsets) // 2], *(low + (high - low) * k / 8 for k in range(9))]:
+        counts[middle] = outside(middle)
+        if counts[middle] == 0:
             return
-        best = min(best, (float(outside), middle))
-    for it in judged.values():
-        it.judge(best[1], options.late, options.stray)
+    outside(min(counts, key=lambda middle: (counts[middle], middle)))
 
 
 def print_table(judged: Dict[str, Judged]) -> None:
