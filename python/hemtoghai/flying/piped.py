@@ -1,4 +1,4 @@
-"""A program over pipes, which a thread listens to. For the upload (uploads.py) and the flight director (director.py)."""
+"""A program over pipes, which a thread listens to: for the upload and the flight director."""
 import contextlib
 import subprocess
 import threading

@@ -105,7 +105,8 @@ def preflight(fleet: Fleet, flown: choreo.Flown, pads: Sequence[Place], options:
     say("%-16s %-16s %6s %7s %9s %9s  %s" % (
         "drone", "firmware", "memory", "volts", "variance", "aside mm", "stands at, m"))
     faults = []
-    for name, state, (version, memories, wrong), pad, start in zip(fleet.names, fleet.states, looks, pads, flown.starts):
+    for name, state, look, pad, start in zip(fleet.names, fleet.states, looks, pads, flown.starts):
+        version, memories, wrong = look
         faults += ["%s: %s" % (name, fault) for fault in [*wrong, *faults_of(state, pad, start[3] / 10, options)]]
         if state.place:
             say("%-16s %-16s %6s %7.2f %9.5f %9.0f  (%.2f, %.2f, %.2f)" % (

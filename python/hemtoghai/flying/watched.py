@@ -6,7 +6,7 @@ first fault on by flying/home.py.
 import math
 import threading
 import time
-from typing import Callable, Dict, Iterator, List, Optional, Sequence, Set, TypeVar
+from typing import Callable, Dict, Iterator, List, Optional, Set, TypeVar
 
 from hemtoghai.flying import clock, firmware, landings
 from hemtoghai.flying.crazyradio import Silence, Trouble
