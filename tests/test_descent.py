@@ -7,6 +7,18 @@ import common
 from hemtoghai.flying import clock, crazyradio, descent, fleet
 
 
+class Clock(unittest.TestCase):
+    def test_when_a_sample_was_measured(self):
+        # By the drone's own clock, which wraps, and begins anew with the drone.
+        state, values = fleet.State(), {"stateEstimate.x": 0.0, "stateEstimate.y": 0.0, "stateEstimate.z": 0.0, "pm.vbat": 4.0}
+        for at, stamp, measured in ((10.0, 5000, 10.0), (10.3, 5100, 10.1), (10.5, 5600, 10.5), (20.0, 14900, 19.8),
+                                    (30.0, 100, 30.0), (30.4, 200, 30.1), (40.0, fleet.WRAP - 1000, 40.0),
+                                    (41.5, 500, 41.5)):
+            state.take(values, at, stamp)
+            self.assertAlmostEqual(state.measured, measured, msg=(at, stamp))
+            self.assertEqual(state.heard, at)
+
+
 class Last(unittest.TestCase):
     def setUp(self):
         self.said = []

@@ -66,7 +66,8 @@ class State:
         self.between = 0 if self.stamp is None else stamp + turns * WRAP - self.stamp
         self.stamp = stamp + turns * WRAP
         late = at - self.stamp / 1000
-        self.least = late if self.least is None else min(self.least, late)
+        # A drone that started anew counts from 0.
+        self.least = late if self.least is None or self.between < 0 else min(self.least, late)
         self.heard, self.measured = at, self.stamp / 1000 + self.least
         return True
 
