@@ -17,7 +17,7 @@ from hemtoghai.flying import clock, director, firmware, landings
 from hemtoghai.flying.crazyradio import Trouble
 from hemtoghai.flying.crew import Cut, Interrupted, say, Watch
 from hemtoghai.flying.descent import EARLY, LANDING
-from hemtoghai.flying.director import Noted, Order, Over, Said, To
+from hemtoghai.flying.director import Ended, Noted, Order, Over, Said, To
 from hemtoghai.flying.fleet import Fleet
 from hemtoghai.flying.home import Home
 from hemtoghai.flying.stages import Leg, TAKE_OFF
@@ -132,16 +132,19 @@ class Bridge(Home):
     # ---- what the director says
 
     def take(self, said: Said) -> None:
-        if isinstance(said, To) and said.drone is None:
-            self.carry_to_all(said.order)
-        elif isinstance(said, To) and said.drone is not None:
+        if isinstance(said, To) and said.drone is not None:
             self.carry(said.drone, said.order)
+        elif isinstance(said, To) and said.order.kind == director.START:
+            self.start()
+        elif isinstance(said, To) and said.order.kind == director.DISARM:
+            self.disarm(self.all)
+            self.due_by = clock.now() + PATIENCE
         elif isinstance(said, Noted):
             self.note(said.drone, said.fault)
         elif isinstance(said, Over):
             self.over = said
-        elif self.over is None:
-            raise Trouble("the flight director ended: status %s" % getattr(said, "status", None))
+        elif isinstance(said, Ended) and self.over is None:
+            raise Trouble("the flight director ended: status %s" % said.status)
 
     def note(self, k: int, fault: int) -> None:
         """Raises a fault that the director finds, as far as flying/watched.py doesn't."""
@@ -166,13 +169,6 @@ class Bridge(Home):
         if far > min(self.options.at_start, self.ways.rules.stray):
             return "%s is %.0f mm from its place" % (name, far)
         return "%s %s" % (name, "isn't armed" if lacks & director.ARMED else "can't be armed") if lacks else None
-
-    def carry_to_all(self, order: Order) -> None:
-        if order.kind == director.START:
-            self.start()
-        elif order.kind == director.DISARM:
-            self.disarm(self.all)
-            self.due_by = clock.now() + PATIENCE
 
     def carry(self, k: int, order: Order) -> None:
         if self.is_landing(order):

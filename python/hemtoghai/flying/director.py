@@ -131,17 +131,9 @@ class Director(Piped):
         self.said: "queue.SimpleQueue[Said]" = queue.SimpleQueue()
         super().__init__([program.runs(), "direct", *words], stderr=subprocess.DEVNULL, start_new_session=True)
         self.writes_to = self.input.fileno()
-        for text in texts:
-            self.write_all(text + (b"" if text.endswith(b"\n") else b"\n") + MARKER)
+        # What it has to read before a flight is written however long it judges that.
+        self.hear(b"".join(text + (b"" if text.endswith(b"\n") else b"\n") + MARKER for text in texts))
         os.set_blocking(self.writes_to, False)
-
-    def write_all(self, data: bytes) -> None:
-        """Writes what the process has to read before a flight, however long it judges it."""
-        try:
-            while data:
-                data = data[os.write(self.writes_to, data):]
-        except OSError:
-            self.is_well = False
 
     def hear(self, frames: bytes) -> None:
         """Writes frames, as far as the process takes them now; the rest waits."""

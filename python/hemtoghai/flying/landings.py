@@ -13,6 +13,7 @@ A drone that is silent flies its curve on: that is judged with those who land by
 left its curve is judged from where it says that it is. The stages of the ways up and down have landings of their own,
 judged alike. Millimetres and milliseconds.
 """
+import threading
 from copy import copy
 from itertools import combinations, groupby
 from math import ceil, dist, hypot
@@ -33,6 +34,7 @@ PIECE = 250  # of the curves of a silent drone
 MOST_CUES = 900  # of the show of a silent drone
 ROUNDED = 2  # by which a cut curve may be off by rounding
 TOO_FAR = "drones are carried on too far"
+COMPUTES = threading.Lock()  # one thread at a time, so that those of a flight aren't held up; `check` is asked by several
 
 Reach = Tuple[Place, float]  # the middle of what a drone may reach, and how far it is from that at most
 Cubic = List[List[float]]  # four control points
@@ -42,11 +44,6 @@ Moving = Union[Curve, "Mover"]  # what has a place at each time, in mm
 def carried(speed: float) -> float:
     """How far a drone is carried on, in mm, by its speed in mm a second."""
     return speed * speed / (2000 * BRAKE) + REACT * speed
-
-
-def off_reach(place: Sequence[float], speed: float) -> Reach:
-    """What a drone may reach that isn't on its curve, by its own place in mm and its speed in mm a second."""
-    return place_of(place), carried(speed) + speed * LATE / 1000  # told by a packet of its own
 
 
 class Landings:
@@ -134,7 +131,8 @@ class Landings:
         landing."""
         if self.landing:
             return self.beside(t, self.landing)
-        rows = {k: self.reach(k, t) for k in range(len(self.names))}
+        with COMPUTES:
+            rows = {k: self.reach(k, t) for k in range(len(self.names))}
         line = self.ask(rows, max(row[1] for row in rows.values()))
         if line is None or len(rows) < 2:
             return line
@@ -223,12 +221,14 @@ class Landings:
         land = [k for k in range(len(self.names)) if k not in on and k not in self.standing]
         if not land:
             return None
-        rows = {k: self.reach(k, t) for k in land}
+        with COMPUTES:
+            rows = {k: self.reach(k, t) for k in land}
         stage, more = self.stage({k: row[0] for k, row in rows.items()}), max(row[1] for row in rows.values())
         ways = {k: (rows[k][0], stage.to[k], stage.milliseconds) for k in land}
         for row in standing_apart(self.standing, self.rules, self.stray + ceil(more), self.late()):
             hold = {k: (self.standing[k], self.standing[k], stage.milliseconds) for k in row}
-            text = self.cut_text(self.times(t, stage.milliseconds), {**ways, **hold}, on, more)
+            with COMPUTES:
+                text = self.cut_text(self.times(t, stage.milliseconds), {**ways, **hold}, on, more)
             why = TOO_FAR if text is None else refusal_of(text)
             if why:
                 return why

@@ -14,7 +14,7 @@ from hemtoghai.flying.crew import say, Watch
 from hemtoghai.flying.descent import Descent
 from hemtoghai.flying.fleet import Fleet
 from hemtoghai.flying.routes import LIFT
-from hemtoghai.flying.stages import Place, place_of
+from hemtoghai.flying.stages import LATE, Place, place_of
 from hemtoghai.flying.ways import Ways
 from hemtoghai.geometry.curves import curves_of
 
@@ -92,10 +92,13 @@ class Watched(Descent):
         return [k for k, at in times.items() if at is None or clock.now() - at > UNHEARD]
 
     def off(self) -> Dict[int, landings.Reach]:
-        """The drones that aren't on their curves, as far as they are heard, and what they may reach."""
-        limit = self.ways.rules.show_stray or self.options.stray
-        return {k: landings.off_reach(self.at(k), self.speed(k))
-                for k in self.all if k not in self.silent and (k in self.out or self.far[k] > limit)}
+        """The drones that aren't on their curves, as far as they are heard, and what they may reach by their own places
+        and speeds, told of a landing by packets of their own."""
+        limit, out = self.ways.rules.show_stray or self.options.stray, {}
+        for k in self.all:
+            if k not in self.silent and (k in self.out or self.far[k] > limit):
+                out[k] = place_of(self.at(k)), landings.carried(self.speed(k)) + self.speed(k) * LATE / 1000
+        return out
 
     # ---- faults
 
