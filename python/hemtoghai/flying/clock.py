@@ -16,7 +16,6 @@ def now() -> float:
 
 
 def wait(seconds: float) -> None:
-    """Waits for so many seconds of this clock."""
     time.sleep(max(0.0, seconds) / _speed[0])
 
 

@@ -86,7 +86,6 @@ class Dongle:
         self.thread.start()
 
     def run(self, number: int, channel: int, rate: int) -> None:
-        """Opens it, and sends what is to be sent."""
         from cflib.crtp.radiodriver import RadioManager
         while True:
             job = self.jobs.get()
@@ -173,7 +172,6 @@ class Radio:
             raise
 
     def connect(self, driver_of: Callable[..., Any]) -> None:
-        """Opens a driver for each drone and starts its threads."""
         for drone, uri in enumerate(self.uris):
             driver = driver_of(uri, None, lambda words, drone=drone: self.faults.update({drone: words}))
             if driver is None:

@@ -59,7 +59,6 @@ class Watch:
             raise Interrupted
 
     def wait_for_cut(self) -> None:
-        """Stops the motors at the second Ctrl-C."""
         if os.read(self.pipe[0], 1):
             self.stop_motors()
 

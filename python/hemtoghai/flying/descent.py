@@ -59,7 +59,6 @@ class Descent:
         return milliseconds_for(LAND, [1000 * height for height in heights or [UNKNOWN]]) / 1000
 
     def account(self) -> None:
-        """Says of each drone what is known of it in the end."""
         for k, (name, state) in enumerate(zip(self.names, self.fleet.states)):
             at = "(%.2f, %.2f, %.2f) m" % tuple(state.place) if state.place else ""
             age = 0.0 if state.measured is None else clock.now() - state.measured

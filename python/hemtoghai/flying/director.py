@@ -164,7 +164,6 @@ class Director(Piped):
         return True
 
     def says(self) -> Iterator[Said]:
-        """What it said since the last look."""
         while not self.said.empty():
             yield self.said.get()
 

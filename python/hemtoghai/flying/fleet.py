@@ -267,7 +267,6 @@ class Fleet:
         self.radio.each(lambda drone: self.radio.ask(drone, firmware.LOGS, 1, firmware.stop_block(SETTLING), 2))
 
     def end_logs(self) -> None:
-        """Has all drones that answer stop sending samples."""
         for drone in range(len(self.names)):
             self.radio.send(drone, firmware.packet(firmware.LOGS, 1, firmware.RESET_LOGS))
 

@@ -313,7 +313,6 @@ class Home(Watched):
                 raise Trouble("; ".join([*wrong, *("%s isn't at the next place" % name for name in far)]))
 
     def say_stage(self, stage: Stage) -> None:
-        """Says who takes off or lands in a stage."""
         if stage.kind != GO_TO:
             say("%s, %s: %s, %.1f s" % ("landing" if stage.kind == LAND else "taking off", many(len(stage.to), "drone"),
                                         " ".join(self.names[k] for k in stage.to), stage.milliseconds / 1000))

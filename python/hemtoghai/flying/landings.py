@@ -320,13 +320,11 @@ def off_by(mover: Moving, cubic: Cubic, begin: float, end: float) -> float:
 
 
 def curve_lines(names: Sequence[str], cue: Dict[int, Cubic]) -> Iterator[str]:
-    """The lines of a cue for those who move in it."""
     for k, points in cue.items():
         if max(dist(points[0], point) for point in points) > 0.01:
             yield "%s curve %s 0" % (names[k], " ".join("%d" % round(1000 * v) for point in points[1:] for v in point))
 
 
 def short(line: str) -> str:
-    """A refusal in few words."""
     words = line.split()
     return "%s and %s" % (words[3], words[4]) if words[:2] == ["error", "5"] and len(words) > 4 else line

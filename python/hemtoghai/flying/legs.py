@@ -91,5 +91,4 @@ def pads_of(path: Optional[str], flown: Flown) -> List[Place]:
 
 
 def below(places: Iterable[Place], height: int = 0) -> List[Place]:
-    """Pads straight below places."""
     return [(*place[:2], height) for place in places]

@@ -157,7 +157,6 @@ class SimulatedLink(Link):
             counts["again"] += 1
 
     def run(self) -> None:
-        """Lets happen what is due, until the link is closed."""
         with self.changed:
             while self.open:
                 wait = self.under_way[0][0] - time.monotonic() if self.under_way else None

@@ -47,7 +47,6 @@ class Stage:
         self.kind, self.milliseconds, self.to = kind, milliseconds, to
 
     def without(self, drones: Iterable[int]) -> "Stage":
-        """The same stage, in which these drones hold."""
         return Stage(self.kind, self.milliseconds, {k: place for k, place in self.to.items() if k not in drones})
 
 
@@ -116,7 +115,6 @@ def side_by_side(work: Callable[[Asked], Found], items: Iterable[Asked]) -> List
 
 
 def place_of(values: Iterable[float]) -> Place:
-    """The place of three numbers."""
     x, y, z = (round(v) for v in values)
     return x, y, z
 

@@ -233,7 +233,6 @@ class Carrying:
         self.host.close_input()
 
     def step(self) -> None:
-        """Waits for what happens next, and handles it."""
         what, rest = "nothing", list[Any]()
         with contextlib.suppress(queue.Empty):
             what, *rest = self.events.get(timeout=self.pace.step() if self.traffic.begun else None)

@@ -62,7 +62,6 @@ class Watched(Descent):
         return 0.0 if begin is None else 1000 * (clock.now() - begin)
 
     def ends(self) -> float:
-        """When the show is over."""
         return (self.zero or 0.0) + self.flown.milliseconds / 1000 + 0.5
 
     def far_from(self, places: Dict[int, Place], limit: float) -> List[str]:

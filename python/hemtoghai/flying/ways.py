@@ -153,7 +153,6 @@ class Ways:
             return None
 
     def tell(self) -> None:
-        """Prints the ways, and when all may land."""
         top = legs.top_of(self.flown)
         for name, leg in (("up", self.up), ("down", self.down)):
             say("way %s: %.1f s, judged %s" % (name, leg.milliseconds() / 1000,
