@@ -196,14 +196,13 @@ def fly(radio: crazyradio.Radio, flown: Flown, text: bytes, pads: Sequence[Place
                 options.log, program.COMMAND, options.show, options.log))
 
 
-def only(radio: crazyradio.Radio, floors: Dict[str, float], options: argparse.Namespace, watch: Watch) -> int:
+def only(radio: crazyradio.Radio, floors: Dict[str, Place], options: argparse.Namespace, watch: Watch) -> int:
     """Lands all drones and stays until they are down, or stops their motors; the status. Some may not be heard."""
-    names, fleet = radio.names, Fleet(radio, Log(None, say))
-    heard = [k for k in range(len(names)) if radio.last[k] is not None]
-    mute = [name for name, last in zip(names, radio.last) if last is None]
-    quiet_words = "; not heard: " + ", ".join(mute) if mute else ""
-    say("heard: %s%s" % (", ".join(names[k] for k in heard) or "NONE", quiet_words))
-    descent = Descent(fleet, [floors.get(name, 0.0) for name in names], options.silence, watch)
+    fleet = Fleet(radio, Log(None, say))
+    heights = [floors[name][2] / 1000 if name in floors else 0.0 for name in radio.names]
+    descent = Descent(fleet, heights, options.silence, watch)
+    heard, mute = ([k for k in descent.all if (radio.last[k] is None) == is_mute] for is_mute in (False, True))
+    say("heard: %s%s" % (descent.words_of(heard) or "NONE", "; not heard: " + descent.words_of(mute) if mute else ""))
     try:
         if options.only == "stop":
             watch.confirm("Stop all motors? Drones in the air fall.", lambda: None)
@@ -233,16 +232,15 @@ def opened(names: Sequence[str], uris: Sequence[str], all_wanted: bool) -> crazy
 def emergency(options: argparse.Namespace, watch: Watch, radios: List[crazyradio.Radio]) -> int:
     """Lands drones or stops their motors: those of a text of addresses, whatever the show is; the status. The radio
     that was opened is added to a list, to be closed."""
+    floors = legs.pads_by_name(options.pads) if options.pads else {}
     if options.simulate:
         flown = flown_of(options.show)[1]
         pads = legs.pads_of(options.pads, flown)
         uris, floors = dict(zip(flown.names, set_simulation(flown, pads, options))), dict(zip(flown.names, pads))
     else:
-        uris, floors = crazyradio.everybody(options.radio), {}
-    if options.pads:
-        floors = legs.pads_by_name(options.pads)
+        uris = crazyradio.everybody(options.radio)
     radios.append(opened(list(uris), list(uris.values()), False))
-    return only(radios[0], {name: pad[2] / 1000 for name, pad in floors.items()}, options, watch)
+    return only(radios[0], floors, options, watch)
 
 
 def show(options: argparse.Namespace, watch: Watch, radios: List[crazyradio.Radio]) -> int:
