@@ -20,7 +20,7 @@ def wait(seconds: float) -> None:
 
 
 def wait_for(is_so: Callable[[], bool], seconds: float) -> None:
-    """Waits until something is so, but no longer than so many seconds of this clock."""
+    """Waits until something is so, but no longer than these seconds of this clock."""
     until = now() + seconds
     while now() < until and not is_so():
         wait(0.05)

@@ -114,7 +114,7 @@ class Descent:
 
     def land(self, words: str, warn: Callable[[], None] = lambda: None, told: float = inf,
              seconds: Optional[float] = None) -> bool:
-        """Lands all drones that aren't down, in so many seconds where they are given, and once more those that aren't
+        """Lands all drones that aren't down, in these seconds where they are given, and once more those that aren't
         then; disarms those that are down, since a drone that is disarmed in the air falls. A second Ctrl-C stops the
         motors. Says who isn't down, and stays with them. Whether all are down."""
         self.watch.lands = True

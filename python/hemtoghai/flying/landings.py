@@ -65,7 +65,7 @@ class Landings:
         self.rows: Optional[List[Tuple[int, Optional[str]]]] = None
 
     def where(self, off: Dict[int, Reach], told: int) -> "Landings":
-        """The same where some are off their curves, and all are told of the landing within so many milliseconds."""
+        """The same where some are off their curves, and all are told of the landing within these milliseconds."""
         out = copy(self)
         out.off, out.told = off, told
         return out

@@ -188,8 +188,8 @@ class Watched(Descent):
             clock.wait(min(0.05, max(0.0, until - clock.now())))
 
     def meanwhile(self, work: Callable[[], Found], seconds: float = math.inf, *late: Found) -> Found:
-        """What a function gives that asks `check`, while the crew is heard; where it takes longer than so many real
-        seconds it goes on, nobody waits, and something else is given."""
+        """What a function gives that asks `check`, while the crew is heard. Where it takes longer than these real
+        seconds it goes on, nobody waits for it, and `late` is given."""
         out: List[Found] = []
         failed: List[Exception] = []
 
