@@ -51,7 +51,7 @@ class Last(unittest.TestCase):
     def test_one_that_arms_by_itself(self):
         # It obeys, and arms again with its next sample: what is said is of that one, and not of the one before.
         for _ in range(5):
-            it, b = self.of([("b", "auto", 0), ("b", "unarmed", 0)], every=300)
+            it, b = self.of([("b", "auto", 0), ("b", "unarmed", 0)], every=1000)
             it.disarm(it.all)
             del self.said[:]
             it.account()
