@@ -6,12 +6,13 @@ import struct
 import subprocess
 import sys
 import tempfile
+import types
 import unittest
 
 import common
 import flights
 from flights import as_if_idle, faster
-from hemtoghai.flying import director, ways
+from hemtoghai.flying import bridge, director, watched, ways
 from hemtoghai.flying.director import Cause, Ended, Noted, Order, Over, To
 from test_fly import HIGH, last_heights
 from test_fly_hard import ASIDE, STACK
@@ -127,6 +128,18 @@ RUNS = flights.Flights(3, FLIGHTS)
 begun, forget, setUpModule = RUNS.begun, RUNS.forget, RUNS.set_up
 
 
+class Distances(unittest.TestCase):
+    def test_who_is_far(self):
+        # What ./show fly says of a drone's place goes by the same distances.
+        it = types.SimpleNamespace(names=["a"], aims={0: (0, 0, 1000)}, is_fresh=lambda k: True, flags=lambda k: 0,
+                                   options=types.SimpleNamespace(at_start=50),
+                                   ways=types.SimpleNamespace(rules=types.SimpleNamespace(stray=80)))
+        for aside, far, words in ((28, [], None), (29, ["a"], "a is 50 mm from its place")):
+            it.at = lambda k: [aside, aside, 1000 + aside]
+            self.assertEqual(watched.Watched.far_from(it, it.aims, 50), far)
+            self.assertEqual(bridge.Bridge.unfit(it, 0, 0), words)
+
+
 class Frames(unittest.TestCase):
     def test_what_is_said(self):
         for data, said in SAID:
@@ -180,6 +193,18 @@ class Process(unittest.TestCase):
         self.assertEqual(self.said(stopped), risen + lands)
         refused = [*risen, Noted(0, director.REFUSED), lands[0], Ended(8)]
         self.assertEqual(self.said([*up, director.answer(0, 5)]), refused)
+
+    def test_bounds_are_distances(self):
+        # Within --near and --at on each axis, and farther in a straight line: it doesn't arm, and doesn't start.
+        def at(z, flags, aside):
+            return director.sample(0, 0, [aside, aside, z + aside], flags)
+        ready, armed = director.READY | director.DOWN, director.ARMED | director.READY
+        go, clock = director.signal(director.GO), director.clock_frames
+        risen = [To(0, Order(director.ARM)), To(0, Order(director.RISE, (1000,), 2000))]
+        for near, high, orders in ((57, 28, [*risen, To(None, Order(director.START))]), (58, 0, []), (57, 29, risen)):
+            said = self.said([at(0, ready, near), go, at(0, armed | director.DOWN, near), clock(2000), at(1000, armed, high),
+                              clock(1000), at(1000, armed, high), go])
+            self.assertEqual([it for it in said if isinstance(it, To)][:3], orders, (near, high))
 
     def test_no_flight(self):
         def judged(words, *texts):
