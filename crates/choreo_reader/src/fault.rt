@@ -8,7 +8,7 @@ use std::alloc::{AllocError, AllocFailed};
 pub enum ShowFault {
     /// The first faulty line, from 1, and what is wrong with it.
     Line { line: u32, kind: LineKind },
-    /// Memory wants.
+    /// Out of memory.
     Memory,
 }
 

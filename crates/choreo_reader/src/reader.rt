@@ -1,6 +1,6 @@
 //! A show that is read line by line.
 
-ghost use Rattle.std.specs.Prelude.{◌≡◌, ℕ, List, Some, take, drop, ◌+◌, ◌<◌, ◌≤◌, length, OnOk, IfOk, MatchResult, ◌++◌, ◌∷◌, []};
+ghost use Rattle.std.specs.Prelude.{◌≡◌, ℕ, List, Ok, Some, take, drop, ◌+◌, ◌<◌, ◌≤◌, length, OnOk, IfOk, MatchResult, ◌++◌, ◌∷◌, []};
 ghost use Rattle.fleet_math.specs.Limits.{most_text};
 ghost use Rattle.choreo_show.specs.Plain.{block_of, body_of, plain as plain_show, PlainShow, ◌⨾◌};
 ghost use Rattle.choreo_reader.specs.Grammar.{StandsFor};
@@ -14,7 +14,7 @@ ghost use Rattle.text_lines.specs.Lines.{lines_of, between_feeds};
 ghost use Rattle.text_lines.specs.Words.{visible, words_of, line_with, numbered};
 ghost use Rattle.text_lines.specs.Tokens.{words_in};
 ghost use Rattle.text_lines.specs.declared.token.Comments.TheVariants.{FromHash};
-ghost use Rattle.choreo_reader.specs.Reading.{InFormation, InFigure, InRepeat, InCue, entry_fault as entry_fault_of, with_block as with_block_of, act_added, place_added, add_block as add_block_of, close as close_of, close_innermost as close_innermost_of, with_act as with_act_of, with_place as with_place_of, nothing, build, settings_of, opening_of, openings_of, context_of, line_step, lines_step, finish as finish_of, read_lines, reading};
+ghost use Rattle.choreo_reader.specs.Reading.{InFormation, InFigure, InRepeat, InCue, entry_fault as entry_fault_of, with_block as with_block_of, act_added, place_added, add_block as add_block_of, close as close_of, close_innermost as close_innermost_of, with_act as with_act_of, with_place as with_place_of, nothing, build, settings_of, opening_of, openings_of, context_of, built_by, line_step, lines_step, finish as finish_of, read_lines, reading};
 
 use crate::fault::ShowFault;
 use crate::token::{first_bad_line, line_words};
@@ -138,7 +138,6 @@ fn is_repeat(block: &OpenBlock) -> bool
     }
 }
 
-// Whether a figure is open.
 fn in_figure(opened: &[OpenBlock]) -> bool
     ensures { result ≡ in_figure_of (openings_of (opens_of opened.now)) }
 {
@@ -150,7 +149,6 @@ fn in_figure(opened: &[OpenBlock]) -> bool
     false
 }
 
-// How many repeats are open.
 #[tactic(auto, using(crate::proofs::Opened::repeats_opened))]
 fn repeats(opened: &[OpenBlock]) -> usize
     ensures { result ≡ repeats_of (openings_of (opens_of opened.now)) }
@@ -213,8 +211,7 @@ fn push<T: Drop>(list: &mut Vec<T>, item: T, least: usize) -> Result<(), AllocEr
     Ok(())
 }
 
-// A setting that was read.
-fn set<T: Drop>(setting: &mut Option<T>, value: T) -> Result<(), AllocError>
+fn keep_setting<T: Drop>(setting: &mut Option<T>, value: T) -> Result<(), AllocError>
     ensures { OnOk result (setting.new ≡ Some value) }
 {
     *setting = Some(value);
@@ -223,7 +220,7 @@ fn set<T: Drop>(setting: &mut Option<T>, value: T) -> Result<(), AllocError>
 
 // One more block at the end of a body.
 #[tactic(auto, using(choreo_show::proofs::Blocks::body_push))]
-fn put(body: &mut Vec<Block>, block: Block) -> Result<(), AllocError>
+fn push_block(body: &mut Vec<Block>, block: Block) -> Result<(), AllocError>
     ensures { OnOk result (body_of body.new.items ≡ body_of body.old.items ⨾ block_of block plain.Done) }
 {
     push(body, block, LEAST_ROOM)
@@ -248,7 +245,7 @@ fn with_block(outer: OpenBlock, block: Block) -> Result<OpenBlock, AllocError>
             roles,
             mut body,
         } => {
-            put(&mut body, block)?;
+            push_block(&mut body, block)?;
             Ok(OpenBlock::Figure {
                 line,
                 name,
@@ -261,7 +258,7 @@ fn with_block(outer: OpenBlock, block: Block) -> Result<OpenBlock, AllocError>
             times,
             mut body,
         } => {
-            put(&mut body, block)?;
+            push_block(&mut body, block)?;
             Ok(OpenBlock::Repeat { line, times, body })
         }
         OpenBlock::Formation { line, name, places } => {
@@ -271,16 +268,14 @@ fn with_block(outer: OpenBlock, block: Block) -> Result<OpenBlock, AllocError>
     }
 }
 
-// An open block with one more act line, where it is a cue.
-fn with_act(inner: OpenBlock, act: ActLine) -> Result<OpenBlock, AllocError>
-    ensures { IfOk result (λ o. open_of o ≡ act_added (open_of inner) act) }
+// One more act line of an open block, where it is a cue. It goes straight into its place, since nearly all lines of a
+// show are act lines.
+fn put_act(inner: &mut OpenBlock, act: ActLine) -> Result<(), AllocError>
+    ensures { OnOk result (open_of inner.new ≡ act_added (open_of inner.old) act) }
 {
     match inner {
-        OpenBlock::Cue { line, ms, mut acts } => {
-            push(&mut acts, act, CUE_ROOM)?;
-            Ok(OpenBlock::Cue { line, ms, acts })
-        }
-        other => Ok(other),
+        OpenBlock::Cue { acts, .. } => push(acts, act, CUE_ROOM),
+        _ => Ok(()),
     }
 }
 
@@ -302,7 +297,6 @@ fn with_place(inner: OpenBlock, place: DroneLine) -> Result<OpenBlock, AllocErro
 }
 
 impl Reader {
-    // Nothing yet.
     fn new(alloc: Global) -> Self
         ensures { built_of result ≡ nothing }
     {
@@ -325,7 +319,7 @@ impl Reader {
         ensures { OnOk result (built_of self.new ≡ add_block_of (built_of self.old) (built_of self.old).open_blocks (block_of block plain.Done)) }
     {
         match self.opened.pop() {
-            None => put(&mut self.body, block),
+            None => push_block(&mut self.body, block),
             Some(outer) => {
                 let outer = with_block(outer, block)?;
                 self.opened.push(outer)?;
@@ -394,13 +388,9 @@ impl Reader {
     fn add_act(&mut self, act: ActLine) -> Result<(), AllocError>
         ensures { OnOk result (built_of self.new ≡ record (built_of self.old) { open_blocks = with_act_of (built_of self.old).open_blocks act }) }
     {
-        match self.opened.pop() {
+        match self.opened.last_mut() {
+            Some(inner) => put_act(inner, act),
             None => Ok(()),
-            Some(inner) => {
-                let inner = with_act(inner, act)?;
-                self.opened.push(inner)?;
-                Ok(())
-            }
         }
     }
 
@@ -435,11 +425,11 @@ impl Reader {
         ensures { OnOk result (built_of self.new ≡ build (built_of self.old) line entry) }
     {
         match entry {
-            Entry::Memory { id, offset } => set(&mut self.memory, (id, offset)),
-            Entry::Trajectory { id } => set(&mut self.trajectory, id),
-            Entry::Ellipsoid { r, h } => set(&mut self.ellipsoid, (r, h)),
-            Entry::Stray { mm } => set(&mut self.stray, mm),
-            Entry::Late { ms } => set(&mut self.late, ms),
+            Entry::Memory { id, offset } => keep_setting(&mut self.memory, (id, offset)),
+            Entry::Trajectory { id } => keep_setting(&mut self.trajectory, id),
+            Entry::Ellipsoid { r, h } => keep_setting(&mut self.ellipsoid, (r, h)),
+            Entry::Stray { mm } => keep_setting(&mut self.stray, mm),
+            Entry::Late { ms } => keep_setting(&mut self.late, ms),
             Entry::Drone { name, at } => self.add_drone(DroneLine { line, name, at }),
             Entry::Formation { name } => self.begin(no_places(alloc, line, name)),
             Entry::At { name, at } => self.add_place(DroneLine { line, name, at }),
@@ -484,6 +474,21 @@ impl Reader {
         }
     }
 
+    // What one more line says, unless earlier lines forbid it. Beside the act lines a show has few lines: they are a call
+    // of their own, so that the room that their entries need isn't cleared at each act line.
+    #[inline(never)]
+    fn accept(&mut self, alloc: Global, line: u32, entry: Entry) -> Result<(), ShowFault>
+        ensures { Steps result (built_of self.new) (built_by (built_of self.old) line (Ok entry)) }
+    {
+        if let Some(kind) = self.fault(&entry) {
+            return Err(ShowFault::Line { line, kind });
+        }
+        match self.take(alloc, line, entry) {
+            Ok(()) => Ok(()),
+            Err(_) => Err(ShowFault::Memory),
+        }
+    }
+
     // Reads one more line, which has words, of a text in this form.
     fn line(
         &mut self,
@@ -496,17 +501,18 @@ impl Reader {
         requires { 0 < length words.now }
         ensures { Steps result (built_of self.new) (line_step form (built_of self.old) (record { number = number; words = words_in text.now words.now })) }
     {
-        let entry = match entry_of(alloc, form, place(self.opened.as_slice()), text, words) {
-            Ok(entry) => entry,
-            Err(LineError::Kind(kind)) => return Err(ShowFault::Line { line: number, kind }),
-            Err(LineError::Memory) => return Err(ShowFault::Memory),
-        };
-        if let Some(kind) = self.fault(&entry) {
-            return Err(ShowFault::Line { line: number, kind });
-        }
-        match self.take(alloc, number, entry) {
-            Ok(()) => Ok(()),
-            Err(_) => Err(ShowFault::Memory),
+        match entry_of(alloc, form, place(self.opened.as_slice()), text, words) {
+            Ok(Entry::One { name, act }) => match self.add_act(ActLine::One {
+                line: number,
+                name,
+                act,
+            }) {
+                Ok(()) => Ok(()),
+                Err(_) => Err(ShowFault::Memory),
+            },
+            Ok(entry) => self.accept(alloc, number, entry),
+            Err(LineError::Kind(kind)) => Err(ShowFault::Line { line: number, kind }),
+            Err(LineError::Memory) => Err(ShowFault::Memory),
         }
     }
 
@@ -539,10 +545,10 @@ impl Reader {
         let mut words = Vec::new(alloc);
         let mut number = first;
         let mut rest = text;
-        'lines: while let Some((line, behind)) = split_line(rest) {
+        'lines: while let Some((line, later)) = split_line(rest) {
             self.text_line(alloc, form, &mut words, line, number)?;
             number += 1;
-            rest = behind;
+            rest = later;
         }
         Ok(())
     }
@@ -631,7 +637,7 @@ fn form_of(text: &[u8], words: &[Token]) -> Option<Form>
 
 // The form that the header names, which is the first line with words, what stands after it, and the number of the line
 // there.
-fn behind_header(alloc: Global, text: &[u8]) -> Result<(Form, &[u8], u32), ShowFault>
+fn after_header(alloc: Global, text: &[u8]) -> Result<(Form, &[u8], u32), ShowFault>
     requires { length text.now ≤ most_text }
     ensures { MatchResult result
         (λ cut. (read_lines (show_lines text.now) ≡ finish_of (lines_step cut.0 nothing (numbered FromHash cut.2 (lines_of cut.1.now))))
@@ -642,11 +648,11 @@ fn behind_header(alloc: Global, text: &[u8]) -> Result<(Form, &[u8], u32), ShowF
     let mut words = Vec::new(alloc);
     let mut number: u32 = 1;
     let mut rest = text;
-    'lines: while let Some((line, behind)) = split_line(rest) {
+    'lines: while let Some((line, later)) = split_line(rest) {
         line_words(&mut words, line)?;
         if !words.is_empty() {
             return match form_of(line, words.as_slice()) {
-                Some(form) => Ok((form, behind, number + 1)),
+                Some(form) => Ok((form, later, number + 1)),
                 None => Err(ShowFault::Line {
                     line: number,
                     kind: LineKind::Header,
@@ -654,7 +660,7 @@ fn behind_header(alloc: Global, text: &[u8]) -> Result<(Form, &[u8], u32), ShowF
             };
         }
         number += 1;
-        rest = behind;
+        rest = later;
     }
     Err(ShowFault::Line {
         line: 1,
@@ -667,7 +673,7 @@ fn read_allowed(alloc: Global, text: &[u8]) -> Result<Show, ShowFault>
     requires { length text.now ≤ most_text }
     ensures { ShowGives plain_show result (read_lines (show_lines text.now)) }
 {
-    let (form, rest, number) = behind_header(alloc, text)?;
+    let (form, rest, number) = after_header(alloc, text)?;
     let mut reader = Reader::new(alloc);
     reader.lines(alloc, form, rest, number)?;
     reader.finish()

@@ -57,12 +57,12 @@ pub(crate) fn first_bad_line(text: &[u8]) -> Option<u32>
     }
     let mut number: u32 = 1;
     let mut rest = text;
-    'lines: while let Some((line, behind)) = split_line(rest) {
+    'lines: while let Some((line, later)) = split_line(rest) {
         if !are_allowed(visible(line, Comments::FromHash)) {
             return Some(number);
         }
         number += 1;
-        rest = behind;
+        rest = later;
     }
     None
 }

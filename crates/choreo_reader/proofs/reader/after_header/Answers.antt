@@ -1,6 +1,6 @@
 use Rattle.choreo_reader.proofs.Prelude.{arith}
 use Rattle.choreo_reader.proofs.OneLine.{one_piece}
-use Rattle.choreo_reader.proofs.reader.behind_header.Goals as goal
+use Rattle.choreo_reader.proofs.reader.after_header.Goals as goal
 
 pub line_words-requires-clause-within : goal.line_words-requires-clause-within
 line_words-requires-clause-within c =

@@ -1,5 +1,5 @@
 use Rattle.choreo_reader.proofs.Prelude.{◌≡◌, ◌+◌, ◌≤◌, length, FromHash, lines_of, numbered, show_lines}
-use Rattle.choreo_reader.proofs.reader.behind_header.Given as goal
+use Rattle.choreo_reader.proofs.reader.after_header.Given as goal
 
 abbrev pub invariant-lines : goal.invariant-lines
 invariant-lines l = record {
