@@ -1,5 +1,5 @@
 //! What the words of an act say. Nearly all numbers of a show are those of its acts, some ten a line. So they are read
-//! straight into their places, with no list of values between: that saves a third of the time for reading them.
+//! straight into their places, with no list of values between: that saves a sixth of the instructions for reading a show.
 
 ghost use Rattle.std.specs.Prelude.{◌≡◌, ◌+◌, ◌<◌, ◌≤◌, length};
 ghost use Rattle.text_lines.specs.Tokens.{words_in};
@@ -16,7 +16,6 @@ use text_lines::Token;
 /// How far from the origin a coordinate may be, in micrometres.
 const FAR: i64 = 100_000_000;
 
-// The coordinate that the word at a place is.
 #[inline(always)]
 fn coordinate(form: Form, text: &[u8], words: &[Token], k: usize) -> Result<i64, LineKind>
     requires { k < length words.now }
@@ -25,7 +24,6 @@ fn coordinate(form: Form, text: &[u8], words: &[Token], k: usize) -> Result<i64,
     quantity(form, Counts::Micrometres, nth(text, words, k), -FAR, FAR)
 }
 
-// The yaw that the word at a place is.
 #[inline(always)]
 fn yaw(form: Form, text: &[u8], words: &[Token], k: usize) -> Result<i64, LineKind>
     requires { k < length words.now }

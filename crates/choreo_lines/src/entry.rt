@@ -91,7 +91,6 @@ fn smooth_at(values: &[Value], k: usize) -> bool
     }
 }
 
-// The mirror at a place.
 fn mirror_at(values: &[Value], k: usize) -> Mirror
     ensures { result ≡ spec.mirror_at values.now k }
 {
@@ -101,7 +100,6 @@ fn mirror_at(values: &[Value], k: usize) -> Mirror
     }
 }
 
-// The name at a place.
 fn name_at(values: &[Value], k: usize) -> Name
     ensures { result ≡ spec.name_at values.now k }
 {
@@ -120,7 +118,6 @@ fn natural_at(values: &[Value], k: usize, most: u32) -> u32
     number_at(values, k) as u32
 }
 
-// What the values of a `memory` line denote.
 fn memory_with(values: &[Value]) -> Entry
     requires { AllFit (row_of by.Memory).places values.now }
     ensures { result ≡ spec.entry_with by.Memory values.now [] }
@@ -131,7 +128,6 @@ fn memory_with(values: &[Value]) -> Entry
     }
 }
 
-// What the values of an `ellipsoid` line denote.
 fn ellipsoid_with(values: &[Value]) -> Entry
     requires { AllFit (row_of by.Ellipsoid).places values.now }
     ensures { result ≡ spec.entry_with by.Ellipsoid values.now [] }
@@ -142,7 +138,6 @@ fn ellipsoid_with(values: &[Value]) -> Entry
     }
 }
 
-// What the values of a `drone` line denote.
 fn drone_with(values: &[Value]) -> Entry
     ensures { result ≡ spec.entry_with by.Drone values.now [] }
 {
@@ -152,7 +147,6 @@ fn drone_with(values: &[Value]) -> Entry
     }
 }
 
-// What the values of an `at` line denote.
 fn at_with(values: &[Value]) -> Entry
     ensures { result ≡ spec.entry_with by.At values.now [] }
 {
@@ -162,7 +156,6 @@ fn at_with(values: &[Value]) -> Entry
     }
 }
 
-// What the values of a `perform` line denote.
 fn perform_with(values: &[Value], names: Listed<Name>) -> Entry
     requires { AllFit (row_of by.Perform).places values.now }
     ensures { result ≡ spec.entry_with by.Perform values.now names }

@@ -39,7 +39,7 @@ FitsAct a = AllFit (act_places (act_fields a).0) (act_fields a).1
 abbrev pub FitsFrame : Frame → Type 0
 FitsFrame f = (f.turns ≤ 3) × FitsCoordinate f.dx × FitsCoordinate f.dy × FitsCoordinate f.dz
 
--- a line with a first word of its own: its values are as its row wants them, and so many names stand after them
+-- a line with a first word of its own: its values are as its row wants them, and this many names stand after them
 abbrev pub FitsLine : Entry → Type 0
 FitsLine e =
     IsTrue (has_count (row_of (keyword_in e)) (length (fields_of e))) × AllFit (row_of (keyword_in e)).places (fields_of e)

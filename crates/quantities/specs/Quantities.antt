@@ -67,7 +67,7 @@ begins_with_point (b ∷ bs) = b == 46
 abbrev pub exactly : ℕ → ℕ → Option ℕ
 exactly a b = if a % b == 0 then Some (a / b) else None
 
--- digits of which so many stand after the point, and their unit
+-- digits, how many of them stand after the point, and their unit
 abbrev pub size_by : Option ℕ → ℕ → Option Measure → Option ℕ
 size_by (Some digits) places (Some measure) = exactly (digits * measure.counted) (measure.units * 10 ^ places)
 size_by digits places measure = None

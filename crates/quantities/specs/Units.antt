@@ -3,12 +3,12 @@ use Rattle.std.specs.Prelude.{ℕ, List, Option, Some, None, bytes_eq, codes, if
 use Rattle.quantities.specs.declared.unit.Counts.{Counts}
 use Rattle.quantities.specs.declared.unit.Counts.TheVariants.{Micrometres, Millimetres, Milliseconds, TenthsOfADegree}
 
--- so many units are so many of what a place counts
+-- this many units are this many of what a place counts
 pub record Measure : Type 0 where
   pub units : ℕ
   pub counted : ℕ
 
--- one unit is so many of what a place counts
+-- one unit is this many of what a place counts
 abbrev pub one_is : ℕ → Option Measure
 one_is n = Some (record { units = 1; counted = n })
 

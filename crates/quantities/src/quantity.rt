@@ -48,7 +48,7 @@ fn extended(number: u64, digits: &[u8]) -> u64
     n
 }
 
-// The number with so many zeros after its digits.
+// The number with this many zeros after its digits.
 fn with_zeros(number: u64, places: usize) -> u64
     requires small { number ≤ LARGE }
     ensures { result ≡ capped (number * 10 ^ places) }

@@ -13,7 +13,7 @@ pub enum Counts {
     TenthsOfADegree,
 }
 
-/// Where the point of a number goes when its unit becomes what a place counts: by so many places.
+/// Where the point of a number goes when its unit becomes what a place counts: by this many places.
 #[derive(Clone, Copy)]
 pub enum Shift {
     Right(usize),
