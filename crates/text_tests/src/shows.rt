@@ -44,6 +44,54 @@ fn words_are_found(rt: HostRuntime) -> Result<(), Fail> {
     Ok(())
 }
 
+// Whether these are the words of a text: for each the number of its line, where it begins, and where it ends.
+fn has_words(
+    alloc: Global,
+    text: &[u8],
+    wanted: &[(u32, usize, usize)],
+) -> Result<bool, AllocError> {
+    if text.len() > MOST_TEXT {
+        return Ok(false);
+    }
+    let words = tokens(alloc, text).map_err(|_| AllocError)?;
+    if words.len() != wanted.len() {
+        return Ok(false);
+    }
+    for (word, (line, start, end)) in words.iter().zip(wanted.iter()) {
+        if word.line != *line || word.start != *start || word.end != *end {
+            return Ok(false);
+        }
+    }
+    Ok(true)
+}
+
+// Words are looked for among sixteen bytes at a time: a word, a line and a comment end before, at and after the sixteenth.
+#[test]
+fn words_end_on_either_side_of_sixteen_bytes(rt: HostRuntime) -> Result<(), Fail> {
+    let alloc = rt.alloc();
+    let blank_last: [(u32, usize, usize); 3] = [(1, 0, 15), (1, 16, 17), (2, 18, 19)];
+    let blank_next: [(u32, usize, usize); 3] = [(1, 0, 16), (1, 17, 18), (2, 19, 20)];
+    let feed_last: [(u32, usize, usize); 2] = [(1, 0, 15), (2, 16, 17)];
+    let feed_next: [(u32, usize, usize); 2] = [(1, 0, 16), (2, 17, 18)];
+    let hash_last: [(u32, usize, usize); 2] = [(1, 0, 15), (2, 20, 21)];
+    let hash_next: [(u32, usize, usize); 2] = [(1, 0, 16), (2, 21, 22)];
+    let marked: [(u32, usize, usize); 3] = [(1, 0, 3), (1, 4, 7), (1, 8, 19)];
+    let cases: [(&[u8], &[(u32, usize, usize)]); 8] = [
+        (b"a23456789012345 b\nc", blank_last.as_slice()),
+        (b"a234567890123456 b\nc", blank_next.as_slice()),
+        (b"a23456789012345\nc", feed_last.as_slice()),
+        (b"a234567890123456\nc", feed_next.as_slice()),
+        (b"a23456789012345#b #\nc", hash_last.as_slice()),
+        (b"a234567890123456#b #\nc", hash_next.as_slice()),
+        (b"a!b \"c\" 90123456789# \n#\n", marked.as_slice()),
+        (b"                #a\n \t\n", &[]),
+    ];
+    for (text, wanted) in cases {
+        assert!(rt; has_words(alloc, text, wanted)?);
+    }
+    Ok(())
+}
+
 // Whether a drone's line, or a place, is this one.
 fn is_at(it: &DroneLine, line: u32, name: &[u8], at: [i64; 4]) -> bool {
     let p = it.at;
