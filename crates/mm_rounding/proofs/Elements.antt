@@ -1,5 +1,5 @@
 -- An element is the curve of its control values.
-use Rattle.mm_rounding.proofs.Prelude.{get_or, ◌≡◌, ℕ, zero, suc, ◌<◌, ◌≤◌, Bool, true, false, cond, ◌&&◌, Some, None, if◌then◌else◌, nat_le, ℤ, pos, List, [], ◌∷◌, map, length, arith, refl, sym, ap, ◌∙◌, subst, list_all, All, by_lt, at, IsNear, Constant, Linear, Cubic, Seven, millimetres, is_short, short, shorts, controls, first_control, rounded, all_equal, behind_first, element_of, fits, fitted, axis_on, segment_of, IsAxis, position, KeepsNear, KeepsEqual, last_control, EndsThere, IsPiece, StaysNear}
+use Rattle.mm_rounding.proofs.Prelude.{get_or, ◌≡◌, ℕ, zero, suc, ◌<◌, ◌≤◌, Bool, true, false, cond, ◌&&◌, Some, None, if◌then◌else◌, nat_le, ℤ, pos, List, [], ◌∷◌, map, length, arith, refl, sym, ap, ◌∙◌, subst, list_all, All, by_lt, at, IsNear, Constant, Linear, Cubic, Seven, millimetres, is_short, short, shorts, controls, first_control, rounded, all_equal, after_first, element_of, fits, fitted, axis_on, segment_of, IsAxis, position, KeepsNear, KeepsEqual, last_control, EndsThere, IsPiece, StaysNear}
 use Rattle.std.specs.Ordering.{int_eq}
 use Rattle.std.proofs.lemmas.Bool.Decides.{Decides-int_eq, nat_tests}
 use Rattle.std.proofs.lemmas.List.Elements.{All-get_or}
@@ -39,7 +39,7 @@ pub equal_numbers : (v : List ℤ) → all_equal v ≡ true → (k : ℕ) → k 
 equal_numbers v e = each_is (at v 0) v e
 
 -- the first control value and those after it
-behind : (v : List ℤ) → 1 ≤ length v → at v 0 ∷ behind_first v ≡ v
+behind : (v : List ℤ) → 1 ≤ length v → at v 0 ∷ after_first v ≡ v
 behind [] some = absurd (omega arith)
 behind (z ∷ v) some = refl
 
@@ -59,8 +59,8 @@ by_test v false e a c some few is whole = ap (λ (points : List ℤ). position p
 pub keeps_equal : (axis : Axis) → IsAxis axis → KeepsEqual axis (element_of axis)
 keeps_equal (One v) is a c some within = refl
 keeps_equal (Two v) is a c some within = by_test v (all_equal v) (Linear (at v 1)) a c (omega arith) (omega arith) refl (two v is)
-keeps_equal (Four v) is a c some within = by_test v (all_equal v) (Cubic (behind_first v)) a c (omega arith) (omega arith) refl (behind v (omega arith))
-keeps_equal (Eight v) is a c some within = by_test v (all_equal v) (Seven (behind_first v)) a c (omega arith) (omega arith) refl (behind v (omega arith))
+keeps_equal (Four v) is a c some within = by_test v (all_equal v) (Cubic (after_first v)) a c (omega arith) (omega arith) refl (behind v (omega arith))
+keeps_equal (Eight v) is a c some within = by_test v (all_equal v) (Seven (after_first v)) a c (omega arith) (omega arith) refl (behind v (omega arith))
 
 length-mapped : (v : List ℤ) → length (map millimetres v) ≡ length v
 length-mapped [] = refl
@@ -87,7 +87,7 @@ keeps_near axis is a c some within =
 -- ---- as the code writes them
 
 -- numbers two to eight of eight are those after the first one
-pub seven_behind : (v : List ℤ) → length v ≡ 8 → at v 1 ∷ at v 2 ∷ at v 3 ∷ at v 4 ∷ at v 5 ∷ at v 6 ∷ at v 7 ∷ [] ≡ behind_first v
+pub seven_behind : (v : List ℤ) → length v ≡ 8 → at v 1 ∷ at v 2 ∷ at v 3 ∷ at v 4 ∷ at v 5 ∷ at v 6 ∷ at v 7 ∷ [] ≡ after_first v
 seven_behind [] many = absurd (omega arith)
 seven_behind (x ∷ v) many = seven_are v (omega arith)
   where
@@ -167,16 +167,16 @@ ends_equal x first (z ∷ v) is equal =
     let here : z ≡ x = equal 0 (omega arith) in
     is ∙ sym here ∙ ends_equal x z v here (λ k small. equal (suc k) (omega arith))
 
-constant_ends : (v : List ℤ) → 1 ≤ length v → all_equal v ≡ true → at v 0 ≡ last_value (at v 0) (behind_first v)
+constant_ends : (v : List ℤ) → 1 ≤ length v → all_equal v ≡ true → at v 0 ≡ last_value (at v 0) (after_first v)
 constant_ends [] some e = absurd (omega arith)
 constant_ends (z ∷ v) some e = ends_equal z z v refl (λ k small. equal_numbers (z ∷ v) e (suc k) (omega arith))
 
-ends_by_test : (v : List ℤ) (b : Bool) (e : Element) → 1 ≤ length v → all_equal v ≡ b → stored e ≡ behind_first v →
-    value_after (at v 0) (cond b Constant e) ≡ last_value (at v 0) (behind_first v)
+ends_by_test : (v : List ℤ) (b : Bool) (e : Element) → 1 ≤ length v → all_equal v ≡ b → stored e ≡ after_first v →
+    value_after (at v 0) (cond b Constant e) ≡ last_value (at v 0) (after_first v)
 ends_by_test v true e some is whole = constant_ends v some is
 ends_by_test v false e some is whole = ap (last_value (at v 0)) whole
 
-two_behind : (v : List ℤ) → length v ≡ 2 → at v 1 ∷ [] ≡ behind_first v
+two_behind : (v : List ℤ) → length v ≡ 2 → at v 1 ∷ [] ≡ after_first v
 two_behind [] many = absurd (omega arith)
 two_behind (x ∷ []) many = absurd (omega arith)
 two_behind (x ∷ y ∷ []) many = refl
@@ -186,8 +186,8 @@ two_behind (x ∷ y ∷ z ∷ v) many = absurd (omega arith)
 pub ends_there : (axis : Axis) → IsAxis axis → EndsThere axis (element_of axis)
 ends_there (One v) is = refl
 ends_there (Two v) is = ends_by_test v (all_equal v) (Linear (at v 1)) (omega arith) refl (two_behind v is)
-ends_there (Four v) is = ends_by_test v (all_equal v) (Cubic (behind_first v)) (omega arith) refl refl
-ends_there (Eight v) is = ends_by_test v (all_equal v) (Seven (behind_first v)) (omega arith) refl refl
+ends_there (Four v) is = ends_by_test v (all_equal v) (Cubic (after_first v)) (omega arith) refl refl
+ends_there (Eight v) is = ends_by_test v (all_equal v) (Seven (after_first v)) (omega arith) refl refl
 
 -- ---- edges
 
@@ -196,7 +196,7 @@ last-map first [] = refl
 last-map first (z ∷ v) = last-map z v
 
 edges_of : (v : List ℤ) → 1 ≤ length v →
-    (at (map millimetres v) 0 ≡ millimetres (at v 0)) × (last_value (at (map millimetres v) 0) (behind_first (map millimetres v)) ≡ millimetres (last_value (at v 0) (behind_first v)))
+    (at (map millimetres v) 0 ≡ millimetres (at v 0)) × (last_value (at (map millimetres v) 0) (after_first (map millimetres v)) ≡ millimetres (last_value (at v 0) (after_first v)))
 edges_of [] some = absurd (omega arith)
 edges_of (z ∷ v) some = (refl, last-map z v)
 

@@ -8,4 +8,4 @@ pub use Rattle.fleet_math.specs.Near.{IsNear}
 pub use Rattle.traj_codec.specs.declared.traj.Element.TheVariants.{Constant, Cubic, Linear, Seven}
 pub use mir.Syntax.{w16, w64}
 pub use Rattle.mm_rounding.specs.Near.{EndsThere, IsAxis, IsPiece, KeepsEqual, KeepsNear, StaysNear, last_control, position}
-pub use Rattle.mm_rounding.specs.Rounding.{all_equal, axis_on, behind_first, controls, element_of, first_control, fits, fitted, is_short, millimetres, rounded, segment_of, short, shorts}
+pub use Rattle.mm_rounding.specs.Rounding.{all_equal, axis_on, after_first, controls, element_of, first_control, fits, fitted, is_short, millimetres, rounded, segment_of, short, shorts}

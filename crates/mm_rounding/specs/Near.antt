@@ -12,7 +12,7 @@ use Rattle.traj_codec.specs.Positions.{element_on, value_after}
 use Rattle.mm_rounding.specs.declared.piece.Axis.{Axis}
 use Rattle.mm_rounding.specs.declared.piece.Axis.TheVariants.{One, Two, Four, Eight}
 use Rattle.mm_rounding.specs.declared.piece.MicroPiece.{MicroPiece}
-use Rattle.mm_rounding.specs.Rounding.{controls, first_control, rounded, behind_first, axis_on}
+use Rattle.mm_rounding.specs.Rounding.{controls, first_control, rounded, after_first, axis_on}
 
 -- An axis has as many control values as its name says. Each value of the type `Axis` is so.
 abbrev pub IsAxis : Axis → Type 0
@@ -46,7 +46,7 @@ KeepsEqual axis e = AtEachFraction (λ a c. position (first_control axis ∷ sto
 
 -- the last control value of an axis
 abbrev pub last_control : Axis → ℤ
-last_control axis = last_value (first_control axis) (behind_first (controls axis))
+last_control axis = last_value (first_control axis) (after_first (controls axis))
 
 -- the element, which begins at the first control value, ends at the last one
 abbrev pub EndsThere : Axis → Element → Type 0

@@ -54,17 +54,17 @@ abbrev pub all_equal : List ℤ → Bool
 all_equal zs = list_all (λ z. int_eq z (at zs 0)) zs
 
 -- the numbers without the first one
-abbrev pub behind_first : List ℤ → List ℤ
-behind_first [] = []
-behind_first (z ∷ zs) = zs
+abbrev pub after_first : List ℤ → List ℤ
+after_first [] = []
+after_first (z ∷ zs) = zs
 
 -- The element with these control values, of which the first isn't stored: it is constant exactly where all of them are
 -- equal, else it has the degree of its axis.
 abbrev pub element_of : Axis → Element
 element_of (One v) = Constant
 element_of (Two v) = if all_equal v then Constant else Linear (at v 1)
-element_of (Four v) = if all_equal v then Constant else Cubic (behind_first v)
-element_of (Eight v) = if all_equal v then Constant else Seven (behind_first v)
+element_of (Four v) = if all_equal v then Constant else Cubic (after_first v)
+element_of (Eight v) = if all_equal v then Constant else Seven (after_first v)
 
 -- whether an element can hold each control value
 abbrev pub fits : Axis → Bool

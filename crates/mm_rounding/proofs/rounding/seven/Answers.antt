@@ -1,4 +1,4 @@
-use Rattle.mm_rounding.proofs.Prelude.{rules, sym, ap, ◌∙◌, FitsSigned, to_z-of_z, w16, at, Seven, all_equal, behind_first}
+use Rattle.mm_rounding.proofs.Prelude.{rules, sym, ap, ◌∙◌, FitsSigned, to_z-of_z, w16, at, Seven, all_equal, after_first}
 use Rattle.mm_rounding.proofs.Elements.{seven_behind, unequal}
 use Rattle.mm_rounding.proofs.rounding.seven.Goals as goal
 
@@ -13,4 +13,4 @@ returns-else-are_equal c =
     let f7 : FitsSigned w16 (at c.args.v.now 7) = search rules in
     simp to_z-of_z
     (ap Seven (seven_behind c.args.v.now c.told-v)
-    ∙ unequal (all_equal c.args.v.now) (Seven (behind_first c.args.v.now)) (sym c.are_equal.ensures ∙ c.if-are_equal.false))
+    ∙ unequal (all_equal c.args.v.now) (Seven (after_first c.args.v.now)) (sym c.are_equal.ensures ∙ c.if-are_equal.false))
