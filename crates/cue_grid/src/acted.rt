@@ -72,14 +72,12 @@ pub fn put_acted(acted: &mut Acted, show: &Lookup, line: &ActLine) -> Result<(),
     Ok(())
 }
 
-// Whether a number has a mark.
 fn has_one_mark(marks: &[bool], number: usize) -> bool
     ensures { result ≡ get_or marks.now number false }
 {
     number < marks.len() && marks[number]
 }
 
-// Whether one of the numbers has a mark.
 fn has_some_mark(marks: &[bool], numbers: &[usize]) -> bool
     ensures { result ≡ has_mark marks.now numbers.now }
 {
@@ -91,7 +89,6 @@ fn has_some_mark(marks: &[bool], numbers: &[usize]) -> bool
     false
 }
 
-// Marks a number.
 fn mark(marks: &mut Vec<bool>, number: usize)
     ensures { marks.new.items ≡ set marks.old.items number true }
 {
@@ -100,7 +97,6 @@ fn mark(marks: &mut Vec<bool>, number: usize)
     }
 }
 
-// Marks each of the numbers.
 fn mark_each(marks: &mut Vec<bool>, numbers: &[usize])
     ensures { marks.new.items ≡ marked marks.old.items numbers.now }
 {

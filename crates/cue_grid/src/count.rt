@@ -90,7 +90,7 @@ fn capped(count: usize) -> usize
     count.min(MOST_CUES + 1)
 }
 
-// So many times a number of cues, or one above the limit where that is more.
+// A number of cues that comes this many times, or one above the limit where that is more.
 fn times_over(times: u32, count: usize) -> usize
     requires { count ≤ most_cues + 1 }
     ensures { result ≡ min (most_cues + 1) (times * count) }
@@ -99,7 +99,6 @@ fn times_over(times: u32, count: usize) -> usize
     all.min(MOST_CUES as u64 + 1) as usize
 }
 
-// The line of a block.
 fn line_of(block: &Block) -> u32
     ensures { result ≡ line_in (block_of block.now plain.Done) }
 {

@@ -43,7 +43,6 @@ pub fn cues_of(alloc: Global, show: &Lookup) -> Result<Vec<Cue>, AllocError>
     Ok(cues)
 }
 
-// Appends the cues of a block of the show.
 fn put_block(
     alloc: Global,
     show: &Lookup,
@@ -89,7 +88,6 @@ fn put_block(
     }
 }
 
-// Appends the cues of a figure.
 fn put_figure(
     alloc: Global,
     show: &Lookup,
@@ -107,8 +105,7 @@ fn put_figure(
     Ok(())
 }
 
-// Appends the cues of a block of a figure. It is `put_block` without performs, which no figure has:
-// the recursion goes down the block alone.
+// It is `put_block` without performs, which no figure has: the recursion goes down the block alone.
 fn put_figure_block(
     alloc: Global,
     show: &Lookup,
@@ -155,7 +152,7 @@ fn cue(
         frame: cast.frame,
         act: Act::Hold,
     };
-    let mut jobs = filled(alloc, show.show.drones.as_slice(), hold)?;
+    let mut jobs = same_job_each(alloc, show.show.drones.as_slice(), hold)?;
     for k in (0..acts.len()).rev() {
         put_line(show, cast, k, &acts[k], &mut jobs);
     }
@@ -165,8 +162,7 @@ fn cue(
     })
 }
 
-// This job for each of these drones.
-fn filled(alloc: Global, drones: &[DroneLine], job: Job) -> Result<Vec<Job>, AllocError>
+fn same_job_each(alloc: Global, drones: &[DroneLine], job: Job) -> Result<Vec<Job>, AllocError>
     ensures { IfOk result (λ jobs. jobs.items ≡ map (λ d. job) drones.now) }
 {
     let mut jobs = Vec::with_capacity(alloc, drones.len())?;
@@ -191,7 +187,7 @@ fn put_line(show: &Lookup, cast: &Cast, from: usize, line: &ActLine, jobs: &mut 
                 frame: cast.frame,
                 act: *act,
             };
-            put_one(
+            put_job(
                 drones,
                 from,
                 player(cast.roles, cast.drones, name),
@@ -217,8 +213,8 @@ fn put_line(show: &Lookup, cast: &Cast, from: usize, line: &ActLine, jobs: &mut 
     }
 }
 
-// Puts a job into the place of the drone of this name, if there is one.
-fn put_one(drones: &[DroneLine], from: usize, name: &Name, job: Job, jobs: &mut Vec<Job>)
+// A name that no drone has is left out.
+fn put_job(drones: &[DroneLine], from: usize, name: &Name, job: Job, jobs: &mut Vec<Job>)
     requires { has_double (names_of drones.now) ≡ false }
     ensures { jobs.new.items
         ≡ put_acts (λ n. act_if (same_name_of n name.now) job.act) job.line job.frame drones.now
@@ -226,7 +222,7 @@ fn put_one(drones: &[DroneLine], from: usize, name: &Name, job: Job, jobs: &mut 
 {
     match drone_at(drones, from, name) {
         None => {}
-        Some(k) => put(jobs, k, job),
+        Some(k) => set_job(jobs, k, job),
     }
 }
 
@@ -238,7 +234,7 @@ fn put_ways(drones: &[DroneLine], places: &[DroneLine], smooth: bool, job: Job, 
 {
     for (k, drone) in drones.iter().enumerate() {
         if let Some(at) = place_in(places, &drone.name) {
-            put(
+            set_job(
                 jobs,
                 k,
                 Job {
@@ -266,8 +262,7 @@ fn drone_at(drones: &[DroneLine], from: usize, name: &Name) -> Option<usize>
     None
 }
 
-// Puts a job into a place.
-fn put(jobs: &mut Vec<Job>, k: usize, job: Job)
+fn set_job(jobs: &mut Vec<Job>, k: usize, job: Job)
     ensures { jobs.new.items ≡ set jobs.old.items k job }
 {
     if k < jobs.len() {
@@ -287,7 +282,7 @@ fn player<'a>(roles: &[Name], drones: &'a [Name], name: &'a Name) -> &'a Name
     name
 }
 
-// The place of a drone in a formation.
+// The first place counts.
 fn place_in(places: &[DroneLine], drone: &Name) -> Option<Point>
     ensures { result ≡ place_named places.now drone.now }
 {
@@ -299,7 +294,6 @@ fn place_in(places: &[DroneLine], drone: &Name) -> Option<Point>
     None
 }
 
-// The way of a `form` line to a place.
 fn way(smooth: bool, to: Point) -> Act
     ensures { result ≡ way_to smooth to }
 {

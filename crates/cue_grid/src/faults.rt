@@ -43,7 +43,6 @@ pub fn name_fault(alloc: Global, show: &Lookup) -> Result<Option<GridFault>, All
     ))
 }
 
-// Appends the names of these drones.
 fn put_names(names: &mut Vec<Name>, drones: &[DroneLine]) -> Result<(), AllocError>
     ensures { OnOk result (names.new.items ≡ names.old.items ++ names_of drones.now) }
 {
@@ -53,7 +52,6 @@ fn put_names(names: &mut Vec<Name>, drones: &[DroneLine]) -> Result<(), AllocErr
     Ok(())
 }
 
-// The first fault of the lines of the drones.
 fn drone_fault(drones: &[DroneLine]) -> Option<GridFault>
     ensures { result ≡ first_of (drone_faults [] drones.now) }
 {
@@ -94,7 +92,6 @@ fn one_formation_fault(show: &Lookup, earlier: usize, formation: &Formation) -> 
     place_fault(show.show.drones.as_slice(), formation.places.as_slice())
 }
 
-// The first fault of the formations.
 fn formation_fault(show: &Lookup) -> Option<GridFault>
     ensures { result
         ≡ first_of (formation_faults (names_of (shown show.now).drones) [] (shown show.now).formations) }
@@ -201,7 +198,6 @@ fn one_fault(show: &Lookup, known: bool, acted: &Acted, line: u32, name: &Name) 
     }
 }
 
-// The fault of a `form` line.
 fn form_fault(show: &Lookup, acted: &Acted, line: u32, formation: &Name) -> Option<GridFault>
     ensures { (names : List NameOf)
         → HaveActs (place_names show.now) acted.now names
@@ -220,7 +216,6 @@ fn form_fault(show: &Lookup, acted: &Acted, line: u32, formation: &Name) -> Opti
     }
 }
 
-// The fault of a perform.
 fn perform_fault(show: &Lookup, line: u32, figure: &Name, named: &[Name]) -> Option<GridFault>
     ensures { result
         ≡ first_of (perform_faults (names_of (shown show.now).drones) line
@@ -242,7 +237,6 @@ fn perform_fault(show: &Lookup, line: u32, figure: &Name, named: &[Name]) -> Opt
     }
 }
 
-// The first fault of a block.
 fn block_fault(
     alloc: Global,
     show: &Lookup,
@@ -273,7 +267,6 @@ fn block_fault(
     }
 }
 
-// The first fault of a body.
 fn body_fault(
     alloc: Global,
     show: &Lookup,
@@ -316,7 +309,6 @@ fn one_figure_fault(
     )
 }
 
-// The first fault of the figures.
 fn figure_fault(alloc: Global, show: &Lookup) -> Result<Option<GridFault>, AllocError>
     ensures { IfOk result (λ fault. fault
         ≡ first_of (figure_faults (shown show.now) [] (shown show.now).figures)) }
@@ -330,7 +322,6 @@ fn figure_fault(alloc: Global, show: &Lookup) -> Result<Option<GridFault>, Alloc
     Ok(None)
 }
 
-// The line that a fault names.
 fn line_of(fault: GridFault) -> u32
     ensures { result ≡ line_of_fault fault }
 {

@@ -65,7 +65,6 @@ fn mirror_step(mirror: Mirror, p: Point) -> Point
     }
 }
 
-// One quarter turn.
 fn one_turn(p: Point) -> Point
     requires { IsPointUpTo (2 ^ 44) p }
     ensures { result ≡ turned_once p }
@@ -78,7 +77,6 @@ fn one_turn(p: Point) -> Point
     }
 }
 
-// So many quarter turns.
 fn turn_step(turns: u8, p: Point) -> Point
     requires few { turns ≤ 3 }
     requires small { IsPointUpTo (2 ^ 41) p }
@@ -93,8 +91,7 @@ fn turn_step(turns: u8, p: Point) -> Point
     }
 }
 
-// One number of a shift.
-fn moved(v: i64, by: i64) -> i64
+fn shifted_number(v: i64, by: i64) -> i64
     requires number { IsUpTo (2 ^ 42) v }
     requires shift { IsUpTo (2 ^ 40) by }
     ensures { result ≡ v +ℤ by }
@@ -102,16 +99,15 @@ fn moved(v: i64, by: i64) -> i64
     v + by
 }
 
-// The shift.
 fn shift_step(f: &Frame, p: Point) -> Point
     requires frame { IsShiftUpTo (2 ^ 40) f.now }
     requires small { IsPointUpTo (2 ^ 42) p }
     ensures { result ≡ shifted f.now p }
 {
     Point {
-        x: moved(p.x, f.dx),
-        y: moved(p.y, f.dy),
-        z: moved(p.z, f.dz),
+        x: shifted_number(p.x, f.dx),
+        y: shifted_number(p.y, f.dy),
+        z: shifted_number(p.z, f.dz),
         yaw: p.yaw,
     }
 }

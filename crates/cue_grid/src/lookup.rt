@@ -13,8 +13,12 @@ use std::alloc::{AllocError, AllocFailed, Global};
 
 type Numbers = IndexMap<Name, usize>;
 
-// Gives a name this number, if it has none.
-fn note(numbers: &mut Numbers, name: &Name, number: usize) -> Result<(), AllocFailed<(Name, usize)>>
+// A name that has a number keeps it.
+fn number_name(
+    numbers: &mut Numbers,
+    name: &Name,
+    number: usize,
+) -> Result<(), AllocFailed<(Name, usize)>>
     ensures { OnOk result (IsNoted numbers.old.entries numbers.new.entries name.now number) }
 {
     if numbers.contains_key(name) {
@@ -33,7 +37,7 @@ fn formation_numbers(
 {
     let mut numbers = IndexMap::new(alloc);
     for (i, formation) in formations.iter().enumerate() {
-        note(&mut numbers, &formation.name, i)?;
+        number_name(&mut numbers, &formation.name, i)?;
     }
     Ok(numbers)
 }
@@ -44,7 +48,7 @@ fn figure_numbers(alloc: Global, figures: &[Figure]) -> Result<Numbers, AllocFai
 {
     let mut numbers = IndexMap::new(alloc);
     for (i, figure) in figures.iter().enumerate() {
-        note(&mut numbers, &figure.name, i)?;
+        number_name(&mut numbers, &figure.name, i)?;
     }
     Ok(numbers)
 }
@@ -58,7 +62,6 @@ fn number_of(names: &mut IndexSet<Name>, name: &Name) -> Result<usize, AllocErro
     Ok(number)
 }
 
-// The numbers of the names of places.
 fn numbers_of(
     alloc: Global,
     names: &mut IndexSet<Name>,
@@ -76,7 +79,6 @@ fn numbers_of(
     Ok(numbers)
 }
 
-// The numbers of the names of the places of each formation.
 fn place_numbers(
     alloc: Global,
     names: &mut IndexSet<Name>,

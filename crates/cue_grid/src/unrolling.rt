@@ -75,7 +75,6 @@ fn cue_count_fault(show: &Lookup) -> Option<GridFault>
     }
 }
 
-// The first fault of a show.
 #[tactic(auto, using(crate::proofs::Earliest::earliest_name))]
 fn first_fault(alloc: Global, show: &Lookup) -> Result<Option<GridFault>, AllocError>
     requires { IsValid (shown show.now) }
@@ -90,7 +89,6 @@ fn first_fault(alloc: Global, show: &Lookup) -> Result<Option<GridFault>, AllocE
     Ok(cue_count_fault(show))
 }
 
-// Lines of drones, once more.
 fn copies_of(alloc: Global, drones: &[DroneLine]) -> Result<Vec<DroneLine>, AllocError>
     ensures { IfOk result (λ copies. copies.items ≡ drones.now) }
 {
