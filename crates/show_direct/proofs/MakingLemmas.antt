@@ -102,7 +102,7 @@ some_trajs f valid = omega (arith, valid.some_drone, valid.trajs_counted)
 
 -- a fitted show says how long its trajectories last
 pub fitted_lasts : (f : Fitted) → IsValidFitted f → lasts f.trajs ≡ f.duration
-fitted_lasts f valid = lasts_as valid.times f.trajs (some_trajs f valid) valid.lasting ∙ valid.duration
+fitted_lasts f valid = lasts_as valid.times f.trajs (some_trajs f valid) valid.same_times ∙ valid.duration
 
 abbrev routes_from : List Traj → List Traj → List Traj → ℕ → ℕ → ℕ → Routes
 routes_from up show down stray near at_place = record { up = up; show = show; down = down; stray = stray; near = near; at_place = at_place }
@@ -177,9 +177,9 @@ pub is_held : JoinLaw → (o : Options) (floor : ℤ) (silence : ℕ) (f : Fitte
     IsHeld (made_of o floor silence steps f.sent f.duration f.settings)
 is_held law o floor silence f steps valid up sizes =
     let few : length f.trajs ≤ 32 = omega (arith, valid.few_drones, valid.trajs_counted) in
-    let total = total_short valid.times f.trajs (some_trajs f valid) valid.lasting valid.formed (omega (arith, valid.times_counted, valid.few_cues)) in
+    let total = total_short valid.times f.trajs (some_trajs f valid) valid.same_times valid.formed (omega (arith, valid.times_counted, valid.few_cues)) in
     let lasting : All (λ (t : Traj). duration_of t ≡ f.duration) f.sent =
-    subst (All (λ (t : Traj). duration_of t ≡ f.duration)) (sym valid.sent) (sent_lasts law valid.times f.duration valid.duration f.trajs valid.lasting) in
+    subst (All (λ (t : Traj). duration_of t ≡ f.duration)) (sym valid.sent) (sent_lasts law valid.times f.duration valid.duration f.trajs valid.same_times) in
     record {
       few = up.few;
       short = omega (arith, total, valid.duration);

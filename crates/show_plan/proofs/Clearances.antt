@@ -1,11 +1,7 @@
 -- The clearance of a show that fits.
-use Rattle.show_plan.proofs.Prelude.{common_steps, ◌≡◌, ℕ, ◌≤◌, arith, sym, ap, subst, ◌∙◌, List, [], ◌∷◌, length, All, All-nil, All-cons, All-head, All-tail, Segment, Traj, HasDuration, IsTrajectory, durations, Clearance, KeepReach, IsClearance, IsMoving, ReachLaw, reach_of, Settings, FitsSettings, Fitted, IsValidFitted, clearance_of, reach_depth}
+use Rattle.show_plan.proofs.Prelude.{common_steps, ◌≡◌, ℕ, ◌≤◌, arith, sym, ap, subst, ◌∙◌, List, [], ◌∷◌, length, All, All-nil, All-cons, All-head, All-tail, Traj, IsTrajectory, durations, durations_of, Clearance, KeepReach, IsClearance, IsMoving, ReachLaw, reach_of, Settings, FitsSettings, Fitted, IsValidFitted, clearance_of, reach_depth}
 use Rattle.fleet_curves.proofs.Standing.{length-durations}
 use Rattle.speed_bound.proofs.Reaches.{reach_few}
-
-lasting : (segments : List Segment) → All (λ ms. 1 ≤ ms) (durations segments) → All HasDuration segments
-lasting [] all = All-nil HasDuration
-lasting (s ∷ rest) all = All-cons HasDuration s rest (All-head (λ (ms : ℕ). 1 ≤ ms) s.ms (durations rest) all) (lasting rest (All-tail (λ (ms : ℕ). 1 ≤ ms) s.ms (durations rest) all))
 
 all_moving : (times : List ℕ) → 1 ≤ length times → All (λ ms. 1 ≤ ms) times → (ts : List Traj) → All (λ (t : Traj). durations t.segments ≡ times) ts → All IsTrajectory ts → All IsMoving ts
 all_moving times some last [] same formed = All-nil IsMoving
@@ -15,12 +11,12 @@ all_moving times some last (t ∷ ts) same formed =
     (record {
       formed = All-head IsTrajectory t ts formed;
       some = omega (arith, some, ap (λ (ns : List ℕ). length ns) is, length-durations t.segments);
-      durations = lasting t.segments (subst (λ (ns : List ℕ). All (λ ms. 1 ≤ ms) ns) (sym is) last);
+      durations = durations_of t (subst (λ (ns : List ℕ). All (λ ms. 1 ≤ ms) ns) (sym is) last);
     })
     (all_moving times some last ts (All-tail (λ (t : Traj). durations t.segments ≡ times) t ts same) (All-tail IsTrajectory t ts formed))
 
 pub moving : (f : Fitted) → IsValidFitted f → All IsMoving f.trajs
-moving f valid = all_moving valid.times (omega (arith, valid.times_counted, valid.some_cue)) valid.last f.trajs valid.lasting valid.formed
+moving f valid = all_moving valid.times (omega (arith, valid.times_counted, valid.some_cue)) valid.last f.trajs valid.same_times valid.formed
 
 pub is_clearance : (e : Settings) (trajs : List Traj) → FitsSettings e → IsClearance (clearance_of e trajs)
 unfolding clearance_of

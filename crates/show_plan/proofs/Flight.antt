@@ -14,8 +14,9 @@ use Rattle.traj_codec.specs.declared.traj.Element.{Element}
 use Rattle.traj_codec.proofs.PositionLemmas.{decoded-points}
 use Rattle.mm_rounding.specs.declared.piece.Axis.{Axis}
 use Rattle.mm_rounding.specs.declared.piece.Axis.TheVariants.{One}
-use Rattle.mm_rounding.specs.Near.{IsAxis, position, last_control}
+use Rattle.mm_rounding.specs.Near.{IsAxis, KeepsNear, StaysNear, position, last_control}
 use Rattle.mm_rounding.proofs.Elements.{rounded_is_axis, rounded_edges, ends_there, stays_near}
+use Rattle.show_plan.specs.Flight.{AtEachInstant}
 use Rattle.figure_expand.proofs.Pieces.{row_is, piece_begins, piece_ends, piece_whole, flies_as_written}
 
 -- ---- the ends of axes
@@ -145,10 +146,14 @@ flight_at_is g d drone =
     let e : 0 + d ≡ d = omega arith in
     flight_is 0 g.starts g.cues d _ drone ∙ ap (λ (n : ℕ). trajectory_of (start_of g d) (pieces_from (start_of g d) n g.cues)) e
 
+-- this piece, by the point before it, the time of the cue and the job
+abbrev cue_piece : Grid → ℕ → ℕ → MicroPiece
+cue_piece g d k = piece_of (point_before g d k) (get_or (cue_times g) k 0) (job_at g d k)
+
 -- the decoded position of a drone within a cue, by its piece
 decoded_is : (g : Grid) (d axis : ℕ) (m : Moment) → m.cue < length g.cues → axis < 4 →
     decoded (flight g d) axis m
-    ≡ position (at (start_at (point_before g d m.cue)) axis ∷ stored (element_on (segment_of (piece_of (point_before g d m.cue) (get_or (cue_times g) m.cue 0) (job_at g d m.cue))) axis)) m.a m.c
+    ≡ position (at (start_at (point_before g d m.cue)) axis ∷ stored (element_on (segment_of (cue_piece g d m.cue)) axis)) m.a m.c
 decoded_is g d axis m cue small =
     let p : Point = start_of g d in
     let other : MicroPiece = record { ms = 0; axes = [] } in
@@ -159,7 +164,7 @@ decoded_is g d axis m cue small =
 
 -- the written position of a drone within a cue, by its piece
 written_is : (g : Grid) (d axis : ℕ) (m : Moment) → d < length g.starts → IsInside (length g.cues) m → axis < 4 →
-    position (controls (axis_on (piece_of (point_before g d m.cue) (get_or (cue_times g) m.cue 0) (job_at g d m.cue)) axis)) m.a m.c ≡ written_at g d m.cue axis m.a m.c
+    position (controls (axis_on (cue_piece g d m.cue) axis)) m.a m.c ≡ written_at g d m.cue axis m.a m.c
 written_is g d axis m drone inside small =
     ap (λ (piece : MicroPiece). position (controls (axis_on piece axis)) m.a m.c) (sym (piece_at_is g d m.cue drone inside.cue))
     ∙ flies_as_written g d m.cue axis drone inside.cue small m.a m.c inside.some inside.within
@@ -174,33 +179,18 @@ by_piece axis e first w d a c is near begins written decoded = grind (arith, com
 abbrev NearAt : Grid → ℕ → ℕ → Moment → Type 0
 NearAt g d axis m = IsNear (written_at g d m.cue axis m.a m.c) (decoded (flight g d) axis m) m.c
 
--- within a cue the drone flies near on x, y and z
-near_x : (g : Grid) (d : ℕ) (m : Moment) → d < length g.starts → IsInside (length g.cues) m → NearAt g d 0 m
-near_x g d m drone inside =
+-- within a cue the drone flies near on x, y or z, as its piece does
+near_on : (g : Grid) (d axis : ℕ) (m : Moment) → d < length g.starts → IsInside (length g.cues) m → axis < 4 →
+    at (start_at (point_before g d m.cue)) axis ≡ millimetres (on_axis (point_before g d m.cue) axis) →
+    KeepsNear (axis_on (cue_piece g d m.cue) axis) (element_on (segment_of (cue_piece g d m.cue)) axis) → NearAt g d axis m
+near_on g d axis m drone inside small starts keeps =
     let p : Point = point_before g d m.cue in
     let j : Job = job_at g d m.cue in
     let ms : ℕ = get_or (cue_times g) m.cue 0 in
-    by_piece (axis_on (piece_of p ms j) 0) (element_on (segment_of (piece_of p ms j)) 0) (on_axis p 0) (written_at g d m.cue 0 m.a m.c) (decoded (flight g d) 0 m) m.a m.c (axis_is p ms j 0 (omega arith))
-    ((stays_near (piece_of p ms j) (piece_whole p ms j)).x m.a m.c inside.some inside.within)
-    (piece_begins p ms j 0 (omega arith)) (written_is g d 0 m drone inside (omega arith)) (decoded_is g d 0 m inside.cue (omega arith))
-
-near_y : (g : Grid) (d : ℕ) (m : Moment) → d < length g.starts → IsInside (length g.cues) m → NearAt g d 1 m
-near_y g d m drone inside =
-    let p : Point = point_before g d m.cue in
-    let j : Job = job_at g d m.cue in
-    let ms : ℕ = get_or (cue_times g) m.cue 0 in
-    by_piece (axis_on (piece_of p ms j) 1) (element_on (segment_of (piece_of p ms j)) 1) (on_axis p 1) (written_at g d m.cue 1 m.a m.c) (decoded (flight g d) 1 m) m.a m.c (axis_is p ms j 1 (omega arith))
-    ((stays_near (piece_of p ms j) (piece_whole p ms j)).y m.a m.c inside.some inside.within)
-    (piece_begins p ms j 1 (omega arith)) (written_is g d 1 m drone inside (omega arith)) (decoded_is g d 1 m inside.cue (omega arith))
-
-near_z : (g : Grid) (d : ℕ) (m : Moment) → d < length g.starts → IsInside (length g.cues) m → NearAt g d 2 m
-near_z g d m drone inside =
-    let p : Point = point_before g d m.cue in
-    let j : Job = job_at g d m.cue in
-    let ms : ℕ = get_or (cue_times g) m.cue 0 in
-    by_piece (axis_on (piece_of p ms j) 2) (element_on (segment_of (piece_of p ms j)) 2) (on_axis p 2) (written_at g d m.cue 2 m.a m.c) (decoded (flight g d) 2 m) m.a m.c (axis_is p ms j 2 (omega arith))
-    ((stays_near (piece_of p ms j) (piece_whole p ms j)).z m.a m.c inside.some inside.within)
-    (piece_begins p ms j 2 (omega arith)) (written_is g d 2 m drone inside (omega arith)) (decoded_is g d 2 m inside.cue (omega arith))
+    let e : Element = element_on (segment_of (piece_of p ms j)) axis in
+    by_piece (axis_on (piece_of p ms j) axis) e (on_axis p axis) (written_at g d m.cue axis m.a m.c) (decoded (flight g d) axis m) m.a m.c (axis_is p ms j axis small)
+    (keeps m.a m.c inside.some inside.within)
+    (piece_begins p ms j axis small) (written_is g d axis m drone inside small) (decoded_is g d axis m inside.cue small ∙ ap (λ (z : ℤ). position (z ∷ stored e) m.a m.c) starts)
 
 -- within a cue the yaw is equal
 same_yaw : (g : Grid) (d : ℕ) (m : Moment) → d < length g.starts → IsInside (length g.cues) m → decoded (flight g d) 3 m ≡ written_at g d m.cue 3 m.a m.c
@@ -237,9 +227,9 @@ instant_inside g p q is some before =
 flies_near : (g : Grid) (d : ℕ) (t : Traj) → IsGrid g → d < length g.starts → SameCurve (flight g d) t → sum (durations t.segments) ≡ sum (cue_times g) → FliesNear g d t
 flies_near g d t is drone same lasts = record {
   lasts = lasts;
-  x = λ p q some before. near 0 p q (near_x g d (moment (cue_times g) p q) drone (instant_inside g p q is some before));
-  y = λ p q some before. near 1 p q (near_y g d (moment (cue_times g) p q) drone (instant_inside g p q is some before));
-  z = λ p q some before. near 2 p q (near_z g d (moment (cue_times g) p q) drone (instant_inside g p q is some before));
+  x = on 0 (omega arith) (λ k. refl) (λ k. (stays k).x);
+  y = on 1 (omega arith) (λ k. refl) (λ k. (stays k).y);
+  z = on 2 (omega arith) (λ k. refl) (λ k. (stays k).z);
   yaw = λ p q some before.
       same_at 3 p q ∙ ap (λ (z : ℤ). z *ℤ power (pos (own t p q).c) 7) (same_yaw g d (moment (cue_times g) p q) drone (instant_inside g p q is some before));
 }
@@ -261,6 +251,15 @@ flies_near g d t is drone same lasts = record {
     near axis p q at_cue =
         near_lifts (written g d axis p q) (decoded (flight g d) axis (moment (cue_times g) p q)) (decoded t axis (own t p q)) (moment (cue_times g) p q).c (own t p q).c
         at_cue (same_at axis p q)
+
+    stays : (k : ℕ) → StaysNear (cue_piece g d k) (segment_of (cue_piece g d k))
+    stays k = stays_near (cue_piece g d k) (piece_whole (point_before g d k) (get_or (cue_times g) k 0) (job_at g d k))
+
+    on : (axis : ℕ) → axis < 4 → ((k : ℕ) → at (start_at (point_before g d k)) axis ≡ millimetres (on_axis (point_before g d k) axis)) →
+        ((k : ℕ) → KeepsNear (axis_on (cue_piece g d k) axis) (element_on (segment_of (cue_piece g d k)) axis)) → AtEachInstant g (FliesNearOn g d t axis)
+    on axis small starts keeps p q some before =
+        let m : Moment = moment (cue_times g) p q in
+        near axis p q (near_on g d axis m drone (instant_inside g p q is some before) small (starts m.cue) (keeps m.cue))
 
 -- a drone's trajectory lasts as long as the show, cue by cue
 pub flight_lasts : (g : Grid) (d : ℕ) → d < length g.starts → durations (get_or (by_cue g) d no_trajectory).segments ≡ cue_times g

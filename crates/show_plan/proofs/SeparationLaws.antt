@@ -2,7 +2,7 @@
 use Rattle.show_plan.proofs.Prelude.{◌≡◌, ◌↔◌, ℕ, ap, refl, subst, ◌∙◌, List, [], ◌∷◌, ◌++◌, All, Option, Some, None, option_map, option_or, All-nil, All-cons, All-head, All-tail, Traj, Clearance, Slot, Raised, difference, raised_of, IsFirstBlocked, blocked_place, Settings, BlockedPart, IsSlotClear, blocked_at, blocked_in, blocked_part, clearance_of, direction_at, measure_of, slots_of, searched, blocked_slot}
 use Rattle.pair_search.specs.Fleets as fleet
 use Rattle.pair_search.proofs.SearchLaws.{laws}
-use Rattle.show_plan.specs.Laws.{IsFirstPart, SeparationLaw}
+use Rattle.show_plan.specs.Laws.{IsFirstIn, SeparationLaw}
 
 none_mapped : (slot : Slot) (o : Option ℕ) → option_map (blocked_at slot) o ≡ None → o ≡ None
 none_mapped slot None e = refl
@@ -62,21 +62,13 @@ module _ (e : Clearance) (depth : ℕ) (curves : Raised) where
       ap (λ (o : Option BlockedPart). option_or o (blocked_in e depth curves ss)) ((slot_law s).1 (All-head (IsSlotClear e depth curves) s ss clear))
       ∙ none_blocked ss (All-tail (IsSlotClear e depth curves) s ss clear)
 
-  -- the first of these slots that isn't clear, and its first part without a direction
-  record IsFirstOf (ss : List Slot) (slot : Slot) (index : ℕ) : Type 0 where
-    pub earlier : List Slot
-    pub later : List Slot
-    pub slots : ss ≡ earlier ++ slot ∷ later
-    pub clear : All (IsSlotClear e depth curves) earlier
-    pub blocked : IsBlockedAt slot index
-
   -- what is found is the first
-  found : (ss : List Slot) (slot : Slot) (index : ℕ) → blocked_in e depth curves ss ≡ Some (blocked_at slot index) → IsFirstOf ss slot index
+  found : (ss : List Slot) (slot : Slot) (index : ℕ) → blocked_in e depth curves ss ≡ Some (blocked_at slot index) → IsFirstIn e depth curves ss slot index
   found [] slot index is = absurd (cc)
   found (s ∷ ss) slot index is = by_place (blocked_place (direction_at e curves s) depth) refl is (found ss slot index)
     where
       by_place : (o : Option ℕ) → blocked_place (direction_at e curves s) depth ≡ o → option_or (option_map (blocked_at s) o) (blocked_in e depth curves ss) ≡ Some (blocked_at slot index) →
-          (blocked_in e depth curves ss ≡ Some (blocked_at slot index) → IsFirstOf ss slot index) → IsFirstOf (s ∷ ss) slot index
+          (blocked_in e depth curves ss ≡ Some (blocked_at slot index) → IsFirstIn e depth curves ss slot index) → IsFirstIn e depth curves (s ∷ ss) slot index
       by_place None none is others =
           let rest = others is in
           record {
@@ -99,24 +91,18 @@ module _ (e : Clearance) (depth : ℕ) (curves : Raised) where
           }
 
   -- the first is what is found
-  finds : (ss : List Slot) (slot : Slot) (index : ℕ) → IsFirstOf ss slot index → blocked_in e depth curves ss ≡ Some (blocked_at slot index)
+  finds : (ss : List Slot) (slot : Slot) (index : ℕ) → IsFirstIn e depth curves ss slot index → blocked_in e depth curves ss ≡ Some (blocked_at slot index)
   finds ss slot index first =
       ap (blocked_in e depth curves) first.slots
       ∙ passed first.earlier (slot ∷ first.later) first.clear
       ∙ ap (λ (o : Option ℕ). option_or (option_map (blocked_at slot) o) (blocked_in e depth curves first.later)) ((place_blocked slot index).1 first.blocked)
 
 -- ---- of a show
-first_law : (e : Settings) (depth : ℕ) (trajs : List Traj) (slot : Slot) (index : ℕ) → (blocked_part e depth trajs ≡ Some (blocked_at slot index)) ↔ IsFirstPart e depth trajs slot index
-first_law e depth trajs slot index = (
-  λ is. let first = found (clearance_of e trajs) depth (raised_of trajs) (slots_of trajs) slot index is in
-      record { earlier = first.earlier; later = first.later; slots = first.slots; clear = first.clear; blocked = first.blocked },
-  λ first. finds (clearance_of e trajs) depth (raised_of trajs) (slots_of trajs) slot index
-      (record { earlier = first.earlier; later = first.later; slots = first.slots; clear = first.clear; blocked = first.blocked }),
-)
 
 -- The recursion finds the first part that no direction separates, and nothing exactly where there is none.
 pub separation : SeparationLaw
 separation = record {
   clear = λ e depth trajs. (all_clear (clearance_of e trajs) depth (raised_of trajs) (slots_of trajs), none_blocked (clearance_of e trajs) depth (raised_of trajs) (slots_of trajs));
-  blocked = first_law;
+  blocked = λ e depth trajs slot index.
+      (found (clearance_of e trajs) depth (raised_of trajs) (slots_of trajs) slot index, finds (clearance_of e trajs) depth (raised_of trajs) (slots_of trajs) slot index);
 }

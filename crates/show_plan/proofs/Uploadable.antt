@@ -22,12 +22,12 @@ module _ (law : JoinLaw) (times : List ℕ) (last : All (λ ms. 1 ≤ ms) times)
       All-cons IsTrajectory (joined t) (map joined ts) (law.formed t (All-head IsTrajectory t ts formed)) (all_formed ts (All-tail IsTrajectory t ts formed))
 
   all_some : (ts : List Traj) → 1 ≤ length times → All (λ (t : Traj). durations t.segments ≡ times) ts → All (λ (t : Traj). 1 ≤ length t.segments) (map joined ts)
-  all_some [] some lasting = All-nil (λ (t : Traj). 1 ≤ length t.segments)
-  all_some (t ∷ ts) some lasting =
-      let is : durations t.segments ≡ times = All-head (λ (t : Traj). durations t.segments ≡ times) t ts lasting in
+  all_some [] some same = All-nil (λ (t : Traj). 1 ≤ length t.segments)
+  all_some (t ∷ ts) some same =
+      let is : durations t.segments ≡ times = All-head (λ (t : Traj). durations t.segments ≡ times) t ts same in
       let total : 1 ≤ sum (durations (joined t).segments) = omega (arith, law.lasts t, ap (λ (ms : List ℕ). sum ms) is, sum_some times some last) in
       All-cons (λ (t : Traj). 1 ≤ length t.segments) (joined t) (map joined ts) (some_segments (joined t).segments total)
-      (all_some ts some (All-tail (λ (t : Traj). durations t.segments ≡ times) t ts lasting))
+      (all_some ts some (All-tail (λ (t : Traj). durations t.segments ≡ times) t ts same))
 
 -- What is sent of a show that fits can be uploaded.
 pub uploadable : (f : Fitted) → JoinLaw → IsValidFitted f → AreUploadable f.settings f.sent
@@ -40,6 +40,6 @@ uploadable f law v =
       few = omega (arith, count, v.few_drones);
       formed = subst (All IsTrajectory) (sym v.sent) (all_formed law v.times v.last f.trajs v.formed);
       sendable = v.sendable;
-      segments = subst (All (λ (t : Traj). 1 ≤ length t.segments)) (sym v.sent) (all_some law v.times v.last f.trajs some v.lasting);
+      segments = subst (All (λ (t : Traj). 1 ≤ length t.segments)) (sym v.sent) (all_some law v.times v.last f.trajs some v.same_times);
       room = v.room;
     }

@@ -48,7 +48,6 @@ size t = length (spelling t ++ ending)
 abbrev pub room : PlainShow → ℕ
 room s = MEMORY_BYTES - s.settings.offset
 
--- a name can stand as a word of a line
 abbrev pub StandsAsWord : Name → Type 0
 StandsAsWord name = IsWord name.items
 
@@ -75,7 +74,6 @@ in_order (Some f) range late = Some (fault.Grid f)
 in_order None (Some v) late = Some (fault.OutOfRange v)
 in_order None None late = late
 
--- the first reason why a show has no plan
 abbrev pub plan_fault : PlainShow → Option PlanFault
 plan_fault s = in_order (grid_fault s) (range_fault (grid_of s)) (unsendable s)
 
@@ -114,7 +112,7 @@ pub record IsValidFitted (f : Fitted) : Type 0 where
   pub times_counted : length times ≡ f.cues
   pub last : All (λ ms. 1 ≤ ms) times
   pub duration : sum times ≡ f.duration
-  pub lasting : All (λ (t : Traj). durations t.segments ≡ times) f.trajs
+  pub same_times : All (λ (t : Traj). durations t.segments ≡ times) f.trajs
   pub formed : All IsTrajectory f.trajs
   pub sent : f.sent ≡ map joined f.trajs
   pub sendable : All IsSendable f.sent

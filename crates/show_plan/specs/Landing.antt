@@ -45,7 +45,7 @@ pub record IsLanded (g : Grid) (e : Settings) (trajs : List Traj) (readback star
   pub near : KeepsNearShow g trajs
   pub apart : FlyApart e trajs
 
--- Whatever the drones hold at the start, and whatever the link loses, repeats, delays or reorders, where nobody else alters a byte: once all
+-- The drones may hold anything at the start, the link may lose, repeat, delay and reorder, and nobody else alters a byte. Once all
 -- packets of the session of these trajectories are acknowledged, with read-back or without and with starts or without, the memories hold
 -- these curves, then and at each later moment.
 abbrev pub Lands : Grid → Settings → List Traj → Type 0
@@ -57,7 +57,7 @@ Lands g e trajs =
 
 -- The drones may hold anything at the start, and anybody may send them their packets of the session of these trajectories, with read-back or
 -- without and with starts or without. Each drone takes its own, in any order, each of them any number of times. Once the drones accepted all but
--- the reads, their memories hold these curves, then and after whatever packets of the session they take later.
+-- the reads, their memories hold these curves, then and after all packets of the session that they take later.
 abbrev pub LandsInAnyOrder : Grid → Settings → List Traj → Type 0
 LandsInAnyOrder g e trajs =
     (readback start : Bool) (drones : ℕ → DroneState) (order later : ℕ → List ℕ) → ((d : ℕ) → d < length trajs → IsDrone (drones d)) →

@@ -40,7 +40,6 @@ clearance_of e trajs = record {
   reach = reach_of reach_depth e.late trajs 0 ∷ reach_of reach_depth e.late trajs 1 ∷ reach_of reach_depth e.late trajs 2 ∷ [];
 }
 
--- the ruler of a clearance: these directions
 unfoldable pub measure_of : Clearance → Measure
 measure_of c = record { directions = searched; clearance = c }
 
@@ -48,7 +47,6 @@ measure_of c = record { directions = searched; clearance = c }
 abbrev pub direction_at : Clearance → Raised → Slot → Place → Option ℕ
 direction_at c curves slot = fleet.direction_at (measure_of c) curves slot
 
--- the pair of a slot is blocked in this part of its cue
 abbrev pub blocked_at : Slot → ℕ → BlockedPart
 blocked_at slot index = record { slot = slot; index = index }
 
@@ -72,7 +70,6 @@ best_nodes c depth curves slot = fleet.best_nodes (measure_of c) depth curves sl
 abbrev pub best_certificate : Settings → ℕ → List Traj → Certificate
 best_certificate e depth trajs = record { version = 2; depth = depth; trees = map (best_nodes (clearance_of e trajs) depth (raised_of trajs)) (slots_of trajs) }
 
--- how many nodes the trees of a certificate have together
 abbrev pub node_count : Certificate → ℕ
 node_count cert = sum (map length cert.trees)
 
@@ -103,6 +100,6 @@ abbrev pub IsShowClear : Settings → ℕ → List Traj → Type 0
 IsShowClear e depth trajs = All (IsSlotClear (clearance_of e trajs) depth (raised_of trajs)) (slots_of trajs)
 
 -- The ellipsoids around any two different drones share no point, wherever the drones stray to and however late they are against one another, by
--- what the settings allow: whatever points the two may be at, at whatever instants of the show that are so near to one another.
+-- what the settings allow: for all points where the two may be, at all instants of the show that are so near to one another.
 abbrev pub FlyApart : Settings → List Traj → Type 0
 FlyApart e trajs = apart.FlyApart e.r e.h e.stray e.late trajs

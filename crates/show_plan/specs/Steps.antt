@@ -21,7 +21,6 @@ use Rattle.show_plan.specs.declared.separation.SeparationFault.{SeparationFault}
 use Rattle.show_plan.specs.declared.separation.SeparationFault.TheVariants as fault
 use Rattle.show_plan.specs.Separation.{Finds, direction_at, blocked_at, blocked_in, best_nodes, measure_of}
 
--- the trajectory of a drone of a grid
 abbrev pub flight : Grid → ℕ → Traj
 flight g d = trajectory_of (start_of g d) (pieces_from (start_of g d) d g.cues)
 
@@ -34,17 +33,14 @@ pub record FitsDrone (g : Grid) (d : ℕ) : Type 0 where
 abbrev pub blocked_slot : Clearance → ℕ → Raised → Slot → Option BlockedPart
 blocked_slot c depth curves slot = option_map (blocked_at slot) (blocked_place (direction_at c curves slot) depth)
 
--- what is found at all slots: the trees of each
 abbrev pub FindsTrees : Clearance → ℕ → Raised → Result (List (List Node)) SeparationFault → Type 0
 FindsTrees c depth curves result =
     Finds (blocked_in c depth curves (slots curves.drones curves.cues)) (map (best_nodes c depth curves) (slots curves.drones curves.cues)) result
 
--- what is found at all slots: how many nodes their trees have
 abbrev pub FindsNodes : Clearance → ℕ → Raised → Result ℕ SeparationFault → Type 0
 FindsNodes c depth curves result =
     Finds (blocked_in c depth curves (slots curves.drones curves.cues)) (nodes_in (measure_of c) depth curves (slots curves.drones curves.cues)) result
 
--- what a search stops at, as the reason why a show has no certificate
 abbrev pub separation_fault : SearchFault → SeparationFault
 separation_fault (search.Blocked slot index) = fault.Blocked (blocked_at slot index)
 separation_fault search.Memory = fault.Memory

@@ -17,11 +17,9 @@ drone_line name bytes pieces = line (codes "drone") (name ∷ codes "bytes" ∷ 
 abbrev pub packet_word : Upload → ℕ → ℕ → List ℕ
 packet_word s d k = if nat_lt k (write_count s d) then codes "write" else (if k == write_count s d then codes "define" else codes "start")
 
--- a packet with its bytes
 abbrev pub packet_line : Upload → ℕ → ℕ → List ℕ
 packet_line s d k = line (packet_word s d k) (map hex_word (packet_at s d k))
 
--- the packets of a drone, in order
 abbrev pub packet_lines : Upload → ℕ → List ℕ
 packet_lines s d = flat_map (packet_line s d) (range_with_len 0 (packet_count s d))
 
@@ -47,7 +45,7 @@ pub record IsPlan (e : Settings) (names : List Name) (ts : List Traj) : Type 0 w
   pub counted : length ts ≡ length names
   pub uploadable : AreUploadable e ts
 
--- Plans with one text are of one list of drones and one of trajectories, whatever settings they are made with.
+-- Plans with one text, made with any settings, are of one list of drones and one of trajectories.
 abbrev pub PlanLaw : Type 0
 PlanLaw =
     (e f : Settings) (names others : List Name) (ts us : List Traj) → IsPlan e names ts → IsPlan f others us →

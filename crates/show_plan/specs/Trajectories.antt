@@ -18,7 +18,6 @@ start_at p = millimetres p.x ∷ millimetres p.y ∷ millimetres p.z ∷ p.yaw �
 abbrev pub trajectory_of : Point → List MicroPiece → Traj
 trajectory_of p pieces = record { start = start_at p; segments = map segment_of pieces }
 
--- the trajectories of drones, from their lines and their pieces
 abbrev pub trajectories_of : List DroneLine → List (List MicroPiece) → List Traj
 trajectories_of [] rows = []
 trajectories_of (s ∷ starts) [] = []

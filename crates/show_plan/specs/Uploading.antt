@@ -28,8 +28,8 @@ pub record FlyTheirOwn (e : Settings) (trajs : List Traj) : Type 0 where
       ((n : ℕ) → n < length trajs → IsDrone (drones n)) → IsUnaltered (events ++ later) → i < length trajs → d < length trajs →
       Contains ((world (session_for e trajs readback start) drones events).sent i) (start_of e.trajectory_id) →
       Carries ((world (session_for e trajs readback start) drones (events ++ later)).drones d) e.trajectory_id (slice_index_or trajs d no_trajectory)
-  -- Whoever sends a drone its packets, in whatever order and however often: once it accepted its writes and its define it carries its own
-  -- trajectory, then and after whatever packets of the session it takes later, starts among them. A start before that starts what the drone
+  -- From any senders, in any order and any number of times: once a drone accepted its writes and its define it carries its own
+  -- trajectory, then and after all packets of the session that it takes later, starts among them. A start before that starts what the drone
   -- carried before.
   pub once_accepted : (readback start : Bool) (drone : DroneState) (order later : List ℕ) (d : ℕ) → IsDrone drone → d < length trajs →
       AreOwn (session_for e trajs readback start) d (order ++ later) → AcceptsLoad (session_for e trajs readback start) d drone order →
@@ -70,9 +70,9 @@ pub record GoesRight (s : Upload) (drones : ℕ → DroneState) (events : List W
   -- come last, and no read differs.
   pub unaltered : IsUnaltered events → IsSafe s drones (world s drones events)
 
--- Whatever the drones hold at the start, and whatever the link loses, repeats, delays or reorders: once all packets of
+-- The drones may hold anything at the start, and the link may lose, repeat, delay and reorder. Once all packets of
 -- the session of these trajectories are acknowledged, where nobody else alters a byte, they are stored, near to the
--- show and apart. So they are whoever sends the packets, once all but the reads are accepted. What a drone flies is its own
+-- show and apart. So they are with any senders of the packets, once all but the reads are accepted. What a drone flies is its own
 -- trajectory. And each upload of this session goes right, with read-back or without and with starts or without.
 pub record Uploads (g : Grid) (e : Settings) (trajs : List Traj) : Type 0 where
   pub stored : Lands g e trajs

@@ -32,7 +32,6 @@ use mm_rounding::{round_piece, short, to_mm};
 use std::alloc::{AllocError, Global};
 use traj_codec::{Segment, Traj, join_holds, segment_law, size_of, start_law};
 
-// Where a trajectory starts that begins at this point, if a trajectory can hold it.
 fn start_at(p: &Point) -> Option<[i16; 4]>
     ensures { MatchOption result (StartsWell p.now → ⊥)
         (λ start. StartsWell p.now × (start ≡ start_at p.now) × AreNumbers 4 start) }
@@ -46,7 +45,6 @@ fn start_at(p: &Point) -> Option<[i16; 4]>
     Some(start)
 }
 
-// The segments of drone `d`, which is at this point before these cues, if a trajectory can hold them.
 fn segments_of(
     alloc: Global,
     start: &Point,
@@ -75,7 +73,6 @@ fn segments_of(
     Ok(Some(segments))
 }
 
-// The trajectory of drone `d` of a grid, if a trajectory can hold its numbers.
 fn trajectory_of(alloc: Global, grid: &Grid, d: usize) -> Result<Option<Traj>, AllocError>
     requires whole { IsGrid grid.now }
     requires drone { d < length grid.now.starts }
@@ -97,7 +94,6 @@ fn trajectory_of(alloc: Global, grid: &Grid, d: usize) -> Result<Option<Traj>, A
     }))
 }
 
-// The trajectory of each drone of a grid, if a trajectory can hold its numbers.
 fn trajectories_of(alloc: Global, grid: &Grid) -> Result<Option<Vec<Traj>>, AllocError>
     requires { IsGrid grid.now }
     ensures { IfOk result (λ found. MatchOption found (range_fault grid.now ≡ None → ⊥)
@@ -115,7 +111,6 @@ fn trajectories_of(alloc: Global, grid: &Grid) -> Result<Option<Vec<Traj>>, Allo
     Ok(Some(trajs))
 }
 
-// The trajectories with whole holds that follow each other joined.
 fn joined_all(alloc: Global, trajs: &[Traj]) -> Result<Vec<Traj>, AllocError>
     requires some { All (λ (t : Traj). 1 ≤ length t.segments) trajs.now }
     requires flown { All IsFlown trajs.now }
@@ -129,7 +124,6 @@ fn joined_all(alloc: Global, trajs: &[Traj]) -> Result<Vec<Traj>, AllocError>
     Ok(sent)
 }
 
-// What keeps a drone's trajectory from being sent.
 fn send_fault(room: u32, drone: u8, t: &Traj) -> Option<PlanFault>
     requires { IsFlown t.now }
     ensures { result ≡ send_fault room drone t.now }
@@ -148,7 +142,6 @@ fn send_fault(room: u32, drone: u8, t: &Traj) -> Option<PlanFault>
     None
 }
 
-// The first trajectory that can't be sent.
 fn first_unsendable(room: u32, trajs: &[Traj]) -> Option<PlanFault>
     requires few { length trajs.now ≤ most_drones }
     requires flown { All IsFlown trajs.now }
@@ -163,7 +156,6 @@ fn first_unsendable(room: u32, trajs: &[Traj]) -> Option<PlanFault>
     None
 }
 
-// The names of drones.
 fn names_of(alloc: Global, starts: &[DroneLine]) -> Result<Vec<Name>, AllocError>
     ensures { IfOk result (λ names. names.items ≡ map (λ (d : DroneLine). d.name) starts.now) }
 {
@@ -186,7 +178,6 @@ fn duration_of(cues: &[Cue]) -> u32
     total
 }
 
-// Why a grid of which a trajectory can't hold a number has no plan.
 fn out_of_range(alloc: Global, grid: &Grid) -> FitError
     requires whole { IsGrid grid.now }
     requires unheld { range_fault grid.now ≡ None → ⊥ }
@@ -201,7 +192,6 @@ fn out_of_range(alloc: Global, grid: &Grid) -> FitError
     }
 }
 
-// What becomes of a show whose trajectories hold all its numbers.
 fn fitted(alloc: Global, show: &Show, grid: Grid, trajs: Vec<Traj>) -> Result<Fitted, FitError>
     requires valid { IsValid (plain show.now) }
     requires unrolled { grid_fault (plain show.now) ≡ None }

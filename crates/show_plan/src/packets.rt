@@ -20,7 +20,6 @@ fn word_of(session: &Session, drone: usize, k: usize) -> &'static [u8]
     if k == writes { b"define" } else { b"start" }
 }
 
-// The line of packet k of a drone.
 fn put_packet(text: &mut Lines, session: &Session, drone: usize, k: usize) -> Result<(), AllocError>
     requires known { drone < drone_count session.now }
     requires in_range { k < packet_count session.now drone }
@@ -30,7 +29,6 @@ fn put_packet(text: &mut Lines, session: &Session, drone: usize, k: usize) -> Re
     text.hex_line(word_of(session, drone, k), packet.bytes())
 }
 
-// The lines of all packets of a drone.
 pub(crate) fn put_packets(
     text: &mut Lines,
     session: &Session,

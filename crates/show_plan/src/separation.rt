@@ -80,7 +80,6 @@ fn ruler_of(clearance: Clearance) -> Ruler<98>
     Ruler::make(&WIDE, clearance)
 }
 
-// What a search stops at, as the reason why a show has no certificate.
 fn separation_fault(fault: SearchFault) -> SeparationFault
     ensures { result ≡ separation_fault fault }
 {
@@ -92,7 +91,6 @@ fn separation_fault(fault: SearchFault) -> SeparationFault
     }
 }
 
-// The trees of all slots, or the first part that no direction separates.
 fn trees_of(
     alloc: Global,
     curves: &Curves,
@@ -111,7 +109,6 @@ fn trees_of(
     }
 }
 
-// How many nodes the trees of all slots have, or the first part that no direction separates.
 fn nodes_of(
     alloc: Global,
     curves: &Curves,
@@ -130,7 +127,7 @@ fn nodes_of(
     }
 }
 
-/// A law. The blocked part that the contract of [`certificate`] cites is what its name says, whatever the trajectories: there is
+/// A law. The blocked part that the contract of [`certificate`] cites is what its name says, for all trajectories: there is
 /// none exactly where each part of the depth has a separating direction, for each pair in each cue; else it is the first that has
 /// none, in the order pair, cue, part.
 pub fn separation_law()

@@ -21,7 +21,7 @@ use std::alloc::{AllocError, Global};
 use traj_codec::{Segment, Traj, join_law, size_of, spelling_law};
 use upload_core::Session;
 
-fn put_drone(
+fn put_drone_line(
     text: &mut Lines,
     name: &[u8],
     bytes: &[u8],
@@ -49,7 +49,7 @@ fn put_part(
     let load = load_of(alloc, t)?;
     let bytes = load.bytes.as_slice();
     let segments = t.segments.as_slice();
-    put_drone(text, name, bytes, segments)?;
+    put_drone_line(text, name, bytes, segments)?;
     text.hex_line(b"data", bytes)?;
     let mut loads = Vec::new(alloc);
     loads.push(load)?;
@@ -57,7 +57,6 @@ fn put_part(
     put_packets(text, &session, 0)
 }
 
-// The lines of each drone.
 fn put_parts(
     alloc: Global,
     text: &mut Lines,
@@ -75,11 +74,10 @@ fn put_parts(
     Ok(())
 }
 
-// The bytes of these trajectories together.
 fn total(trajs: &[Traj]) -> usize
     requires few { length trajs.now ≤ most_drones }
     requires sendable { All IsSendable trajs.now }
-    requires short { All (λ (t : Traj). size t ≤ MEMORY_BYTES) trajs.now }
+    requires in_memory { All (λ (t : Traj). size t ≤ MEMORY_BYTES) trajs.now }
     ensures { result ≤ 131072 }
 {
     let mut total = 0;
@@ -118,8 +116,8 @@ pub fn plan_text(alloc: Global, f: &Fitted) -> Result<Lines, AllocError>
     Ok(text)
 }
 
-/// A law. A plan's text says whose plan it is: two plans with one text are of the same drones and the same trajectories, whatever settings
-/// they were made with.
+/// A law. A plan's text says whose plan it is: two plans with one text, made with any settings, are of the same drones and the same
+/// trajectories.
 pub fn plan_law()
     ensures { PlanLaw }
 {

@@ -14,7 +14,6 @@ use traj_codec::{Traj, encode, join_law};
 use upload_core::{Listed, Load, Session, Settings};
 use upload_model::{readback_law, taking_law, upload_law};
 
-// The load of a trajectory: its bytes, and how many segments they are.
 pub(crate) fn load_of(alloc: Global, t: &Traj) -> Result<Load, AllocError>
     requires { IsSendable t.now }
     ensures { IfOk result (λ load. load ≡ load_for t.now) }
@@ -25,7 +24,6 @@ pub(crate) fn load_of(alloc: Global, t: &Traj) -> Result<Load, AllocError>
     })
 }
 
-// The load of each trajectory.
 fn loads_of(alloc: Global, trajs: &[Traj]) -> Result<Vec<Load>, AllocError>
     requires { All IsSendable trajs.now }
     ensures { IfOk result (λ loads. loads.items ≡ map load_for trajs.now) }
@@ -38,7 +36,6 @@ fn loads_of(alloc: Global, trajs: &[Traj]) -> Result<Vec<Load>, AllocError>
     Ok(loads)
 }
 
-// Where the bytes go, by the settings of a show.
 pub(crate) fn place_in(settings: choreo_show::Settings) -> Settings
     ensures memory_id { result.memory_id ≡ settings.memory_id }
     ensures offset { result.offset ≡ settings.offset }
@@ -67,8 +64,8 @@ pub fn session(
     Ok(Session::of_loads(place_in(f.settings), loads, readback, start))
 }
 
-/// A law. Trajectories that can be uploaded, keep near to a show and keep apart are stored so in the drones' memories, whatever the
-/// link does, where nobody else alters a byte.
+/// A law. Trajectories that can be uploaded, keep near to a show and keep apart are stored so in the drones' memories, over any
+/// link, where nobody else alters a byte.
 pub fn landing_law()
     ensures { LandingLaw }
 {
@@ -76,9 +73,9 @@ pub fn landing_law()
     upload_law();
 }
 
-/// A law. Each upload of trajectories that can be uploaded, keep near to a show and keep apart goes right, whatever the
-/// link does: with read-back each byte was right when it was read, whoever else alters one, and starts come last. What
-/// is uploaded is stored, as `landing_law` says; and so it is whoever sends the packets, in whatever order. Each start
+/// A law. Each upload of trajectories that can be uploaded, keep near to a show and keep apart goes right, over any
+/// link: with read-back each byte was right when it was read, also where others alter bytes, and starts come last. What
+/// is uploaded is stored, as `landing_law` says, from any senders and in any order of the packets. Each start
 /// that comes after a drone's writes and define starts the drone's own trajectory, once.
 pub fn uploads_law()
     ensures { UploadsLaw }

@@ -19,11 +19,11 @@ cues_counted times (t ∷ ts) are some =
 -- where drones keep apart cue by cue, no two touch at a listed instant
 pub apart_no_touch : (f : Fitted) (fine : ℕ) → IsValidFitted f → FlyApart f.settings f.trajs → NoTouch f.trajs f.settings.r f.settings.h fine
 apart_no_touch f fine valid apart = λ s is t u first second.
-    let times_are : durations t.segments ≡ valid.times = All-slice_get (λ (t : Traj). durations t.segments ≡ valid.times) f.trajs s.a t first valid.lasting in
-    let other_are : durations u.segments ≡ valid.times = All-slice_get (λ (t : Traj). durations t.segments ≡ valid.times) f.trajs s.b u second valid.lasting in
-    let counted : raised.cues_in f.trajs ≡ length valid.times = cues_counted valid.times f.trajs valid.lasting (omega (arith, valid.trajs_counted, valid.some_drone)) in
+    let times_are : durations t.segments ≡ valid.times = All-slice_get (λ (t : Traj). durations t.segments ≡ valid.times) f.trajs s.a t first valid.same_times in
+    let other_are : durations u.segments ≡ valid.times = All-slice_get (λ (t : Traj). durations t.segments ≡ valid.times) f.trajs s.b u second valid.same_times in
+    let counted : raised.cues_in f.trajs ≡ length valid.times = cues_counted valid.times f.trajs valid.same_times (omega (arith, valid.trajs_counted, valid.some_drone)) in
     let inside : s.cue < length (durations t.segments) = omega (arith, is.cue, counted, ap (λ (ns : List ℕ). length ns) times_are) in
-    let lasting : All IsLasting f.trajs = all_lasting valid.times valid.last f.trajs valid.lasting in
+    let lasting : All IsLasting f.trajs = all_lasting valid.times valid.last f.trajs valid.same_times in
     let when : ℕ = instant_of (durations t.segments) s.cue s.at (2 ^ fine) in
     let some : 1 ≤ 2 ^ fine = one-le-pow fine 2 (omega arith) in
     let before : when ≤ 2 ^ fine * sum (durations t.segments) = instant_inside (durations t.segments) s.cue s.at (2 ^ fine) inside is.at in

@@ -6,4 +6,4 @@ pub play-requires-clause-lasting : goal.play-requires-clause-lasting
 play-requires-clause-lasting g c =
     let f = c.args.fitted.now in
     subst (All (λ (t : Traj). duration_of t ≡ f.duration)) (sym (c.as_slice-sent.ensures ∙ c.requires.valid.sent))
-    (sent_lasts c.join_law.ensures.curve c.requires.valid.times f.duration c.requires.valid.duration f.trajs c.requires.valid.lasting)
+    (sent_lasts c.join_law.ensures.curve c.requires.valid.times f.duration c.requires.valid.duration f.trajs c.requires.valid.same_times)
