@@ -1,7 +1,9 @@
 -- Texts of both forms, read.
-use Rattle.std.proofs.Common.{◌≡◌, inl, inr, ℕ, ℤ, ◌≤ℤ◌, neg_ℤ, false, pos, List, [], ◌∷◌, None, Some, codes, arith, refl}
+use Rattle.std.proofs.Common.{◌≡◌, inl, inr, ℕ, ◌*◌, ◌^◌, ◌<◌, ℤ, ◌≤ℤ◌, neg_ℤ, false, pos, List, [], ◌∷◌, ◌++◌, length, None, Some, codes, arith, refl}
 use Rattle.std.proofs.lemmas.List.Elements.{All-cons, All-nil}
+use Rattle.text_lines.specs.Numbers.{natural_of}
 use Rattle.quantities.specs.Quantities.{IsQuantityIn}
+use Rattle.quantities.specs.Units.{Measure, measure_of}
 use Rattle.quantities.specs.declared.unit.Counts.{Counts}
 use Rattle.quantities.specs.declared.unit.Counts.TheVariants.{Micrometres, Milliseconds, TenthsOfADegree}
 use Rattle.choreo_lines.specs.Fields.{values_in, row_line}
@@ -51,89 +53,41 @@ whole = record {
 zero_in : (counts : Counts) (low high : ℤ) → low ≤ℤ pos 0 → pos 0 ≤ℤ high → IsQuantityIn counts low high (codes "0") (pos 0)
 zero_in counts low high above below = record { is = inl (refl, refl); from = above; to = below }
 
-metre : IsQuantityIn Micrometres (neg_ℤ (pos 100000000)) (pos 100000000) (codes "1m") (pos 1000000)
-metre = record {
+-- a whole number of a unit is a quantity
+of_whole : (counts : Counts) (low high value : ℤ) (whole unit : List ℕ) (digits : ℕ) (measure : Measure) (size : ℕ) → 0 < length whole → natural_of (whole ++ []) ≡ Some digits →
+    measure_of counts unit ≡ Some measure → size * (measure.units * 10 ^ 0) ≡ digits * measure.counted → value ≡ pos size → low ≤ℤ value → value ≤ℤ high →
+    IsQuantityIn counts low high (whole ++ unit) value
+of_whole counts low high value whole unit digits measure size some digits_are unit_is size_is value_is from to = record {
   is = inr (record {
     negative = false;
-    whole = codes "1";
+    whole = whole;
     fraction = [];
-    unit = codes "m";
-    digits = 1;
-    measure = record { units = 1; counted = 1000000 };
-    size = 1000000;
+    unit = unit;
+    digits = digits;
+    measure = measure;
+    size = size;
     word_is = refl;
-    some = omega arith;
-    digits_are = refl;
-    unit_is = refl;
-    size_is = refl;
-    value_is = refl;
+    some = some;
+    digits_are = digits_are;
+    unit_is = unit_is;
+    size_is = size_is;
+    value_is = value_is;
   });
-  from = omega arith;
-  to = omega arith;
+  from = from;
+  to = to;
 }
+
+metre : IsQuantityIn Micrometres (neg_ℤ (pos 100000000)) (pos 100000000) (codes "1m") (pos 1000000)
+metre = of_whole Micrometres _ _ _ (codes "1") (codes "m") 1 (record { units = 1; counted = 1000000 }) 1000000 (omega arith) refl refl refl refl (omega arith) (omega arith)
 
 centimetres : IsQuantityIn Micrometres (neg_ℤ (pos 100000000)) (pos 100000000) (codes "100cm") (pos 1000000)
-centimetres = record {
-  is = inr (record {
-    negative = false;
-    whole = codes "100";
-    fraction = [];
-    unit = codes "cm";
-    digits = 100;
-    measure = record { units = 1; counted = 10000 };
-    size = 1000000;
-    word_is = refl;
-    some = omega arith;
-    digits_are = refl;
-    unit_is = refl;
-    size_is = refl;
-    value_is = refl;
-  });
-  from = omega arith;
-  to = omega arith;
-}
+centimetres = of_whole Micrometres _ _ _ (codes "100") (codes "cm") 100 (record { units = 1; counted = 10000 }) 1000000 (omega arith) refl refl refl refl (omega arith) (omega arith)
 
 seconds : IsQuantityIn Milliseconds (pos 1) (pos 65535) (codes "2s") (pos 2000)
-seconds = record {
-  is = inr (record {
-    negative = false;
-    whole = codes "2";
-    fraction = [];
-    unit = codes "s";
-    digits = 2;
-    measure = record { units = 1; counted = 1000 };
-    size = 2000;
-    word_is = refl;
-    some = omega arith;
-    digits_are = refl;
-    unit_is = refl;
-    size_is = refl;
-    value_is = refl;
-  });
-  from = omega arith;
-  to = omega arith;
-}
+seconds = of_whole Milliseconds _ _ _ (codes "2") (codes "s") 2 (record { units = 1; counted = 1000 }) 2000 (omega arith) refl refl refl refl (omega arith) (omega arith)
 
 degrees : IsQuantityIn TenthsOfADegree (neg_ℤ (pos 32768)) (pos 32767) (codes "0deg") (pos 0)
-degrees = record {
-  is = inr (record {
-    negative = false;
-    whole = codes "0";
-    fraction = [];
-    unit = codes "deg";
-    digits = 0;
-    measure = record { units = 1; counted = 10 };
-    size = 0;
-    word_is = refl;
-    some = omega arith;
-    digits_are = refl;
-    unit_is = refl;
-    size_is = refl;
-    value_is = refl;
-  });
-  from = omega arith;
-  to = omega arith;
-}
+degrees = of_whole TenthsOfADegree _ _ _ (codes "0") (codes "deg") 0 (record { units = 1; counted = 10 }) 0 (omega arith) refl refl refl refl (omega arith) (omega arith)
 
 units : StandsFor unit_text moved
 units = record {

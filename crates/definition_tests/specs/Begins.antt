@@ -83,7 +83,7 @@ reading = record session { readback = true }
 abbrev pub byte_after : (ℕ → DroneState) → List WorldEvent → ℕ → ℕ
 byte_after drones events place = slice_index ((world reading drones events).drones 0).memory place
 
--- A read that was right found the bytes of the load, whatever the drones were and whatever happened.
+-- A read that was right found the bytes of the load, for all drones and all events.
 pub record ReadRows : Type 0 where
   pub found : (drones : ℕ → DroneState) (events : List WorldEvent) → WasRight reading drones events 0 0 →
       (i : ℕ) × (byte_after drones (take i events) 0 ≡ 1) × (byte_after drones (take i events) 1 ≡ 2) × (byte_after drones (take i events) 2 ≡ 3)

@@ -12,8 +12,8 @@ use Rattle.upload_model.specs.Worlds.{start_world, world}
 use Rattle.show_plan.specs.Uploading.{GoesRight}
 use Rattle.definition_tests.specs.Begins.{byte_after, reading, session}
 
--- What is said of an upload that goes right is said of its bytes, its reads and its starts, whatever the drones were
--- and whatever happened.
+-- What is said of an upload that goes right is said of its bytes, its reads and its starts, for all drones and
+-- all events.
 pub record RightRows : Type 0 where
   pub verified : (drones : ℕ → DroneState) (events : List WorldEvent) → GoesRight reading drones events → progress reading (world reading drones events).heard ≡ Done →
       (i : ℕ) × (byte_after drones (take i events) 0 ≡ 1) × (byte_after drones (take i events) 1 ≡ 2) × (byte_after drones (take i events) 2 ≡ 3)

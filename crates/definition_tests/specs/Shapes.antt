@@ -57,8 +57,8 @@ show_of figures body = record {
   body = body;
 }
 
--- A repeat around a cue is filled. An empty one isn't, wherever it stands: alone, inside another, around nothing but an
-
+-- A repeat around a cue is filled. An empty one isn't, wherever it stands: alone, inside another, or after a cue, a
+-- repeat or a perform.
 pub record FilledRows : Type 0 where
   pub nothing : is_filled plain.Done ≡ true
   pub around_a_cue : is_filled (twice one_cue plain.Done) ≡ true

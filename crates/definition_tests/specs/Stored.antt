@@ -18,7 +18,7 @@ use Rattle.definition_tests.specs.Near.{going_to, holding_at, spot}
 abbrev pub settings : Settings
 settings = record { memory_id = 0; offset = 2; trajectory_id = 0; r = 1; h = 1; stray = 0; late = 0 }
 
--- A flight whose ending isn't whole is not stored, whatever the show. Nor is one of which a byte outside of the load
+-- A flight whose ending isn't whole is not stored, for any show. Nor is one of which a byte outside of the load
 -- changed, one whose drone hasn't started where starts are wanted, one that isn't near to the show, or two that touch.
 -- A drone's memory decodes to no other flight.
 pub record LandedRows : Type 0 where
@@ -43,7 +43,7 @@ no_time = record { start = pos 0 ∷ pos 0 ∷ pos 0 ∷ pos 0 ∷ []; segments 
 
 -- What is said of uploads is said of some: there are uploads that are done, orders in which all is accepted, and starts
 -- that are sent. So it is not true of a flight that isn't near to its show, or that can't be decoded. Two rows say the
--- same, and are proved by two fields. The last one says that a drone begins once, whatever it was before, by one start
+-- same, and are proved by two fields. The last one says that a drone in any state begins once, by one start
 -- after its define.
 pub record UploadRows : Type 0 where
   pub lands : Lands (holding_at (spot (pos 501) (pos 0) (pos 0) (pos 0))) settings (flight (pos 0) (pos 0) ∷ []) → ⊥

@@ -38,16 +38,19 @@ use traj_codec::join_law;
 
 /// A law. Instants that are farther apart than the lateness are not together; two drones that fly one line one behind
 /// the other touch where one is 5 ms late.
+#[tactic(auto, using(crate::proofs::ApartRows::late))]
 pub fn late_rows()
     ensures { LateRows }
 {}
 
 /// A law. A drone that strays by 3 mm may be 3 mm off, and no farther: two that are 7 mm apart may touch then.
+#[tactic(auto, using(crate::proofs::ApartRows::stray))]
 pub fn stray_rows()
     ensures { StrayRows }
 {}
 
 /// A law. The same drones fly apart where one is 4 ms late, and where they stray by 2 mm.
+#[tactic(auto, using(crate::proofs::KeptRows::apart))]
 pub fn apart_rows()
     ensures { ApartRows }
 {
@@ -56,34 +59,40 @@ pub fn apart_rows()
 }
 
 /// A law. Two drones that touch at one instant don't fly apart, whichever it is.
+#[tactic(auto, using(crate::proofs::ApartRows::touch))]
 pub fn touch_rows()
     ensures { TouchRows }
 {}
 
 /// A law. Ellipsoids that touch share a point, by the width and by the height.
+#[tactic(auto, using(crate::proofs::ApartRows::margin))]
 pub fn margin_rows()
     ensures { MarginRows }
 {}
 
 /// A law. A certificate is valid where its leaf separates by all that is wanted, and has one whole tree for each pair
 /// and cue.
+#[tactic(auto, using(crate::proofs::KeptRows::valid))]
 pub fn valid_rows()
     ensures { ValidRows }
 {}
 
 /// A law. Half a millimetre is near, and a micrometre more is not.
+#[tactic(auto, using(crate::proofs::HalfRows::half))]
 pub fn half_rows()
     ensures { HalfRows }
 {}
 
 /// A law. What is sent isn't near to a show that is more than half a millimetre off, turned otherwise, or of other
 /// drones.
+#[tactic(auto, using(crate::proofs::NearRows::show))]
 pub fn show_rows()
     ensures { ShowRows }
 {}
 
 /// A law. A short text is that of one show and not of its neighbour; texts without the header, or with a byte that may
 /// not stand there, are that of none.
+#[tactic(auto, using(crate::proofs::StandsRows::stands))]
 pub fn stands_rows()
     ensures { StandsRows }
 {
@@ -92,6 +101,7 @@ pub fn stands_rows()
 
 /// A law. A show of one drone has a text of each form; a bare length among units, a unit among whole numbers and a part of
 /// a micrometre are faults.
+#[tactic(auto, using(crate::proofs::FormRows::forms))]
 pub fn form_rows()
     ensures { FormRows }
 {
@@ -99,62 +109,74 @@ pub fn form_rows()
 }
 
 /// A law. A drone carries a flight where the three zero bytes stand after its bytes, and nowhere else.
+#[tactic(auto, using(crate::proofs::CarriedRows::carries))]
 pub fn carries_rows()
     ensures { CarriesRows }
 {}
 
 /// A law. A flight without its whole ending is not stored, nor one that is far, touches another, hasn't started or
 /// comes with another byte.
+#[tactic(auto, using(crate::proofs::LandedRows::landed))]
 pub fn landed_rows()
     ensures { LandedRows }
 {}
 
 /// A law. A flight of a metre a second keeps below that, and not below less.
+#[tactic(auto, using(crate::proofs::MotionRows::speeds))]
 pub fn speed_rows()
     ensures { SpeedRows }
 {}
 
 /// A law. A parabola has its acceleration, and not less.
+#[tactic(auto, using(crate::proofs::MotionRows::accelerations))]
 pub fn acceleration_rows()
     ensures { AccelerationRows }
 {}
 
 /// A law. Jumps of velocity are counted at both ends.
+#[tactic(auto, using(crate::proofs::MotionRows::jumps))]
 pub fn jump_rows()
     ensures { JumpRows }
 {}
 
 /// A law. A drone begins as often as it takes a start.
+#[tactic(auto, using(crate::proofs::BeginRows::begins))]
 pub fn begin_rows()
     ensures { BeginRows }
 {}
 
 /// A law. In any order a drone begins once for each start after its define, and refuses one before.
+#[tactic(auto, using(crate::proofs::BeginRows::orders))]
 pub fn order_rows()
     ensures { OrderRows }
 {}
 
 /// A law. A read that was right found the bytes of the load.
+#[tactic(auto, using(crate::proofs::BeginRows::reads))]
 pub fn read_rows()
     ensures { ReadRows }
 {}
 
 /// A law. What is said of an upload that goes right is said of its bytes, its reads and its starts.
+#[tactic(auto, using(crate::proofs::RightRows::rights))]
 pub fn right_rows()
     ensures { RightRows }
 {}
 
 /// A law. What is said of uploads, of orders and of starts is said of some.
+#[tactic(auto, using(crate::proofs::UploadRows::uploads))]
 pub fn upload_rows()
     ensures { UploadRows }
 {}
 
 /// A law. A start that came first, a byte outside, and a load that isn't there are not safe.
+#[tactic(auto, using(crate::proofs::BeginRows::safe))]
 pub fn safe_rows()
     ensures { SafeRows }
 {}
 
 /// A law. Holds are joined as far as a segment can last.
+#[tactic(auto, using(crate::proofs::JoinedRows::joined))]
 pub fn joined_rows()
     ensures { JoinedRows }
 {
@@ -163,17 +185,20 @@ pub fn joined_rows()
 
 /// A law. Until it begins a drone is at the first place of its curve, and from its end on at the last one: drones that
 /// fly apart do so before the first of them begins and after the last has ended.
+#[tactic(auto, using(crate::proofs::EndRows::ends))]
 pub fn ends_law()
     ensures { EndsLaw }
 {}
 
 /// A law. A flight keeps to a volume and out of a box where it has just room for itself, and not where a side is a
 /// millimetre nearer.
+#[tactic(auto, using(crate::proofs::RegionRows::regions))]
 pub fn region_rows()
     ensures { RegionRows }
 {}
 
 /// A law. A text of each line of the language is that of one show.
+#[tactic(auto, using(crate::proofs::ShowRows::wholes))]
 pub fn whole_rows()
     ensures { WholeRows }
 {
@@ -182,21 +207,25 @@ pub fn whole_rows()
 
 /// A law. A show's cues are its own, and each figure's as often as it is repeated, in its frame, by the drones of its
 /// roles.
+#[tactic(auto, using(crate::proofs::ShowRows::cues))]
 pub fn cue_rows()
     ensures { CueRows }
 {}
 
 /// A law. The plan of a small flight, byte by byte.
+#[tactic(auto, using(crate::proofs::ShowRows::plans))]
 pub fn plan_rows()
     ensures { PlanRows }
 {}
 
 /// A law. Drones that meet touch first where they do, and are closest there.
+#[tactic(auto, using(crate::proofs::MeetRows::meets))]
 pub fn meet_rows()
     ensures { MeetRows }
 {}
 
 /// A law. What explains a show is what it has to say, of that show, and of nothing else.
+#[tactic(auto, using(crate::proofs::ExplainRows::explains))]
 pub fn explain_rows()
     ensures { ExplainRows }
 {
@@ -205,6 +234,7 @@ pub fn explain_rows()
 
 /// A law. The headline holds of a small show and its plan, and not of a text that isn't a show or of a plan that isn't
 /// there.
+#[tactic(auto, using(crate::proofs::HeadlineRows::headlines))]
 pub fn headline_rows()
     ensures { HeadlineRows }
 {
@@ -212,46 +242,55 @@ pub fn headline_rows()
 }
 
 /// A law. A repeat without a block is not filled, wherever it stands, nor is a figure without one.
+#[tactic(auto, using(crate::proofs::ShapeRows::filled))]
 pub fn filled_rows()
     ensures { FilledRows }
 {}
 
 /// A law. A figure has no `form` line and no perform.
+#[tactic(auto, using(crate::proofs::ShapeRows::figures))]
 pub fn figure_rows()
     ensures { FigureRows }
 {}
 
 /// A law. Repeats stand inside each other eight deep, and no deeper.
+#[tactic(auto, using(crate::proofs::ShapeRows::nesting))]
 pub fn nesting_rows()
     ensures { NestingRows }
 {}
 
 /// A law. Names have 1 to 16 bytes of their kinds, and aren't words of the language.
+#[tactic(auto, using(crate::proofs::RangeRows::names))]
 pub fn name_rows()
     ensures { NameRows }
 {}
 
 /// A law. Settings fit at both ends of their ranges, and no further.
+#[tactic(auto, using(crate::proofs::RangeRows::settings))]
 pub fn setting_rows()
     ensures { SettingRows }
 {}
 
 /// A law. Points, yaws, turns, durations and counts fit at both ends of their ranges, and no further.
+#[tactic(auto, using(crate::proofs::RangeRows::numbers))]
 pub fn number_rows()
     ensures { NumberRows }
 {}
 
 /// A law. Each setting stands once at most.
+#[tactic(auto, using(crate::proofs::ItemRows::single))]
 pub fn single_rows()
     ensures { SingleRows }
 {}
 
 /// A law. The items of a text are filled, not too deep, and of their kinds.
+#[tactic(auto, using(crate::proofs::ItemRows::items))]
 pub fn item_rows()
     ensures { ItemRows }
 {}
 
 /// A law. A text that says a setting twice is that of no show.
+#[tactic(auto, using(crate::proofs::TextRows::twice))]
 pub fn twice_rows()
     ensures { TwiceRows }
 {
@@ -259,6 +298,7 @@ pub fn twice_rows()
 }
 
 /// A law. Blocks have lines in them, stand where they may, and end.
+#[tactic(auto, using(crate::proofs::TextRows::blocks))]
 pub fn block_rows()
     ensures { BlockRows }
 {
@@ -266,6 +306,7 @@ pub fn block_rows()
 }
 
 /// A law. A number or a name that is one above its range is a fault.
+#[tactic(auto, using(crate::proofs::TextRows::limits))]
 pub fn limit_rows()
     ensures { LimitRows }
 {
@@ -274,6 +315,7 @@ pub fn limit_rows()
 
 /// A law. The headline doesn't hold of a plan that isn't the show's: of a neighbouring show, another entry, another place
 /// in the memory or another drone.
+#[tactic(auto, using(crate::proofs::WrittenRows::written))]
 pub fn written_rows()
     ensures { WrittenRows }
 {
@@ -283,32 +325,38 @@ pub fn written_rows()
 }
 
 /// A law. A pair that no direction separates in a whole cue is clear by a greater depth, and its tree is split there.
+#[tactic(auto, using(crate::proofs::DepthRows::depth))]
 pub fn depth_rows()
     ensures { DepthRows }
 {}
 
 /// A law. The first part without a direction blocks a depth, and the best tree has the largest parts with one.
+#[tactic(auto, using(crate::proofs::DepthRows::search))]
 pub fn search_rows()
     ensures { SearchRows }
 {}
 
 /// A law. A show has 1 to 32 drones and 1 to 1,000 cues.
+#[tactic(auto, using(crate::proofs::GridRows::counts))]
 pub fn count_rows()
     ensures { CountRows }
 {}
 
 /// A law. Names stand once and are known, and the earliest fault counts.
+#[tactic(auto, using(crate::proofs::GridRows::naming))]
 pub fn naming_rows()
     ensures { NamingRows }
 {}
 
 /// A law. A depth refuses two drones by the first part in which no direction separates them, and a greater depth accepts
 /// them.
+#[tactic(auto, using(crate::proofs::BlockedRows::blocked))]
 pub fn blocked_rows()
     ensures { BlockedRows }
 {}
 
 /// A law. Words are called by the first of them, whole.
+#[tactic(auto, using(crate::proofs::CalledRows::called))]
 pub fn called_rows()
     ensures { CalledRows }
 {}

@@ -1,5 +1,0 @@
-use Rattle.definition_tests.proofs.BeginRows.{begins}
-use Rattle.definition_tests.proofs.begin_rows.Goals as goal
-
-pub returns : goal.returns
-returns c = begins

@@ -1,5 +1,0 @@
-use Rattle.definition_tests.proofs.ExplainRows.{explains}
-use Rattle.definition_tests.proofs.explain_rows.Goals as goal
-
-pub returns : goal.returns
-returns c = explains c.show_law.ensures

@@ -1,5 +1,0 @@
-use Rattle.definition_tests.proofs.RangeRows.{names}
-use Rattle.definition_tests.proofs.name_rows.Goals as goal
-
-pub returns : goal.returns
-returns c = names

@@ -1,5 +1,0 @@
-use Rattle.definition_tests.proofs.MotionRows.{speeds}
-use Rattle.definition_tests.proofs.speed_rows.Goals as goal
-
-pub returns : goal.returns
-returns c = speeds
