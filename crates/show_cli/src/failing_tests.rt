@@ -1,6 +1,8 @@
 //! Each failure once: the row of each command over ends that cut to 16 bytes, with each read failing in turn, and with
 //! each write. What is written then is the line of a failed read, or a prefix of the row's output by arithmetic.
-use crate::tests::{APART, CROSSING, FINE, HELP, Manner, PLAN, ROWS, SHOW, START, VERSION, answer};
+use crate::tests::{
+    APART, CROSSING, FINE, HELP, Manner, PLAN, ROWS, SHOW, START, VERSION, run_over,
+};
 use crate::upload_tests::{ANSWERS, DEFINE_AND_END, FIRST};
 use std::alloc::{AllocError, Global};
 use std::test::Fail;
@@ -125,7 +127,7 @@ fn is_met(
     written: &[u8],
 ) -> Result<bool, AllocError> {
     let (words, front, rest, _, _) = row;
-    let (met, sink) = answer(alloc, words, front, rest, failing(read), failing(write))?;
+    let (met, sink) = run_over(alloc, words, front, rest, failing(read), failing(write))?;
     Ok(met == status && sink.written() == written)
 }
 

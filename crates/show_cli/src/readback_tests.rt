@@ -1,6 +1,6 @@
 //! Rehearsals and uploads with read-back over memory, with results that are known from outside: the frames were written
 //! out by hand from docs/RADIO.md, "Read-back".
-use crate::tests::{FINE, SHOW, answer};
+use crate::tests::{FINE, SHOW, run_over};
 use crate::upload_tests::FIRST;
 use std::test::Fail;
 
@@ -73,7 +73,7 @@ fn rehearsals_with_read_back(rt: HostRuntime) -> Result<(), Fail> {
     for (words, more, status, end) in REHEARSALS {
         let mut rest = Vec::from_slice(alloc, LOADED)?;
         rest.extend_from_slice(more)?;
-        let (met, sink) = answer(alloc, words, SHOW, rest.as_slice(), FINE, FINE)?;
+        let (met, sink) = run_over(alloc, words, SHOW, rest.as_slice(), FINE, FINE)?;
         assert_eq!(rt; met, status);
         assert!(rt; sink.written().ends_with(end));
     }
@@ -134,7 +134,7 @@ fn uploads_with_read_back(rt: HostRuntime) -> Result<(), Fail> {
         for frames in reads {
             rest.extend_from_slice(frames)?;
         }
-        let (met, sink) = answer(alloc, words, SHOW, rest.as_slice(), FINE, FINE)?;
+        let (met, sink) = run_over(alloc, words, SHOW, rest.as_slice(), FINE, FINE)?;
         let mut wanted = Vec::from_slice(alloc, FIRST)?;
         wanted.extend_from_slice(DEFINE_AND_READS)?;
         wanted.extend_from_slice(end)?;

@@ -1,43 +1,18 @@
 //! Rehearsals of the smallest path over memory, with results that are known from outside.
-use fleet_io::{MemSink, MemSource};
-use fleet_math::Depth;
-use show_uploads::rehearse;
-use std::alloc::{AllocError, Global};
+use crate::tests::{CROSSING, FINE, Manner, SHOW, WITHOUT_ROOM, is_met, run_over};
 use std::test::Fail;
-
-const SHOW: &[u8] =
-    b"choreo 1\ndrone solo 0 0 1000000 0\ncue 2000\nsolo move 1000000 0 1000000 0\nend\n";
-
-// The same in a memory that has one byte too few after the offset.
-const WITHOUT_ROOM: &[u8] =
-    b"choreo 1\nmemory 2 4069\ndrone solo 0 0 1000000 0\ncue 2000\nsolo move 1000000 0 1000000 0\nend\n";
-
-// Two drones that change places at one height.
-const CROSSING: &[u8] =
-    b"choreo 1\nellipsoid 120 300\ndrone a 0 0 1000000 0\ndrone b 1000000 0 1000000 0\n\
-cue 3000\na move 1000000 0 1000000 0\nb move 0 0 1000000 0\nend\n";
 
 // The writes the other way round, and one of them twice; then the define.
 const TURNED: &[u8] =
     b"%%\ntake solo 2\ntake solo 1\ntake solo 1\nhear solo 1\nhear solo 1\nhear solo 2\n\
 take solo 3\nhear solo 4\n";
 
-// The result of a rehearsal at depth 6, with starts or without: its status, and the sink with what was written. The
-// read of this number fails, which counts from 1; none where it is 0.
-fn answer(
-    alloc: Global,
-    start: bool,
-    show: &[u8],
-    second: &[u8],
-    fails: u64,
-) -> Result<(u8, MemSink), AllocError> {
-    let mut bytes = Vec::from_slice(alloc, show)?;
-    bytes.extend_from_slice(second)?;
-    let mut source = MemSource::make(bytes, 1000, Vec::from_slice(alloc, &[fails])?);
-    let mut sink = MemSink::make(alloc, 20_000, 1000, Vec::new(alloc))?;
-    let depth = Depth::make(6);
-    let status = rehearse(alloc, depth, start, false, &mut source, &mut sink);
-    Ok((status, sink))
+fn words_of(start: bool) -> &'static [&'static str] {
+    if start {
+        &["rehearse", "--start"]
+    } else {
+        &["rehearse"]
+    }
 }
 
 // The first lines of what the path leaves, up to the second row of the memory; and the last ones without starts.
@@ -51,7 +26,7 @@ trajectory 0 offset 0 pieces 1\nstarted none\nends 1000 0 1000 0\n";
 
 #[test]
 fn a_turned_schedule(rt: HostRuntime) -> Result<(), Fail> {
-    let (status, sink) = answer(rt.alloc(), false, SHOW, TURNED, 0)?;
+    let (status, sink) = run_over(rt.alloc(), &["rehearse"], SHOW, TURNED, FINE, FINE)?;
     assert_eq!(rt; status, 0);
     let written = sink.written();
     assert_eq!(rt; written.len(), 13_018);
@@ -114,9 +89,7 @@ tick\ntick\ntick\ntick\ntick\ntick\ntick\ntick\ntick\ntick\n%%\n",
 #[test]
 fn schedules(rt: HostRuntime) -> Result<(), Fail> {
     for (start, second, status, written) in LINES {
-        let (met, sink) = answer(rt.alloc(), start, SHOW, second, 0)?;
-        assert_eq!(rt; met, status);
-        assert!(rt; sink.written() == written);
+        assert!(rt; is_met(rt.alloc(), words_of(start), SHOW, second, status, written)?);
     }
     Ok(())
 }
@@ -131,7 +104,8 @@ fn order_of_refusals(rt: HostRuntime) -> Result<(), Fail> {
         (CROSSING, 0, 5, b"error 5 pair a b cue 1 part 28 of 64\n"),
     ];
     for (show, fails, status, written) in rows {
-        let (met, sink) = answer(rt.alloc(), false, show, b"%%\ntock\n", fails)?;
+        let reads = Manner { cut: 1000, fails };
+        let (met, sink) = run_over(rt.alloc(), &["rehearse"], show, b"%%\ntock\n", reads, FINE)?;
         assert_eq!(rt; met, status);
         assert!(rt; sink.written() == written);
     }

@@ -1,5 +1,5 @@
 //! Runs of `boxes`, `speed`, `explain` and `dynamics`, with results that are known from outside.
-use crate::tests::{APART, CROSSING, FINE, MARKER, Manner, SHOW, WITHOUT_ROOM, answer, is_met};
+use crate::tests::{APART, CROSSING, FINE, MARKER, Manner, SHOW, WITHOUT_ROOM, is_met, run_over};
 use std::alloc::{AllocError, Global};
 use std::test::Fail;
 
@@ -433,10 +433,10 @@ fn marker_lines_that_are_refused(rt: HostRuntime) -> Result<(), Fail> {
 fn reads_and_writes_that_fail(rt: HostRuntime) -> Result<(), Fail> {
     let failing = Manner { cut: 10, fails: 2 };
     for command in ["boxes", "speed", "explain", "dynamics"] {
-        let (status, sink) = answer(rt.alloc(), &[command], SHOW, b"", failing, FINE)?;
+        let (status, sink) = run_over(rt.alloc(), &[command], SHOW, b"", failing, FINE)?;
         assert_eq!(rt; status, 6);
         assert_eq!(rt; sink.written(), b"error 6 read\n".as_slice());
-        let (status, sink) = answer(
+        let (status, sink) = run_over(
             rt.alloc(),
             &[command],
             SHOW,

@@ -75,7 +75,7 @@ fn source_of(
 }
 
 // The status of a run on an input in two halves, and the sink with what was written.
-pub fn answer(
+pub fn run_over(
     alloc: Global,
     words: &[&str],
     front: &[u8],
@@ -103,7 +103,7 @@ pub fn is_met(
     status: u8,
     written: &[u8],
 ) -> Result<bool, AllocError> {
-    let (met, sink) = answer(alloc, words, front, rest, FINE, FINE)?;
+    let (met, sink) = run_over(alloc, words, front, rest, FINE, FINE)?;
     Ok(met == status && sink.written() == written)
 }
 
@@ -319,7 +319,7 @@ data 00 00 00 00 E8 03 00 00 54 E8 03 E8 03 DC 05 84 03 00 00 00\nwrite 4E 02 00
     }
     let ok = b"ok drones 1 cues 255 duration_ms 255000\n";
     assert!(rt; is_met(rt.alloc(), &["check"], START, repeated, 0, ok)?);
-    let (status, sink) = answer(rt.alloc(), &["compile"], START, repeated, FINE, FINE)?;
+    let (status, sink) = run_over(rt.alloc(), &["compile"], START, repeated, FINE, FINE)?;
     assert_eq!(rt; status, 0);
     assert!(rt;
         sink.written()
@@ -363,7 +363,7 @@ const JOINED: [(&[u8], &[u8]); 7] = [
 #[test]
 fn joined_holds(rt: HostRuntime) -> Result<(), Fail> {
     for (cues, front) in JOINED {
-        let (status, sink) = answer(rt.alloc(), &["compile"], START, cues, FINE, FINE)?;
+        let (status, sink) = run_over(rt.alloc(), &["compile"], START, cues, FINE, FINE)?;
         assert_eq!(rt; status, 0);
         assert!(rt; sink.written().starts_with(front));
     }
@@ -691,7 +691,7 @@ fn failures(rt: HostRuntime) -> Result<(), Fail> {
         (&["play"], SHOW, b"", FINE, first, 7, b""),
     ];
     for (words, front, rest, reads, writes, status, written) in rows {
-        let (met, sink) = answer(rt.alloc(), words, front, rest, reads, writes)?;
+        let (met, sink) = run_over(rt.alloc(), words, front, rest, reads, writes)?;
         assert_eq!(rt; met, status);
         assert_eq!(rt; sink.written(), written);
     }

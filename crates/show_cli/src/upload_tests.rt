@@ -1,5 +1,5 @@
 //! Uploads by the whole program over memory. The frames were written out by hand from docs/RADIO.md, "Link frames".
-use crate::tests::{CROSSING, FINE, Manner, SHOW, WITHOUT_ROOM, answer};
+use crate::tests::{CROSSING, FINE, Manner, SHOW, WITHOUT_ROOM, run_over};
 use std::test::Fail;
 
 // The frames of the two writes of `SHOW`.
@@ -72,7 +72,7 @@ const ENDS: [Row; 11] = [
 fn each_end_of_an_upload(rt: HostRuntime) -> Result<(), Fail> {
     let alloc = rt.alloc();
     for (words, show, rest, status, first, end) in ENDS {
-        let (met, sink) = answer(alloc, words, show, rest, FINE, FINE)?;
+        let (met, sink) = run_over(alloc, words, show, rest, FINE, FINE)?;
         let mut wanted = Vec::from_slice(alloc, first)?;
         wanted.extend_from_slice(end)?;
         assert_eq!(rt; met, status);
@@ -109,7 +109,7 @@ fn strange_frames(rt: HostRuntime) -> Result<(), Fail> {
     for (frames, status) in STRANGE {
         let mut rest = Vec::from_slice(alloc, b"%%\n")?;
         rest.extend_from_slice(frames)?;
-        let (met, sink) = answer(alloc, &["upload"], SHOW, rest.as_slice(), FINE, FINE)?;
+        let (met, sink) = run_over(alloc, &["upload"], SHOW, rest.as_slice(), FINE, FINE)?;
         let mut wanted = Vec::from_slice(alloc, FIRST)?;
         wanted.extend_from_slice(&[0x45, status])?;
         assert_eq!(rt; met, status);
@@ -147,7 +147,7 @@ fn failing_ends_of_an_upload(rt: HostRuntime) -> Result<(), Fail> {
         (ANSWERS, FINE, second, 7, FIRST, b""),
     ];
     for (rest, reads, writes, status, begun, end) in rows {
-        let (met, sink) = answer(alloc, &["upload"], SHOW, rest, reads, writes)?;
+        let (met, sink) = run_over(alloc, &["upload"], SHOW, rest, reads, writes)?;
         let mut wanted = Vec::from_slice(alloc, begun)?;
         wanted.extend_from_slice(end)?;
         assert_eq!(rt; met, status);

@@ -1,5 +1,5 @@
 //! Chosen words and the commands that they are.
-ghost use Rattle.std.specs.Prelude.{◌≤◌};
+ghost use Rattle.std.specs.Prelude.{◌≡◌, ◌≤◌};
 
 use command_words::{Command, command_of, help_text};
 use fleet_math::{Depth, Fine};
@@ -15,40 +15,11 @@ fn command(alloc: Global, line: &str) -> Result<Option<Command>, AllocError> {
     Ok(command_of(&words))
 }
 
-// Commands by their numbers.
-fn check(depth: u8) -> Command
-    requires { depth ≤ 8 }
+fn depth(levels: u8) -> Depth
+    requires { levels ≤ 8 }
+    ensures { result ≡ levels }
 {
-    let depth = Depth::make(depth);
-    Command::Check { depth }
-}
-
-fn compile(depth: u8) -> Command
-    requires { depth ≤ 8 }
-{
-    let depth = Depth::make(depth);
-    Command::Compile { depth }
-}
-
-fn certify(depth: u8) -> Command
-    requires { depth ≤ 8 }
-{
-    let depth = Depth::make(depth);
-    Command::Certify { depth }
-}
-
-fn report(depth: u8) -> Command
-    requires { depth ≤ 8 }
-{
-    let depth = Depth::make(depth);
-    Command::Report { depth }
-}
-
-fn boxes(depth: u8) -> Command
-    requires { depth ≤ 8 }
-{
-    let depth = Depth::make(depth);
-    Command::Boxes { depth }
+    Depth::make(levels)
 }
 
 fn play(depth: u8, step: u16) -> Command
@@ -111,22 +82,22 @@ fn dynamics(depth: u8, accel: Option<u32>, jump: Option<u32>) -> Command
 }
 
 // Words, and the commands that they are.
-fn commands() -> [(&'static str, Command); 25] {
+fn commands() -> [(&'static str, Command); 28] {
     [
         ("help", Command::Help),
         ("version", Command::Version),
-        ("check", check(6)),
-        ("check --depth 0", check(0)),
-        ("compile --depth 8", compile(8)),
-        ("compile --depth 000000008", compile(8)),
-        ("certify --depth 05", certify(5)),
+        ("check", Command::Check { depth: depth(6) }),
+        ("check --depth 0", Command::Check { depth: depth(0) }),
+        ("compile --depth 8", Command::Compile { depth: depth(8) }),
+        ("compile --depth 000000008", Command::Compile { depth: depth(8) }),
+        ("certify --depth 05", Command::Certify { depth: depth(5) }),
         ("play", play(6, 100)),
         ("play --step 1", play(6, 1)),
         ("play --step 60000", play(6, 60_000)),
         ("play --step 500 --depth 3", play(3, 500)),
         ("play --depth 3 --step 000000500", play(3, 500)),
-        ("report", report(6)),
-        ("report --depth 2", report(2)),
+        ("report", Command::Report { depth: depth(6) }),
+        ("report --depth 2", Command::Report { depth: depth(2) }),
         ("verify", Command::Verify),
         ("rehearse", rehearse(6, false, false)),
         ("rehearse --start --depth 3", rehearse(3, true, false)),
@@ -134,6 +105,9 @@ fn commands() -> [(&'static str, Command); 25] {
         ("upload --start", upload(6, true, false)),
         ("upload --depth 7", upload(7, false, false)),
         ("upload --depth 7 --start", upload(7, true, false)),
+        ("rehearse --readback", rehearse(6, false, true)),
+        ("upload --readback --depth 2", upload(2, false, true)),
+        ("upload --readback --start", upload(6, true, true)),
         ("drill 1", drill(1, 6)),
         ("drill 32 --depth 8", drill(32, 8)),
         ("drill 004 --depth 6", drill(4, 6)),
@@ -144,8 +118,8 @@ fn commands() -> [(&'static str, Command); 25] {
 // The same of the commands that study a show.
 fn studies() -> [(&'static str, Command); 13] {
     [
-        ("boxes", boxes(6)),
-        ("boxes --depth 2", boxes(2)),
+        ("boxes", Command::Boxes { depth: depth(6) }),
+        ("boxes --depth 2", Command::Boxes { depth: depth(2) }),
         ("speed", speed(6, None)),
         ("speed --limit 1600000 --depth 0", speed(0, Some(1_600_000))),
         (
@@ -180,7 +154,7 @@ fn words_that_are_a_command(rt: HostRuntime) -> Result<(), Fail> {
     Ok(())
 }
 
-const NO_COMMANDS: [&str; 75] = [
+const NO_COMMANDS: [&str; 81] = [
     "",
     "Compile",
     "compil",
@@ -223,6 +197,12 @@ const NO_COMMANDS: [&str; 75] = [
     "rehearse --step 5",
     "upload --start --depth 3 --start",
     "upload --step 5 --start",
+    "upload --readback --readback",
+    "check --readback",
+    "direct --floor 32768",
+    "direct --silence 0",
+    "direct --then stop",
+    "direct --near 80 --near 80",
     "drill",
     "drill 0",
     "drill 33",

@@ -11,8 +11,8 @@ use show_plan::{FitError, Fitted, PlanFault, fit, plan_text};
 use std::alloc::Global;
 use traj_codec::encode;
 
-// What a text fits, or why not; nothing where it isn't a show.
-fn fitted_of(alloc: Global, text: &[u8]) -> Result<Fitted, Option<PlanFault>>
+// The error is `None` where the text isn't a show, and where memory ran out.
+pub fn fitted_of(alloc: Global, text: &[u8]) -> Result<Fitted, Option<PlanFault>>
     ensures { IfOk result (λ f. IsValidFitted f) }
 {
     if text.len() > MOST_TEXT {

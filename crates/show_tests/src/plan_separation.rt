@@ -1,12 +1,11 @@
 //! Certificates of shows. Trees and blocked parts were computed from the definitions by exact sums.
 
-use choreo_reader::read_show;
-use fleet_math::{Depth, MOST_TEXT};
+use crate::plan::fitted_of;
+use fleet_math::Depth;
 use sep_certificate::write_certificate;
 use sep_parts::Slot;
-use show_plan::{BlockedPart, SeparationFault, certificate, count_nodes, fit};
+use show_plan::{BlockedPart, SeparationFault, certificate, count_nodes};
 use std::alloc::Global;
-use std::test::Fail;
 
 /// What is answered for a show: whether its certificate has the wanted text; a fault; or something else.
 #[derive(Clone, Copy, PartialEq, Eq, Debug)]
@@ -17,13 +16,10 @@ enum Answer {
 }
 
 fn answer_of(alloc: Global, show: &[u8], depth: u8, wanted: &[u8]) -> Answer {
-    if show.len() > MOST_TEXT || depth > 8 {
+    if depth > 8 {
         return Answer::Other;
     }
-    let Ok(show) = read_show(alloc, show) else {
-        return Answer::Other;
-    };
-    let Ok(fitted) = fit(alloc, &show) else {
+    let Ok(fitted) = fitted_of(alloc, show) else {
         return Answer::Other;
     };
     let cert = match certificate(alloc, &fitted, Depth::make(depth)) {
@@ -36,115 +32,70 @@ fn answer_of(alloc: Global, show: &[u8], depth: u8, wanted: &[u8]) -> Answer {
     }
 }
 
-#[test]
-fn one_drone_steps_aside_and_passes_under_the_other(rt: HostRuntime) -> Result<(), Fail> {
-    let show =
-        b"choreo 1\nellipsoid 120 300\ndrone a 0 0 1000000 0\ndrone b 1000000 0 1000000 0\ncue 3000\nb move 1000000 0 2000000 0\nend\ncue 3000\na move 1000000 0 1000000 0\nb move 0 0 2000000 0\nend\ncue 3000\nb move 0 0 1000000 0\nend\n";
-    let answer = answer_of(
-        rt.alloc(),
-        show.as_slice(),
-        6,
-        b"version 2\ncertificate 6\n58\n46\n00\n",
-    );
-    assert_eq!(rt; answer, Answer::Certified(true));
-    Ok(())
+// How many nodes are counted at depth 6, where no part is blocked.
+fn nodes_of(alloc: Global, show: &[u8]) -> Option<u32> {
+    let Ok(fitted) = fitted_of(alloc, show) else {
+        return None;
+    };
+    count_nodes(alloc, &fitted, Depth::make(6)).ok()
 }
 
-#[test]
-fn one_drone_has_no_trees(rt: HostRuntime) -> Result<(), Fail> {
-    let show = b"choreo 1\ndrone a 0 0 1000000 0\ncue 1000\nend\n";
-    let answer = answer_of(
-        rt.alloc(),
-        show.as_slice(),
-        8,
-        b"version 2\ncertificate 8\n",
-    );
-    assert_eq!(rt; answer, Answer::Certified(true));
-    Ok(())
-}
+// One drone steps aside and passes under the other.
+const ASIDE: &[u8] =
+    b"choreo 1\nellipsoid 120 300\ndrone a 0 0 1000000 0\ndrone b 1000000 0 1000000 0\ncue 3000\nb move 1000000 0 2000000 0\nend\ncue 3000\na move 1000000 0 1000000 0\nb move 0 0 2000000 0\nend\ncue 3000\nb move 0 0 1000000 0\nend\n";
+
+const ALONE: &[u8] = b"choreo 1\ndrone a 0 0 1000000 0\ncue 1000\nend\n";
 
 // Only a direction with an entry 2 separates them: (2, 1, 0).
-#[test]
-fn drones_that_a_steep_direction_separates(rt: HostRuntime) -> Result<(), Fail> {
-    let show =
-        b"choreo 1\nellipsoid 120 300\ndrone a 0 0 1000000 0\ndrone b 223000 112000 1000000 0\ncue 1000\nend\n";
-    let answer = answer_of(
-        rt.alloc(),
-        show.as_slice(),
-        6,
-        b"version 2\ncertificate 6\n93\n",
-    );
-    assert_eq!(rt; answer, Answer::Certified(true));
-    Ok(())
-}
+const STEEP: &[u8] =
+    b"choreo 1\nellipsoid 120 300\ndrone a 0 0 1000000 0\ndrone b 223000 112000 1000000 0\ncue 1000\nend\n";
 
-// How many nodes are counted, where no part is blocked.
-fn nodes_of(alloc: Global, show: &[u8], depth: u8) -> Option<u32> {
-    if show.len() > MOST_TEXT || depth > 8 {
-        return None;
+// Two drones that meet halfway.
+const ACROSS: &[u8] =
+    b"choreo 1\nellipsoid 120 300\ndrone a 0 0 1000000 0\ndrone b 1000000 0 1000000 0\ncue 3000\na move 1000000 0 1000000 0\nb move 0 0 1000000 0\nend\n";
+
+// Apart, but along none of the 98 directions.
+const NEAR: &[u8] =
+    b"choreo 1\nellipsoid 120 300\ndrone a 0 0 1000000 0\ndrone b 236000 56000 1000000 0\ncue 1000\nend\n";
+
+// b meets c in the first cue, and a meets b in the second.
+const TWICE: &[u8] =
+    b"choreo 1\ndrone a 0 0 1000000 0\ndrone b 5000000 0 1000000 0\ndrone c 9000000 0 1000000 0\ncue 3000\nb move 9000000 0 1000000 0\nend\ncue 3000\nb move 0 0 1000000 0\nend\n";
+
+#[test]
+fn drones_that_keep_apart(rt: HostRuntime) {
+    let rows: [(&[u8], u8, &[u8]); 3] = [
+        (ASIDE, 6, b"version 2\ncertificate 6\n58\n46\n00\n"),
+        (ALONE, 8, b"version 2\ncertificate 8\n"),
+        (STEEP, 6, b"version 2\ncertificate 6\n93\n"),
+    ];
+    for (show, depth, wanted) in rows {
+        let answer = answer_of(rt.alloc(), show, depth, wanted);
+        assert_eq!(rt; answer, Answer::Certified(true));
     }
-    let Ok(show) = read_show(alloc, show) else {
-        return None;
-    };
-    let Ok(fitted) = fit(alloc, &show) else {
-        return None;
-    };
-    count_nodes(alloc, &fitted, Depth::make(depth)).ok()
 }
 
 #[test]
-fn nodes_are_counted(rt: HostRuntime) -> Result<(), Fail> {
-    let aside =
-        b"choreo 1\nellipsoid 120 300\ndrone a 0 0 1000000 0\ndrone b 1000000 0 1000000 0\ncue 3000\nb move 1000000 0 2000000 0\nend\ncue 3000\na move 1000000 0 1000000 0\nb move 0 0 2000000 0\nend\ncue 3000\nb move 0 0 1000000 0\nend\n";
-    assert_eq!(rt; nodes_of(rt.alloc(), aside.as_slice(), 6), Some(3));
-    let alone = b"choreo 1\ndrone a 0 0 1000000 0\ncue 1000\nend\n";
-    assert_eq!(rt; nodes_of(rt.alloc(), alone.as_slice(), 6), Some(0));
-    let across =
-        b"choreo 1\nellipsoid 120 300\ndrone a 0 0 1000000 0\ndrone b 1000000 0 1000000 0\ncue 3000\na move 1000000 0 1000000 0\nb move 0 0 1000000 0\nend\n";
-    assert_eq!(rt; nodes_of(rt.alloc(), across.as_slice(), 6), None);
-    Ok(())
+fn nodes_are_counted(rt: HostRuntime) {
+    assert_eq!(rt; nodes_of(rt.alloc(), ASIDE), Some(3));
+    assert_eq!(rt; nodes_of(rt.alloc(), ALONE), Some(0));
+    assert_eq!(rt; nodes_of(rt.alloc(), ACROSS), None);
 }
 
-// The part of this index is the first that is blocked, for two drones in a cue.
-fn blocked(a: u8, b: u8, cue: u16, index: u16) -> Answer {
-    Answer::Fault(SeparationFault::Blocked {
-        part: BlockedPart {
-            slot: Slot { a, b, cue },
-            index,
-        },
-    })
-}
-
+// The first blocked part by pair and then by cue: the pair a and b, the cue and the index of the part.
 #[test]
-fn drones_that_meet_are_blocked(rt: HostRuntime) -> Result<(), Fail> {
-    let across =
-        b"choreo 1\nellipsoid 120 300\ndrone a 0 0 1000000 0\ndrone b 1000000 0 1000000 0\ncue 3000\na move 1000000 0 1000000 0\nb move 0 0 1000000 0\nend\n";
-    assert_eq!(rt;
-        answer_of(rt.alloc(), across.as_slice(), 6, b""),
-        blocked(0, 1, 0, 28)
-    );
-    assert_eq!(rt;
-        answer_of(rt.alloc(), across.as_slice(), 0, b""),
-        blocked(0, 1, 0, 0)
-    );
-    // apart, but along none of the 98 directions
-    let near =
-        b"choreo 1\nellipsoid 120 300\ndrone a 0 0 1000000 0\ndrone b 236000 56000 1000000 0\ncue 1000\nend\n";
-    assert_eq!(rt;
-        answer_of(rt.alloc(), near.as_slice(), 6, b""),
-        blocked(0, 1, 0, 0)
-    );
-    Ok(())
-}
-
-#[test]
-fn the_first_blocked_part_by_pair_and_then_by_cue(rt: HostRuntime) -> Result<(), Fail> {
-    // b meets c in the first cue, and a meets b in the second
-    let show =
-        b"choreo 1\ndrone a 0 0 1000000 0\ndrone b 5000000 0 1000000 0\ndrone c 9000000 0 1000000 0\ncue 3000\nb move 9000000 0 1000000 0\nend\ncue 3000\nb move 0 0 1000000 0\nend\n";
-    assert_eq!(rt;
-        answer_of(rt.alloc(), show.as_slice(), 0, b""),
-        blocked(0, 1, 1, 0)
-    );
-    Ok(())
+fn drones_that_come_too_near(rt: HostRuntime) {
+    for (show, depth, cue, index) in [
+        (ACROSS, 6, 0, 28),
+        (ACROSS, 0, 0, 0),
+        (NEAR, 6, 0, 0),
+        (TWICE, 0, 1, 0),
+    ] {
+        let slot = Slot { a: 0, b: 1, cue };
+        let part = BlockedPart { slot, index };
+        assert_eq!(rt;
+            answer_of(rt.alloc(), show, depth, b""),
+            Answer::Fault(SeparationFault::Blocked { part })
+        );
+    }
 }

@@ -306,13 +306,38 @@ fn each_word_of_a_line(rt: HostRuntime) {
 
 #[test]
 fn names_and_cues(rt: HostRuntime) {
-    let no_drone = Refusal::Grid {
-        fault: GridFault::NoDrone { line: 1 },
-    };
-    let too_many = Refusal::Grid {
-        fault: GridFault::TooManyCues { line: 3 },
-    };
-    let none = says(&no_drone, b"error 3 line 1 no-drone\n", 3);
-    let many = says(&too_many, b"error 3 line 3 too-many-cues\n", 3);
-    assert!(rt; none && many);
+    let rows = [
+        (
+            GridFault::NoDrone { line: 1 },
+            b"error 3 line 1 no-drone\n".as_slice(),
+        ),
+        (
+            GridFault::TooManyDrones { line: 34 },
+            b"error 3 line 34 too-many-drones\n",
+        ),
+        (
+            GridFault::DoubleName { line: 3 },
+            b"error 3 line 3 double-name\n",
+        ),
+        (
+            GridFault::UnknownName { line: 8 },
+            b"error 3 line 8 unknown-name\n",
+        ),
+        (
+            GridFault::DoubleAct { line: 5 },
+            b"error 3 line 5 double-act\n",
+        ),
+        (
+            GridFault::RoleCount { line: 8 },
+            b"error 3 line 8 role-count\n",
+        ),
+        (GridFault::NoCue { line: 1 }, b"error 3 line 1 no-cue\n"),
+        (
+            GridFault::TooManyCues { line: 3 },
+            b"error 3 line 3 too-many-cues\n",
+        ),
+    ];
+    for (fault, wanted) in rows {
+        assert!(rt; says(&Refusal::Grid { fault }, wanted, 3));
+    }
 }
