@@ -12,7 +12,7 @@ one_piece : (p : List ℕ) (ps : List (List ℕ)) → without_empty (p ∷ ps) �
 one_piece [] ps = refl
 one_piece (b ∷ bs) ps = refl
 
--- the first piece, and the words behind what ends it
+-- the first piece, and the words after what ends it
 words_more : (n : ℕ) (xs : List ℕ) → n ≡ position_or_len divides xs → n < length xs → words_in xs ≡ without_empty (take n xs ∷ []) ++ words_in (drop (n + 1) xs)
 words_more n xs is lt = ap without_empty (cut_more divides n xs is lt) ∙ one_piece (take n xs) (slice_split divides (drop (n + 1) xs))
 
@@ -22,7 +22,7 @@ words_last n xs is all =
     let whole : take n xs ≡ xs = take_all n xs (omega (arith, all)) in
     ap without_empty (cut_none divides n xs is all) ∙ ap (λ (p : List ℕ). without_empty (p ∷ [])) (sym whole)
 
--- with the first piece taken, the words behind it are left
+-- with the first piece taken, the words after it are left
 pub words_taken : (n : ℕ) (xs : List ℕ) (old new all : List (List ℕ)) → n ≡ position_or_len divides xs → n < length xs → new ≡ old ++ without_empty (take n xs ∷ []) → old ++ words_in xs ≡ all → new ++ words_in (drop (n + 1) xs) ≡ all
 words_taken n xs old new all is lt made so_far =
     ap (λ (ws : List (List ℕ)). ws ++ words_in (drop (n + 1) xs)) made

@@ -7,7 +7,7 @@ use Rattle.show_judge.specs.Verb.{Verb, run_of}
 abbrev pub IsNamed : List (List ℕ) → List ℕ → Type 0
 IsNamed words name = slice_get words 0 ≡ Some name
 
--- what stands in the caller's room once these bytes are put there: as many of them as it has room for, and behind them
+-- what stands in the caller's room once these bytes are put there: as many of them as it has room for, and after them
 -- what stood there before
 abbrev pub put_in : List ℕ → List ℕ → List ℕ
 put_in room bytes = take (length room) bytes ++ drop (length bytes) room

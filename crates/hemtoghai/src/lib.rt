@@ -88,7 +88,7 @@ pub extern "C" fn hemtoghai_run(
     ensures motions { (depth : ℕ) (accel jump : Option ℕ) → command_of (words_in words.now) ≡ Some (Command.Dynamics depth accel jump) → result ≡ 0
         → KeepsDynamics depth accel jump input.now (Some []) (Some (take size.new output.new)) }
 
-    // Of `upload` it holds whatever the status, once the first byte of a packet stands in `output`.
+    // Of `upload` it holds at each status, once the first byte of a packet stands in `output`.
     ensures begun { (depth : ℕ) (start readback : Bool) → command_of (words_in words.now) ≡ Some (Command.Upload depth start readback)
         → HasBegun (Some []) (Some (take size.new output.new)) → UploadsText (part_of input.now) }
 

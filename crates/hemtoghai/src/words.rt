@@ -33,7 +33,6 @@ impl<T: Drop> From<AllocFailed<T>> for WordsFault {
     }
 }
 
-// Whether a byte stands between words.
 fn divides(byte: u8) -> bool
     ensures { result ≡ divides byte }
 {
@@ -52,8 +51,7 @@ fn word_len(bytes: &[u8]) -> usize
     at
 }
 
-// What stands behind the byte at this place.
-fn behind(bytes: &[u8], at: usize) -> &[u8]
+fn after_byte(bytes: &[u8], at: usize) -> &[u8]
     requires { at < length bytes.now }
     ensures { result.now ≡ drop (at + 1) bytes.now }
 {
@@ -91,6 +89,6 @@ pub fn words_of(alloc: Global, bytes: &[u8]) -> Result<Vec<String>, WordsFault>
         if len == rest.len() {
             return Ok(list);
         }
-        rest = behind(rest, len);
+        rest = after_byte(rest, len);
     }
 }

@@ -89,7 +89,10 @@ fn commands() -> [(&'static str, Command); 28] {
         ("check", Command::Check { depth: depth(6) }),
         ("check --depth 0", Command::Check { depth: depth(0) }),
         ("compile --depth 8", Command::Compile { depth: depth(8) }),
-        ("compile --depth 000000008", Command::Compile { depth: depth(8) }),
+        (
+            "compile --depth 000000008",
+            Command::Compile { depth: depth(8) },
+        ),
         ("certify --depth 05", Command::Certify { depth: depth(5) }),
         ("play", play(6, 100)),
         ("play --step 1", play(6, 1)),

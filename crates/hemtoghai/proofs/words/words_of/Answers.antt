@@ -14,5 +14,5 @@ returns-then-len-rest-clause-ok c = words_done c.word_len-len.result c.words.res
 
 pub words-preserved : goal.words-preserved
 words-preserved c = record {
-  so_far = rw c.behind-rest.ensures (words_taken c.word_len-len.result c.words.rest.now (map string_bytes c.words.list.items) _ _ c.word_len-len.ensures.value (omega arith) c.in-Ok.ensures.ok c.words.invariant.so_far);
+  so_far = rw c.after_byte-rest.ensures (words_taken c.word_len-len.result c.words.rest.now (map string_bytes c.words.list.items) _ _ c.word_len-len.ensures.value (omega arith) c.in-Ok.ensures.ok c.words.invariant.so_far);
 }
