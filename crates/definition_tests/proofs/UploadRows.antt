@@ -70,9 +70,9 @@ uploads = record {
   lands = λ lands. show.x (lands false false blank events [] (λ d within. is_drone d) unaltered refl).near;
   in_any_order = λ any. show.x (any false false blank (λ d. 0 ∷ 1 ∷ []) (λ d. []) (λ d within. is_drone d) (λ d within. own (flight (pos 0) (pos 0)) d refl within)
       (λ d k within below plain. by d k within below)).near;
-  once_sent = λ fly. no_hold (fly.once_sent false true blank events [] 0 0 (λ d within. is_drone d) unaltered (omega arith) (omega arith) (2, omega arith, refl)).decodes.begins.spells.durations;
-  once_accepted = λ fly. no_hold (fly.once_accepted false false (blank 0) (0 ∷ 1 ∷ []) [] 0 (is_drone 0) (omega arith) (own no_time 0 refl (omega arith))
-      (λ k below. accepted no_time (0, refl, refl) (1, refl, refl) 0 k (omega arith) below)).decodes.begins.spells.durations;
+  undecoded = λ fly. no_hold (fly.once_sent false true blank events [] 0 0 (λ d within. is_drone d) unaltered (omega arith) (omega arith) (2, omega arith, refl)).decodes.begins.spells.durations;
+  once_sent = λ drones fly fresh sent. fly.once_sent false true drones events [] 0 0 fresh unaltered (omega arith) (omega arith) sent;
+  once_accepted = λ drone fly fresh accepts. fly.once_accepted false true drone (0 ∷ 1 ∷ []) (2 ∷ 0 ∷ []) 0 fresh (omega arith) (own_start refl) accepts;
   begins_once = λ drone fly fresh accepts. fly.begins_once false true drone (0 ∷ 1 ∷ []) (2 ∷ 0 ∷ []) 0 fresh (omega arith) (own_start refl) accepts refl;
 }
   where

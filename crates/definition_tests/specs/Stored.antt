@@ -1,16 +1,19 @@
 -- What the definitions of stored flights say of small memories.
-use Rattle.std.specs.Prelude.{◌≡◌, ℕ, ◌∷◌, [], Bool, false, true, pos}
+use Rattle.std.specs.Prelude.{◌≡◌, ℕ, ◌<◌, ◌∷◌, [], Bool, false, true, pos, Contains}
 use Rattle.cue_grid.specs.declared.grid.Grid.{Grid}
 use Rattle.choreo_show.specs.declared.show.Settings.{Settings}
-use Rattle.firmware_memory.specs.Decoded.{DecodesTo}
+use Rattle.firmware_memory.specs.Decoded.{Carries, DecodesTo}
 use Rattle.upload_model.specs.Drones.{DroneState}
 use Rattle.traj_codec.specs.Joined.{hold}
 use Rattle.traj_codec.specs.declared.traj.Traj.{Traj}
 use Rattle.upload_model.specs.Memories.{IsDrone}
 use Rattle.upload_model.specs.Starts.{beginnings_in}
-use Rattle.upload_model.specs.Taking.{AcceptsLoad}
+use Rattle.upload_model.specs.Taking.{AcceptsLoad, taken}
+use Rattle.upload_model.specs.Worlds.{world}
+use Rattle.crtp_packets.specs.Commands.{start_of}
 use Rattle.show_plan.specs.Landing.{IsLanded, Lands, LandsInAnyOrder, session_for}
 use Rattle.show_plan.specs.Uploading.{FlyTheirOwn}
+use Rattle.definition_tests.specs.Begins.{loaded}
 use Rattle.definition_tests.specs.Carried.{loaded_with}
 use Rattle.definition_tests.specs.Flights.{flight}
 use Rattle.definition_tests.specs.Near.{going_to, holding_at, spot}
@@ -42,14 +45,19 @@ abbrev pub no_time : Traj
 no_time = record { start = pos 0 ∷ pos 0 ∷ pos 0 ∷ pos 0 ∷ []; segments = hold 0 ∷ [] }
 
 -- What is said of uploads is said of some: there are uploads that are done, orders in which all is accepted, and starts
--- that are sent. So it is not true of a flight that isn't near to its show, or that can't be decoded. Two rows say the
--- same, and are proved by two fields. The last one says that a drone in any state begins once, by one start
--- after its define.
+-- that are sent. So it is not true of a flight that isn't near to its show, or that can't be decoded. The last three are
+-- said of a drone in any state: it carries its flight once a start was sent, and once it accepted its load; and it
+-- begins once, by one start after its define.
 pub record UploadRows : Type 0 where
   pub lands : Lands (holding_at (spot (pos 501) (pos 0) (pos 0) (pos 0))) settings (flight (pos 0) (pos 0) ∷ []) → ⊥
   pub in_any_order : LandsInAnyOrder (holding_at (spot (pos 501) (pos 0) (pos 0) (pos 0))) settings (flight (pos 0) (pos 0) ∷ []) → ⊥
-  pub once_sent : FlyTheirOwn settings (no_time ∷ []) → ⊥
-  pub once_accepted : FlyTheirOwn settings (no_time ∷ []) → ⊥
+  pub undecoded : FlyTheirOwn settings (no_time ∷ []) → ⊥
+  pub once_sent : (drones : ℕ → DroneState) → FlyTheirOwn settings (flight (pos 0) (pos 0) ∷ []) → ((d : ℕ) → d < 1 → IsDrone (drones d)) →
+      Contains ((world (session_for settings (flight (pos 0) (pos 0) ∷ []) false true) drones loaded).sent 0) (start_of 0) →
+      Carries ((world (session_for settings (flight (pos 0) (pos 0) ∷ []) false true) drones loaded).drones 0) 0 (flight (pos 0) (pos 0))
+  pub once_accepted : (drone : DroneState) → FlyTheirOwn settings (flight (pos 0) (pos 0) ∷ []) → IsDrone drone →
+      AcceptsLoad (session_for settings (flight (pos 0) (pos 0) ∷ []) false true) 0 drone (0 ∷ 1 ∷ []) →
+      Carries (taken (session_for settings (flight (pos 0) (pos 0) ∷ []) false true) 0 drone (0 ∷ 1 ∷ 2 ∷ 0 ∷ [])) 0 (flight (pos 0) (pos 0))
   pub begins_once : (drone : DroneState) → FlyTheirOwn settings (flight (pos 0) (pos 0) ∷ []) → IsDrone drone →
       AcceptsLoad (session_for settings (flight (pos 0) (pos 0) ∷ []) false true) 0 drone (0 ∷ 1 ∷ []) →
       beginnings_in (session_for settings (flight (pos 0) (pos 0) ∷ []) false true) 0 drone (0 ∷ 1 ∷ 2 ∷ 0 ∷ []) ≡ 1
