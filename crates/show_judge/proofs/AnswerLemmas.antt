@@ -4,6 +4,7 @@ use Rattle.refusals.specs.declared.refusal.Refusal.TheVariants as refusal
 use Rattle.show_judge.specs.declared.judging.Accepted.{Accepted}
 use Rattle.cue_grid.specs.declared.grid.Grid.{Grid}
 use Rattle.show_judge.proofs.PlanLemmas.{cut_at}
+use Rattle.show_judge.proofs.RunLemmas.{some_map}
 
 -- a refusal has no status 0
 pub refused_some : (r : Refusal) → status_of r ≡ 0 → ⊥
@@ -24,30 +25,20 @@ pub plain_outcome : (c : Verb) (cut : Cut) (r : Refusal) → c.ways.by_frames �
 plain_outcome c cut r plain is = subst (IsOutcomeOf c cut) (said_plain c r plain) (refused_outcome c cut r is)
 
 -- what a show gives that nothing refuses
-comes_to : (c : Verb) (cut : Cut) (s : PlainShow) (o : Outcome) → length cut.show ≤ most_text → StandsFor cut.show s → show_refusal c.ways cut s ≡ None → c.gives s cut o → IsOutcomeOf c cut o
-comes_to c cut s o short stands none gives =
+show_outcome : (c : Verb) (cut : Cut) (s : PlainShow) (o : Outcome) → length cut.show ≤ most_text → StandsFor cut.show s → show_refusal c.ways cut s ≡ None → c.gives s cut o → IsOutcomeOf c cut o
+show_outcome c cut s o short stands none gives =
     inr (record { s = s; short = short; stands = stands; gives = subst (λ (r : Option Refusal). ShowGives c r s cut o) (sym none) gives })
 
 -- ---- a show that is accepted, and one that is refused
 
 -- the outcome of a show that is accepted, and that it is safe
 pub accepted_outcome : (c : Verb) (depth : ℕ) (cut : Cut) (a : Accepted) (o : Outcome) → (is : IsAccepted c.ways depth cut a) → c.gives is.s cut o → IsOutcomeOf c cut o
-accepted_outcome c depth cut a o is gives = comes_to c cut is.s o is.short is.stands is.accepted gives
+accepted_outcome c depth cut a o is gives = show_outcome c cut is.s o is.short is.stands is.accepted gives
 
 pub accepted_safe : (c : Verb) → IsVerb c → (depth : ℕ) (cut : Cut) (a : Accepted) (o : Outcome) → (is : IsAccepted c.ways depth cut a) → c.gives is.s cut o → o.status ≡ 0 → IsSafe c cut o
 accepted_safe c law depth cut a o is gives done =
     let promised = law.apart depth is.s cut is.searched (record { apart = is.safe.apart; uploads = is.safe.uploads }) in
     record { s = is.s; stands = is.stands; near = is.safe.near; promised = promised; accepted = is.accepted; gives = gives; done = done }
-
--- a command answers this for a show that is accepted
-pub answers_done : (c : Verb) → IsVerb c → (depth : ℕ) (text : Text) (a : Accepted) (answer : Answer) → ((cut : Cut) → IsShowText text cut → IsAccepted c.ways depth cut a) →
-    ((cut : Cut) (s : PlainShow) → IsFitted a.fitted s → a.nodes ≡ nodes_of s depth → c.gives s cut (outcome_of answer)) → IsUnmarked text → IsSaid answer → AnswersText c text (Ok answer)
-answers_done c law depth text a answer accepted gives unmarked is_said = record {
-  gives = λ cut is. let it = accepted cut is in accepted_outcome c depth cut a (outcome_of answer) it (gives cut it.s it.fitted it.nodes);
-  safe = λ cut is done. let it = accepted cut is in accepted_safe c law depth cut a (outcome_of answer) it (gives cut it.s it.fitted it.nodes) done;
-  whole = λ done. unmarked;
-  said = is_said;
-}
 
 pub answers_refused : (c : Verb) (text : Text) (r : Refusal) → c.ways.by_frames ≡ false → ((cut : Cut) → IsShowText text cut → IsRefusedBy c.ways cut r) → IsOfInput r → AnswersText c text (Ok (Refused r))
 answers_refused c text r plain is of_input = grind (arith, common_steps, plain_outcome, refused_some)
@@ -55,11 +46,17 @@ answers_refused c text r plain is of_input = grind (arith, common_steps, plain_o
 pub answers_memory : (c : Verb) (text : Text) (e : AllocError) → AnswersText c text (Err e)
 answers_memory c text e = record { gives = λ cut is. tt; safe = λ cut is. tt; whole = tt; said = tt }
 
+-- a command answers this for a show that is accepted
 pub answers_accepted : (c : Verb) → IsVerb c → (depth : ℕ) (text : Text) (a : Accepted) (result : Result Answer AllocError) → ((cut : Cut) → IsShowText text cut → IsAccepted c.ways depth cut a) →
     ((cut : Cut) (s : PlainShow) → IsFitted a.fitted s → a.nodes ≡ nodes_of s depth → IfOk result (λ answer. c.gives s cut (outcome_of answer))) → IsUnmarked text → IfOk result IsSaid →
     AnswersText c text result
 answers_accepted c law depth text a (Err e) accepted gives unmarked is_said = answers_memory c text e
-answers_accepted c law depth text a (Ok answer) accepted gives unmarked is_said = answers_done c law depth text a answer accepted gives unmarked is_said
+answers_accepted c law depth text a (Ok answer) accepted gives unmarked is_said = record {
+  gives = λ cut is. let it = accepted cut is in accepted_outcome c depth cut a (outcome_of answer) it (gives cut it.s it.fitted it.nodes);
+  safe = λ cut is done. let it = accepted cut is in accepted_safe c law depth cut a (outcome_of answer) it (gives cut it.s it.fitted it.nodes) done;
+  whole = λ done. unmarked;
+  said = is_said;
+}
 
 -- ---- a show that fits
 
@@ -127,22 +124,18 @@ two_fitted c d limit input f (Ok a) plain is fits gives promised whole unmarked 
 
 -- ---- what was read
 
-pub some_by : (left : Option (List ℕ)) (P Q : List ℕ → Type 0) → ((x : List ℕ) → P x → Q x) → IfSome left P → IfSome left Q
-some_by None P Q by holds = tt
-some_by (Some x) P Q by holds = by x holds
-
 pub input_text : (c : Verb) (left after : Option (List ℕ)) (text : Text) (a : Answer) → ReadsShow left after text → AnswersText c text (Ok a) → AnswersInput c left after (Ok a)
 input_text c left after text a read answers = record {
-  gives = some_by left _ _ (λ input is. answers.gives (cut_of input) is) read.show;
-  safe = some_by left _ _ (λ input is. answers.safe (cut_of input) is) read.show;
+  gives = some_map left _ _ (λ input is. answers.gives (cut_of input) is) read.show;
+  safe = some_map left _ _ (λ input is. answers.safe (cut_of input) is) read.show;
   whole = λ done. read.whole (answers.whole done);
   said = answers.said;
 }
 
 pub input_two : (c : Verb) (limit : ℕ) (left after : Option (List ℕ)) (input : Input) (a : Answer) → ReadsTwo limit left after input → AnswersTwo c limit input (Ok a) → AnswersInput c left after (Ok a)
 input_two c limit left after input a read answers = record {
-  gives = some_by left _ _ (λ all is. answers.gives (cut_of all) is) read.texts;
-  safe = some_by left _ _ (λ all is. answers.safe (cut_of all) is) read.texts;
+  gives = some_map left _ _ (λ all is. answers.gives (cut_of all) is) read.texts;
+  safe = some_map left _ _ (λ all is. answers.safe (cut_of all) is) read.texts;
   whole = λ done. let parts = answers.whole done in read.whole parts.0 parts.1;
   said = answers.said;
 }
@@ -150,7 +143,7 @@ input_two c limit left after input a read answers = record {
 -- what is judged of a text is judged of the input
 pub judges_text : (c : Ways) (depth : ℕ) (left after : Option (List ℕ)) (text : Text) (j : Judged) → c.has_second ≡ false → ReadsShow left after text →
     ((cut : Cut) → IsShowText text cut → JudgedGives c depth cut j) → EndsJudged c text j → JudgesInput c depth left after (Ok j)
-judges_text c depth left after text j alone read gives ends = grind (arith, common_steps, some_by)
+judges_text c depth left after text j alone read gives ends = grind (arith, common_steps, some_map)
 
 -- what is accepted of a text lands
 pub accepted_lands : (c : Ways) (depth : ℕ) (text : Text) (a : Accepted) → IsWholeText text → IsWithin most_text text → ((cut : Cut) → IsShowText text cut → IsAccepted c depth cut a) →

@@ -1,39 +1,9 @@
--- A command that reads a show and writes one text of it.
+-- What a run of a command does that answers for a show, or for a show and a second text.
 use Rattle.show_judge.proofs.Prelude.{Option, ◌≡◌, ◌⊎◌, inl, inr, ℕ, List, Result, Err, IfOk, refl, sym, ◌∙◌, ap, ◌<◌, IfSome, length, true, false, ShowLaw, PlainShow, Rose, TakesFewAfter, TakesFront, ◌≤◌, Answer, Failure, Read, AnswersInput, Responds, IsReadBoth, TakesOneText, part_of, Ways, most_text, Behaves, IsAny, IsTwo, Outcome, Run, Verb, of_show, outcome, IsVerb}
-use Rattle.show_judge.proofs.HeadlineLemmas.{headlines, says_of}
+use Rattle.show_judge.proofs.HeadlineLemmas.{behaves_of, says_of}
 use Rattle.show_judge.proofs.ReadLemmas.{judged_answer}
-use Rattle.show_judge.proofs.RunLemmas.{IsPlain, completes, runs_answer}
+use Rattle.show_judge.proofs.RunLemmas.{IsPlain, runs_answer}
 use Rattle.show_judge.proofs.VerbLemmas.{outcomes}
-
--- it keeps the laws of a command
-pub show_verb : (depth : ℕ) (text : PlainShow → List ℕ) → IsVerb (of_show depth text)
-show_verb depth text = record {
-  one = λ s cut o p first second. first ∙ sym second;
-  some = λ s cut known. (outcome 0 (text s), refl);
-  done = λ s cut o gives succeeds. ap (λ (o : Outcome). o.status) gives;
-  apart = λ d s cut searched apart. apart;
-  headline = λ input o old new safe appended. says_of (of_show depth text) text input o old new refl safe safe.promised safe.gives appended;
-}
-
-pub show_plain : (depth : ℕ) (text : PlainShow → List ℕ) → IsPlain (of_show depth text)
-show_plain depth text = record { reads = refl; judges = refl; stops = λ taken. refl; prompt = λ r. tt }
-
--- What was answered for the input of a source and written.
-pub show_behaves : ShowLaw → (depth : ℕ) (text : PlainShow → List ℕ) (r : Run) (result : Result Answer Failure) (status : ℕ) → AnswersInput (of_show depth text) r.left r.left_after result →
-    Responds result r.written r.written_after r.writes_failed r.writes_failed_after status → (result ≡ Err Read → Rose r.reads_failed r.reads_failed_after) →
-    TakesFront r.left r.left_after → r.reads_failed ≤ r.reads_failed_after → TakesOneText r.left r.left_after → IfOk result (λ _. TakesFewAfter r.left r.left_after) →
-    Behaves (of_show depth text) r status
-show_behaves law depth text r result status answers wrote failed taken later few after =
-    let outcome_law = outcomes law (of_show depth text) (show_verb depth text) in
-    let runs = runs_answer (of_show depth text) r result status (show_plain depth text) outcome_law answers wrote failed taken later in
-    record {
-      runs = runs;
-      complete = completes (of_show depth text) outcome_law r status runs;
-      few = λ wanted. few;
-      marker = λ alone reads judged. judged_answer result r.written r.written_after r.writes_failed r.writes_failed_after status _ wrote after judged;
-      reading = tt;
-      headline = headlines (of_show depth text) (show_verb depth text) r status runs;
-    }
 
 -- ---- a show that fits
 
@@ -45,16 +15,26 @@ pub any_behaves : ShowLaw → (v : Verb) (r : Run) (result : Result Answer Failu
     TakesFront r.left r.left_after → r.reads_failed ≤ r.reads_failed_after → TakesOneText r.left r.left_after → IfOk result (λ _. TakesFewAfter r.left r.left_after) →
     Behaves v r status
 any_behaves law v r result status is any answers wrote failed taken later few after =
-    let outcome_law = outcomes law v is in
-    let runs = runs_answer v r result status (any_plain v any) outcome_law answers wrote failed taken later in
-    record {
-      runs = runs;
-      complete = completes v outcome_law r status runs;
-      few = λ wanted. few;
-      marker = λ alone reads judged. judged_answer result r.written r.written_after r.writes_failed r.writes_failed_after status _ wrote after judged;
-      reading = any.reading r status;
-      headline = headlines v is r status runs;
-    }
+    behaves_of law v is r status (runs_answer v r result status (any_plain v any) (outcomes law v is) answers wrote failed taken later) (λ wanted. few)
+    (λ alone reads judged. judged_answer result r.written r.written_after r.writes_failed r.writes_failed_after status _ wrote after judged) (any.reading r status)
+
+-- ---- a show that is written as one text
+
+-- it keeps the laws of a command
+pub show_verb : (depth : ℕ) (text : PlainShow → List ℕ) → IsVerb (of_show depth text)
+show_verb depth text = record {
+  one = λ s cut o p first second. first ∙ sym second;
+  some = λ s cut known. (outcome 0 (text s), refl);
+  done = λ s cut o gives succeeds. ap (λ (o : Outcome). o.status) gives;
+  apart = λ d s cut searched apart. apart;
+  headline = λ input o old new safe appended. says_of (of_show depth text) text input o old new refl safe safe.promised safe.gives appended;
+}
+
+pub show_any : (depth : ℕ) (text : PlainShow → List ℕ) → IsAny (of_show depth text)
+show_any depth text = record { reads = refl; alone = refl; lines = refl; judges = refl; stops = λ taken. refl; prompt = λ r. tt; reading = λ r status. tt }
+
+pub show_plain : (depth : ℕ) (text : PlainShow → List ℕ) → IsPlain (of_show depth text)
+show_plain depth text = any_plain (of_show depth text) (show_any depth text)
 
 -- ---- two texts
 
@@ -76,13 +56,6 @@ pub two_behaves : ShowLaw → (depth : Option ℕ) (limit : ℕ) (v : Verb) (r :
     TakesFront r.left r.left_after → r.reads_failed ≤ r.reads_failed_after →
     (IfSome r.left (λ all. most_text < length (part_of all)) → TakesOneText r.left r.left_after) → IfOk result (λ _. IsReadBoth limit r.left r.left_after) → Behaves v r status
 two_behaves law depth limit v r result status is two answers wrote failed taken later few both =
-    let outcome_law = outcomes law v is in
-    let runs = runs_answer v r result status (two_plain depth limit v two) outcome_law answers wrote failed taken later in
-    record {
-      runs = runs;
-      complete = completes v outcome_law r status runs;
-      few = few_of_two depth limit v two few;
-      marker = λ alone reads judged. absurd (wants depth limit v two alone);
-      reading = two.reading r status (λ judged. judged_answer result r.written r.written_after r.writes_failed r.writes_failed_after status _ wrote both judged);
-      headline = headlines v is r status runs;
-    }
+    behaves_of law v is r status (runs_answer v r result status (two_plain depth limit v two) (outcomes law v is) answers wrote failed taken later) (few_of_two depth limit v two few)
+    (λ alone reads judged. absurd (wants depth limit v two alone))
+    (two.reading r status (λ judged. judged_answer result r.written r.written_after r.writes_failed r.writes_failed_after status _ wrote both judged))

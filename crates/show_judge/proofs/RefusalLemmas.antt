@@ -28,8 +28,8 @@ module _ (to : PlanFault → Refusal) (early long : Option PlanFault) (marked se
   by_marker : (r : Refusal) → early ≡ None → marked ≡ Some r → first_of ≡ Some r
   by_marker r none is = rw (none, is) refl
 
-  by_late : (f : PlanFault) → early ≡ None → marked ≡ None → long ≡ Some f → first_of ≡ Some (to f)
-  by_late f none unmarked is = rw (none, unmarked, is) refl
+  by_late : (f : PlanFault) → early ≡ None → long ≡ Some f → first_of ≡ option_or marked (Some (to f))
+  by_late f none is = rw (none, is) refl
 
   by_search : early ≡ None → marked ≡ None → long ≡ None → first_of ≡ search
   by_search none unmarked fits = rw (none, unmarked, fits) refl
@@ -88,7 +88,7 @@ early_refused c cut s f other is = elim (either (grid_fault s) (range_fault (gri
 ]
 
 -- where a trajectory can't be sent, names and numbers have no fault
-pub late_is : (s : PlainShow) (f : PlanFault) → IsLate f → plan_fault s ≡ Some f → (early_fault s ≡ None) × (unsendable s ≡ Some f)
+late_is : (s : PlainShow) (f : PlanFault) → IsLate f → plan_fault s ≡ Some f → (early_fault s ≡ None) × (unsendable s ≡ Some f)
 late_is s f sends is = elim (either (grid_fault s) (range_fault (grid_of s)) (unsendable s) f is) [
   | inl early ↦ absurd (not_early (grid_fault s) (range_fault (grid_of s)) f early sends)
   | inr late ↦ late
@@ -126,10 +126,9 @@ pub marker_refused : (c : Ways) (cut : Cut) (s : PlainShow) (r : Refusal) → ea
 marker_refused c cut s r none is = by_marker (no_plan (names_of s)) (early_fault s) (unsendable s) (marker_refusal c cut) (blocked_by c.depth s) r none is
 
 -- then what can't be sent
-pub late_refused : (c : Ways) (cut : Cut) (s : PlainShow) (f : PlanFault) → early_fault s ≡ None → marker_refusal c cut ≡ None → unsendable s ≡ Some f →
-    show_refusal c cut s ≡ Some (no_plan (names_of s) f)
-late_refused c cut s f none unmarked is =
-    by_late (no_plan (names_of s)) (early_fault s) (unsendable s) (marker_refusal c cut) (blocked_by c.depth s) f none unmarked is
+pub late_refused : (c : Ways) (cut : Cut) (s : PlainShow) (f : PlanFault) → IsLate f → plan_fault s ≡ Some f → show_refusal c cut s ≡ option_or (marker_refusal c cut) (Some (no_plan (names_of s) f))
+late_refused c cut s f sends is =
+    let late = late_is s f sends is in by_late (no_plan (names_of s)) (early_fault s) (unsendable s) (marker_refusal c cut) (blocked_by c.depth s) f late.0 late.1
 
 -- a show that fits has none of these before the search
 pub fits_early : (s : PlainShow) → plan_fault s ≡ None → early_fault s ≡ None

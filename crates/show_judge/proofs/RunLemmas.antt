@@ -9,7 +9,7 @@ some_map None P Q by holds = tt
 some_map (Some x) P Q by holds = by x holds
 
 -- what holds of all bytes holds of known ones
-some_each : (a : Option (List ℕ)) (P : List ℕ → Type 0) → ((x : List ℕ) → P x) → IfSome a P
+pub some_each : (a : Option (List ℕ)) (P : List ℕ → Type 0) → ((x : List ℕ) → P x) → IfSome a P
 some_each None P by = tt
 some_each (Some x) P by = by x
 

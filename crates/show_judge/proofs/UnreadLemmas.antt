@@ -1,6 +1,6 @@
 -- A run of a command that reads nothing.
 use Rattle.show_judge.proofs.Prelude.{common_steps, ◌≡◌, inl, inr, ℕ, List, Option, Some, None, Result, Ok, Err, IfOk, refl, sym, ap, subst, ◌∙◌, arith, Appends, ShowLaw, PlainShow, TakesFront-none, Answer, Failure, Read, Memory, IsSaid, Responds, Wrote, outcome_of, IsOutcomeOf, IsSafe, IsVerb, OutcomeLaw, TakesOneText, Behaves, Runs, cut_of, Outcome, Run, nothing, of_nothing, of_own, outcome, run_of}
-use Rattle.show_judge.proofs.HeadlineLemmas.{headlines, says_of}
+use Rattle.show_judge.proofs.HeadlineLemmas.{behaves_of, headlines, says_of}
 use Rattle.show_judge.proofs.RunLemmas.{answer_among, answer_judged, completes, runs_failed, runs_memory}
 use Rattle.show_judge.proofs.VerbLemmas.{outcomes}
 
@@ -87,12 +87,5 @@ pub own_behaves : ShowLaw → (depth : ℕ) (own : List ℕ) (text : PlainShow �
     Responds result old new before after status → Behaves (of_own depth own text) (run_of left left faults faults old new before after) status
 own_behaves show depth own text result left faults old new before after status is safe said read wrote =
     let r : Run = run_of left left faults faults old new before after in
-    let runs = runs_own show depth own text result left faults old new before after status is safe said read wrote in
-    record {
-      runs = runs;
-      few = λ wanted. few_taken left;
-      marker = λ alone reads judged. absurd (cc);
-      reading = tt;
-      complete = completes (of_own depth own text) (outcomes show (of_own depth own text) (own_verb depth own text)) r status runs;
-      headline = headlines (of_own depth own text) (own_verb depth own text) r status runs;
-    }
+    behaves_of show (of_own depth own text) (own_verb depth own text) r status (runs_own show depth own text result left faults old new before after status is safe said read wrote) (λ wanted. few_taken left)
+    (λ alone reads judged. absurd (cc)) tt

@@ -1,5 +1,7 @@
 -- An input gives a command one outcome, from the command's own laws.
-use Rattle.show_judge.proofs.Prelude.{common_steps, ◌≡◌, inl, inr, ℕ, ◌≤◌, cond, nat_lt, length, Option, Some, None, refl, sym, ap, subst, ◌∙◌, option_map, nat_tests, arith, fault, StandsFor, ShowLaw, PlainShow, Refusal, IsComplete, IsOutcomeOf, IsVerb, OutcomeLaw, ShowGives, said, faulty, show_refusal, text_refusal, most_text, Cut, Outcome, Verb}
+use Rattle.show_judge.proofs.Prelude.{common_steps, ◌≡◌, inl, inr, ℕ, ◌≤◌, Bool, false, cond, nat_lt, List, length, Option, Some, None, Result, Ok, Err, refl, sym, ap, subst, ◌∙◌, option_map, option_or, nat_tests, arith, fault, StandsFor, ShowLaw, PlainShow, Refusal, IsComplete, IsOutcomeOf, IsVerb, OutcomeLaw, ShowGives, said, faulty, show_refusal, text_refusal, most_text, Cut, Outcome, Verb}
+use Rattle.refusals.specs.declared.refusal.Refusal.TheVariants as refusal
+use Rattle.show_judge.specs.Refused.{faulty_line, second_refusal}
 use Rattle.show_judge.proofs.TextLemmas.{none_said, stands_unrefused}
 
 show_one : (v : Verb) → IsVerb v → (r : Option Refusal) (s : PlainShow) (cut : Cut) (o p : Outcome) → ShowGives v r s cut o → ShowGives v r s cut p → o ≡ p
@@ -24,6 +26,21 @@ within_limit limit n r more none = grind (arith, common_steps, nat_lt, nat_tests
 pub none_mapped : {A : Type 0} (f : A → Refusal) (o : Option A) → option_map f o ≡ None → o ≡ None
 none_mapped f None none = refl
 none_mapped f (Some a) none = absurd (cc)
+
+-- what was read of a second text without a faulty line
+pub read_given : {E : Type 0} (given : Result (List E) ℕ) → faulty_line given ≡ None → (read : List E) × (given ≡ Ok read)
+read_given (Ok read) none = (read, refl)
+read_given (Err line) none = absurd (cc)
+
+-- where it was read, it is refused as one without a faulty line
+pub refused_as : {E : Type 0} (limit : ℕ) (given : Result (List E) ℕ) (read : List E) (cut : Cut) → given ≡ Ok read → second_refusal limit None cut ≡ None →
+    second_refusal limit (faulty_line given) cut ≡ None
+refused_as limit given read cut is none = rw is none
+
+-- one that is short, without a faulty line and unmarked isn't refused
+pub nothing_refused : (too_long marked : Bool) (r q : Refusal) (line : Option ℕ) → too_long ≡ false → line ≡ None → marked ≡ false →
+    cond too_long (Some r) (option_or (option_map (λ (n : ℕ). refusal.SecondLine n) line) (cond marked (Some q) None)) ≡ None
+nothing_refused too_long marked r q line short fine unmarked = rw short (rw fine (rw unmarked refl))
 
 show_some : (v : Verb) → IsVerb v → (r : Option Refusal) (s : PlainShow) (cut : Cut) → (r ≡ None → v.known s cut) → (o : Outcome) × ShowGives v r s cut o
 show_some v is (Some r) s cut known = (_, refl)

@@ -37,13 +37,11 @@ use Rattle.show_judge.specs.Verb.{IsSafeShow, Outcome, Verb, outcome}
 
 -- ---- an answer
 
--- the bytes that are written
 abbrev pub output_of : Output → List ℕ
 output_of (Line line) = line
 output_of (Lines lines) = lines
 output_of (Bytes bytes) = bytes.items
 
--- the outcome that an answer is
 abbrev pub outcome_of : Answer → Outcome
 outcome_of (Done output) = outcome 0 (output_of output)
 outcome_of (Refused r) = refused r
@@ -83,7 +81,6 @@ pub record IsAccepted (c : Ways) (depth : ℕ) (cut : Cut) (a : Accepted) : Type
   pub safe : IsSafeShow s
   pub nodes : a.nodes ≡ nodes_of s depth
 
--- a show that fits, or why the command refuses it
 abbrev pub PlanGives : Ways → Cut → Planned → Type 0
 PlanGives c cut (planned.Fits f) = Fits c cut f
 PlanGives c cut (planned.Refused r) = IsRefusedBy c cut r
@@ -98,7 +95,6 @@ abbrev pub EndsWell : Ways → Text → Planned → Type 0
 EndsWell c text (planned.Fits f) = IsWholeText text × (c.has_second ≡ false → IsUnmarked text)
 EndsWell c text (planned.Refused r) = Unit {0}
 
--- a show that is accepted, or why the command refuses it
 abbrev pub JudgedGives : Ways → ℕ → Cut → Judged → Type 0
 JudgedGives c depth cut (judged.Accepted a) = IsAccepted c depth cut a
 JudgedGives c depth cut (judged.Refused r) = IsRefusedBy c cut r

@@ -28,7 +28,7 @@ ShowGives v (Some r) s cut o = o ≡ said v r
 ShowGives v None s cut o = v.gives s cut o
 
 -- The show's text stands for this show, and it gives this outcome.
-pub record ShowComesTo (v : Verb) (cut : Cut) (o : Outcome) : Type 0 where
+pub record IsOutcomeOfShow (v : Verb) (cut : Cut) (o : Outcome) : Type 0 where
   pub s : PlainShow
   pub short : length cut.show ≤ most_text
   pub stands : StandsFor cut.show s
@@ -37,15 +37,13 @@ pub record ShowComesTo (v : Verb) (cut : Cut) (o : Outcome) : Type 0 where
 -- The outcome of a command on an input that is cut so: the show's text is refused, or it stands for a show, which gives
 -- it.
 abbrev pub IsOutcomeOf : Verb → Cut → Outcome → Type 0
-IsOutcomeOf v cut o = (option_map (said v) (text_refusal cut.show) ≡ Some o) ⊎ ShowComesTo v cut o
+IsOutcomeOf v cut o = (option_map (said v) (text_refusal cut.show) ≡ Some o) ⊎ IsOutcomeOfShow v cut o
 
--- the text that is judged
 abbrev pub judged_text : Judges → List ℕ → Option (List ℕ)
 judged_text (nothing output) input = None
 judged_text the_input input = Some input
 judged_text (own_text text) input = Some text
 
--- the outcome of a command on an input
 abbrev pub IsOutcomeBy : Verb → Judges → List ℕ → Outcome → Type 0
 IsOutcomeBy v (nothing output) input o = o ≡ outcome 0 output
 IsOutcomeBy v the_input input o = IsOutcomeOf v (cut_of input) o
@@ -98,7 +96,6 @@ pub record IsSound (v : Verb) (cut : Cut) : Type 0 where
   pub stands : StandsFor cut.show s
   pub accepted : show_refusal v.ways cut s ≡ None
 
--- an input that lacks nothing
 abbrev pub IsComplete : Verb → Cut → Type 0
 IsComplete v cut = (sound : IsSound v cut) × v.succeeds sound.s cut
 

@@ -30,7 +30,6 @@ pub record IsOfInput (r : Refusal) : Type 0 where
 
 -- ---- the show's text
 
--- a faulty line
 abbrev pub faulty : Fault → Refusal
 faulty f = refusal.Line f.line f.kind
 
@@ -40,7 +39,6 @@ text_refusal text = if nat_lt most_text (length text) then Some refusal.TooLarge
 
 -- ---- the show
 
--- two drones in a cue, by their names
 abbrev pub pair_at : List Name → ℕ → ℕ → ℕ → Pair
 pair_at names a b cue = record { first = name_at names a; second = name_at names b; cue = cue }
 
@@ -79,12 +77,12 @@ show_refusal c cut s =
 -- The refusal of a second text of at most this many bytes, whose first faulty line is this: it is too long, has a
 -- faulty line, or a marker line stands after it.
 abbrev pub second_refusal : ℕ → Option ℕ → Cut → Option Refusal
-second_refusal limit faulty_line cut =
+second_refusal limit first cut =
     if nat_lt limit (length cut.second) then Some refusal.SecondTooLarge
-    else option_or (option_map (λ (line : ℕ). refusal.SecondLine line) faulty_line)
+    else option_or (option_map (λ (line : ℕ). refusal.SecondLine line) first)
     (if cut.is_second_marked then Some (refusal.SecondLine (marker_number cut.second)) else None)
 
--- the first faulty line of a schedule, if there is one
-abbrev pub faulty_event : {E : Type 0} → Result (List E) ℕ → Option ℕ
-faulty_event (Ok events) = None
-faulty_event (Err line) = Some line
+-- the first faulty line of a second text, if there is one
+abbrev pub faulty_line : {E : Type 0} → Result (List E) ℕ → Option ℕ
+faulty_line (Ok read) = None
+faulty_line (Err line) = Some line

@@ -12,11 +12,9 @@ use Rattle.show_judge.specs.Shows.{cut_of}
 use Rattle.show_judge.specs.Outcome.{IsComplete, IsOutcome, IsSafeOutcome, judged_text}
 use Rattle.show_judge.specs.Verb.{IsJudged, Outcome, Run, Span, Verb, nothing, run_on}
 
--- no fault was counted
 abbrev pub IsQuiet : Run → Type 0
 IsQuiet r = (Rose r.reads_failed r.reads_failed_after → ⊥) × (Rose r.writes_failed r.writes_failed_after → ⊥)
 
--- the command reads its input
 abbrev pub reads : Verb → Bool
 reads c = c.ways.reads
 

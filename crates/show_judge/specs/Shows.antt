@@ -30,7 +30,6 @@ cut_of input = record {
   is_second_marked = has_marker (between_feeds (rest_of input));
 }
 
--- the number of line feeds
 abbrev pub feeds : List ℕ → ℕ
 feeds [] = 0
 feeds (b ∷ bs) = if b == 10 then suc (feeds bs) else feeds bs
@@ -48,7 +47,6 @@ names_of s = drones.names_of s.drones
 abbrev pub words_of : PlainShow → List (List ℕ)
 words_of s = map (λ (name : Name). name.items) (names_of s)
 
--- the name of a drone, which counts from 0
 abbrev pub name_at : List Name → ℕ → Name
 name_at names drone = slice_index_or names drone (record { items = [] })
 

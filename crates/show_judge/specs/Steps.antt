@@ -22,7 +22,6 @@ pub record FitsAs (c : Ways) (cut : Cut) (s : PlainShow) (f : Fitted) : Type 0 w
   pub near : KeepsNearShow (grid_of s) (sent_of s)
   pub uploads : FlyApart s.settings (sent_of s) → Uploads (grid_of s) s.settings (sent_of s)
 
--- a show fits, or it is refused
 abbrev pub ShowPlanned : Ways → Cut → PlainShow → Planned → Type 0
 ShowPlanned c cut s (planned.Fits f) = FitsAs c cut s f
 ShowPlanned c cut s (planned.Refused r) = show_refusal c cut s ≡ Some r

@@ -13,7 +13,6 @@ use Rattle.show_judge.specs.Headline.{SaysOf}
 use Rattle.show_judge.specs.Input.{IsReadBoth}
 use Rattle.show_judge.specs.Shows.{Cut, sent_of}
 
--- a status, and what is written
 pub record Outcome : Type 0 where
   pub status : ℕ
   pub output : List ℕ
@@ -33,7 +32,6 @@ pub record Run : Type 0 where
   pub writes_failed : ℕ
   pub writes_failed_after : ℕ
 
--- a run that read and wrote so
 abbrev pub run_of : Option (List ℕ) → Option (List ℕ) → ℕ → ℕ → Option (List ℕ) → Option (List ℕ) → ℕ → ℕ → Run
 run_of left left_after reads reads_after written written_after writes writes_after = record {
   left = left;

@@ -34,7 +34,7 @@ pub trait AnyText {
         ensures { result ≡ (verb self.now).ways };
 
     /// What it gives for a show that fits.
-    fn answer(&self, alloc: Global, fitted: &Fitted) -> Result<Answer, AllocError>
+    fn answer_fitted(&self, alloc: Global, fitted: &Fitted) -> Result<Answer, AllocError>
         requires valid { IsValidFitted fitted.now }
         ensures gives { (s : PlainShow) (cut : Cut) → IsFitted fitted.now s
             → IfOk result (λ a. ShowGives (verb self.now) (blocked_by (verb self.now).ways.depth s) s cut (outcome_of a)) }
@@ -43,20 +43,18 @@ pub trait AnyText {
         ensures said { IfOk result IsSaid };
 }
 
-// What the command ends with for a show's text.
 fn answer_text<V: AnyText>(alloc: Global, verb: &V, text: &Text) -> Result<Answer, AllocError>
     requires any { IsAny (V.verb verb.now) }
-    requires short { IsWithin most_text text.now }
+    requires within { IsWithin most_text text.now }
     ensures { AnswersText (V.verb verb.now) text.now result }
 {
     let ways = verb.ways();
     match fit_text(alloc, &ways, text)? {
-        Planned::Fits { fitted } => verb.answer(alloc, &fitted),
+        Planned::Fits { fitted } => verb.answer_fitted(alloc, &fitted),
         Planned::Refused { refusal } => Ok(Answer::Refused { refusal }),
     }
 }
 
-// What the command ends with for what its source gives.
 fn answer_input<V: AnyText, S: Source>(
     alloc: Global,
     verb: &V,

@@ -32,16 +32,15 @@ pub trait OneText {
         ensures value { result ≡ searched self.now };
 
     /// What it writes of a show that is accepted.
-    fn answer(&self, alloc: Global, accepted: &Accepted) -> Result<Answer, AllocError>
+    fn answer_accepted(&self, alloc: Global, accepted: &Accepted) -> Result<Answer, AllocError>
         requires valid { IsValidFitted accepted.now.fitted }
         ensures said { IfOk result IsSaid }
         ensures text { (s : PlainShow) → IsFitted accepted.now.fitted s → accepted.now.nodes ≡ nodes_of s (searched self.now)
             → IfOk result (λ a. outcome_of a ≡ outcome 0 (text self.now s)) };
 }
 
-// What the command ends with for a show's text.
 fn answer_text<V: OneText>(alloc: Global, verb: &V, text: &Text) -> Result<Answer, AllocError>
-    requires short { IsWithin most_text text.now }
+    requires within { IsWithin most_text text.now }
     ensures { AnswersText (of_show (V.searched verb.now) (V.text verb.now)) text.now result }
 {
     let depth = verb.depth();
@@ -52,12 +51,11 @@ fn answer_text<V: OneText>(alloc: Global, verb: &V, text: &Text) -> Result<Answe
         depth: Some(depth),
     };
     match accept(alloc, &ways, depth, text)? {
-        Judged::Accepted { accepted } => verb.answer(alloc, &accepted),
+        Judged::Accepted { accepted } => verb.answer_accepted(alloc, &accepted),
         Judged::Refused { refusal } => Ok(Answer::Refused { refusal }),
     }
 }
 
-// What the command ends with for what its source gives.
 fn answer_input<V: OneText, S: Source>(
     alloc: Global,
     verb: &V,

@@ -63,7 +63,6 @@ pub fn next_text<S: Source>(
     }
 }
 
-// A text without bytes, where none is read.
 fn no_text(alloc: Global) -> Text
     ensures { IsWithin 0 result }
 {
@@ -75,7 +74,6 @@ fn no_text(alloc: Global) -> Text
     }
 }
 
-// The text after the show's.
 fn read_second<S: Source>(
     alloc: Global,
     parts: &mut Parts,

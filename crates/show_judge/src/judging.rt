@@ -40,10 +40,9 @@ pub enum Judged {
     Refused { refusal: Refusal },
 }
 
-// Whether a show fits, and no marker line stands where none may.
 fn fit_show(alloc: Global, ways: &Ways, show: &Show, part: &Part) -> Result<Planned, AllocError>
     requires valid { IsValid (plain show.now) }
-    requires short { length part.now.bytes.items ≤ most_text }
+    requires within { length part.now.bytes.items ≤ most_text }
     ensures gives { (cut : Cut) → IsShowText (Text.Whole part.now) cut → IfOk result (ShowPlanned ways.now cut (plain show.now)) }
     ensures sound { IfOk result IsSoundPlan }
     ensures whole { IfOk result (EndsWell ways.now (Text.Whole part.now)) }
@@ -65,13 +64,19 @@ fn fit_show(alloc: Global, ways: &Ways, show: &Show, part: &Part) -> Result<Plan
     }
 }
 
-// Whether a text that isn't too large stands for a show that fits.
-fn fit_part(alloc: Global, ways: &Ways, part: &Part) -> Result<Planned, AllocError>
-    requires short { length part.now.bytes.items ≤ most_text }
-    ensures gives { (cut : Cut) → IsShowText (Text.Whole part.now) cut → IfOk result (PlanGives ways.now cut) }
+/// The show that a text stands for, where it fits and no marker line stands where the command allows none; else the
+/// first reason why the command refuses it. Separation isn't judged.
+pub fn fit_text(alloc: Global, ways: &Ways, text: &Text) -> Result<Planned, AllocError>
+    requires within { IsWithin most_text text.now }
+    ensures gives { (cut : Cut) → IsShowText text.now cut → IfOk result (PlanGives ways.now cut) }
     ensures sound { IfOk result IsSoundPlan }
-    ensures whole { IfOk result (EndsWell ways.now (Text.Whole part.now)) }
+    ensures whole { IfOk result (EndsWell ways.now text.now) }
 {
+    let Text::Whole { part } = text else {
+        return Ok(Planned::Refused {
+            refusal: Refusal::TooLarge,
+        });
+    };
     match read_show(alloc, &part.bytes) {
         Ok(show) => fit_show(alloc, ways, &show, part),
         Err(ShowFault::Line { line, kind }) => Ok(Planned::Refused {
@@ -81,23 +86,6 @@ fn fit_part(alloc: Global, ways: &Ways, part: &Part) -> Result<Planned, AllocErr
     }
 }
 
-/// The show that a text stands for, where it fits and no marker line stands where the command allows none; else the
-/// first reason why the command refuses it. Separation isn't judged.
-pub fn fit_text(alloc: Global, ways: &Ways, text: &Text) -> Result<Planned, AllocError>
-    requires short { IsWithin most_text text.now }
-    ensures gives { (cut : Cut) → IsShowText text.now cut → IfOk result (PlanGives ways.now cut) }
-    ensures sound { IfOk result IsSoundPlan }
-    ensures whole { IfOk result (EndsWell ways.now text.now) }
-{
-    match text {
-        Text::Whole { part } => fit_part(alloc, ways, part),
-        Text::TooLarge => Ok(Planned::Refused {
-            refusal: Refusal::TooLarge,
-        }),
-    }
-}
-
-// Whether the drones of a show that fits keep apart.
 fn separate(alloc: Global, fitted: Fitted, depth: Depth) -> Result<Judged, AllocError>
     requires valid { IsValidFitted fitted }
     ensures gives { IfOk result (Separated depth fitted) }
@@ -119,7 +107,7 @@ fn separate(alloc: Global, fitted: Fitted, depth: Depth) -> Result<Judged, Alloc
 /// why the command refuses it.
 pub fn accept(alloc: Global, ways: &Ways, depth: Depth, text: &Text) -> Result<Judged, AllocError>
     requires depth { ways.now.depth ≡ Some depth }
-    requires short { IsWithin most_text text.now }
+    requires within { IsWithin most_text text.now }
     ensures gives { (cut : Cut) → IsShowText text.now cut → IfOk result (JudgedGives ways.now depth cut) }
     ensures sound { IfOk result IsSoundJudged }
     ensures whole { IfOk result (EndsJudged ways.now text.now) }

@@ -1,5 +1,6 @@
 //! Why a show is refused, from the faults of the crates below.
 ghost use Rattle.std.specs.Prelude.{◌≡◌, ◌<◌, ◌≤◌, length, Some, None, IfOk, IfSome};
+ghost use Rattle.std.specs.Option.{option_or};
 ghost use Rattle.std.specs.List.{All};
 ghost use Rattle.fleet_io.specs.Held.{text_limit};
 ghost use Rattle.fleet_io.specs.Words.{IsWord};
@@ -11,7 +12,7 @@ ghost use Rattle.show_plan.specs.Separation.{FailsBy, blocked_part};
 ghost use Rattle.show_judge.specs.Input.{IsShowText};
 ghost use Rattle.show_judge.specs.Refused.{IsOfInput, blocked_by, marker_refusal, pair_at, show_refusal};
 ghost use Rattle.fleet_math.specs.Limits.{most_text};
-ghost use Rattle.show_judge.specs.Shows.{Cut, marker_number, name_at};
+ghost use Rattle.show_judge.specs.Shows.{Cut, marker_number, name_at, names_of};
 
 use crate::input::Text;
 use crate::ways::Ways;
@@ -79,47 +80,33 @@ pub fn marker_refusal(ways: &Ways, part: &Part) -> Option<Refusal>
     }
 }
 
-// A drone of the show whose trajectory has no room, unless a marker line is refused before.
-fn without_room(ways: &Ways, show: &Show, part: &Part, drone: u8, bytes: u32, room: u32) -> Refusal
+fn drone_name(show: &Show, drone: u8) -> Name
     requires valid { IsValid (plain show.now) }
-    requires short { length part.now.bytes.items ≤ most_text }
-    requires fault { plan_fault (plain show.now) ≡ Some (PlanFault.TooLong drone bytes room) }
-    ensures gives { (cut : Cut) → IsShowText (Text.Whole part.now) cut
-        → show_refusal ways.now cut (plain show.now) ≡ Some result }
-    ensures said { IsOfInput result }
+    requires drone { drone < length show.now.drones }
+    ensures name { result ≡ name_at (names_of (plain show.now)) drone }
+    ensures word { IsWord result.items }
 {
-    match marker_refusal(ways, part) {
-        Some(refusal) => refusal,
-        None => Refusal::Room {
-            drone: copy_of(&show.drones.as_slice()[usize::from(drone)].name),
-            bytes,
-            room,
-        },
-    }
+    copy_of(&show.drones.as_slice()[usize::from(drone)].name)
 }
 
-// A drone of the show whose trajectory has too many segments, unless a marker line is refused before.
-fn without_segments(ways: &Ways, show: &Show, part: &Part, drone: u8, segments: u32) -> Refusal
-    requires valid { IsValid (plain show.now) }
-    requires short { length part.now.bytes.items ≤ most_text }
-    requires fault { plan_fault (plain show.now) ≡ Some (PlanFault.TooManySegments drone segments) }
+// A refusal that comes after that of a marker line.
+fn after_marker(ways: &Ways, part: &Part, later: Refusal) -> Refusal
+    requires within { length part.now.bytes.items ≤ most_text }
+    requires said { IsOfInput later }
     ensures gives { (cut : Cut) → IsShowText (Text.Whole part.now) cut
-        → show_refusal ways.now cut (plain show.now) ≡ Some result }
+        → option_or (marker_refusal ways.now cut) (Some later) ≡ Some result }
     ensures said { IsOfInput result }
 {
     match marker_refusal(ways, part) {
         Some(refusal) => refusal,
-        None => Refusal::Segments {
-            drone: copy_of(&show.drones.as_slice()[usize::from(drone)].name),
-            segments,
-        },
+        None => later,
     }
 }
 
 /// Why a show doesn't fit, or the marker line that is refused before.
 pub fn unfit(ways: &Ways, show: &Show, part: &Part, fault: PlanFault) -> Refusal
     requires valid { IsValid (plain show.now) }
-    requires short { length part.now.bytes.items ≤ most_text }
+    requires within { length part.now.bytes.items ≤ most_text }
     requires fault { plan_fault (plain show.now) ≡ Some fault }
     ensures gives { (cut : Cut) → IsShowText (Text.Whole part.now) cut
         → show_refusal ways.now cut (plain show.now) ≡ Some result }
@@ -133,10 +120,12 @@ pub fn unfit(ways: &Ways, show: &Show, part: &Part, fault: PlanFault) -> Refusal
             value: found.value,
         },
         PlanFault::TooManySegments { drone, segments } => {
-            without_segments(ways, show, part, drone, segments)
+            let drone = drone_name(show, drone);
+            after_marker(ways, part, Refusal::Segments { drone, segments })
         }
         PlanFault::TooLong { drone, bytes, room } => {
-            without_room(ways, show, part, drone, bytes, room)
+            let drone = drone_name(show, drone);
+            after_marker(ways, part, Refusal::Room { drone, bytes, room })
         }
     }
 }

@@ -46,17 +46,16 @@ pub trait TwoTexts {
         ensures most { result ≤ text_limit };
 
     /// What it gives for a show that is accepted, and a second text.
-    fn answer(&self, alloc: Global, fitted: &Fitted, second: &Text) -> Result<Answer, AllocError>
+    fn answer_second(&self, alloc: Global, fitted: &Fitted, second: &Text) -> Result<Answer, AllocError>
         requires valid { IsValidFitted fitted.now }
         requires lands { (g : Grid) × Lands g fitted.now.settings fitted.now.sent }
-        requires short { IsWithin (most self.now) second.now }
+        requires within { IsWithin (most self.now) second.now }
         ensures gives { (s : PlainShow) (cut : Cut) → IsFitted fitted.now s → IsText (most self.now) second.now cut.second cut.is_second_marked
             → IfOk result (λ a. (verb self.now).gives s cut (outcome_of a)) }
         ensures whole { IfOk result (λ a. (outcome_of a).status ≡ 0 → IsUnmarked second.now) }
         ensures said { IfOk result IsSaid };
 }
 
-// What the command ends with for two texts.
 fn answer_two<V: TwoTexts>(alloc: Global, verb: &V, input: &Input) -> Result<Answer, AllocError>
     requires verb { IsVerb (V.verb verb.now) }
     requires two { IsTwo (Some (V.searched verb.now)) (V.most verb.now) (V.verb verb.now) }
@@ -72,12 +71,11 @@ fn answer_two<V: TwoTexts>(alloc: Global, verb: &V, input: &Input) -> Result<Ans
         depth: Some(depth),
     };
     match accept(alloc, &ways, depth, &input.show)? {
-        Judged::Accepted { accepted } => verb.answer(alloc, &accepted.fitted, &input.second),
+        Judged::Accepted { accepted } => verb.answer_second(alloc, &accepted.fitted, &input.second),
         Judged::Refused { refusal } => Ok(Answer::Refused { refusal }),
     }
 }
 
-// What the command ends with for what its source gives.
 fn answer_input<V: TwoTexts, S: Source>(
     alloc: Global,
     verb: &V,

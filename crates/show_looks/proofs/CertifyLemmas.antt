@@ -19,7 +19,5 @@ certify_laws depth = record {
 }
 
 -- where what fits flies apart, its show does
-pub apart_kept : (f : Fitted) (s : PlainShow) (result : Result Answer AllocError) → IsFitted f s → (FlyApart s.settings (sent_of s) → Uploads (grid_of s) s.settings (sent_of s)) →
-    IfOk result (λ a. (outcome_of a).status ≡ 0 → FlyApart f.settings f.sent) → IfOk result (λ a. (outcome_of a).status ≡ 0 → FliesApart s)
-apart_kept f s (Err e) is uploads apart = tt
-apart_kept f s (Ok a) is uploads apart = λ done. let of_show = apart_of f s is (apart done) in record { apart = of_show; uploads = uploads of_show }
+pub apart_kept : (f : Fitted) (s : PlainShow) → IsFitted f s → (FlyApart s.settings (sent_of s) → Uploads (grid_of s) s.settings (sent_of s)) → FlyApart f.settings f.sent → FliesApart s
+apart_kept f s is uploads apart = let of_show = apart_of f s is apart in record { apart = of_show; uploads = uploads of_show }

@@ -7,7 +7,6 @@ use Rattle.show_judge.specs.Headline.{SaysOf}
 use Rattle.show_judge.specs.Shows.{trajectories_of}
 use Rattle.show_judge.specs.Verb.{FliesApart, Verb, of_any, outcome}
 
--- the certificate with the largest leaves
 abbrev pub certify_text : ℕ → PlainShow → List ℕ
 certify_text depth s = text_of (best_certificate s.settings depth (trajectories_of s))
 

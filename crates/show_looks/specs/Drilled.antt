@@ -6,7 +6,6 @@ use Rattle.report_text.specs.Report.{Report}
 use Rattle.show_judge.specs.Verb.{Verb, of_own}
 use Rattle.show_looks.specs.Reports.{report_of}
 
--- the line of a drill with these numbers
 abbrev pub drill_of : Report → List ℕ
 drill_of r = drill_line (length r.drones) r.cues (length r.drones * (length r.drones - 1) / 2) (sum r.bytes) (sum r.packets) r.nodes
 

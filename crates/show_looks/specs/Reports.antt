@@ -11,7 +11,7 @@ use Rattle.show_plan.specs.Fitting.{size}
 use Rattle.show_plan.specs.Trajectories.{cue_times}
 use Rattle.show_judge.specs.Shows.{cues_in, nodes_of, sent_of, words_of}
 
--- how many milliseconds a show lasts
+-- how long a show lasts, in milliseconds
 abbrev pub duration_of : PlainShow → ℕ
 duration_of s = sum (cue_times (grid_of s))
 
@@ -23,7 +23,6 @@ ok_line drones cues ms = line (codes "ok") (codes "drones" ∷ decimal drones �
 abbrev pub packets_for : Traj → ℕ
 packets_for t = chunk_count_of (size t) + 1
 
--- the numbers of a show
 abbrev pub report_of : PlainShow → ℕ → Report
 report_of s depth = record {
   bytes = map size (sent_of s);

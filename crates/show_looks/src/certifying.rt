@@ -26,28 +26,6 @@ pub struct CertifyVerb {
     pub depth: Depth,
 }
 
-// The certificate of a show that fits, where it has one of the depth.
-fn answer_fitted(alloc: Global, fitted: &Fitted, depth: Depth) -> Result<Answer, AllocError>
-    requires valid { IsValidFitted fitted.now }
-    ensures gives { (s : PlainShow) (cut : Cut) → IsFitted fitted.now s
-        → IfOk result (λ a. ShowGives (certify_verb depth) (blocked_by (Some depth) s) s cut (outcome_of a)) }
-    ensures apart { IfOk result (λ a. (outcome_of a).status ≡ 0 → FlyApart fitted.now.settings fitted.now.sent) }
-    ensures said { IfOk result IsSaid }
-{
-    match certificate(alloc, fitted, depth) {
-        Ok(found) => {
-            let bytes = write_certificate(alloc, &found)?;
-            Ok(Answer::Done {
-                output: Output::Bytes { bytes },
-            })
-        }
-        Err(fault) => {
-            let refusal = unseparated(fitted, depth, fault)?;
-            Ok(Answer::Refused { refusal })
-        }
-    }
-}
-
 impl AnyText for CertifyVerb {
     ghost verb = { λ c. certify_verb c.depth };
 
@@ -60,8 +38,19 @@ impl AnyText for CertifyVerb {
         }
     }
 
-    fn answer(&self, alloc: Global, fitted: &Fitted) -> Result<Answer, AllocError> {
-        answer_fitted(alloc, fitted, self.depth)
+    fn answer_fitted(&self, alloc: Global, fitted: &Fitted) -> Result<Answer, AllocError> {
+        match certificate(alloc, fitted, self.depth) {
+            Ok(found) => {
+                let bytes = write_certificate(alloc, &found)?;
+                Ok(Answer::Done {
+                    output: Output::Bytes { bytes },
+                })
+            }
+            Err(fault) => {
+                let refusal = unseparated(fitted, self.depth, fault)?;
+                Ok(Answer::Refused { refusal })
+            }
+        }
     }
 }
 

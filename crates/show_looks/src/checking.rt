@@ -29,7 +29,7 @@ impl OneText for CheckVerb {
         self.depth
     }
 
-    fn answer(&self, _alloc: Global, accepted: &Accepted) -> Result<Answer, AllocError> {
+    fn answer_accepted(&self, _alloc: Global, accepted: &Accepted) -> Result<Answer, AllocError> {
         let fitted = &accepted.fitted;
         let drones = fitted.names.as_slice().len() as u8;
         Ok(Answer::Done {

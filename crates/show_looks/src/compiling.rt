@@ -29,7 +29,7 @@ impl OneText for CompileVerb {
         self.depth
     }
 
-    fn answer(&self, alloc: Global, accepted: &Accepted) -> Result<Answer, AllocError> {
+    fn answer_accepted(&self, alloc: Global, accepted: &Accepted) -> Result<Answer, AllocError> {
         let lines = plan_text(alloc, &accepted.fitted)?;
         Ok(Answer::Done {
             output: Output::Text { lines },

@@ -24,7 +24,6 @@ use show_judge::{
 };
 use std::alloc::{AllocError, Global};
 
-// The number of these drones.
 fn drones_in(names: &[Name]) -> u8
     requires { length names.now ≤ most_drones }
     ensures { result ≡ length names.now }
@@ -32,7 +31,6 @@ fn drones_in(names: &[Name]) -> u8
     names.len() as u8
 }
 
-// The number of pairs of this many drones.
 fn pairs_of(drones: u8) -> u16
     requires some { 1 ≤ drones }
     requires few { drones ≤ most_drones }
@@ -42,7 +40,6 @@ fn pairs_of(drones: u8) -> u16
     drones * (drones - 1) / 2
 }
 
-// The line of a drill that is accepted.
 fn answer_accepted(alloc: Global, accepted: &Accepted) -> Result<Answer, AllocError>
     requires { IsValidFitted accepted.now.fitted }
     ensures said { IfOk result IsSaid }
@@ -66,9 +63,8 @@ fn answer_accepted(alloc: Global, accepted: &Accepted) -> Result<Answer, AllocEr
     })
 }
 
-// What `drill` ends with for a show's text.
 fn answer_text(alloc: Global, drones: u8, depth: Depth, text: &Text) -> Result<Answer, AllocError>
-    requires short { IsWithin most_text text.now }
+    requires within { IsWithin most_text text.now }
     ensures { AnswersText (drill_verb drones depth) text.now result }
 {
     let ways = Ways {

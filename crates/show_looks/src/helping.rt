@@ -9,7 +9,6 @@ use fleet_io::status::DONE;
 use fleet_io::{Sink, Source};
 use show_judge::finish;
 
-// Writes these bytes, whatever the input is.
 fn tell<S: Source, K: Sink>(bytes: &[u8], source: &mut S, sink: &mut K) -> u8
     ensures { Does (of_nothing bytes.now) (during S.told K.written K.faults source.old source.new sink.old sink.new) result }
 {

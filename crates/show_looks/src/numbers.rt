@@ -13,7 +13,7 @@ use traj_codec::{Traj, size_of};
 /// The number of bytes of each trajectory.
 pub fn sizes(alloc: Global, trajs: &[Traj]) -> Result<Vec<u32>, AllocError>
     requires sendable { All IsSendable trajs.now }
-    requires short { All (λ (t : Traj). size t ≤ MEMORY_BYTES) trajs.now }
+    requires in_memory { All (λ (t : Traj). size t ≤ MEMORY_BYTES) trajs.now }
     ensures { IfOk result (λ sizes. sizes.items ≡ map size trajs.now) }
 {
     let mut sizes = Vec::new(alloc);

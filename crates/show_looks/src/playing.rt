@@ -19,7 +19,6 @@ use show_plan::{Fitted, uploadable_law};
 use std::alloc::Global;
 use traj_codec::join_law;
 
-// What `play` judges of what its source gives.
 fn judge_input<S: Source>(alloc: Global, depth: Depth, source: &mut S) -> Result<Judged, Failure>
     ensures reads { OneTextRead (λ left left_after. JudgesInput (show_ways depth) depth left left_after result) (S.told source.old) (S.told source.new) result }
     ensures sound { IfOk result IsSoundJudged }
@@ -34,7 +33,6 @@ fn judge_input<S: Source>(alloc: Global, depth: Depth, source: &mut S) -> Result
     Ok(accept(alloc, &ways, depth, &text)?)
 }
 
-// Writes the rows of a show that fits, and returns the status.
 fn write_rows<K: Sink>(fitted: &Fitted, step: u16, sink: &mut K) -> u8
     requires valid { IsValidFitted fitted.now }
     requires step { 1 ≤ step }
@@ -51,7 +49,6 @@ fn write_rows<K: Sink>(fitted: &Fitted, step: u16, sink: &mut K) -> u8
     }
 }
 
-// Judges the show, and writes its rows or why there are none.
 fn carry<S: Source, K: Sink>(
     alloc: Global,
     depth: Depth,

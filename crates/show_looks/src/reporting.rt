@@ -32,7 +32,7 @@ impl OneText for ReportVerb {
         self.depth
     }
 
-    fn answer(&self, alloc: Global, accepted: &Accepted) -> Result<Answer, AllocError> {
+    fn answer_accepted(&self, alloc: Global, accepted: &Accepted) -> Result<Answer, AllocError> {
         let fitted = &accepted.fitted;
         let bytes = sizes(alloc, fitted.sent.as_slice())?;
         let packets = packets(alloc, bytes.as_slice())?;

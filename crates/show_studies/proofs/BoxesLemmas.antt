@@ -1,33 +1,23 @@
 -- The laws of `boxes`.
-use Rattle.show_studies.proofs.Prelude.{common_steps, ◌≡◌, ℕ, List, length, Option, Some, None, Result, Ok, Err, refl, sym, ap, subst, ◌∙◌, arith, Appends, PlainShow, raised_of, Judged, Kept, Enters, Region, JudgeGives, regions_of, Refusal, IsSafe, second_refusal, Cut, cut_of, name_at, names_of, trajectories_of, Outcome, refused_some, none_both, most_text, BoxesLaw, RegionsGive, StaysInRegions, aside_of, boxes_verb, faulty_region, regions_end, upwards_of}
+use Rattle.show_studies.proofs.Prelude.{common_steps, ◌≡◌, ℕ, List, length, Option, Some, None, Result, Ok, Err, refl, sym, ap, subst, ◌∙◌, arith, Appends, PlainShow, raised_of, Judged, Kept, Enters, Region, JudgeGives, regions_of, Refusal, IsSafe, second_refusal, Cut, cut_of, name_at, names_of, trajectories_of, Outcome, refused_some, none_both, most_text, BoxesLaw, RegionsGive, StaysInRegions, aside_of, boxes_verb, faulty_line, regions_end, upwards_of}
 use Rattle.keepout_boxes.specs.Lines.{kept_line}
 use Rattle.refusals.specs.declared.refusal.Refusal.TheVariants as refusal
-use Rattle.show_judge.proofs.VerbLemmas.{none_mapped, within_limit}
+use Rattle.show_judge.proofs.VerbLemmas.{none_mapped, read_given, refused_as, within_limit}
 use Rattle.show_studies.proofs.DecidingLemmas.{judge_some}
 use Rattle.show_studies.proofs.StudyLemmas.{judge_one, regions_given_one, regions_one}
 
 -- ---- there is one
 
--- regions that are given
-regions_read : (given : Result (List Region) ℕ) → faulty_region given ≡ None → (regions : List Region) × (given ≡ Ok regions)
-regions_read (Ok regions) none = (regions, refl)
-regions_read (Err line) none = absurd (cc)
-
 -- a text of regions gives an outcome
-regions_some : (why : Option Refusal) (s : PlainShow) (depth : ℕ) (cut : Cut) → second_refusal most_text (faulty_region (regions_of cut.second)) cut ≡ why → (o : Outcome) × RegionsGive why s depth cut o
+regions_some : (why : Option Refusal) (s : PlainShow) (depth : ℕ) (cut : Cut) → second_refusal most_text (faulty_line (regions_of cut.second)) cut ≡ why → (o : Outcome) × RegionsGive why s depth cut o
 regions_some (Some r) s depth cut is = (_, refl)
 regions_some None s depth cut is =
     let parts = within_limit most_text (length cut.second) _ _ is in
-    let regions = regions_read (regions_of cut.second) (none_mapped _ (faulty_region (regions_of cut.second)) (none_both _ _ parts.1).0) in
+    let regions = read_given (regions_of cut.second) (none_mapped _ (faulty_line (regions_of cut.second)) (none_both _ _ parts.1).0) in
     let judged = judge_some (raised_of (trajectories_of s)) (aside_of s.settings) (upwards_of s.settings) depth regions.0 in
     (regions_end (names_of s) depth (length regions.0) judged.0, (regions.0, judged.0, regions.1, judged.1, refl))
 
 -- ---- status 0
-
--- where regions are read, the second text is refused as one without a faulty line
-no_faulty_region : (given : Result (List Region) ℕ) (regions : List Region) (cut : Cut) → given ≡ Ok regions → second_refusal most_text None cut ≡ None →
-    second_refusal most_text (faulty_region given) cut ≡ None
-no_faulty_region given regions cut is none = rw is none
 
 regions_done : (refused : Option Refusal) (s : PlainShow) (depth : ℕ) (cut : Cut) (o : Outcome) (regions : List Region) → refused ≡ None → RegionsGive refused s depth cut o →
     regions_of cut.second ≡ Ok regions → JudgeGives (raised_of (trajectories_of s)) (aside_of s.settings) (upwards_of s.settings) depth regions Kept → o.status ≡ 0
@@ -61,10 +51,10 @@ stays depth input old new o safe appended = grind (arith, common_steps, regions_
 
 pub boxes_laws : BoxesLaw
 boxes_laws depth = record {
-  one = λ s cut o p first second. regions_one (second_refusal most_text (faulty_region (regions_of cut.second)) cut) s depth cut o p first second;
-  some = λ s cut known. regions_some (second_refusal most_text (faulty_region (regions_of cut.second)) cut) s depth cut refl;
-  done = λ s cut o gives succeeds. regions_done (second_refusal most_text (faulty_region (regions_of cut.second)) cut) s depth cut o succeeds.0
-      (no_faulty_region (regions_of cut.second) succeeds.0 cut succeeds.2 succeeds.1) gives succeeds.2 succeeds.3;
+  one = λ s cut o p first second. regions_one (second_refusal most_text (faulty_line (regions_of cut.second)) cut) s depth cut o p first second;
+  some = λ s cut known. regions_some (second_refusal most_text (faulty_line (regions_of cut.second)) cut) s depth cut refl;
+  done = λ s cut o gives succeeds. regions_done (second_refusal most_text (faulty_line (regions_of cut.second)) cut) s depth cut o succeeds.0
+      (refused_as most_text (regions_of cut.second) succeeds.0 cut succeeds.2 succeeds.1) gives succeeds.2 succeeds.3;
   apart = λ d s cut searched apart. absurd (cc);
   headline = λ input o old new safe appended. stays depth input old new o safe appended;
 }

@@ -24,7 +24,7 @@ pub use Rattle.show_judge.proofs.AnswerLemmas.{input_two, refused_some, two_fitt
 pub use Rattle.show_judge.proofs.HeadlineLemmas.{none_both, whole_input}
 pub use Rattle.show_judge.specs.Answers.{EndsWell, outcome_of}
 pub use Rattle.show_judge.specs.Outcome.{IsSafe, IsVerb}
-pub use Rattle.show_judge.specs.Refused.{second_refusal}
+pub use Rattle.show_judge.specs.Refused.{faulty_line, second_refusal}
 pub use Rattle.show_judge.specs.Shows.{Cut, cut_of, name_at, names_of, sent_of, trajectories_of}
 pub use Rattle.show_judge.specs.Verb.{Outcome, outcome}
 pub use Rattle.show_judge.specs.declared.ends.Answer.{Answer}
@@ -35,7 +35,7 @@ pub use Rattle.touch_witness.specs.Sites.{DisjointAt, IsBefore, IsClosest, IsFir
 pub use Rattle.traj_codec.specs.Positions.{durations}
 pub use Rattle.traj_codec.specs.declared.traj.Segment.{Segment}
 pub use Rattle.traj_codec.specs.declared.traj.Traj.{Traj}
-pub use Rattle.show_studies.specs.Boxes.{BoxesLaw, RegionsGive, StaysInRegions, aside_of, boxes_verb, faulty_region, regions_end, upwards_of}
+pub use Rattle.show_studies.specs.Boxes.{BoxesLaw, RegionsGive, StaysInRegions, aside_of, boxes_verb, regions_end, upwards_of}
 pub use Rattle.show_studies.specs.Dynamics.{KeepsDynamics, dynamics_of, dynamics_text, dynamics_verb, excess_by, excess_in, first_excess_of, limits_of, motion_lines, times_of}
 pub use Rattle.show_studies.specs.Explained.{Explains, TellsTouches, explain_verb}
 pub use Rattle.show_studies.specs.Speeds.{KeepsBounds, KeepsSpeeds, above, first_too_fast, refused_or, speed_of_drone, speed_text, speed_verb, too_fast, too_fast_by}

@@ -1,7 +1,7 @@
 -- What `boxes` answers, from what its steps do.
-use Rattle.show_studies.proofs.Prelude.{common_steps, ◌≡◌, ℕ, ◌≤◌, Bool, false, cond, nat_lt, List, length, Option, Some, None, Result, Ok, Err, IfOk, refl, arith, option_map, option_or, AllocError, PlainShow, Region, KeepClear, regions_of, Refusal, Fitted, IsFitted, Answer, outcome_of, most_text, RegionsGive, aside_of, faulty_region, upwards_of, second_refusal, Cut, sent_of}
+use Rattle.show_studies.proofs.Prelude.{common_steps, ◌≡◌, ℕ, ◌≤◌, false, nat_lt, List, length, Result, Ok, Err, IfOk, refl, arith, AllocError, PlainShow, Region, KeepClear, regions_of, Fitted, IsFitted, Answer, outcome_of, most_text, RegionsGive, aside_of, faulty_line, upwards_of, second_refusal, Cut, sent_of}
 use Rattle.std.proofs.lemmas.Bool.{le-ltb}
-use Rattle.refusals.specs.declared.refusal.Refusal.TheVariants as refusal
+use Rattle.show_judge.proofs.VerbLemmas.{nothing_refused}
 use Rattle.show_studies.specs.Steps.{EndsRegions}
 
 -- so each drone of its show keeps to each region of the text
@@ -11,13 +11,9 @@ pub regions_promised : (f : Fitted) (s : PlainShow) (cut : Cut) (regions : List 
 regions_promised f s cut regions (Err e) is reads clear = tt
 regions_promised f s cut regions (Ok a) is reads clear = grind (arith, common_steps)
 
-nothing_refused : (too_long marked : Bool) (r q : Refusal) (line : Option ℕ) → too_long ≡ false → line ≡ None → marked ≡ false →
-    cond too_long (Some r) (option_or (option_map (λ (n : ℕ). refusal.SecondLine n) line) (cond marked (Some q) None)) ≡ None
-nothing_refused too_long marked r q line short fine unmarked = rw short (rw fine (rw unmarked refl))
-
 -- what a text of regions gives that says these
 pub regions_give : (s : PlainShow) (depth : ℕ) (cut : Cut) (regions : List Region) (result : Result Answer AllocError) → length cut.second ≤ most_text →
     regions_of cut.second ≡ Ok regions → cut.is_second_marked ≡ false → IfOk result (λ a. EndsRegions s depth regions (outcome_of a)) →
-    IfOk result (λ a. RegionsGive (second_refusal most_text (faulty_region (regions_of cut.second)) cut) s depth cut (outcome_of a))
+    IfOk result (λ a. RegionsGive (second_refusal most_text (faulty_line (regions_of cut.second)) cut) s depth cut (outcome_of a))
 regions_give s depth cut regions (Err e) short is unmarked gives = tt
 regions_give s depth cut regions (Ok a) short is unmarked gives = grind (arith, common_steps, nothing_refused, nat_lt, le-ltb)

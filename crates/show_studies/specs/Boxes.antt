@@ -17,14 +17,9 @@ use Rattle.keepout_boxes.specs.Regions.{regions_of}
 use Rattle.refusals.specs.declared.refusal.Refusal.{Refusal}
 use Rattle.refusals.specs.declared.refusal.Refusal.TheVariants as refusal
 use Rattle.show_judge.specs.Outcome.{IsVerb, refused}
-use Rattle.show_judge.specs.Refused.{second_refusal}
+use Rattle.show_judge.specs.Refused.{faulty_line, second_refusal}
 use Rattle.show_judge.specs.Shows.{Cut, name_at, names_of, sent_of, trajectories_of}
 use Rattle.show_judge.specs.Verb.{Outcome, Verb, of_two, outcome}
-
--- the first faulty line of a text of regions, if there is one
-abbrev pub faulty_region : Result (List Region) ℕ → Option ℕ
-faulty_region (Ok regions) = None
-faulty_region (Err line) = Some line
 
 -- ---- how much a drone takes beside its curve
 
@@ -51,7 +46,7 @@ RegionsGive None s depth cut o =
     × (o ≡ regions_end (names_of s) depth (length regions) j)
 
 abbrev pub BoxesGive : ℕ → PlainShow → Cut → Outcome → Type 0
-BoxesGive depth s cut o = RegionsGive (second_refusal most_text (faulty_region (regions_of cut.second)) cut) s depth cut o
+BoxesGive depth s cut o = RegionsGive (second_refusal most_text (faulty_line (regions_of cut.second)) cut) s depth cut o
 
 -- the second text says regions, to each of which each drone keeps at every instant
 abbrev pub KeepsRegions : PlainShow → Cut → Type 0

@@ -33,7 +33,6 @@ limits_of accel jump = record { acceleration = in_micrometres accel; jump = in_m
 
 -- ---- lines
 
--- the lines of drones
 abbrev pub motion_lines : ℕ → List ℕ → List Traj → List Name → List ℕ
 motion_lines depth times [] names = []
 motion_lines depth times (t ∷ ts) [] = []
@@ -54,11 +53,9 @@ refusal_as kind.Jump name cue axis value = refusal.Jumps name cue axis value
 abbrev pub excess_refusal : List ℕ → Traj → Name → Excess → Refusal
 excess_refusal times t name e = refusal_as e.kind name (cue_of times t e.segment) e.axis e.value
 
--- the first one of a drone
 abbrev pub excess_by : Limits → ℕ → List ℕ → Traj → Name → Option Refusal
 excess_by limits depth times t name = option_map (excess_refusal times t name) (first_excess limits depth t)
 
--- the first drone that has one, and its first
 abbrev pub first_excess_of : Limits → ℕ → List ℕ → List Traj → List Name → Option Refusal
 first_excess_of limits depth times [] names = None
 first_excess_of limits depth times (t ∷ ts) [] = None

@@ -13,7 +13,6 @@ use Rattle.touch_witness.specs.Sites.{IsClosest, IsFirstTouch, NoTouch}
 use Rattle.show_judge.specs.Shows.{cues_in, name_at, names_of, sent_of, trajectories_of}
 use Rattle.show_judge.specs.Verb.{Outcome, Verb, of_any}
 
--- the name of a drone, as a word
 abbrev pub word_at : List Name → ℕ → List ℕ
 word_at names drone = (name_at names drone).items
 

@@ -33,7 +33,6 @@ first_too_fast limit depth [] names = None
 first_too_fast limit depth (t ∷ ts) [] = None
 first_too_fast limit depth (t ∷ ts) (name ∷ names) = option_or (too_fast_by limit depth t name) (first_too_fast limit depth ts names)
 
--- the same of a show, with what its drones are sent
 abbrev pub too_fast : Option ℕ → ℕ → PlainShow → Option Refusal
 too_fast limit depth s = first_too_fast limit depth (sent_of s) (names_of s)
 
@@ -41,7 +40,6 @@ too_fast limit depth s = first_too_fast limit depth (sent_of s) (names_of s)
 abbrev pub speed_of_drone : ℕ → Traj → Name → List ℕ
 speed_of_drone depth t name = speed_line name.items (speed depth t 0) (speed depth t 1) (speed depth t 2)
 
--- the lines of all drones
 abbrev pub speed_text : ℕ → List Traj → List Name → List ℕ
 speed_text depth [] names = []
 speed_text depth (t ∷ ts) [] = []

@@ -28,7 +28,6 @@ use show_plan::{Fitted, uploadable_law};
 use std::alloc::{AllocError, Global};
 use traj_codec::{Segment, Traj};
 
-// The refusal of a number that is above its limit.
 fn refusal_as(kind: Kind, drone: Name, cue: u16, axis: u8, value: i64) -> Refusal
     requires name { IsWord drone.items }
     requires axis { axis ≤ 2 }
@@ -51,7 +50,6 @@ fn refusal_as(kind: Kind, drone: Name, cue: u16, axis: u8, value: i64) -> Refusa
     }
 }
 
-// The first acceleration or jump of a drone that is above its limit.
 fn excess_by(
     t: &Traj,
     name: &Name,
@@ -106,7 +104,6 @@ fn answer_drones(
     })
 }
 
-// A limit in micrometres, of one in millimetres.
 fn in_micrometres(limit: Option<u32>) -> Option<u64>
     ensures { result ≡ in_micrometres limit }
 {
@@ -133,31 +130,6 @@ fn cues_of(fitted: &Fitted) -> &[Segment]
     fitted.trajs.as_slice()[0].segments.as_slice()
 }
 
-// What `dynamics` ends with for a show that fits.
-fn answer_fitted(
-    alloc: Global,
-    fitted: &Fitted,
-    depth: Depth,
-    accel: Option<u32>,
-    jump: Option<u32>,
-) -> Result<Answer, AllocError>
-    requires valid { IsValidFitted fitted.now }
-    ensures gives { (s : PlainShow) (cut : Cut) → IsFitted fitted.now s → IfOk result (λ a. (dynamics_verb depth accel jump).gives s cut (outcome_of a)) }
-    ensures promised { (s : PlainShow) (cut : Cut) → IsFitted fitted.now s
-        → IfOk result (λ a. (outcome_of a).status ≡ 0 → (dynamics_verb depth accel jump).promises s cut) }
-    ensures said { IfOk result IsSaid }
-{
-    uploadable_law(fitted);
-    answer_drones(
-        alloc,
-        fitted.names.as_slice(),
-        fitted.sent.as_slice(),
-        cues_of(fitted),
-        depth,
-        limits_of(accel, jump),
-    )
-}
-
 /// `dynamics` at a depth, with limits or without.
 #[derive(Clone, Copy)]
 pub struct DynamicsVerb {
@@ -178,8 +150,16 @@ impl AnyText for DynamicsVerb {
         }
     }
 
-    fn answer(&self, alloc: Global, fitted: &Fitted) -> Result<Answer, AllocError> {
-        answer_fitted(alloc, fitted, self.depth, self.accel, self.jump)
+    fn answer_fitted(&self, alloc: Global, fitted: &Fitted) -> Result<Answer, AllocError> {
+        uploadable_law(fitted);
+        answer_drones(
+            alloc,
+            fitted.names.as_slice(),
+            fitted.sent.as_slice(),
+            cues_of(fitted),
+            self.depth,
+            limits_of(self.accel, self.jump),
+        )
     }
 }
 

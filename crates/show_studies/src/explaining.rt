@@ -23,7 +23,6 @@ use show_plan::{BlockedPart, Fitted, SeparationFault, count_nodes};
 use std::alloc::{AllocError, Global};
 use touch_witness::{Axes, Touch, closest_of, first_touch_of};
 
-// The first part of the depth in which no direction separates two drones, if there is one.
 fn blocked_of(
     alloc: Global,
     fitted: &Fitted,
@@ -62,7 +61,6 @@ fn touch_of(fitted: &Fitted, blocked: Option<BlockedPart>, fine: Fine) -> Option
     }
 }
 
-// What is found of a show that fits.
 fn find(alloc: Global, fitted: &Fitted, depth: Depth, fine: Fine) -> Result<Findings, AllocError>
     requires valid { IsValidFitted fitted.now }
     ensures found { IfOk result (IsFound depth fine fitted.now) }
@@ -87,26 +85,6 @@ fn find(alloc: Global, fitted: &Fitted, depth: Depth, fine: Fine) -> Result<Find
     })
 }
 
-// What `explain` ends with for a show that fits.
-fn answer_fitted(
-    alloc: Global,
-    fitted: &Fitted,
-    depth: Depth,
-    fine: Fine,
-) -> Result<Answer, AllocError>
-    requires valid { IsValidFitted fitted.now }
-    ensures gives { (s : PlainShow) (cut : Cut) → IsFitted fitted.now s → IfOk result (λ a. (explain_verb depth fine).gives s cut (outcome_of a)) }
-    ensures promised { (s : PlainShow) (cut : Cut) → IsFitted fitted.now s
-        → IfOk result (λ a. (outcome_of a).status ≡ 0 → (explain_verb depth fine).promises s cut) }
-    ensures said { IfOk result IsSaid }
-{
-    let found = find(alloc, fitted, depth, fine)?;
-    let lines = findings_text(alloc, fitted, depth, fine, &found)?;
-    Ok(Answer::Done {
-        output: Output::Text { lines },
-    })
-}
-
 /// `explain` at a depth, over the instants that cut each cue into 2^`fine` parts.
 #[derive(Clone, Copy)]
 pub struct ExplainVerb {
@@ -126,8 +104,12 @@ impl AnyText for ExplainVerb {
         }
     }
 
-    fn answer(&self, alloc: Global, fitted: &Fitted) -> Result<Answer, AllocError> {
-        answer_fitted(alloc, fitted, self.depth, self.fine)
+    fn answer_fitted(&self, alloc: Global, fitted: &Fitted) -> Result<Answer, AllocError> {
+        let found = find(alloc, fitted, self.depth, self.fine)?;
+        let lines = findings_text(alloc, fitted, self.depth, self.fine, &found)?;
+        Ok(Answer::Done {
+            output: Output::Text { lines },
+        })
     }
 }
 

@@ -22,7 +22,6 @@ pub struct Findings {
     pub touch: Option<Touch>,
 }
 
-// Whether a part is blocked, and which.
 fn put_separation(
     text: &mut Lines,
     names: &[Name],

@@ -8,8 +8,8 @@ ghost use Rattle.keepout_boxes.specs.Regions.{regions_of};
 ghost use Rattle.show_plan.specs.Fitting.{IsFitted, IsValidFitted};
 ghost use Rattle.show_judge.specs.Answers.{AnswersInput, AnswersTwo, IsSaid, outcome_of};
 ghost use Rattle.show_judge.specs.Input.{IsReadBoth, IsText, IsUnmarked, IsWithin};
-ghost use Rattle.show_studies.specs.Boxes.{BoxesLaw, KeepsRegions, RegionsGive, aside_of, boxes_verb, faulty_region, upwards_of};
-ghost use Rattle.show_judge.specs.Refused.{second_refusal};
+ghost use Rattle.show_studies.specs.Boxes.{BoxesLaw, KeepsRegions, RegionsGive, aside_of, boxes_verb, upwards_of};
+ghost use Rattle.show_judge.specs.Refused.{faulty_line, second_refusal};
 ghost use Rattle.show_judge.specs.Runs.{Does};
 ghost use Rattle.show_judge.specs.Verb.{during};
 ghost use Rattle.show_studies.specs.Steps.{EndsRegions};
@@ -17,7 +17,7 @@ ghost use Rattle.show_judge.specs.TextsRead.{TwoTextsRead};
 
 use choreo_reader::show_law;
 use fleet_curves::Curves;
-use fleet_io::{Part, Sink, Source};
+use fleet_io::{Sink, Source};
 use fleet_math::{Depth, MOST_TEXT};
 use keepout_boxes::{Judged, Region, RegionFault, judge, kept_line, read_regions, sent_law};
 use refusals::Refusal;
@@ -29,7 +29,6 @@ use show_plan::Fitted;
 use std::alloc::{AllocError, Global};
 use traj_codec::join_law;
 
-// How the drones of a show that fits are judged for these regions.
 fn judge_regions(
     alloc: Global,
     fitted: &Fitted,
@@ -76,22 +75,26 @@ fn judge_regions(
     }
 }
 
-// What a second text gives that isn't too large.
-fn judge_part(
+fn judge_second(
     alloc: Global,
     fitted: &Fitted,
     depth: Depth,
-    part: &Part,
+    second: &Text,
 ) -> Result<Answer, AllocError>
     requires valid { IsValidFitted fitted.now }
-    requires short { length part.now.bytes.items ≤ most_text }
-    ensures gives { (s : PlainShow) (cut : Cut) → IsFitted fitted.now s → IsText most_text (Text.Whole part.now) cut.second cut.is_second_marked
-        → IfOk result (λ a. RegionsGive (second_refusal most_text (faulty_region (regions_of cut.second)) cut) s depth cut (outcome_of a)) }
-    ensures promised { (s : PlainShow) (cut : Cut) → IsFitted fitted.now s → IsText most_text (Text.Whole part.now) cut.second cut.is_second_marked
+    requires within { IsWithin most_text second.now }
+    ensures gives { (s : PlainShow) (cut : Cut) → IsFitted fitted.now s → IsText most_text second.now cut.second cut.is_second_marked
+        → IfOk result (λ a. RegionsGive (second_refusal most_text (faulty_line (regions_of cut.second)) cut) s depth cut (outcome_of a)) }
+    ensures promised { (s : PlainShow) (cut : Cut) → IsFitted fitted.now s → IsText most_text second.now cut.second cut.is_second_marked
         → IfOk result (λ a. (outcome_of a).status ≡ 0 → KeepsRegions s cut) }
-    ensures whole { IfOk result (λ a. (outcome_of a).status ≡ 0 → IsUnmarked (Text.Whole part.now)) }
+    ensures whole { IfOk result (λ a. (outcome_of a).status ≡ 0 → IsUnmarked second.now) }
     ensures said { IfOk result IsSaid }
 {
+    let Text::Whole { part } = second else {
+        return Ok(Answer::Refused {
+            refusal: Refusal::SecondTooLarge,
+        });
+    };
     let regions = match read_regions(alloc, &part.bytes) {
         Ok(regions) => regions,
         Err(RegionFault::Line { line }) => {
@@ -110,31 +113,6 @@ fn judge_part(
     judge_regions(alloc, fitted, depth, &regions)
 }
 
-// What a second text gives for a show that fits.
-fn judge_second(
-    alloc: Global,
-    fitted: &Fitted,
-    depth: Depth,
-    second: &Text,
-) -> Result<Answer, AllocError>
-    requires valid { IsValidFitted fitted.now }
-    requires short { IsWithin most_text second.now }
-    ensures gives { (s : PlainShow) (cut : Cut) → IsFitted fitted.now s → IsText most_text second.now cut.second cut.is_second_marked
-        → IfOk result (λ a. RegionsGive (second_refusal most_text (faulty_region (regions_of cut.second)) cut) s depth cut (outcome_of a)) }
-    ensures promised { (s : PlainShow) (cut : Cut) → IsFitted fitted.now s → IsText most_text second.now cut.second cut.is_second_marked
-        → IfOk result (λ a. (outcome_of a).status ≡ 0 → KeepsRegions s cut) }
-    ensures whole { IfOk result (λ a. (outcome_of a).status ≡ 0 → IsUnmarked second.now) }
-    ensures said { IfOk result IsSaid }
-{
-    match second {
-        Text::TooLarge => Ok(Answer::Refused {
-            refusal: Refusal::SecondTooLarge,
-        }),
-        Text::Whole { part } => judge_part(alloc, fitted, depth, part),
-    }
-}
-
-// What `boxes` ends with for two texts.
 fn answer_two(alloc: Global, depth: Depth, input: &Input) -> Result<Answer, AllocError>
     requires show { IsWithin most_text input.now.show }
     requires second { IsWithin most_text input.now.second }
@@ -152,7 +130,6 @@ fn answer_two(alloc: Global, depth: Depth, input: &Input) -> Result<Answer, Allo
     }
 }
 
-// What `boxes` ends with for what its source gives.
 fn answer_input<S: Source>(alloc: Global, depth: Depth, source: &mut S) -> Result<Answer, Failure>
     ensures reads { TwoTextsRead (λ left left_after. AnswersInput (boxes_verb depth) left left_after result) (λ _ left left_after. IsReadBoth most_text left left_after) (S.told source.old) (S.told source.new) result }
     ensures said { IfOk result IsSaid }
@@ -162,6 +139,7 @@ fn answer_input<S: Source>(alloc: Global, depth: Depth, source: &mut S) -> Resul
 }
 
 /// A law. A text of regions gives one outcome for a show, and some; and where nothing is lacking, that has status 0.
+#[tactic(auto, using(crate::proofs::BoxesLemmas::boxes_laws))]
 pub fn boxes_law()
     ensures { BoxesLaw }
 {}

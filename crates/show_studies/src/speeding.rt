@@ -28,7 +28,6 @@ use speed_bound::{bound, put_speeds};
 use std::alloc::{AllocError, Global};
 use traj_codec::Traj;
 
-// The refusal of a bound on an axis that is above the limit.
 fn above(limit: Option<u32>, name: &Name, axis: u8, speed: i64) -> Option<Refusal>
     requires name { IsWord name.now.items }
     requires axis { axis ≤ 2 }
@@ -46,7 +45,6 @@ fn above(limit: Option<u32>, name: &Name, axis: u8, speed: i64) -> Option<Refusa
     })
 }
 
-// The first axis on which a bound of a drone is above the limit.
 fn too_fast_of(limit: Option<u32>, name: &Name, x: i64, y: i64, z: i64) -> Option<Refusal>
     requires name { IsWord name.now.items }
     ensures first { (a b c : ℕ) → x ≡ pos a → y ≡ pos b → z ≡ pos c → result ≡ too_fast_of limit name.now a b c }
@@ -62,7 +60,7 @@ fn too_fast_of(limit: Option<u32>, name: &Name, x: i64, y: i64, z: i64) -> Optio
 }
 
 // Adds the line of a drone, or says why its bounds are refused.
-fn put_drone(
+fn put_bounds(
     text: &mut Lines,
     name: &Name,
     t: &Traj,
@@ -71,7 +69,7 @@ fn put_drone(
 ) -> Result<Option<Refusal>, AllocError>
     requires name { IsWord name.now.items }
     requires some { 1 ≤ length t.now.segments }
-    requires lasting { All HasDuration t.now.segments }
+    requires last { All HasDuration t.now.segments }
     ensures refusal { IfOk result (λ r. r ≡ too_fast_by limit depth t.now name.now) }
     ensures line { IfOk result (λ r. r ≡ None → text.new ≡ text.old ++ speed_of_drone depth t.now name.now) }
     ensures keeps { (axis : ℕ) → axis ≤ 2 → KeepsSpeed t.now axis (speed depth t.now axis) }
@@ -103,7 +101,7 @@ fn answer_drones(
 {
     let mut text = Lines::make(alloc);
     for d in 0..sent.len() {
-        match put_drone(&mut text, &names[d], &sent[d], depth, limit)? {
+        match put_bounds(&mut text, &names[d], &sent[d], depth, limit)? {
             None => {}
             Some(refusal) => return Ok(Answer::Refused { refusal }),
         }
@@ -111,29 +109,6 @@ fn answer_drones(
     Ok(Answer::Done {
         output: Output::Text { lines: text },
     })
-}
-
-// What `speed` ends with for a show that fits.
-fn answer_fitted(
-    alloc: Global,
-    fitted: &Fitted,
-    depth: Depth,
-    limit: Option<u32>,
-) -> Result<Answer, AllocError>
-    requires valid { IsValidFitted fitted.now }
-    ensures gives { (s : PlainShow) (cut : Cut) → IsFitted fitted.now s → IfOk result (λ a. (speed_verb depth limit).gives s cut (outcome_of a)) }
-    ensures promised { (s : PlainShow) (cut : Cut) → IsFitted fitted.now s
-        → IfOk result (λ a. (outcome_of a).status ≡ 0 → (speed_verb depth limit).promises s cut) }
-    ensures said { IfOk result IsSaid }
-{
-    uploadable_law(fitted);
-    answer_drones(
-        alloc,
-        fitted.names.as_slice(),
-        fitted.sent.as_slice(),
-        depth,
-        limit,
-    )
 }
 
 /// `speed` at a depth, with a limit or without.
@@ -155,8 +130,15 @@ impl AnyText for SpeedVerb {
         }
     }
 
-    fn answer(&self, alloc: Global, fitted: &Fitted) -> Result<Answer, AllocError> {
-        answer_fitted(alloc, fitted, self.depth, self.limit)
+    fn answer_fitted(&self, alloc: Global, fitted: &Fitted) -> Result<Answer, AllocError> {
+        uploadable_law(fitted);
+        answer_drones(
+            alloc,
+            fitted.names.as_slice(),
+            fitted.sent.as_slice(),
+            self.depth,
+            self.limit,
+        )
     }
 }
 

@@ -24,10 +24,10 @@ pub use Rattle.rehearsal.specs.Rehearsed.{blank_drone, rehearsed}
 pub use Rattle.rehearsal.specs.Texts.{AreTexts, IsFound, IsRehearsalText, drone_text, title_line}
 pub use Rattle.show_judge.proofs.FewLemmas.{few_after_long, at_new, stream_new}
 pub use Rattle.show_judge.proofs.HeadlineLemmas.{behaves_of, flies_text}
-pub use Rattle.show_judge.proofs.RunLemmas.{refused_among, refused_judged, some_map, statuses}
+pub use Rattle.show_judge.proofs.RunLemmas.{refused_among, refused_judged, runs_failed, some_each, some_map, statuses}
 pub use Rattle.show_judge.specs.Answers.{IsAccepted, IsRefusedBy, Wrote, outcome_of}
 pub use Rattle.show_judge.specs.Outcome.{IsOutcomeOf, IsSafe, OutcomeLaw, refused}
-pub use Rattle.show_judge.specs.Refused.{IsOfInput, faulty_event, second_refusal}
+pub use Rattle.show_judge.specs.Refused.{IsOfInput, faulty_line, second_refusal}
 pub use Rattle.show_judge.specs.Shows.{Cut, cut_of, name_at, names_of, sent_of, words_of}
 pub use Rattle.show_judge.specs.Verb.{IsJudged, Outcome, Run, during, outcome, run_of}
 pub use Rattle.show_plan.specs.Fitting.{IsFitted, IsValidFitted}

@@ -1,6 +1,8 @@
 -- What a rehearsal gives: one outcome alone, and one where the show lands.
-use Rattle.show_uploads.proofs.Prelude.{common_steps, ◌≡◌, ℕ, suc, ◌+◌, ◌<◌, Bool, true, false, cond, List, [], ◌∷◌, ◌++◌, append-nil, length, get_or, Option, Some, None, Result, Ok, Err, refl, sym, ap, subst, ◌∙◌, arith, length-replicate, option_map, option_or, PlainShow, Settings, Grid, grid_of, ScheduleLaw, schedule_of, CurveLaw, DecodesTo, Refusal, blank_drone, rehearsed, AreTexts, IsFound, IsRehearsalText, drone_text, title_line, IsLanded, Lands, session_for, Traj, Progress, Going, Done, GaveUp, Refused, Differs, WorldEvent, DroneState, progress, Upload, IsUnaltered, World, Outcome, outcome, refused, AllDecode, RehearsalEnds, Rehearses, ScheduleGives, schedule_refusal, faulty_event, Cut, name_at, names_of, sent_of, words_of, session_of}
+use Rattle.show_uploads.proofs.Prelude.{common_steps, ◌≡◌, ℕ, suc, ◌+◌, ◌<◌, Bool, true, false, cond, List, [], ◌∷◌, ◌++◌, append-nil, length, get_or, Option, Some, None, Result, Ok, Err, refl, sym, ap, subst, ◌∙◌, arith, length-replicate, option_map, option_or, PlainShow, Settings, Grid, grid_of, ScheduleLaw, schedule_of, CurveLaw, DecodesTo, Refusal, blank_drone, rehearsed, AreTexts, IsFound, IsRehearsalText, drone_text, title_line, IsLanded, Lands, session_for, Traj, Progress, Going, Done, GaveUp, Refused, Differs, WorldEvent, DroneState, progress, Upload, IsUnaltered, World, Outcome, outcome, refused, AllDecode, RehearsalEnds, Rehearses, ScheduleGives, schedule_refusal, faulty_line, most_text, Cut, name_at, names_of, sent_of, words_of, session_of}
 use Rattle.refusals.specs.declared.refusal.Refusal.TheVariants as refusal
+use Rattle.show_judge.proofs.HeadlineLemmas.{none_both}
+use Rattle.show_judge.proofs.VerbLemmas.{none_mapped, read_given, within_limit}
 use Rattle.upload_model.specs.declared.loads.Def.{Def}
 use Rattle.upload_model.specs.Memories.{IsDrone}
 
@@ -92,17 +94,6 @@ rehearses_some s readback start events lands counted unaltered =
     ends_some (progress (session_of s readback start) (rehearsed (session_of s readback start) events).heard) s events (rehearsed (session_of s readback start) events)
     (λ done d within. decoded_after (grid_of s) s.settings (sent_of s) readback start events lands unaltered done d (omega (arith, counted, within)))
 
--- what nothing refuses has no faulty line
-no_faulty : (too_long marked : Bool) (r q : Refusal) (line : Option ℕ) →
-    cond too_long (Some r) (option_or (option_map (λ (n : ℕ). refusal.SecondLine n) line) (cond marked (Some q) None)) ≡ None → line ≡ None
-no_faulty true marked r q line none = absurd (cc)
-no_faulty false marked r q None none = refl
-no_faulty false marked r q (Some n) none = absurd (cc)
-
-events_given : (given : Result (List WorldEvent) ℕ) → faulty_event given ≡ None → (events : List WorldEvent) × (given ≡ Ok events)
-events_given (Ok events) none = (events, refl)
-events_given (Err line) none = absurd (cc)
-
 schedule_by : ScheduleLaw → (why : Option Refusal) (s : PlainShow) (start : Bool) (cut : Cut) → (why ≡ None → (events : List WorldEvent) × (schedule_of false (words_of s) cut.second ≡ Ok events)) →
     Lands (grid_of s) s.settings (sent_of s) → length (sent_of s) ≡ length (words_of s) → (o : Outcome) × ScheduleGives why s false start cut o
 schedule_by law (Some r) s start cut given lands counted = (refused r, refl)
@@ -115,4 +106,4 @@ schedule_by law None s start cut given lands counted =
 pub schedule_some : ScheduleLaw → (why : Option Refusal) (s : PlainShow) (start : Bool) (cut : Cut) → schedule_refusal s false cut ≡ why →
     Lands (grid_of s) s.settings (sent_of s) → length (sent_of s) ≡ length (words_of s) → (o : Outcome) × ScheduleGives why s false start cut o
 schedule_some law why s start cut is lands counted =
-    schedule_by law why s start cut (λ none. events_given (schedule_of false (words_of s) cut.second) (no_faulty _ _ _ _ (faulty_event (schedule_of false (words_of s) cut.second)) (is ∙ none))) lands counted
+    schedule_by law why s start cut (λ none. read_given (schedule_of false (words_of s) cut.second) (none_mapped _ (faulty_line (schedule_of false (words_of s) cut.second)) (none_both _ _ (within_limit most_text (length cut.second) _ _ (is ∙ none)).1).0)) lands counted

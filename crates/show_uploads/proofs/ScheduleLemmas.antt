@@ -8,6 +8,7 @@ use Rattle.crtp_packets.specs.Reading.{up_of}
 use Rattle.crtp_packets.specs.declared.reading.PacketFault.{PacketFault}
 use Rattle.crtp_packets.specs.declared.reading.Up.{Up}
 use Rattle.refusals.specs.declared.refusal.Refusal.TheVariants as refusal
+use Rattle.show_judge.proofs.VerbLemmas.{nothing_refused}
 use Rattle.traj_codec.specs.Joined.{joined}
 use Rattle.upload_model.proofs.Answers.{reply-by}
 use Rattle.upload_model.proofs.HostLaws.{All-flat_map_range, All-range, IsFlight, flight-fits}
@@ -162,10 +163,6 @@ rehearses_done v f s readback start events text valid lands is stands done said 
 pub events_of_show : (f : Fitted) (s : PlainShow) (readback : Bool) (names : List Name) (bytes second : List ℕ) (events given : List WorldEvent) → IsFitted f s → names ≡ f.names → bytes ≡ second → given ≡ events →
     schedule_of readback (map (λ (name : Name). name.items) names) bytes ≡ Ok events → schedule_of readback (words_of s) second ≡ Ok given
 events_of_show f s readback names bytes second events given is named same same_events says = grind (arith, common_steps)
-
-nothing_refused : (too_long marked : Bool) (r q : Refusal) (line : Option ℕ) → too_long ≡ false → line ≡ None → marked ≡ false →
-    cond too_long (Some r) (option_or (option_map (λ (n : ℕ). refusal.SecondLine n) line) (cond marked (Some q) None)) ≡ None
-nothing_refused too_long marked r q line short fine unmarked = rw short (rw fine (rw unmarked refl))
 
 -- what a schedule gives whose events are these
 pub schedule_gives : (s : PlainShow) (readback start : Bool) (cut : Cut) (events : List WorldEvent) (result : Result Answer AllocError) → length cut.second ≤ most_text →

@@ -1,5 +1,5 @@
 -- What a run of `upload` is, from what it read and wrote.
-use Rattle.show_uploads.proofs.Prelude.{common_steps, ◌≡◌, ◌≢◌, ◌⊎◌, inl, inr, ℕ, ◌+◌, ◌≤◌, Bool, true, false, List, [], ◌∷◌, ◌++◌, length, Contains, append_assoc, append-nil, length-append, Option, Some, None, IfSome, refl, sym, ap, subst, ◌∙◌, arith, append_cancel_right, All-cons, All-contains, All-nil, part_of, rest_of, PlainShow, has_whole_marker, AppendsFront, TakesFront, end_frame, frames_bytes, IsPrompt, StaysPrompt, StopsAtEnd, UploadFails, UploadGives, Link, Refusal, Fitted, IsFitted, session_for, Settings, Traj, IsAccepted, IsRefusedBy, Wrote, IsOutcomeOf, IsSafe, OutcomeLaw, IsOfInput, IsJudged, Outcome, Run, outcome, run_of, most_text, Cut, cut_of, IsLinkOf, ReadyGives, link_in, session_of, UploadStops, UploadStopsReading, UploadsPromptly, upload_verb, upload_ways, refused_among, refused_judged, some_map, statuses}
+use Rattle.show_uploads.proofs.Prelude.{common_steps, ◌≡◌, ◌≢◌, ◌⊎◌, inl, inr, ℕ, ◌+◌, ◌≤◌, Bool, true, false, List, [], ◌∷◌, ◌++◌, length, Contains, append_assoc, append-nil, length-append, Option, Some, None, IfSome, refl, sym, ap, subst, ◌∙◌, arith, append_cancel_right, All-cons, All-contains, All-nil, part_of, rest_of, PlainShow, has_whole_marker, AppendsFront, TakesFront, end_frame, frames_bytes, IsPrompt, StaysPrompt, StopsAtEnd, UploadFails, UploadGives, Link, Refusal, Fitted, IsFitted, session_for, Settings, Traj, IsAccepted, IsRefusedBy, Wrote, IsOutcomeOf, IsSafe, OutcomeLaw, IsOfInput, IsJudged, Outcome, Run, outcome, run_of, most_text, Cut, cut_of, IsLinkOf, ReadyGives, link_in, session_of, UploadStops, UploadStopsReading, UploadsPromptly, upload_verb, upload_ways, refused_among, refused_judged, runs_failed, some_each, some_map, statuses}
 use Rattle.std.specs.Io.KnownBytes.{Appends, Consumes}
 use Rattle.choreo_reader.specs.Grammar.{StandsFor}
 use Rattle.choreo_reader.specs.Laws.{ShowLaw}
@@ -90,17 +90,13 @@ runs_upload depth start readback r status law came = record {
   writes_later = came.writes_later;
 }
 
-some_each : (left : Option (List ℕ)) (P : List ℕ → Type 0) → ((x : List ℕ) → P x) → IfSome left P
-some_each None P by = tt
-some_each (Some x) P by = by x
-
 -- ---- a refusal
 
 -- where few bytes were taken after the marker line, no answer waits for more
 prompt_few : (depth : ℕ) (start readback : Bool) (r : Run) → MarkerLaw → TakesFewAfter r.left r.left_after → UploadsPromptly (upload_ways depth) start readback r
 prompt_few depth start readback r marker few taken sent carried whole s stands accepted frames rest formed cut long =
-    let behind : length (rest_of (taken ++ carried.later)) ≤ length carried.later + 4096 = rw (carried.left, carried.left_after) at few in
-    absurd (omega (arith, long, behind, ap length (marker taken carried.later whole).1, length-append (rest_of taken) carried.later, ap length cut, length-append (frames_bytes frames) rest))
+    let rest_few : length (rest_of (taken ++ carried.later)) ≤ length carried.later + 4096 = rw (carried.left, carried.left_after) at few in
+    absurd (omega (arith, long, rest_few, ap length (marker taken carried.later whole).1, length-append (rest_of taken) carried.later, ap length cut, length-append (frames_bytes frames) rest))
 
 -- where few bytes were taken after the marker line, few were after the last frame
 stops_few : (depth : ℕ) (start readback : Bool) (input : List ℕ) (after : Option (List ℕ)) → TakesFewAfter (Some input) after → UploadStopsReading (upload_ways depth) start readback input after
@@ -137,19 +133,10 @@ upload_refused depth start readback r refusal status law marker is of_input few 
         reads_later = reads_later;
         writes_later = later;
       })
-      | inr (e, rose, front, later) ↦ runs_upload depth start readback r status law (record {
-        not_one = λ one. omega (arith, one, e);
-        outcome = λ j. absurd (j.2 e);
-        safe = λ zero. absurd (omega (arith, zero, e));
-        six = λ six. absurd (omega (arith, six, e));
-        stopped = λ six. absurd (omega (arith, six, e));
-        seven = λ _. (rose, (end_frame (status_of refusal), inl (some_map r.left _ _ (λ input o_is. (outcome (status_of refusal) (end_frame (status_of refusal)), o_is, refl)) come), front));
-        prompt = λ _. prompt_few depth start readback r marker few;
-        known = (6, omega arith, rw e refl);
-        taken = taken;
-        reads_later = reads_later;
-        writes_later = later;
-      })
+      | inr (e, rose, front, later) ↦
+          runs_failed (upload_verb depth start readback) r status (end_frame (status_of refusal)) e rose
+          (inl (some_map r.left _ _ (λ input o_is. (outcome (status_of refusal) (end_frame (status_of refusal)), o_is, refl)) come)) front (prompt_few depth start readback r marker few)
+          (λ none. absurd (cc)) taken reads_later later
     ]
 
 -- ---- a read failed before the marker line
@@ -181,19 +168,9 @@ upload_failed depth start readback r taken status law rose consumes none reads_l
     reads_later = reads_later;
     writes_later = later;
   })
-  | inr (e, failed, front, later) ↦ runs_upload depth start readback r status law (record {
-    not_one = λ one. omega (arith, one, e);
-    outcome = λ j. absurd (j.2 e);
-    safe = λ zero. absurd (omega (arith, zero, e));
-    six = λ six. absurd (omega (arith, six, e));
-    stopped = λ six. absurd (omega (arith, six, e));
-    seven = λ _. (failed, (end_frame 6, inr (rose, stopped_early depth start readback r.left r.left_after taken consumes none), front));
-    prompt = λ _. prompt_early depth start readback r taken consumes none;
-    known = (6, omega arith, rw e refl);
-    taken = (taken, consumes);
-    reads_later = reads_later;
-    writes_later = later;
-  })
+  | inr (e, failed, front, later) ↦
+      runs_failed (upload_verb depth start readback) r status (end_frame 6) e failed (inr (rose, stopped_early depth start readback r.left r.left_after taken consumes none)) front
+      (prompt_early depth start readback r taken consumes none) (λ none. absurd (cc)) (taken, consumes) reads_later later
 ]
 
 -- ---- frames were carried

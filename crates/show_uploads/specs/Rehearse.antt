@@ -20,7 +20,7 @@ use Rattle.show_plan.specs.Landing.{Lands}
 use Rattle.text_lines.specs.Marker.{part_of}
 use Rattle.show_judge.specs.Headline.{FliesText}
 use Rattle.show_judge.specs.Outcome.{IsVerb, refused}
-use Rattle.show_judge.specs.Refused.{faulty_event, second_refusal}
+use Rattle.show_judge.specs.Refused.{faulty_line, second_refusal}
 use Rattle.show_judge.specs.Shows.{Cut, name_at, names_of, sent_of, words_of}
 use Rattle.show_judge.specs.Verb.{FliesApart, Outcome, Verb, of_two}
 use Rattle.fleet_math.specs.Limits.{most_text}
@@ -60,7 +60,7 @@ ScheduleGives None s readback start cut o =
 
 -- why a schedule's text is refused, if it is
 abbrev pub schedule_refusal : PlainShow → Bool → Cut → Option Refusal
-schedule_refusal s readback cut = second_refusal most_text (faulty_event (schedule_of readback (words_of s) cut.second)) cut
+schedule_refusal s readback cut = second_refusal most_text (faulty_line (schedule_of readback (words_of s) cut.second)) cut
 
 -- what a schedule's text gives, with read-back (true) or without
 abbrev pub RehearseGives : PlainShow → Bool → Bool → Cut → Outcome → Type 0

@@ -15,7 +15,7 @@ ghost use Rattle.show_uploads.specs.Rehearse.{RehearseLaw};
 ghost use Rattle.fleet_math.specs.Limits.{most_text};
 
 use firmware_memory::curve_law;
-use fleet_io::{Part, Sink, Source};
+use fleet_io::{Sink, Source};
 use fleet_math::{Depth, MOST_TEXT};
 use fleet_world::{ScheduleFault, WorldEvent, read_schedule, schedule_law};
 use refusals::Refusal;
@@ -78,66 +78,6 @@ fn rehearse_events(
     Ok(Answer::Refused { refusal })
 }
 
-// What a second text gives that isn't too large.
-fn judge_part(
-    alloc: Global,
-    fitted: &Fitted,
-    readback: bool,
-    start: bool,
-    part: &Part,
-) -> Result<Answer, AllocError>
-    requires valid { IsValidFitted fitted.now }
-    requires lands { (g : Grid) × Lands g fitted.now.settings fitted.now.sent }
-    requires short { length part.now.bytes.items ≤ most_text }
-    ensures gives { (s : PlainShow) (cut : Cut) → IsFitted fitted.now s
-        → IsText most_text (Text.Whole part.now) cut.second cut.is_second_marked
-        → IfOk result (λ a. RehearseGives s readback start cut (outcome_of a)) }
-    ensures whole { IfOk result (λ a. (outcome_of a).status ≡ 0 → IsUnmarked (Text.Whole part.now)) }
-    ensures said { IfOk result IsSaid }
-{
-    let events = match read_schedule(alloc, readback, &part.bytes, fitted.names.as_slice()) {
-        Ok(events) => events,
-        Err(ScheduleFault::Line { line }) => {
-            return Ok(Answer::Refused {
-                refusal: Refusal::SecondLine { line },
-            });
-        }
-        Err(ScheduleFault::Memory) => return Err(AllocError),
-    };
-    if part.marker {
-        let line = marker_number(&part.bytes);
-        return Ok(Answer::Refused {
-            refusal: Refusal::SecondLine { line },
-        });
-    }
-    rehearse_events(alloc, fitted, readback, start, &events)
-}
-
-// What a second text gives for a show that nothing refuses.
-fn judge_second(
-    alloc: Global,
-    fitted: &Fitted,
-    readback: bool,
-    start: bool,
-    second: &Text,
-) -> Result<Answer, AllocError>
-    requires valid { IsValidFitted fitted.now }
-    requires lands { (g : Grid) × Lands g fitted.now.settings fitted.now.sent }
-    requires short { IsWithin most_text second.now }
-    ensures gives { (s : PlainShow) (cut : Cut) → IsFitted fitted.now s
-        → IsText most_text second.now cut.second cut.is_second_marked
-        → IfOk result (λ a. RehearseGives s readback start cut (outcome_of a)) }
-    ensures whole { IfOk result (λ a. (outcome_of a).status ≡ 0 → IsUnmarked second.now) }
-    ensures said { IfOk result IsSaid }
-{
-    match second {
-        Text::TooLarge => Ok(Answer::Refused {
-            refusal: Refusal::SecondTooLarge,
-        }),
-        Text::Whole { part } => judge_part(alloc, fitted, readback, start, part),
-    }
-}
-
 /// `rehearse` at a depth, with starts or without, with read-back or without.
 #[derive(Clone, Copy)]
 pub struct Rehearsal {
@@ -161,8 +101,34 @@ impl TwoTexts for Rehearsal {
         MOST_TEXT
     }
 
-    fn answer(&self, alloc: Global, fitted: &Fitted, second: &Text) -> Result<Answer, AllocError> {
-        judge_second(alloc, fitted, self.readback, self.start, second)
+    fn answer_second(
+        &self,
+        alloc: Global,
+        fitted: &Fitted,
+        second: &Text,
+    ) -> Result<Answer, AllocError> {
+        let Text::Whole { part } = second else {
+            return Ok(Answer::Refused {
+                refusal: Refusal::SecondTooLarge,
+            });
+        };
+        let names = fitted.names.as_slice();
+        let events = match read_schedule(alloc, self.readback, &part.bytes, names) {
+            Ok(events) => events,
+            Err(ScheduleFault::Line { line }) => {
+                return Ok(Answer::Refused {
+                    refusal: Refusal::SecondLine { line },
+                });
+            }
+            Err(ScheduleFault::Memory) => return Err(AllocError),
+        };
+        if part.marker {
+            let line = marker_number(&part.bytes);
+            return Ok(Answer::Refused {
+                refusal: Refusal::SecondLine { line },
+            });
+        }
+        rehearse_events(alloc, fitted, self.readback, self.start, &events)
     }
 }
 

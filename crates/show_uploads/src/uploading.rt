@@ -40,7 +40,6 @@ pub enum Ready {
     Refused { refusal: Refusal },
 }
 
-// The host of an upload of what fits.
 fn make_host(
     alloc: Global,
     fitted: &Fitted,
@@ -55,7 +54,6 @@ fn make_host(
     Host::make(alloc, session)
 }
 
-// The host of an upload of the show that a text stands for, or why the show is refused.
 fn make_ready(
     alloc: Global,
     depth: Depth,
@@ -63,7 +61,7 @@ fn make_ready(
     readback: bool,
     text: &Text,
 ) -> Result<Ready, AllocError>
-    requires short { IsWithin most_text text.now }
+    requires within { IsWithin most_text text.now }
     ensures gives { (cut : Cut) → IsShowText text.now cut → IfOk result (ReadyGives (upload_ways depth) start readback cut) }
     ensures sound { IfOk result IsSoundReady }
 {
@@ -82,7 +80,6 @@ fn make_ready(
     }
 }
 
-// Reads the show's text, and makes the host of its upload.
 fn read_ready<S: Source>(
     alloc: Global,
     depth: Depth,

@@ -25,7 +25,8 @@ use Rattle.show_judge.specs.declared.input.Text.TheVariants.{TooLarge, Whole}
 use Rattle.show_judge.specs.Answers.{Fits}
 use Rattle.show_verify.specs.declared.verifying.Taken.{Taken}
 use Rattle.show_judge.specs.Outcome.{refused}
-use Rattle.show_judge.proofs.AnswerLemmas.{apart_of_show, fitted_outcome, fitted_safe, plain_outcome, refused_some, some_by}
+use Rattle.show_judge.proofs.AnswerLemmas.{apart_of_show, fitted_outcome, fitted_safe, plain_outcome, refused_some}
+use Rattle.show_judge.proofs.RunLemmas.{some_map}
 use Rattle.show_verify.proofs.CertificateLemmas.{judged_same}
 
 -- ---- what comes next of a part
@@ -265,8 +266,8 @@ pub input_fitted : (left coming after : Option (List ℕ)) (show : Text) (f : Fi
     IfOk result (λ a. (outcome_of a).status ≡ 0 → FlyApart f.settings f.sent) → IfOk result (λ a. (outcome_of a).status ≡ 0 → IsAtEnd after) → IfOk result IsSaid → TakesFront left after →
     AnswersInput verify_verb left after result
 input_fitted left coming after show f (Err e) text whole goes fits gives apart ends is_said takes = record {
-  gives = some_by left _ _ (λ input is. tt) text;
-  safe = some_by left _ _ (λ input is. tt) text;
+  gives = some_map left _ _ (λ input is. tt) text;
+  safe = some_map left _ _ (λ input is. tt) text;
   whole = tt;
   said = tt;
 }
@@ -283,15 +284,15 @@ input_fitted left coming after show f (Ok a) text whole goes fits gives apart en
 pub input_refused : (left after : Option (List ℕ)) (show : Text) (r : Refusal) (result : Result Answer Failure) → IfSome left (λ all. IsShowText show (cut_of all)) →
     ((cut : Cut) → IsShowText show cut → IsRefusedBy verify_verb.ways cut r) → IsOfInput r → IfOk result (λ a. a ≡ Refused r) → AnswersInput verify_verb left after result
 input_refused left after show r (Err e) text is of_input answer = record {
-  gives = some_by left _ _ (λ input is. tt) text;
-  safe = some_by left _ _ (λ input is. tt) text;
+  gives = some_map left _ _ (λ input is. tt) text;
+  safe = some_map left _ _ (λ input is. tt) text;
   whole = tt;
   said = tt;
 }
 input_refused left after show r (Ok a) text is of_input answer =
     subst (λ (b : Answer). AnswersInput verify_verb left after (Ok b)) (sym answer) (record {
-      gives = some_by left _ _ (λ input text. plain_outcome verify_verb (cut_of input) r refl (is (cut_of input) text)) text;
-      safe = some_by left _ _ (λ input text done. absurd (refused_some r done)) text;
+      gives = some_map left _ _ (λ input text. plain_outcome verify_verb (cut_of input) r refl (is (cut_of input) text)) text;
+      safe = some_map left _ _ (λ input text done. absurd (refused_some r done)) text;
       whole = λ done. absurd (refused_some r done);
       said = of_input;
     })

@@ -8,9 +8,9 @@ returns-in-Fits g c =
     let v = g.V.AnyText.verb c.args.verb.now in
     let f = c.in-Fits.fitted in
     let ends : EndsWell c.ways-ways.result c.args.text.now (fits_as f) = rw c.in-Fits.is at c.in_ok-fitted.ensures.whole in
-    answers_fitted v v.ways.depth c.args.text.now f c.answer.result c.requires.any.lines refl
+    answers_fitted v v.ways.depth c.args.text.now f c.answer_fitted.result c.requires.any.lines refl
     (λ cut is. subst (λ (w : Ways). Fits w cut f) c.ways-ways.ensures (rw c.in-Fits.is at (c.in_ok-fitted.ensures.gives cut is)))
-    c.answer.ensures.gives (λ cut is fits. c.answer.ensures.promised fits.s cut fits.fitted fits.uploads) c.answer.ensures.said
+    c.answer_fitted.ensures.gives (λ cut is fits. c.answer_fitted.ensures.promised fits.s cut fits.fitted fits.uploads) c.answer_fitted.ensures.said
     (ends.1 (ap (λ (w : Ways). w.has_second) c.ways-ways.ensures ∙ c.requires.any.alone))
 
 pub returns-in-Refused : goal.returns-in-Refused

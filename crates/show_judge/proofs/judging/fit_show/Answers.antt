@@ -16,4 +16,4 @@ returns-in-None-clause-gives c = λ cut is.
 pub returns-in-None-clause-whole : goal.returns-in-None-clause-whole
 returns-in-None-clause-whole c =
     let part = c.args.part.now in
-    (tt, (λ plain. no_marker c.args.ways.now.has_second part.marker _ (sym (c.in-None.ensures.gives (cut_at part) (refl, refl, c.requires.short))) plain))
+    (tt, (λ plain. no_marker c.args.ways.now.has_second part.marker _ (sym (c.in-None.ensures.gives (cut_at part) (refl, refl, c.requires.within))) plain))

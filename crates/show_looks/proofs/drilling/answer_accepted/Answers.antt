@@ -13,8 +13,8 @@ sizes_small f valid = small_sizes f.sent (short_all f.settings.offset f.sent val
 pub sizes-requires-clause-sendable : goal.sizes-requires-clause-sendable
 sizes-requires-clause-sendable c = subst (All IsSendable) (sym c.as_slice-2.ensures) c.requires.sendable
 
-pub sizes-requires-clause-short : goal.sizes-requires-clause-short
-sizes-requires-clause-short c = grind (arith, common_steps, short_all)
+pub sizes-requires-clause-in_memory : goal.sizes-requires-clause-in_memory
+sizes-requires-clause-in_memory c = grind (arith, common_steps, short_all)
 
 pub packets-requires : goal.packets-requires
 packets-requires c = grind (arith, common_steps, sizes_small)

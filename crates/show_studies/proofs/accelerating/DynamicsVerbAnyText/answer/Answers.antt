@@ -1,4 +1,0 @@
-use Rattle.show_studies.proofs.accelerating.DynamicsVerbAnyText.answer.Goals as goal
-
-pub returns-clause-promised : goal.returns-clause-promised
-returns-clause-promised c = λ s cut is uploads. c.answer_fitted.ensures.promised s cut is
