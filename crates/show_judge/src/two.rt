@@ -46,7 +46,12 @@ pub trait TwoTexts {
         ensures most { result ≤ text_limit };
 
     /// What it gives for a show that is accepted, and a second text.
-    fn answer_second(&self, alloc: Global, fitted: &Fitted, second: &Text) -> Result<Answer, AllocError>
+    fn answer_second(
+        &self,
+        alloc: Global,
+        fitted: &Fitted,
+        second: &Text,
+    ) -> Result<Answer, AllocError>
         requires valid { IsValidFitted fitted.now }
         requires lands { (g : Grid) × Lands g fitted.now.settings fitted.now.sent }
         requires within { IsWithin (most self.now) second.now }
