@@ -35,7 +35,6 @@ use show_uploads::{rehearse, rehearse_law, upload, uploading_law};
 use show_verify::{verify, verify_law};
 use std::alloc::Global;
 
-// What a flight is allowed.
 fn options_of(
     depth: Depth,
     near: u16,
@@ -59,7 +58,6 @@ fn options_of(
     }
 }
 
-// Runs a command, each by its function.
 fn run_command<S: Source, K: Sink>(
     alloc: Global,
     command: Command,
@@ -119,14 +117,14 @@ fn run_command<S: Source, K: Sink>(
 /// `given` has every byte that the run read from standard input, and `K.written` every byte that standard output took. Of that
 /// run the clauses say:
 /// - `usage`, `two`, `usage_failed`: where the words are no command, nothing is read, and the usage line is written or cut off.
-/// - `behaves`: the status and the output are those that `Behaves` names for the bytes that were read, whatever might have
-///   come after them.
+/// - `behaves`: the status and the output are those that `Behaves` names for the bytes that were read, and for any bytes that
+///   might have come after them.
 /// - `six`, `seven`: 6 comes only after a read of standard input failed, and 7 only after a write to standard output failed.
 /// - `to_end`: at 0 of a command that reads all of its input, the last read met the end: what was read is the whole input.
-/// - `flies`, `uploads`: at 0 the bytes that were read are a show's text, and its drones keep apart, whoever uploads it.
+/// - `flies`, `uploads`: at 0 the bytes that were read are a show's text, and its drones keep apart, with any uploader.
 /// - `flown`, `flight`: at 0 of `direct` the bytes that were read begin with three texts of one flight, which was flown, and whose
 ///   show was kept.
-/// - `begun`: once a byte of a packet went out, the bytes that were read have such a text, whatever the status.
+/// - `begun`: once a byte of a packet went out, the bytes that were read have such a text, at each status.
 /// - `headline`: at 0 standard output took the plan of the bytes that were read.
 /// - `regions`, `speeds`, `touches`, `motions`: at 0 what standard output took is true of the flight of the bytes that were
 ///   read.
@@ -169,11 +167,11 @@ pub fn run<S: Source, K: Sink>(
     ensures drilled { (drones depth : ℕ) → command_in words.now.items ≡ Some (Command.Drill drones depth) → result ≡ 0 → FliesText (part_of (drill_text drones)) }
 
     // The same 0 of each upload of that show. When one with read-back is done, each byte of each load was right when it
-    // was read, whoever else alters a byte; no start was sent before. When one with starts is done, each drone took a
+    // was read, also where others alter bytes; no start was sent before. When one with starts is done, each drone took a
     // start. Where nobody alters a byte, each moment of an upload, with read-back or without, is safe, and when it is
     // done each memory decodes to the curve of its drone.
     ensures uploads { (name input : List ℕ) → IsCalled words.now.items name → Contains judges_apart name → (S.told source.new).given ≡ (S.told source.old).given ++ input → result ≡ 0 → UploadsText (part_of input) }
-    // Of `upload` it holds whatever the status, once the first byte of a packet was written.
+    // Of `upload` it holds at each status, once the first byte of a packet was written.
     ensures begun { (depth : ℕ) (start readback : Bool) (input : List ℕ) → command_in words.now.items ≡ Some (Command.Upload depth start readback) → (S.told source.new).given ≡ (S.told source.old).given ++ input
         → HasBegun (K.written sink.old) (K.written sink.new) → UploadsText (part_of input) }
 
@@ -183,15 +181,15 @@ pub fn run<S: Source, K: Sink>(
     ensures flown { (depth near at_place silence floor descent : ℕ) (then_land : Bool) (input : List ℕ) → command_in words.now.items ≡ Some (Command.Direct depth near at_place silence floor descent then_land)
         → (S.told source.new).given ≡ (S.told source.old).given ++ input → result ≡ 0
         → FliesWhole (options_of depth near at_place silence floor descent then_land) input (K.written sink.old) (K.written sink.new) }
-    // Then, and whatever the status once a byte was written that begins no end frame: at every instant of each of the
+    // Then, and at each status once a byte was written that begins no end frame: at every instant of each of the
     // three what drones are sent keeps near to what the show says, and any two drones keep apart.
     ensures flight { (depth near at_place silence floor descent : ℕ) (then_land : Bool) (input : List ℕ) → command_in words.now.items ≡ Some (Command.Direct depth near at_place silence floor descent then_land)
         → (S.told source.new).given ≡ (S.told source.old).given ++ input → FlightBegun (K.written sink.old) (K.written sink.new) ⊎ (result ≡ 0)
         → FlyAsOne (options_of depth near at_place silence floor descent then_land) input }
 
     // 0 of `compile`: the input stands for a show, and its plan was written. Of the trajectories of this plan each
-    // upload goes right, as `uploads` says: once it is done, or once each drone accepted its packets, whoever sent
-    // them, each drone carries one curve and flies no other, near to the show and apart from every other drone, at
+    // upload goes right, as `uploads` says: once it is done, or once each drone accepted its packets from any
+    // sender, each drone carries one curve and flies no other, near to the show and apart from every other drone, at
     // every instant.
     ensures headline { (input : List ℕ) → IsCalled words.now.items (codes "compile") → (S.told source.new).given ≡ (S.told source.old).given ++ input → result ≡ 0
         → Headline input (K.written sink.old) (K.written sink.new) }
