@@ -15,7 +15,7 @@ record WordRows : Type 0 where
   no_value : command_of (codes "compile" ∷ codes "--depth" ∷ []) ≡ None
   of_another : command_of (codes "check" ∷ codes "--start" ∷ []) ≡ None
   zeros : command_of (codes "drill" ∷ codes "004" ∷ []) ≡ Some (Drill 4 6)
-  behind : command_of (codes "drill" ∷ codes "--depth" ∷ codes "3" ∷ codes "4" ∷ []) ≡ None
+  number_last : command_of (codes "drill" ∷ codes "--depth" ∷ codes "3" ∷ codes "4" ∷ []) ≡ None
   too_many : command_of (codes "drill" ∷ codes "33" ∷ []) ≡ None
   too_great : command_of (codes "play" ∷ codes "--step" ∷ codes "60001" ∷ []) ≡ None
   digits : command_of (codes "play" ∷ codes "--step" ∷ codes "0000000005" ∷ []) ≡ None
@@ -49,4 +49,4 @@ record WordRows : Type 0 where
 
 word_rows : WordRows
 unfolding value_of
-word_rows = record { either_order = refl; start_first = refl; start_last = refl; twice = refl; swallowed = refl; taken_for_option = refl; no_value = refl; of_another = refl; zeros = refl; behind = refl; too_many = refl; too_great = refl; digits = refl; bare = refl; limited = refl; unlimited = refl; no_limit = refl; finest = refl; too_fine = refl; boxed = refl; boxes_limited = refl; version = refl; version_of_one = refl; nothing = refl; read_back = refl; read_back_last = refl; read_back_twice = refl; read_back_of_another = refl; unbounded = refl; bounded = refl; bounded_twice = refl; bound_of_another = refl; dynamics_limited = refl; flown = refl; flown_on = refl; flown_all = refl; flown_how = refl; never_silent = refl; too_high = refl; near_of_another = refl }
+word_rows = record { either_order = refl; start_first = refl; start_last = refl; twice = refl; swallowed = refl; taken_for_option = refl; no_value = refl; of_another = refl; zeros = refl; number_last = refl; too_many = refl; too_great = refl; digits = refl; bare = refl; limited = refl; unlimited = refl; no_limit = refl; finest = refl; too_fine = refl; boxed = refl; boxes_limited = refl; version = refl; version_of_one = refl; nothing = refl; read_back = refl; read_back_last = refl; read_back_twice = refl; read_back_of_another = refl; unbounded = refl; bounded = refl; bounded_twice = refl; bound_of_another = refl; dynamics_limited = refl; flown = refl; flown_on = refl; flown_all = refl; flown_how = refl; never_silent = refl; too_high = refl; near_of_another = refl }

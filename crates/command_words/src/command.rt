@@ -100,7 +100,6 @@ fn depth_of(words: &[String]) -> Option<Depth>
     Some(options.depth())
 }
 
-// A command that takes no option.
 fn bare(command: Command, words: &[String]) -> Option<Command>
     ensures value { result ≡ commands.bare command (map string_bytes words.now) }
     ensures same { IfSome result (λ c. c ≡ command) }

@@ -17,6 +17,7 @@ pub use command::{Command, command_of, help_text};
 
 /// A law. Words are read as options exactly where they are these options, one after the other
 /// (`specs/Commands.antt`).
+#[tactic(auto, using(crate::proofs::OptionLemmas::words_law))]
 pub fn words_law()
     ensures { WordsLaw }
 {}

@@ -105,7 +105,6 @@ fn then_from(word: &[u8]) -> Option<u32>
 }
 
 impl OptionName {
-    // Its word.
     fn word(self) -> &'static [u8]
         ensures { result.now ≡ word_of self }
     {
@@ -147,7 +146,6 @@ impl OptionName {
         Some(Range { least, most })
     }
 
-    // Its place among the values.
     fn place(self) -> usize
         ensures value { result ≡ place_of self }
         ensures few { result ≤ 13 }
@@ -198,7 +196,6 @@ impl OptionName {
     }
 }
 
-// The option that a word names.
 fn named_by(word: &[u8]) -> Option<OptionName>
     ensures { result ≡ commands.named_by word.now }
 {
@@ -226,7 +223,6 @@ fn named_by(word: &[u8]) -> Option<OptionName>
     None
 }
 
-// Whether a command that takes these options takes this one.
 fn takes(names: &[OptionName], name: OptionName) -> bool
     ensures { result ≡ takes names.now name }
 {
@@ -245,7 +241,6 @@ pub struct Options {
 }
 
 impl Options {
-    // Nothing is given.
     fn none() -> Options
         ensures value { result ≡ no_options }
         ensures range { AreInRange result }
@@ -253,7 +248,6 @@ impl Options {
         Options { values: [None; 14] }
     }
 
-    // The number of an option, if it is given.
     fn given(self, name: OptionName) -> Option<u32>
         requires { AreInRange self }
         ensures value { result ≡ given_in self name }
