@@ -3,10 +3,11 @@ ghost use Rattle.std.specs.Prelude.{◌≡◌};
 ghost use Rattle.drill_show.specs.Drill.{drill_line};
 
 use fleet_io::ShortLine;
+use fleet_io::Word::Number;
 
 /// What is said of a drill's show of this many drones and cues: how many pairs of drones it has, how many bytes the
 /// trajectories, how many packets without the starts, and how many nodes its certificate.
-#[tactic(auto, using(fleet_io::proofs::WordLaws::word_adds, fleet_io::proofs::WordLaws::number_adds))]
+#[tactic(auto, unfolding(crate::specs::Drill::drill_line))]
 pub fn drill_line(
     drones: u8,
     cues: u16,
@@ -17,19 +18,15 @@ pub fn drill_line(
 ) -> ShortLine
     ensures { result ≡ drill_line drones cues pairs bytes packets nodes }
 {
-    let mut line = ShortLine::make();
-    line.word(b"drones");
-    line.number(u32::from(drones));
-    line.word(b"cues");
-    line.number(u32::from(cues));
-    line.word(b"pairs");
-    line.number(u32::from(pairs));
-    line.word(b"bytes");
-    line.number(bytes);
-    line.word(b"packets");
-    line.number(packets);
-    line.word(b"nodes");
-    line.number(nodes);
-    line.end();
-    line
+    ShortLine::of(
+        b"drones ? cues ? pairs ? bytes ? packets ? nodes ?",
+        &[
+            Number(u32::from(drones)),
+            Number(u32::from(cues)),
+            Number(u32::from(pairs)),
+            Number(bytes),
+            Number(packets),
+            Number(nodes),
+        ],
+    )
 }

@@ -45,7 +45,7 @@ fn height_in(cue: u8, i: u8) -> u32
     }
 }
 
-fn put_drone(text: &mut String, i: u8) -> Result<(), AllocError>
+fn put_drone_line(text: &mut String, i: u8) -> Result<(), AllocError>
     requires { i < most_drones }
     ensures { OnOk result (string_bytes text.new ≡ string_bytes text.old ++ drone_line i) }
 {
@@ -53,7 +53,7 @@ fn put_drone(text: &mut String, i: u8) -> Result<(), AllocError>
     writeln!(text, "drone d{number} {x} {y} 1000000 0")
 }
 
-fn put_move(text: &mut String, cue: u8, i: u8) -> Result<(), AllocError>
+fn put_move_line(text: &mut String, cue: u8, i: u8) -> Result<(), AllocError>
     requires cue { cue < 4 }
     requires drone { i < most_drones }
     ensures { OnOk result (string_bytes text.new ≡ string_bytes text.old ++ move_line cue i) }
@@ -63,38 +63,35 @@ fn put_move(text: &mut String, cue: u8, i: u8) -> Result<(), AllocError>
     writeln!(text, "d{number} move {x} {y} {z} 0")
 }
 
-// The lines of a cue of n drones.
-fn put_cue(text: &mut String, n: u8, cue: u8) -> Result<(), AllocError>
+fn put_cue_lines(text: &mut String, n: u8, cue: u8) -> Result<(), AllocError>
     requires few { n ≤ most_drones }
     requires cue { cue < 4 }
     ensures { OnOk result (string_bytes text.new ≡ string_bytes text.old ++ cue_lines n cue) }
 {
     text.push_str("cue 3000\n")?;
     for i in 0..n {
-        put_move(text, cue, i)?;
+        put_move_line(text, cue, i)?;
     }
     text.push_str("end\n")
 }
 
-// The lines of the drones.
-fn put_drones(text: &mut String, n: u8) -> Result<(), AllocError>
+fn put_drone_lines(text: &mut String, n: u8) -> Result<(), AllocError>
     requires { n ≤ most_drones }
     ensures { OnOk result (string_bytes text.new ≡ string_bytes text.old ++ flat_map drone_line (range_with_len 0 n)) }
 {
     for i in 0..n {
-        put_drone(text, i)?;
+        put_drone_line(text, i)?;
     }
     Ok(())
 }
 
-// The lines of the four cues.
-fn put_cues(text: &mut String, n: u8) -> Result<(), AllocError>
+fn put_all_cues(text: &mut String, n: u8) -> Result<(), AllocError>
     requires { n ≤ most_drones }
     ensures { OnOk result
         (string_bytes text.new ≡ string_bytes text.old ++ flat_map (cue_lines n) (range_with_len 0 4)) }
 {
     for cue in 0..4 {
-        put_cue(text, n, cue)?;
+        put_cue_lines(text, n, cue)?;
     }
     Ok(())
 }
@@ -107,9 +104,9 @@ pub fn drill_text(alloc: Global, n: u8) -> Result<Vec<u8>, AllocError>
 {
     let mut text = String::new(alloc);
     text.push_str("choreo 1\n")?;
-    put_drones(&mut text, n)?;
+    put_drone_lines(&mut text, n)?;
     text.push_str("repeat 10\n")?;
-    put_cues(&mut text, n)?;
+    put_all_cues(&mut text, n)?;
     text.push_str("end\n")?;
     Ok(text.into_bytes())
 }

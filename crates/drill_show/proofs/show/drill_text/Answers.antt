@@ -9,9 +9,9 @@ returns c =
     ap (λ (v : Vec ℕ Global). v.items) c.into_bytes.ensures.value
     ∙ c.in_ok-push_str-3.ensures.bytes
     ∙ ap (λ (t : List ℕ). t ++ codes "end\n") (
-    c.in_ok-put_cues.ensures ∙ ap (λ (t : List ℕ). t ++ cues) (
+    c.in_ok-put_all_cues.ensures ∙ ap (λ (t : List ℕ). t ++ cues) (
     c.in_ok-push_str-2.ensures.bytes ∙ ap (λ (t : List ℕ). t ++ codes "repeat 10\n") (
-    c.in_ok-put_drones.ensures ∙ ap (λ (t : List ℕ). t ++ drones) (
+    c.in_ok-put_drone_lines.ensures ∙ ap (λ (t : List ℕ). t ++ drones) (
     c.in_ok-push_str.ensures.bytes ∙ ap (λ (t : List ℕ). t ++ codes "choreo 1\n") c.new-text.ensures.bytes
     )
     )

@@ -1,6 +1,6 @@
 use Rattle.drill_show.proofs.Prelude.{◌≡◌, ◌++◌, List, ℕ, string_bytes, OnOk, subst}
 use Rattle.drill_show.proofs.DrillLemmas.{drone_made}
-use Rattle.drill_show.proofs.show.put_drone.Goals as goal
+use Rattle.drill_show.proofs.show.put_drone_line.Goals as goal
 
 pub returns : goal.returns
 returns c =

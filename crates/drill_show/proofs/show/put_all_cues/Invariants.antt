@@ -1,5 +1,5 @@
 use Rattle.drill_show.proofs.Prelude.{◌≡◌, ◌++◌, ◌-◌, flat_map, range_with_len, string_bytes, cue_lines}
-use Rattle.drill_show.proofs.show.put_cues.Given as goal
+use Rattle.drill_show.proofs.show.put_all_cues.Given as goal
 
 -- the lines so far
 abbrev pub invariant-loop-cue : goal.invariant-loop-cue

@@ -1,5 +1,5 @@
 use Rattle.drill_show.proofs.Prelude.{◌≡◌, ◌++◌, ◌-◌, flat_map, range_with_len, string_bytes, move_line}
-use Rattle.drill_show.proofs.show.put_cue.Given as goal
+use Rattle.drill_show.proofs.show.put_cue_lines.Given as goal
 
 -- the lines so far
 abbrev pub invariant-loop-i : goal.invariant-loop-i

@@ -1,10 +1,10 @@
 use Rattle.drill_show.proofs.Prelude.{◌≡◌, ◌++◌, List, ℕ, ◌∙◌, ap, sym, string_bytes, arith, codes, flat_map, range_with_len, move_line}
 use Rattle.drill_show.proofs.DrillLemmas.{part_next, parts_over, cue_made, pushed}
-use Rattle.drill_show.proofs.show.put_cue.Goals as goal
+use Rattle.drill_show.proofs.show.put_cue_lines.Goals as goal
 
 pub loop-i-preserved : goal.loop-i-preserved
 loop-i-preserved c =
-    part_next (move_line c.args.cue) (string_bytes c.loop-i.text) (string_bytes c.put_move.new.text) c.loop-i.i c.args.n (omega arith) c.in_ok-put_move.ensures
+    part_next (move_line c.args.cue) (string_bytes c.loop-i.text) (string_bytes c.put_move_line.new.text) c.loop-i.i c.args.n (omega arith) c.in_ok-put_move_line.ensures
     ∙ c.loop-i.invariant
 
 pub returns : goal.returns

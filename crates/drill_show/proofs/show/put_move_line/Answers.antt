@@ -1,6 +1,6 @@
 use Rattle.drill_show.proofs.Prelude.{◌≡◌, ◌+◌, ◌++◌, ◌∷◌, List, ℕ, codes, decimal, string_bytes, OnOk, subst}
 use Rattle.drill_show.proofs.DrillLemmas.{move_made}
-use Rattle.drill_show.proofs.show.put_move.Goals as goal
+use Rattle.drill_show.proofs.show.put_move_line.Goals as goal
 
 pub returns : goal.returns
 returns c =
