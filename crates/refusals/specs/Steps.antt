@@ -33,10 +33,14 @@ is_of_certificate (refused.TooDeep pair) = true
 is_of_certificate (refused.Fails pair place version dir control) = true
 is_of_certificate _ = false
 
--- those of a study of regions, speeds or accelerations
+-- those of a study of regions or speeds
 abbrev pub is_of_study : Refusal → Bool
 is_of_study (refused.Enters region drone cue index depth) = true
 is_of_study (refused.TooFast drone axis speed) = true
-is_of_study (refused.Accelerates drone cue axis acceleration) = true
-is_of_study (refused.Jumps drone cue axis speed) = true
 is_of_study _ = false
+
+-- those of a study of accelerations and of jumps of speed
+abbrev pub is_of_dynamics : Refusal → Bool
+is_of_dynamics (refused.Accelerates drone cue axis acceleration) = true
+is_of_dynamics (refused.Jumps drone cue axis speed) = true
+is_of_dynamics _ = false

@@ -7,7 +7,6 @@ ghost use Rattle.refusals.specs.KindWords.{kind_word, grid_word, axis_word};
 use choreo_lines::LineKind;
 use cue_grid::GridFault;
 
-// The word of a kind of faulty lines.
 pub(crate) fn kind_word(kind: LineKind) -> &'static [u8]
     ensures word { result.now ≡ kind_word kind }
     ensures short { length result.now ≤ 15 }

@@ -3,7 +3,7 @@
 ghost use Rattle.std.specs.Prelude.{◌≡◌, ◌≤◌, [], ◌∷◌, ◌++◌, false, codes, decimal, length, MatchOption};
 ghost use Rattle.refusals.specs.Lines.{pair_words, refusal};
 ghost use Rattle.refusals.specs.Refusals.{IsSayable, line_of};
-ghost use Rattle.refusals.specs.Steps.{is_of_certificate, is_of_show, is_of_study, is_of_upload};
+ghost use Rattle.refusals.specs.Steps.{is_of_certificate, is_of_dynamics, is_of_show, is_of_study, is_of_upload};
 
 use crate::kinds::{axis_word, kind_word, line_and_word};
 use crate::refusal::{Pair, Refusal};
@@ -28,6 +28,9 @@ impl Refusal {
             return line;
         }
         if let Some(line) = self.study_line() {
+            return line;
+        }
+        if let Some(line) = self.dynamics_line() {
             return line;
         }
         // What is left is that the words are no command.
@@ -164,7 +167,7 @@ impl Refusal {
         }
     }
 
-    // The line, if it is of a study of regions, speeds or accelerations.
+    // The line, if it is of a study of regions or speeds.
     fn study_line(&self) -> Option<ShortLine>
         requires { IsSayable self.now }
         ensures { MatchOption result (is_of_study self.now ≡ false) (λ line. line ≡ line_of self.now) }
@@ -194,6 +197,16 @@ impl Refusal {
                     Decimal(*speed),
                 ],
             )),
+            _ => None,
+        }
+    }
+
+    // The line, if it is of a study of accelerations and of jumps of speed.
+    fn dynamics_line(&self) -> Option<ShortLine>
+        requires { IsSayable self.now }
+        ensures { MatchOption result (is_of_dynamics self.now ≡ false) (λ line. line ≡ line_of self.now) }
+    {
+        match self {
             Refusal::Accelerates {
                 drone,
                 cue,

@@ -15,7 +15,6 @@ pub(crate) fn parts(depth: Depth) -> u32
     1 << u32::from(depth.levels())
 }
 
-// A byte in two digits.
 pub(crate) fn hex_word(byte: u8) -> [u8; 2]
     ensures { result ≡ hex_word byte }
 {
