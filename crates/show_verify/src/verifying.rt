@@ -141,7 +141,7 @@ fn take_second<S: Source>(
 }
 
 // What a certificate's text is for a show that fits. It is judged as it is taken, and never held.
-fn answer_second<S: Source>(
+fn judge_second<S: Source>(
     alloc: Global,
     parts: &mut Parts,
     source: &mut S,
@@ -204,7 +204,7 @@ fn skip_second<S: Source>(parts: &mut Parts, source: &mut S) -> Result<(), Faile
 }
 
 // The refusal of a show, after the text after it was taken; after a show's text that is too large none is.
-fn answer_refused<S: Source>(
+fn refuse_show<S: Source>(
     parts: &mut Parts,
     source: &mut S,
     show: &Text,
@@ -214,7 +214,7 @@ fn answer_refused<S: Source>(
     requires lines { IsTrue parts.old.lines }
     requires at_line { IsWholeText show.now → IsTrue parts.old.at_line }
     requires at_end { IsTrue parts.old.ended → IsTrue (S.told source.old).ended }
-    ensures answer { IfOk result (λ a. a ≡ Answer.Refused refusal) }
+    ensures refusal { IfOk result (λ a. a ≡ Answer.Refused refusal) }
     ensures both { (all : List ℕ) → MayGive parts.new.ended (S.told source.new) all → IsWholeText show.now → IfOk result (λ _. IsTakenWhole (stream parts.old (to_come all (S.told source.old))) (to_come all (S.told source.new))) }
     ensures stays { (IsWholeText show.now → ⊥) → S.told source.new ≡ S.told source.old }
     ensures failed { result ≡ Err Failure.Read → Rose (S.told source.old).faults (S.told source.new).faults }
@@ -243,8 +243,8 @@ fn answer_input<S: Source>(alloc: Global, source: &mut S) -> Result<Answer, Fail
         depth: None,
     };
     match fit_text(alloc, &ways, &show)? {
-        Planned::Fits { fitted } => answer_second(alloc, &mut parts, source, &fitted),
-        Planned::Refused { refusal } => answer_refused(&mut parts, source, &show, refusal),
+        Planned::Fits { fitted } => judge_second(alloc, &mut parts, source, &fitted),
+        Planned::Refused { refusal } => refuse_show(&mut parts, source, &show, refusal),
     }
 }
 

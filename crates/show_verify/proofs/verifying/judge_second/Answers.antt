@@ -2,7 +2,7 @@ use Rattle.std.proofs.lemmas.Grind.{common_steps}
 use Rattle.std.proofs.Common.{arith}
 use Rattle.show_verify.proofs.Prelude.{IsInput-now, of_source, ap, ◌∙◌, raised_of, to_come, stream, outcome_of, TakenGives, Whole}
 use Rattle.show_verify.proofs.SecondLemmas.{taken_whole, whole_gives}
-use Rattle.show_verify.proofs.verifying.answer_second.Goals as goal
+use Rattle.show_verify.proofs.verifying.judge_second.Goals as goal
 
 pub take_second-requires-clause-unfed : goal.take_second-requires-clause-unfed
 take_second-requires-clause-unfed g c = c.make-checker.ensures.has_read c.in_ok-curves.curves
