@@ -2,8 +2,7 @@
 ghost use Rattle.std.specs.Prelude.{◌≡◌, ◌≤◌, IfOk};
 ghost use Rattle.integer_player.specs.Played.{IsPlayable, duration_of};
 
-use fleet_io::ShortLine;
-use integer_player::{at, put_row};
+use integer_player::{at, play_row};
 use std::alloc::{AllocError, Global};
 use std::test::Fail;
 use traj_codec::{Element, Listed, Segment, Traj};
@@ -197,18 +196,14 @@ fn edges_between_segments(rt: HostRuntime) -> Result<(), Fail> {
 
 #[test]
 fn rows_are_lines(rt: HostRuntime) {
-    let mut line = ShortLine::make();
-    put_row(500, b"solo", [70_556, 0, 1_000_000, 0], &mut line);
-    assert_eq!(rt; line.bytes(), b"500 solo 70556 0 1000000 0\n".as_slice());
-    let mut line = ShortLine::make();
-    put_row(0, b"a", [-334, -1, 0, -900], &mut line);
-    assert_eq!(rt; line.bytes(), b"0 a -334 -1 0 -900\n".as_slice());
-    let mut line = ShortLine::make();
-    put_row(
+    let row = play_row(500, b"solo", [70_556, 0, 1_000_000, 0]);
+    assert_eq!(rt; row.as_slice(), b"500 solo 70556 0 1000000 0\n".as_slice());
+    let row = play_row(0, b"a", [-334, -1, 0, -900]);
+    assert_eq!(rt; row.as_slice(), b"0 a -334 -1 0 -900\n".as_slice());
+    let row = play_row(
         4_294_967_295,
         b"abcdefghijklmnop",
         [i64::MIN, i64::MIN, i64::MIN, i64::MAX],
-        &mut line,
     );
-    assert_eq!(rt; line.bytes().len(), 111);
+    assert_eq!(rt; row.as_slice().len(), 111);
 }

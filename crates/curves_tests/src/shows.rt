@@ -1,6 +1,5 @@
 //! Rows of whole shows: those of docs/COMMANDS.md, or computed by an independent program with fractions.
 ghost use Rattle.std.specs.Prelude.{◌≡◌, ◌<◌, ◌≤◌, All, length, IfOk};
-ghost use Rattle.fleet_io.specs.Words.{IsWord};
 ghost use Rattle.integer_player.specs.Played.{IsPlayable, duration_of};
 
 use crate::positions::traj;
@@ -32,9 +31,8 @@ fn plays_as(
     requires some { 1 ≤ step }
     requires few { length trajs.now ≤ 32 }
     requires each { length names.now ≡ length trajs.now }
-    requires words { All (λ name. IsWord name.items) names.now }
     requires playable { All IsPlayable trajs.now }
-    requires lasting { All (λ (t : Traj). duration_of t ≡ total) trajs.now }
+    requires total { All (λ (t : Traj). duration_of t ≡ total) trajs.now }
 {
     let mut sink = MemSink::make(alloc, wanted.len() + 1, 100, Vec::new(alloc))?;
     let played = play(names, trajs, total, step, &mut sink);
@@ -217,7 +215,7 @@ const BUMP: Segment = Segment {
 // As many bumps as a trajectory may have, at a place on y.
 fn bumps(alloc: Global, y: i16) -> Result<Traj, AllocError>
     ensures playable { IfOk result IsPlayable }
-    ensures long { IfOk result (λ t. duration_of t ≡ 2550) }
+    ensures duration { IfOk result (λ t. duration_of t ≡ 2550) }
 {
     traj(alloc, [0, y, 1000, 0], &[BUMP; 255])
 }
@@ -226,7 +224,7 @@ fn bumps(alloc: Global, y: i16) -> Result<Traj, AllocError>
 fn fleet(alloc: Global) -> Result<Vec<Traj>, AllocError>
     ensures many { IfOk result (λ ts. length ts.items ≡ 32) }
     ensures playable { IfOk result (λ ts. All IsPlayable ts.items) }
-    ensures long { IfOk result (λ ts. All (λ t. duration_of t ≡ 2550) ts.items) }
+    ensures duration { IfOk result (λ ts. All (λ t. duration_of t ≡ 2550) ts.items) }
 {
     let mut trajs = Vec::new(alloc);
     for d in 0..32u8 {
@@ -237,8 +235,7 @@ fn fleet(alloc: Global) -> Result<Vec<Traj>, AllocError>
 
 // Their names: a letter each, from `A` on.
 fn letters(alloc: Global) -> Result<Vec<Name>, AllocError>
-    ensures many { IfOk result (λ names. length names.items ≡ 32) }
-    ensures words { IfOk result (λ names. All (λ name. IsWord name.items) names.items) }
+    ensures { IfOk result (λ names. length names.items ≡ 32) }
 {
     let mut names = Vec::new(alloc);
     for d in 0..32u8 {

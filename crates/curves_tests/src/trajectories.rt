@@ -112,7 +112,7 @@ fn all_four_kinds(rt: HostRuntime) -> Result<(), Fail> {
 }
 
 // The start 0, 0, 0, 0, and then bytes.
-fn behind_start(alloc: Global, bytes: &[u8]) -> Result<Vec<u8>, AllocError> {
+fn after_start(alloc: Global, bytes: &[u8]) -> Result<Vec<u8>, AllocError> {
     let mut all = Vec::new(alloc);
     all.extend_from_slice(&[0; 8])?;
     all.extend_from_slice(bytes)?;
@@ -144,7 +144,7 @@ fn first_faults(rt: HostRuntime) -> Result<(), Fail> {
         ),
     ];
     for (bytes, pieces, fault) in cases {
-        let all = behind_start(rt.alloc(), bytes)?;
+        let all = after_start(rt.alloc(), bytes)?;
         assert_eq!(rt; fault_in(rt.alloc(), &all, pieces), fault);
     }
     assert_eq!(rt;
@@ -177,7 +177,7 @@ fn each_header(rt: HostRuntime) -> Result<(), Fail> {
             + numbers_of(header / 4 % 4)
             + numbers_of(header / 16 % 4)
             + numbers_of(header / 64);
-        let mut bytes = behind_start(rt.alloc(), &[header, 0xE8, 3])?;
+        let mut bytes = after_start(rt.alloc(), &[header, 0xE8, 3])?;
         for n in 0..count {
             bytes.push(n + 1)?;
             bytes.push(0)?;

@@ -8,7 +8,6 @@ pub use Rattle.std.proofs.lemmas.Int.{ints, to_z-of_z, to_z_pos}
 pub use Rattle.std.proofs.lemmas.List.{append-nil, length-replicate, take-append-drop}
 pub use Rattle.std.proofs.lemmas.Nat.{leading_length, mul-le, pow-add}
 pub use Rattle.std.specs.List.{flat_map, range_with_len}
-pub use Rattle.fleet_io.specs.Words.{AreWords, IsWord, with_word, with_words}
 pub use Rattle.fleet_math.proofs.BernsteinLemmas.{bernstein-add, bernstein-suc, bernstein-zero, by_lt, cong_add}
 pub use Rattle.fleet_math.proofs.RingLemmas.{add_mul_ℤ, le_mul_pos, linear, mul_add_ℤ, mul_assoc_ℤ, mul_comm_ℤ, mul_neg_ℤ, neg_mul_ℤ, one_mul_ℤ, ring}
 unfoldable pub use Rattle.fleet_math.specs.Bernstein.{bernstein}
@@ -24,6 +23,6 @@ pub use mir.Syntax.{w128, w16, w64}
 pub use Rattle.integer_player.specs.Floors.{IsFloor, floor_of}
 pub use Rattle.integer_player.specs.Places.{ArePlaces, IsNotPast, IsPlaceAt, IsPlaceIn, Place}
 unfoldable pub use Rattle.integer_player.specs.Played.{play_text}
-pub use Rattle.integer_player.specs.Played.{curve_floor, played, played_on, row, row_words, rows_at, scale_on}
+pub use Rattle.integer_player.specs.Played.{curve_floor, played, played_on, row, rows_at, scale_on}
 pub use Rattle.integer_player.specs.Steps.{Passes}
 pub use Rattle.integer_player.specs.Weights.{AreWeights, IsNarrowed, dot_below, shift}

@@ -33,7 +33,7 @@ pub record IsPlaceAt (t : Traj) (ms : ℕ) (p : Place) : Type 0 where
   pub place : IsPlaceIn t p
   pub begun : p.before ≤ ms
   pub going : ms ≤ p.before + p.segment.ms
-  pub lasting : 1 ≤ p.segment.ms
+  pub duration : 1 ≤ p.segment.ms
   pub moment : part_of p ms ≡ moment_of t ms
 
 -- The place isn't past an instant: the first segment whose end isn't before the instant is this one or a later one.

@@ -38,19 +38,19 @@ played t ms = played_at t (moment_of t ms)
 pub record IsPlayable (t : Traj) : Type 0 where
   pub some : 1 ≤ length t.segments
   pub few : length t.segments ≤ most_segments
-  pub lasting : All HasDuration t.segments
+  pub durations : All HasDuration t.segments
 
 -- how long a trajectory lasts, in milliseconds
 abbrev pub duration_of : Traj → ℕ
 duration_of t = sum (durations t.segments)
 
--- the words of the row of a drone at an instant: the instant, the drone's name and the numbers
-abbrev pub row_words : ℕ → List ℕ → List ℤ → List (List ℕ)
-row_words ms name values = decimal ms ∷ name ∷ map signed_decimal values
-
--- the row: these words, a space between them, and a line feed
+-- the row of a drone at an instant: the instant, the drone's name and the numbers, a space between them, and a line feed
 abbrev pub row : ℕ → List ℕ → List ℤ → List ℕ
 row ms name values = line (decimal ms) (name ∷ map signed_decimal values)
+
+-- the most bytes of a row whose name has at most 16 bytes, and whose numbers have 64 bits
+abbrev pub row_bytes : ℕ
+row_bytes = 112
 
 -- the instants of a show that lasts `total` milliseconds: 0, step, 2 step and so on up to the total, and the total
 -- itself where it isn't one of them

@@ -11,7 +11,6 @@ use crate::weights::dot;
 // What is added to a control value, so that it is not negative.
 const SHIFT: i64 = 32768;
 
-// A control value with the shift.
 fn shifted_one(v: i16) -> u64
     ensures value { pos result ≡ v +ℤ pos shift }
     ensures small { result ≤ 65535 }
@@ -19,7 +18,6 @@ fn shifted_one(v: i16) -> u64
     (v as i64 + SHIFT) as u64
 }
 
-// Control values with the shift.
 pub(crate) fn shifted<const N: usize>(b: &[i16; N]) -> [u64; N]
     ensures value { (k : ℕ) → k < N → pos (slice_index result k) ≡ at b.now k +ℤ pos shift }
     ensures small { (k : ℕ) → k < N → slice_index result k ≤ 65535 }
@@ -31,7 +29,6 @@ pub(crate) fn shifted<const N: usize>(b: &[i16; N]) -> [u64; N]
     row
 }
 
-// A floor without the shift.
 pub(crate) fn centred(floor: u64, scale: u64) -> i64
     requires most { floor ≤ 65535000 }
     requires few { scale ≤ 1000 }

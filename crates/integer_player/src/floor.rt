@@ -3,7 +3,6 @@
 
 ghost use Rattle.std.specs.Prelude.{◌≡◌, ◌^◌, ◌*◌, ◌/◌, ◌<◌, ◌≤◌};
 
-// The floor of `scale * v / m`.
 pub(crate) fn floor_of_multiple(v: u128, m: u128, scale: u64) -> u64
     requires some { 1 ≤ m }
     requires small { m < 2 ^ 112 }

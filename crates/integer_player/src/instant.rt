@@ -40,7 +40,6 @@ impl Model for Instant {
 }
 
 impl Instant {
-    // The part `a / c` of a segment.
     pub(crate) fn make(cue: usize, a: u16, c: u16) -> Instant
         requires some { 1 ≤ c }
         requires within { a ≤ c }

@@ -2,7 +2,7 @@
 //! rows that say it (docs/COMMANDS.md, `play`).
 //!
 //! [`at`] is the floor of the exact position (`specs/Played.antt`, over the decoded position of
-//! `traj_codec`). [`put_row`] writes one row, and [`play`] the rows of a whole show. No call takes
+//! `traj_codec`). [`play_row`] gives one row, and [`play`] writes those of a whole show. No call takes
 //! memory. In `play` each drone has a `Player`, which moves on through its trajectory, and drones in
 //! the same part of a segment share an `Instant`, so that a row costs no search and hardly a division.
 //!
@@ -12,7 +12,8 @@
 //! a thousand times a position may need more than 128 bits.
 //!
 //! The crate stands on `fleet_math` for moments and Bernstein sums, on `bezier_core` for laws of
-//! powers, on `traj_codec` for trajectories and on `fleet_io` for rows and the sink.
+//! powers, on `traj_codec` for trajectories, on `fleet_io` for the sink, and on `itoa` and
+//! `arrayvec` for rows.
 #![tactic(auto)]
 
 mod curve;
@@ -25,6 +26,6 @@ mod show;
 mod weights;
 
 pub use player::at;
-pub use row::put_row;
+pub use row::{ROW_BYTES, Row, play_row};
 pub use show::{Name, play};
 pub use traj_codec::last_values;

@@ -69,7 +69,7 @@ impl Player {
     pub(crate) fn instant(&self, ms: u32) -> Instant
         requires begun { self.now.before ≤ ms }
         requires going { ms ≤ self.now.before + self.now.segment.ms }
-        requires lasting { 1 ≤ self.now.segment.ms }
+        requires duration { 1 ≤ self.now.segment.ms }
         ensures { result ≡ part_of self.now ms }
     {
         let c = self.segment.ms;

@@ -23,7 +23,6 @@ pub(crate) fn narrowed(weights: &[u128; 8], whole: u128) -> ([u64; 8], u64)
     (row, (whole >> cut) as u64)
 }
 
-// The sum of the products of two rows.
 fn short_dot(xs: &[u64; 8], ys: &[u64; 8]) -> u64
     requires { dot_below 8 xs.now ys.now < 2 ^ 64 }
     ensures { result ≡ dot_below 8 xs.now ys.now }

@@ -4,22 +4,18 @@ ghost use Rattle.std.specs.Prelude.{◌≡◌, ℕ, ◌≤◌, [], ◌++◌, All
 ghost use Rattle.std.specs.Io.KnownBytes.{Appends};
 ghost use Rattle.fleet_io.specs.Causes.{HasCause};
 ghost use Rattle.fleet_io.specs.Taken.{AppendsFront};
-ghost use Rattle.fleet_io.specs.Words.{IsWord, short_line_bytes};
 ghost use Rattle.traj_codec.specs.declared.traj.Traj.{Traj};
-ghost use Rattle.integer_player.specs.Played.{played, duration_of, IsPlayable, rows_at, play_text};
+ghost use Rattle.integer_player.specs.Played.{played, duration_of, IsPlayable, row_bytes, rows_at, play_text};
 ghost use Rattle.integer_player.specs.Places.{IsPlaceIn, ArePlaces};
 ghost use Rattle.integer_player.specs.Steps.{Passes};
 
 use crate::instant::Instant;
 use crate::player::Player;
-use crate::row::put_row;
+use crate::row::{ROW_BYTES, play_row};
 use arrayvec::ArrayVec;
-use fleet_io::{BUFFER_BYTES, Failed, ShortLine, Sink, write_whole};
+use fleet_io::{BUFFER_BYTES, Failed, Sink, write_whole};
 use fleet_math::MOST_DRONES;
 use traj_codec::Traj;
-
-// The most bytes of a row.
-const LINE_BYTES: usize = 160;
 
 /// A drone's name.
 pub type Name = ArrayVec<u8, 16>;
@@ -43,14 +39,14 @@ fn players_of(trajs: &[Traj]) -> ArrayVec<Player, MOST_DRONES>
 
 // Adds a row to those that wait, which are written first where there may be no room for it.
 fn pass<K: Sink>(row: &[u8], waiting: &mut Waiting, sink: &mut K) -> Result<(), Failed>
-    requires { length row.now ≤ short_line_bytes }
+    requires { length row.now ≤ row_bytes }
     ensures ok { OnOk result
         (Passes (K.written sink.old) waiting.old.items (K.written sink.new) waiting.new.items row.now) }
     ensures front { OnErr result
         (AppendsFront (K.written sink.old) (K.written sink.new) (waiting.old.items ++ row.now)) }
     ensures cause { HasCause (K.faults sink.old) (K.faults sink.new) result }
 {
-    if waiting.len() + LINE_BYTES > BUFFER_BYTES {
+    if waiting.len() + ROW_BYTES > BUFFER_BYTES {
         write_whole(sink, waiting.as_slice())?;
         waiting.clear();
     }
@@ -68,7 +64,6 @@ fn pass_instant<K: Sink>(
     sink: &mut K,
 ) -> Result<(), Failed>
     requires each { length names.now ≡ length trajs.now }
-    requires words { All (λ name. IsWord name.items) names.now }
     requires playable { All IsPlayable trajs.now }
     requires inside { All (λ (t : Traj). ms ≤ duration_of t) trajs.now }
     requires places { ArePlaces trajs.now players.old }
@@ -83,10 +78,9 @@ fn pass_instant<K: Sink>(
 {
     let mut instant = Instant::make(0, 0, 1);
     for d in 0..trajs.len() {
-        let mut line = ShortLine::make();
-        let row = players[d].at(&trajs[d], ms, &mut instant);
-        put_row(ms, names[d].as_slice(), row, &mut line);
-        pass(line.bytes(), waiting, sink)?;
+        let position = players[d].at(&trajs[d], ms, &mut instant);
+        let row = play_row(ms, names[d].as_slice(), position);
+        pass(row.as_slice(), waiting, sink)?;
     }
     Ok(())
 }
@@ -105,9 +99,8 @@ pub fn play<K: Sink>(
     requires some { 1 ≤ step }
     requires few { length trajs.now ≤ MOST_DRONES }
     requires each { length names.now ≡ length trajs.now }
-    requires words { All (λ name. IsWord name.items) names.now }
     requires playable { All IsPlayable trajs.now }
-    requires lasting { All (λ (t : Traj). duration_of t ≡ total) trajs.now }
+    requires total { All (λ (t : Traj). duration_of t ≡ total) trajs.now }
     ensures ok { OnOk result (Appends (K.written sink.old) (K.written sink.new)
         (play_text total step (map (λ name. name.items) names.now) trajs.now)) }
     ensures front { OnErr result (AppendsFront (K.written sink.old) (K.written sink.new)

@@ -186,7 +186,7 @@ is_held law o floor silence f steps valid up sizes =
       orders = All-weaker (IsStepOf (length f.trajs)) (λ (step : Step). AreFew step.orders) (λ step is. few_orders (length f.trajs) step.orders few is.orders) steps sizes;
       conditions = All-weaker (IsStepOf (length f.trajs)) (λ (step : Step). length step.conditions ≤ 32) (λ step is. omega (arith, few, is.conditions)) steps sizes;
       curves = λ k t inside. record {
-        playable = record { some = up.segments k t inside; few = (up.sendable k t inside).few; lasting = (up.sendable k t inside).last };
+        playable = record { some = up.segments k t inside; few = (up.sendable k t inside).few; durations = (up.sendable k t inside).last };
         lasts = omega (arith, lasting k t inside);
       };
     }

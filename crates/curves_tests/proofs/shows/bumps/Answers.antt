@@ -10,5 +10,5 @@ pub returns-clause-playable : goal.returns-clause-playable
 returns-clause-playable c = IfOk-weaker c.traj.result _ IsPlayable (λ t same. record {
   some = rw same (omega arith);
   few = rw same (omega arith);
-  lasting = rw same (All-replicate HasDuration 255 _ (omega arith));
+  durations = rw same (All-replicate HasDuration 255 _ (omega arith));
 }) c.traj.ensures

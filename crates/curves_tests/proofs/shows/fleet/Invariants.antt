@@ -7,5 +7,5 @@ abbrev pub invariant-loop-d : goal.invariant-loop-d
 invariant-loop-d l = record {
   many : length l.trajs.items ≡ l.d;
   playable : All IsPlayable l.trajs.items;
-  long : All (λ t. duration_of t ≡ 2550) l.trajs.items;
+  duration : All (λ t. duration_of t ≡ 2550) l.trajs.items;
 }
