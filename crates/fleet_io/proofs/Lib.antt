@@ -10,7 +10,6 @@ pub mod MarkLemmas
 pub mod WaitingLemmas
 pub mod CopiedLemmas
 pub mod PlaceLemmas
-pub mod WordLaws
 pub mod AskingLemmas
 pub mod AloneLemmas
 pub mod MarkerLaws

@@ -18,7 +18,6 @@ pub use Rattle.fleet_io.specs.PartBytes.{ArePlain, AsksNext, PartLaw, after_piec
 pub use Rattle.fleet_io.specs.Parts.{MarkerLaw, TakesFewAfter, TakesPart, TookMarked}
 pub use Rattle.fleet_io.specs.Steps.{Goes, Runs}
 pub use Rattle.fleet_io.specs.Told.{Gives, IsInput, MayGive, Reads, Told, Took, Went, gave, to_come}
-unfoldable pub use Rattle.fleet_io.specs.Words.{with_word}
-pub use Rattle.fleet_io.specs.Words.{AreWords, IsWord, filled, hex_word, is_line_empty, line, with_words, word_bytes, words_room}
+pub use Rattle.fleet_io.specs.Words.{filled, hex_word, word_bytes, words_room}
 pub use Rattle.fleet_io.specs.declared.parts.IoFault.{IoFault}
 pub use Rattle.fleet_io.specs.declared.parts.Part.{Part}

@@ -4,7 +4,6 @@ use Rattle.std.specs.List.{list_any}
 use Rattle.fleet_io.specs.Causes.{counted}
 use Rattle.fleet_io.specs.Told.{Told}
 
--- A number stands in a list.
 abbrev pub is_listed : List ℕ → ℕ → Bool
 is_listed numbers n = list_any (λ m. m == n) numbers
 

@@ -10,7 +10,7 @@ pub record Goes (old new : Held) (told tells : Told) : Type 0 where
   pub sound : new.sound ≡ old.sound
   pub lines : new.lines ≡ old.lines
 
--- A byte and a run of those that waited were put behind some bytes. The run has no line feed.
+-- A byte and a run of those that waited were put after some bytes. The run has no line feed.
 pub record Runs (waited waits before after : List ℕ) (byte : ℕ) : Type 0 where
   pub run : List ℕ
   pub wait : waited ≡ run ++ waits

@@ -1,21 +1,9 @@
--- Words and lines of a text that grows.
-use Rattle.std.specs.Prelude.{◌≡◌, ℕ, ◌-◌, ◌/◌, ◌%◌, ◌+◌, List, [], ◌∷◌, ◌++◌, Bool, true, false, ◌==◌, nat_lt, if◌then◌else◌, length, map, decimal, slice_index_or}
+-- Words, templates and lines of a text.
+use Rattle.std.specs.Prelude.{◌≡◌, ℕ, ◌-◌, ◌/◌, ◌%◌, ◌+◌, List, [], ◌∷◌, ◌++◌, true, false, ◌==◌, nat_lt, if◌then◌else◌, length, map, decimal, slice_index_or}
 use Rattle.std.specs.Fmt.{signed_decimal}
-use Rattle.std.specs.List.{fold, flat_map, sum_by}
+use Rattle.std.specs.List.{flat_map, sum_by}
 use Rattle.fleet_io.specs.declared.words.Word.{Word}
 use Rattle.fleet_io.specs.declared.words.Word.TheVariants as entry
-
--- nothing stands on the last line of the text
-abbrev pub is_line_empty : List ℕ → Bool
-is_line_empty text = slice_index_or text (length text - 1) 10 == 10
-
--- the text with one word more on its last line: after a space, unless that line is empty
-unfoldable pub with_word : List ℕ → List ℕ → List ℕ
-with_word text word = if is_line_empty text then text ++ word else text ++ 32 ∷ word
-
--- the text with each of these words, in their order
-abbrev pub with_words : List ℕ → List (List ℕ) → List ℕ
-with_words text words = fold with_word text words
 
 -- an upper-case hexadecimal digit
 abbrev pub hex_digit : ℕ → ℕ
@@ -27,12 +15,7 @@ hex_word byte = hex_digit (byte / 16) ∷ hex_digit (byte % 16) ∷ []
 
 -- Bytes that can stand as a word: some, and the last of them is no line feed.
 abbrev pub IsWord : List ℕ → Type 0
-IsWord word = is_line_empty word ≡ false
-
--- each of these can stand as a word
-abbrev pub AreWords : List (List ℕ) → Type 0
-AreWords [] = Unit {0}
-AreWords (word ∷ words) = IsWord word × AreWords words
+IsWord word = (slice_index_or word (length word - 1) 10 == 10) ≡ false
 
 -- a line: its first word, the others, each after a space, and a line feed
 abbrev pub line : List ℕ → List (List ℕ) → List ℕ

@@ -74,7 +74,7 @@ impl Lines {
     }
 }
 
-// The line of a template, with a word at each question mark. An `Err` keeps what stood there, and may leave more behind it.
+// The line of a template, with a word at each question mark. An `Err` keeps what stood there, and may leave more after it.
 fn put_line(text: &mut Vec<u8>, template: &[u8], words: &[Word]) -> Result<(), AllocError>
     ensures ok { OnOk result (text.new.items ≡ text.old.items ++ filled_line template.now words.now) }
     ensures err { OnErr result (take (length text.old.items) text.new.items ≡ text.old.items) }
@@ -109,7 +109,7 @@ fn put_next(text: &mut Vec<u8>, byte: u8, words: &[Word]) -> Result<usize, Alloc
     Ok(0)
 }
 
-// A line of a word and bytes. An `Err` keeps what stood there, and may leave more behind it.
+// A line of a word and bytes. An `Err` keeps what stood there, and may leave more after it.
 fn put_hex_line(text: &mut Vec<u8>, word: &[u8], bytes: &[u8]) -> Result<(), AllocError>
     ensures ok { OnOk result (text.new.items ≡ text.old.items ++ line word.now (map hex_word bytes.now)) }
     ensures err { OnErr result (take (length text.old.items) text.new.items ≡ text.old.items) }
@@ -123,7 +123,7 @@ fn put_hex_line(text: &mut Vec<u8>, word: &[u8], bytes: &[u8]) -> Result<(), All
 }
 
 // A space and a byte in two digits. It is pushed digit by digit: a call that copies a slice takes longer than two digits do.
-// An `Err` keeps what stood there, and may leave a front of the word behind it.
+// An `Err` keeps what stood there, and may leave a prefix of the word after it.
 fn put_spaced_hex(text: &mut Vec<u8>, byte: u8) -> Result<(), AllocError>
     ensures ok { OnOk result (text.new.items ≡ text.old.items ++ 32 ∷ hex_word byte) }
     ensures err { OnErr result (take (length text.old.items) text.new.items ≡ text.old.items) }

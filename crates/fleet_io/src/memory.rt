@@ -20,7 +20,6 @@ pub(crate) fn copy_front(to: &mut [u8], from: &[u8], most: usize) -> usize
     count
 }
 
-// Whether a number stands in a list.
 fn is_listed(numbers: &[u64], n: u64) -> bool
     ensures { result ≡ is_listed numbers.now n }
 {

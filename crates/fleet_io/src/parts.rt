@@ -446,7 +446,6 @@ impl<T: Drop> From<AllocFailed<T>> for IoFault {
     }
 }
 
-// Whether a line is a marker line.
 fn is_marker(line: &[u8]) -> bool
     ensures { result ≡ is_marker line.now }
 {

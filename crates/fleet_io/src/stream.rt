@@ -30,7 +30,7 @@ pub trait Sink {
     /// How often it has failed. The count never falls.
     ghost faults: { Self → ℕ };
 
-    /// Takes some front of the bytes, of non-empty bytes at least one.
+    /// Takes a prefix of the bytes, of non-empty bytes at least one.
     fn write(&mut self, bytes: &[u8]) -> Result<usize, Failed>
         ensures bound { IfOk result (λ n. n ≤ length bytes.now) }
         ensures progress { IfOk result (λ n. 0 < length bytes.now → 0 < n) }
@@ -38,7 +38,7 @@ pub trait Sink {
         ensures cause { HasCause (faults self.old) (faults self.new) result };
 }
 
-/// Writes all of the bytes. At `Failed` some front of them went out.
+/// Writes all of the bytes. At `Failed` a prefix of them went out.
 pub fn write_whole<K: Sink>(sink: &mut K, bytes: &[u8]) -> Result<(), Failed>
     ensures ok { OnOk result (Appends (K.written sink.old) (K.written sink.new) bytes.now) }
     ensures front { OnErr result (AppendsFront (K.written sink.old) (K.written sink.new) bytes.now) }

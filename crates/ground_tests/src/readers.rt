@@ -107,7 +107,6 @@ fn is_text(text: &Result<Vec<u8>, IoFault>, wanted: Result<&[u8], IoFault>) -> b
 // A text that a failed read cut off.
 const FAILED: Result<&[u8], IoFault> = Err(IoFault::Read);
 
-// The readers.
 const ROWS: [Row<'static>; 7] = [
     // A byte at a time: the second text ends at the end.
     Row {
