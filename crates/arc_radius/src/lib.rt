@@ -7,9 +7,9 @@
 
 ghost use Rattle.arc_radius.specs.Radius.{RadiusLaw};
 
-/// A law. At every instant `arc` is 1 to 1.00028 radii away from its centre, `swing` 0.99906 to 1.00094, and `arc_in` and
-/// `arc_out` 0.99995 to 1.00005, before their control points are rounded to whole micrometres. Rounding moves a control
-/// point by at most a micrometre on each axis.
+/// A law. At every instant `arc` is 1 to 1.00028 radii away from its centre, `swing` 0.99906 to 1.00094, and `arc_in`
+/// and `arc_out` 0.99995 to 1.00005, before their control points are rounded to whole micrometres. Rounding moves a
+/// control point by at most a micrometre on each axis.
 pub fn radius_law()
     ensures { RadiusLaw }
 {}

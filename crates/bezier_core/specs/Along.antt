@@ -9,4 +9,5 @@ controls curves i = (slice_index_or curves i (record { b = [] })).b
 
 -- the weighted sum of the control values k of three curves
 abbrev pub along_value : List (Bez 8) → List ℤ → ℕ → ℤ
-along_value xyz w k = at w 0 *ℤ at (controls xyz 0) k +ℤ at w 1 *ℤ at (controls xyz 1) k +ℤ at w 2 *ℤ at (controls xyz 2) k
+along_value xyz w k =
+    at w 0 *ℤ at (controls xyz 0) k +ℤ at w 1 *ℤ at (controls xyz 1) k +ℤ at w 2 *ℤ at (controls xyz 2) k

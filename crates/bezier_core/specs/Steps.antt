@@ -1,5 +1,5 @@
--- Words for the proofs of the loops alone: how much room the single steps of `value` and `to_eight` have. No public clause
--- cites them.
+-- Words for the proofs of the loops alone: how much room the single steps of `value` and `to_eight` have. No public
+-- clause cites them.
 use Rattle.std.specs.Prelude.{ℕ, ◌≤◌, ◌^◌, List, ℤ, pos, neg_ℤ, ◌*ℤ◌, ◌≤ℤ◌, ◌<ℤ◌}
 use Rattle.fleet_math.specs.Bernstein.{at}
 

@@ -1,8 +1,8 @@
 //! Bézier curves of the degrees 0, 1, 3 and 7 in whole numbers.
 //!
-//! A curve is its control values, and what is said of it is its Bernstein sum: `value` is that sum, `to_eight` writes the
-//! curve with eight control values, `minus` and `along` subtract curves and look at them along a direction, all exactly.
-//! Three laws say what that means for the curve's values. The definitions of the sums are `fleet_math`'s.
+//! A curve is its control values, and what is said of it is its Bernstein sum: `value` is that sum, `to_eight` writes
+//! the curve with eight control values, `minus` and `along` subtract curves and look at them along a direction, all
+//! exactly. Three laws say what that means for the curve's values. The definitions of the sums are `fleet_math`'s.
 #![tactic(auto)]
 
 ghost use Rattle.std.specs.Prelude.{◌≡◌, ℕ, ◌+◌, ◌-◌, ◌*◌, ◌^◌, ◌<◌, ◌≤◌, ℤ, pos, neg_ℤ, ◌+ℤ◌, ◌-ℤ◌, ◌*ℤ◌, ◌≤ℤ◌, All};
@@ -81,7 +81,8 @@ impl Bez<8> {
         requires own { All (IsBelow (2 ^ 125)) self.now.b }
         requires others { All (IsBelow (2 ^ 125)) other.now.b }
         ensures exact { result.b ≡ eight (λ k. at self.now.b k -ℤ at other.now.b k) }
-        ensures small { (n : ℕ) → 1 ≤ n → All (IsBelow n) self.now.b → All (IsBelow n) other.now.b → All (IsBelow (2 * n)) result.b }
+        ensures small { (n : ℕ) → 1 ≤ n → All (IsBelow n) self.now.b → All (IsBelow n) other.now.b
+            → All (IsBelow (2 * n)) result.b }
     {
         Bez {
             b: differences!(self.b, other.b; 0 1 2 3 4 5 6 7),
@@ -89,13 +90,14 @@ impl Bez<8> {
     }
 }
 
-/// The control values of the weighted sum of three curves, as of the coordinates x, y and z along a direction. Each weight
-/// is from -4,000 to 4,000.
+/// The control values of the weighted sum of three curves, as of the coordinates x, y and z along a direction. Each
+/// weight is from -4,000 to 4,000.
 pub fn along(xyz: &[Bez<8>; 3], w: [i128; 3]) -> Bez<8>
     requires values { All (λ curve. All (IsBelow (2 ^ 100)) curve.b) xyz.now }
     requires weights { All (IsBelow 4001) w }
     ensures exact { result.b ≡ eight (along_value xyz.now w) }
-    ensures small { (n : ℕ) → 1 ≤ n → All (λ curve. All (IsBelow n) curve.b) xyz.now → All (IsBelow (12000 * n)) result.b }
+    ensures small { (n : ℕ) → 1 ≤ n → All (λ curve. All (IsBelow n) curve.b) xyz.now
+        → All (IsBelow (12000 * n)) result.b }
 {
     Bez {
         b: weighted_sums!(xyz, w; 0 1 2 3 4 5 6 7),
@@ -152,8 +154,8 @@ fn combine(i: usize, j: usize, x: i128, y: i128) -> i128
     i as i128 * x + j as i128 * y
 }
 
-/// The weighted sum of the control values of three curves at one place, 0 to 7: one of the eight that [`along`] returns, under
-/// the same conditions.
+/// The weighted sum of the control values of three curves at one place, 0 to 7: one of the eight that [`along`]
+/// returns, under the same conditions.
 pub fn along_at(xyz: &[Bez<8>; 3], w: [i128; 3], k: usize) -> i128
     requires place { k < 8 }
     requires values { All (λ curve. All (IsBelow (2 ^ 100)) curve.b) xyz.now }
@@ -229,8 +231,8 @@ pub fn linear_law(xyz: &[Bez<8>; 3], w: [i128; 3], a: i128, c: i128)
         ≡ u *ℤ bernstein 7 f a c +ℤ v *ℤ bernstein 7 g a c +ℤ w *ℤ bernstein 7 h a c }
 {}
 
-/// A law. The value of the raised curve is 5,040 times that of the curve, scaled to degree seven. `everywhere` says it of
-/// all whole numbers, whether or not a type holds them, and of each degree up to seven.
+/// A law. The value of the raised curve is 5,040 times that of the curve, scaled to degree seven. `everywhere` says it
+/// of all whole numbers, whether or not a type holds them, and of each degree up to seven.
 pub fn raise_law<const N: usize>(b: &Bez<N>, a: i128, c: i128)
     requires length { IsLength N }
     requires positive { pos 0 ≤ℤ a }

@@ -31,7 +31,8 @@ abbrev pub NamesFault : Raised → Verdict → Type 0
 NamesFault curves (Valid depth trees) = Unit {0}
 NamesFault curves (Line line) = Unit {0}
 NamesFault curves (Refused version fault) =
-    (cert : Certificate) × IsVersion version × (cert.version ≡ version) × (length cert.trees < 2 ^ 31) × IsFaultOf curves cert fault
+    (cert : Certificate) × IsVersion version × (cert.version ≡ version) × (length cert.trees < 2 ^ 31)
+    × IsFaultOf curves cert fault
 
 -- If the verdict is that the certificate is valid, any two drones fly apart.
 abbrev pub ApartWhereValid : Raised → Clearance → Verdict → Type 0

@@ -1,5 +1,6 @@
 -- A certificate's text, judged byte by byte: what is kept after some bytes, and the verdict at the end.
-use Rattle.std.specs.Prelude.{ℕ, zero, suc, ◌-◌, Bool, true, false, nat_lt, ◌==◌, bytes_eq, ℤ, List, [], ◌∷◌, ◌++◌, length, slice_index, Option, Some, None, if◌then◌else◌}
+use Rattle.std.specs.Prelude.{ℕ, zero, suc, ◌-◌, Bool, true, false, nat_lt, ◌==◌, bytes_eq, ℤ, List, [], ◌∷◌, ◌++◌}
+use Rattle.std.specs.Prelude.{length, slice_index, Option, Some, None, if◌then◌else◌}
 use Rattle.bezier_core.specs.declared.Bez.{Bez}
 use Rattle.halving.specs.declared.Place.{Place}
 use Rattle.sep_parts.specs.declared.clearance.Clearance.{Clearance}
@@ -33,13 +34,15 @@ after_node slot place rest n node (Some fault) = Wrong fault
 -- a node at the first of the places
 abbrev pub at_places : Rules → List (List ℤ) → List (Bez 8) → Slot → List Place → ℕ → Node → Judged
 at_places rules dirs diff slot [] n node = Clear slot [] n
-at_places rules dirs diff slot (place ∷ rest) n node = after_node slot place rest n node (node_fault rules dirs diff slot place node)
+at_places rules dirs diff slot (place ∷ rest) n node =
+    after_node slot place rest n node (node_fault rules dirs diff slot place node)
 
 -- One node more. After the first fault, and in a tree too many, no node is judged.
 abbrev pub with_node : Rules → List (List ℤ) → Raised → Judged → Node → Judged
 with_node rules dirs curves (Wrong fault) node = Wrong fault
 with_node rules dirs curves (Clear slot places n) node =
-    if nat_lt slot.b curves.drones then at_places rules dirs (difference curves slot.a slot.b slot.cue) slot places n node
+    if nat_lt slot.b curves.drones
+    then at_places rules dirs (difference curves slot.a slot.b slot.cue) slot places n node
     else Clear slot places n
 
 -- before the tree of a pair and cue
@@ -50,7 +53,8 @@ before_tree slot n = Clear slot (root ∷ []) n
 abbrev pub with_tree : Raised → Judged → Judged
 with_tree curves (Wrong fault) = Wrong fault
 with_tree curves (Clear slot places n) =
-    if nat_lt slot.b curves.drones then before_tree (following curves.drones curves.cues slot) (suc n) else Wrong (Extra n)
+    if nat_lt slot.b curves.drones then before_tree (following curves.drones curves.cues slot) (suc n)
+    else Wrong (Extra n)
 
 -- ---- what is kept of a line In the line of a tree: the version and depth that the lines before the trees say, the
 -- number of the line, how many trees are still to come in it, the first digit of a leaf whose second has not come, and
@@ -77,7 +81,11 @@ rules_in clearance t = record { clearance = clearance; depth = t.depth }
 -- a node of the line, after which this many trees are still to come
 abbrev pub node_read : Clearance → Raised → TreesRead → Node → ℕ → Reading
 node_read clearance curves t node owed =
-    TreeLine (record t { owed = owed; digit = None; judged = with_node (rules_in clearance t) (table_of t.version) curves t.judged node })
+    TreeLine (record t {
+      owed = owed;
+      digit = None;
+      judged = with_node (rules_in clearance t) (table_of t.version) curves t.judged node;
+    })
 
 -- a byte of a line of version 1 in which this many trees are still to come
 abbrev pub letter_read : Clearance → Raised → TreesRead → ℕ → ℕ → Reading
@@ -129,7 +137,8 @@ abbrev pub line_read : Raised → Reading → Reading
 line_read curves (FirstLine head) = if bytes_eq head version_line then DepthLine [] else depth_read 1 1 head
 line_read curves (DepthLine head) = depth_read 2 2 head
 line_read curves (TreeLine t) =
-    if t.owed == 0 then TreeLine (record t { line = suc t.line; owed = 1; judged = with_tree curves t.judged }) else Faulty t.line
+    if t.owed == 0 then TreeLine (record t { line = suc t.line; owed = 1; judged = with_tree curves t.judged })
+    else Faulty t.line
 line_read curves (Faulty n) = Faulty n
 
 -- ---- what is kept of a text A carriage return is part of its line if no line feed follows, so it waits for the next
@@ -150,8 +159,13 @@ with_return clearance curves false reading = reading
 -- a byte that is no line feed
 abbrev pub line_byte : Clearance → Raised → Checking → ℕ → Checking
 line_byte clearance curves c b =
-    if b == 13 then record { reading = with_return clearance curves c.is_returned c.reading; is_returned = true; is_begun = true }
-    else record { reading = byte_read clearance curves (with_return clearance curves c.is_returned c.reading) b; is_returned = false; is_begun = true }
+    if b == 13 then
+    record { reading = with_return clearance curves c.is_returned c.reading; is_returned = true; is_begun = true }
+    else record {
+      reading = byte_read clearance curves (with_return clearance curves c.is_returned c.reading) b;
+      is_returned = false;
+      is_begun = true;
+    }
 
 -- before the first byte of a line
 abbrev pub fresh : Reading → Checking
@@ -168,7 +182,8 @@ checked_all clearance curves c (b ∷ bytes) = checked_all clearance curves (che
 
 -- the text ends here, and so does its last line, which may lack a line feed
 abbrev pub closed : Clearance → Raised → Checking → Reading
-closed clearance curves c = if c.is_begun then line_read curves (with_return clearance curves c.is_returned c.reading) else c.reading
+closed clearance curves c =
+    if c.is_begun then line_read curves (with_return clearance curves c.is_returned c.reading) else c.reading
 
 -- ---- the verdict
 abbrev pub judged_verdict : Raised → ℕ → ℕ → Judged → Verdict

@@ -15,7 +15,8 @@ use Rattle.certificate_checker.specs.declared.verdict.Verdict.TheVariants.{Valid
 abbrev pub VerdictGives : Raised → Clearance → List ℕ → Verdict → Type 0
 VerdictGives curves clearance text (Line line) = bad_line (lines text) ≡ Some line
 VerdictGives curves clearance text (Refused version fault) =
-    (cert : Certificate) × Says text cert × (cert.version ≡ version) × (fault_of (table_of cert.version) curves clearance cert ≡ Some fault)
+    (cert : Certificate) × Says text cert × (cert.version ≡ version)
+    × (fault_of (table_of cert.version) curves clearance cert ≡ Some fault)
 VerdictGives curves clearance text (Valid depth trees) =
     (cert : Certificate) × Says text cert × (cert.depth ≡ depth) × (length cert.trees ≡ trees)
     × (fault_of (table_of cert.version) curves clearance cert ≡ None)

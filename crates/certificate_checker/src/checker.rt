@@ -30,7 +30,8 @@ impl Model for Checker {
 
     ghost Value = { Seen };
 
-    ghost view = { λ c. record { clearance = c.tables; checking = checking_of c.text; diff = c.text.reader.judging.diff } };
+    ghost view = { λ c.
+        record { clearance = c.tables; checking = checking_of c.text; diff = c.text.reader.judging.diff } };
 
     ghost invariant = { λ c. IsTextSound c.text };
 }
@@ -52,7 +53,8 @@ impl Checker {
     pub fn feed(&mut self, curves: &Curves, bytes: &[u8])
         requires { (read : List ℕ) × (length read + length bytes.now ≤ most_bytes) × HasRead self.old curves.now read }
         ensures clearance { self.new.clearance ≡ self.old.clearance }
-        ensures has_read { (read : List ℕ) → length read + length bytes.now ≤ most_bytes → HasRead self.old curves.now read → HasRead self.new curves.now (read ++ bytes.now) }
+        ensures has_read { (read : List ℕ) → length read + length bytes.now ≤ most_bytes
+            → HasRead self.old curves.now read → HasRead self.new curves.now (read ++ bytes.now) }
     {
         self.text.take_all(curves, &self.tables, bytes);
     }
@@ -69,7 +71,8 @@ impl Checker {
     /// all whole numbers p and q and for every list of trajectories that the curves stand for.
     pub fn end(&mut self, curves: &Curves) -> Verdict
         requires { (bytes : List ℕ) × (length bytes ≤ most_bytes) × HasRead self.old curves.now bytes }
-        ensures gives { (bytes : List ℕ) → length bytes ≤ most_bytes → HasRead self.old curves.now bytes → VerdictGives curves.now self.old.clearance bytes result }
+        ensures gives { (bytes : List ℕ) → length bytes ≤ most_bytes → HasRead self.old curves.now bytes
+            → VerdictGives curves.now self.old.clearance bytes result }
         ensures named { NamesFault curves.now result }
         ensures safe { ApartWhereValid curves.now self.old.clearance result }
     {

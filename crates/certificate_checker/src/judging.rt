@@ -126,7 +126,8 @@ impl Judging {
         requires next { IsNext curves.now self.old.judged self.old.diff }
         requires version { IsVersion version }
         requires known { IsKnown (known_in version) node }
-        ensures judged { self.new.judged ≡ with_node (record { clearance = tables.now; depth = depth }) (table_of version) curves.now self.old.judged node }
+        ensures judged { self.new.judged ≡ with_node (record { clearance = tables.now; depth = depth })
+            (table_of version) curves.now self.old.judged node }
         ensures next { IsNext curves.now self.new.judged self.new.diff }
     {
         if self.fault.is_some() || usize::from(self.slot.b) >= curves.drones() {

@@ -5,7 +5,8 @@ ghost use Rattle.sep_parts.specs.Trees.{IsKnown};
 ghost use Rattle.sep_parts.specs.Versions.{IsVersion, known_in};
 ghost use Rattle.sep_certificate.specs.Texts.{is_wide_leaf, two_digits};
 ghost use Rattle.certificate_checker.specs.Bytes.{most_bytes};
-ghost use Rattle.certificate_checker.specs.Checking.{FirstLine, TreeLine, byte_read, depth_read, digit_read, kept, letter_read, line_read, node_read, verdict_of, with_return};
+ghost use Rattle.certificate_checker.specs.Checking.{FirstLine, TreeLine, byte_read, depth_read, digit_read, kept};
+ghost use Rattle.certificate_checker.specs.Checking.{letter_read, line_read, node_read, verdict_of, with_return};
 ghost use Rattle.certificate_checker.specs.Judgments.{HasAtMost};
 ghost use Rattle.certificate_checker.specs.Steps.{HasRoom, HasTreeRoom, IsReader, IsSound, reading_of, trees_of};
 
@@ -52,7 +53,8 @@ fn keep(head: &mut ArrayVec<u8, 15>, b: u8)
 
 // The direction of version 2 that two digits name.
 fn leaf(first: u8, second: u8) -> Option<u8>
-    ensures leaf { MatchOption result (IsFalse (is_wide_leaf first second)) (λ dir. IsTrue (is_wide_leaf first second) × (dir ≡ two_digits first second) × (dir < 98)) }
+    ensures leaf { MatchOption result (IsFalse (is_wide_leaf first second))
+        (λ dir. IsTrue (is_wide_leaf first second) × (dir ≡ two_digits first second) × (dir < 98)) }
 {
     if first.is_ascii_digit() && second.is_ascii_digit() {
         let dir = (first - b'0') * 10 + (second - b'0');
@@ -137,7 +139,8 @@ impl Reader {
         requires stage { self.old.stage ≡ Stage.Tree }
         requires version { self.old.version ≡ 2 }
         requires some { 1 ≤ self.old.owed }
-        ensures read { reading_of self.new ≡ digit_read tables.now curves.now (trees_of self.old) self.old.owed (Some first) b }
+        ensures read { reading_of self.new
+            ≡ digit_read tables.now curves.now (trees_of self.old) self.old.owed (Some first) b }
         ensures reader { IsReader curves.now self.new }
     {
         match leaf(first, b) {
@@ -152,7 +155,8 @@ impl Reader {
         requires stage { self.old.stage ≡ Stage.Tree }
         requires version { self.old.version ≡ 2 }
         requires room { self.old.owed < 2 ^ 31 }
-        ensures read { reading_of self.new ≡ digit_read tables.now curves.now (trees_of self.old) self.old.owed self.old.digit b }
+        ensures read { reading_of self.new
+            ≡ digit_read tables.now curves.now (trees_of self.old) self.old.owed self.old.digit b }
         ensures reader { IsReader curves.now self.new }
     {
         if self.owed == 0 {

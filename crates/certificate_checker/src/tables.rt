@@ -57,7 +57,8 @@ impl Tables {
         requires version { IsVersion version }
         requires level { IsLevel diff.now level.now }
         requires known { IsKnown (known_in version) node }
-        ensures exact { result ≡ node_fault (record { clearance = self.now; depth = depth }) (table_of version) diff.now slot level.now.place node }
+        ensures exact { result ≡ node_fault (record { clearance = self.now; depth = depth }) (table_of version) diff.now
+            slot level.now.place node }
         ensures shallow { result ≡ None → IsShallow level.now.place node }
     {
         if version == 1 {

@@ -1,5 +1,6 @@
 -- What the words of a line say by the table, or what is wrong with them: its places are read from the left.
-use Rattle.std.specs.Prelude.{◌≡◌, Bool, true, false, List, [], ◌∷◌, length, drop, ◌==◌, nat_le, Option, Some, None, Result, Ok, Err, ℤ, bytes_eq, codes, if◌then◌else◌}
+use Rattle.std.specs.Prelude.{◌≡◌, Bool, true, false, List, [], ◌∷◌, length, drop, ◌==◌, nat_le, Option, Some, None}
+use Rattle.std.specs.Prelude.{Result, Ok, Err, ℤ, bytes_eq, codes, if◌then◌else◌}
 use Rattle.text_lines.specs.Numbers.{number_in as number_read}
 use Rattle.quantities.specs.Quantities.{quantity_in as quantity_read}
 use Rattle.quantities.specs.declared.unit.Counts.{Counts}
@@ -27,7 +28,8 @@ use Rattle.choreo_lines.specs.declared.parts.Act.{Act}
 use Rattle.choreo_lines.specs.declared.parts.Mirror.{Mirror}
 use Rattle.choreo_lines.specs.declared.parts.Mirror.TheVariants as mirror
 use Rattle.choreo_lines.specs.Table.{Word, word, row_of, has_count, act_of, act_places, may_stand, as_read}
-pub use Rattle.choreo_lines.specs.Values.{number_at, natural_at, name_at, mirror_at, smooth_at, ccw_at, point_at, triple_at, act_with, entry_with}
+pub use Rattle.choreo_lines.specs.Values.{number_at, natural_at, name_at, mirror_at, smooth_at, ccw_at, point_at}
+pub use Rattle.choreo_lines.specs.Values.{triple_at, act_with, entry_with}
 
 -- a step, and then the next with what it gave, or the first fault
 infixl 10 ◌>>=◌

@@ -1,7 +1,9 @@
 -- The first word of a line.
 use Rattle.std.specs.Prelude.{ℕ, List, bytes_eq, codes, if◌then◌else◌}
 use Rattle.choreo_lines.specs.declared.line.Keyword.{Keyword}
-use Rattle.choreo_lines.specs.declared.line.Keyword.TheVariants.{Memory, Trajectory, Ellipsoid, Stray, Late, Drone, Formation, At, Figure, Cue, Repeat, Perform, Form, End, Other}
+use Rattle.choreo_lines.specs.declared.line.Keyword.TheVariants.{Memory, Trajectory, Ellipsoid, Stray, Late, Drone}
+use Rattle.choreo_lines.specs.declared.line.Keyword.TheVariants.{Formation, At, Figure, Cue, Repeat, Perform, Form, End}
+use Rattle.choreo_lines.specs.declared.line.Keyword.TheVariants.{Other}
 
 -- what a first word is
 abbrev pub keyword_of : List ℕ → Keyword

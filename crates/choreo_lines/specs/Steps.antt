@@ -28,28 +28,33 @@ abbrev pub triple_by : Result ℤ LineKind → Result ℤ LineKind → Result �
 triple_by a b c = a >>= (λ x. b >>= (λ y. c >>= (λ z. Ok (x ∷ y ∷ z ∷ []))))
 
 -- a point, or the first fault in it
-abbrev pub point_by : Result ℤ LineKind → Result ℤ LineKind → Result ℤ LineKind → Result ℤ LineKind → Result Point LineKind
+abbrev pub point_by : Result ℤ LineKind → Result ℤ LineKind → Result ℤ LineKind → Result ℤ LineKind →
+    Result Point LineKind
 point_by a b c d =
     a >>= (λ x. b >>= (λ y. c >>= (λ z. d >>= (λ w. Ok (record { x = x; y = y; z = z; yaw = w })))))
 
 -- words as three coordinates, the first at a place
 abbrev pub triple_in : Form → List Word → ℕ → Result (List ℤ) LineKind
 triple_in form ws k =
-    triple_by (coordinate_in form (word ws k)) (coordinate_in form (word ws (k + 1))) (coordinate_in form (word ws (k + 2)))
+    triple_by (coordinate_in form (word ws k)) (coordinate_in form (word ws (k + 1)))
+    (coordinate_in form (word ws (k + 2)))
 
 -- words as a point, its x at a place
 abbrev pub point_in : Form → List Word → ℕ → Result Point LineKind
 point_in form ws k =
-    point_by (coordinate_in form (word ws k)) (coordinate_in form (word ws (k + 1))) (coordinate_in form (word ws (k + 2)))
+    point_by (coordinate_in form (word ws k)) (coordinate_in form (word ws (k + 1)))
+    (coordinate_in form (word ws (k + 2)))
     (yaw_in form (word ws (k + 3)))
 
 -- words as the sense, the middle and the yaw of a quarter circle
-abbrev pub quarter_by : Result Bool LineKind → Result ℤ LineKind → Result ℤ LineKind → Result ℤ LineKind → Result (Bool × ℤ × ℤ × ℤ) LineKind
+abbrev pub quarter_by : Result Bool LineKind → Result ℤ LineKind → Result ℤ LineKind → Result ℤ LineKind →
+    Result (Bool × ℤ × ℤ × ℤ) LineKind
 quarter_by a b c d = a >>= (λ s. b >>= (λ x. c >>= (λ y. d >>= (λ w. Ok (s, x, y, w)))))
 
 abbrev pub quarter_in : Form → List Word → Result (Bool × ℤ × ℤ × ℤ) LineKind
 quarter_in form ws =
-    quarter_by (ccw_in (word ws 0)) (coordinate_in form (word ws 1)) (coordinate_in form (word ws 2)) (yaw_in form (word ws 3))
+    quarter_by (ccw_in (word ws 0)) (coordinate_in form (word ws 1)) (coordinate_in form (word ws 2))
+    (yaw_in form (word ws 3))
 
 -- words as the places of each act
 

@@ -1,5 +1,7 @@
--- The lines of the language as a table: what each line wants in its places, how many names may follow, and where it stands.
-use Rattle.std.specs.Prelude.{ℕ, ◌+◌, Bool, true, false, ◌&&◌, List, [], ◌∷◌, length, get_or, ◌==◌, nat_le, Option, Some, None, pos, neg_ℤ, bytes_eq, codes, if◌then◌else◌}
+-- The lines of the language as a table: what each line wants in its places, how many names may follow, and where it
+-- stands.
+use Rattle.std.specs.Prelude.{ℕ, ◌+◌, Bool, true, false, ◌&&◌, List, [], ◌∷◌, length, get_or, ◌==◌, nat_le, Option}
+use Rattle.std.specs.Prelude.{Some, None, pos, neg_ℤ, bytes_eq, codes, if◌then◌else◌}
 use Rattle.fleet_math.specs.Limits.{most_drones}
 use Rattle.quantities.specs.declared.unit.Counts.TheVariants.{Micrometres, Millimetres, Milliseconds, TenthsOfADegree}
 use Rattle.choreo_lines.specs.declared.table.Want.{Want}
@@ -20,8 +22,8 @@ Word = List ℕ
 abbrev pub word : List Word → ℕ → Word
 word ws k = get_or ws k []
 
--- A row of the table: what the places after the first word of the line want, and how many names may stand after them, at
--- least one; none where this is 0.
+-- A row of the table: what the places after the first word of the line want, and how many names may stand after them,
+-- at least one; none where this is 0.
 pub record Row : Type 0 where
   pub places : List Want
   pub names : ℕ

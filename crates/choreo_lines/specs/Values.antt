@@ -97,7 +97,8 @@ point_fields p = Number p.x ∷ Number p.y ∷ Number p.z ∷ Number p.yaw ∷ [
 
 -- the point whose x stands at a place
 abbrev pub point_at : List Value → ℕ → Point
-point_at vs k = record { x = number_at vs k; y = number_at vs (k + 1); z = number_at vs (k + 2); yaw = number_at vs (k + 3) }
+point_at vs k =
+    record { x = number_at vs k; y = number_at vs (k + 1); z = number_at vs (k + 2); yaw = number_at vs (k + 3) }
 
 -- the three coordinates of which the first stands at a place
 abbrev pub triple_at : List Value → ℕ → List ℤ
@@ -178,7 +179,13 @@ entry_with first.Cue vs ns = entry.Cue (natural_at vs 0)
 entry_with first.Repeat vs ns = entry.Repeat (natural_at vs 0)
 entry_with first.Perform vs ns =
     entry.Perform (name_at vs 0)
-    (record { mirror = mirror_at vs 1; turns = natural_at vs 2; dx = number_at vs 3; dy = number_at vs 4; dz = number_at vs 5 }) ns
+    (record {
+      mirror = mirror_at vs 1;
+      turns = natural_at vs 2;
+      dx = number_at vs 3;
+      dy = number_at vs 4;
+      dz = number_at vs 5;
+    }) ns
 entry_with first.Form vs ns = entry.Form (name_at vs 0) (smooth_at vs 1)
 entry_with first.End vs ns = entry.End
 entry_with first.Other vs ns = entry.End

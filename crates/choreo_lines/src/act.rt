@@ -1,10 +1,13 @@
 //! What the words of an act say. Nearly all numbers of a show are those of its acts, some ten a line. So they are read
-//! straight into their places, with no list of values between: that saves a sixth of the instructions for reading a show.
+//! straight into their places, with no list of values between: that saves a sixth of the instructions for reading a
+//! show.
 
 ghost use Rattle.std.specs.Prelude.{◌≡◌, ◌+◌, ◌<◌, ◌≤◌, length};
 ghost use Rattle.text_lines.specs.Tokens.{words_in};
 ghost use Rattle.choreo_lines.specs.Table.{word, act_places};
-ghost use Rattle.choreo_lines.specs.Steps.{act_read, line_in, move_in, turn_in, arc_in, eased_in, curve_in, coordinate_in, yaw_in, triple_in as triple_in_of, point_in as point_in_of, quarter_in as quarter_in_of};
+ghost use Rattle.choreo_lines.specs.Steps.{act_read, line_in, move_in, turn_in, arc_in, eased_in, curve_in};
+ghost use Rattle.choreo_lines.specs.Steps.{coordinate_in, yaw_in, triple_in as triple_in_of, point_in as point_in_of};
+ghost use Rattle.choreo_lines.specs.Steps.{quarter_in as quarter_in_of};
 
 use crate::field::{ccw, nth, quantity};
 use crate::line::LineKind;

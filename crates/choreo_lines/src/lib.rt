@@ -2,8 +2,8 @@
 //! with them.
 //!
 //! [`entry_of`] reads one line, in either [`Form`] of the language. It stands on `text_lines`, which cuts a text into
-//! lines and words, and on `quantities`, which reads numbers with units; `choreo_reader` stands on it, and puts the lines
-//! together to a show.
+//! lines and words, and on `quantities`, which reads numbers with units; `choreo_reader` stands on it, and puts the
+//! lines together to a show.
 #![tactic(auto)]
 
 mod act;

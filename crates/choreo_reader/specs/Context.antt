@@ -1,5 +1,6 @@
 -- The context of a line, and its faults.
-use Rattle.std.specs.Prelude.{ℕ, ◌+◌, Bool, true, false, not, ◌&&◌, ◌||◌, List, [], ◌∷◌, length, ◌==◌, nat_le, Option, Some, None, if◌then◌else◌, bytes_eq, codes}
+use Rattle.std.specs.Prelude.{ℕ, ◌+◌, Bool, true, false, not, ◌&&◌, ◌||◌, List, [], ◌∷◌, length, ◌==◌, nat_le, Option}
+use Rattle.std.specs.Prelude.{Some, None, if◌then◌else◌, bytes_eq, codes}
 use Rattle.text_lines.specs.Words.{Line}
 use Rattle.choreo_show.specs.Plain.{most_nested}
 use Rattle.choreo_reader.specs.Text.{Fault, fault_at, show_lines, forbidden}
@@ -39,7 +40,8 @@ pub record Context : Type 0 where
 
 -- the context of the first line after the header
 abbrev pub outermost : Context
-outermost = record { open_blocks = []; memory = false; trajectory = false; ellipsoid = false; stray = false; late = false }
+outermost =
+    record { open_blocks = []; memory = false; trajectory = false; ellipsoid = false; stray = false; late = false }
 
 -- a figure
 abbrev pub is_figure : Opened → Bool
@@ -107,7 +109,8 @@ opens n os (Some k) = record { kind = k; line = n; filled = false } ∷ fill os
 
 -- the open blocks after a line with this first word
 abbrev pub blocks_after : ℕ → List Opening → Keyword → List Opening
-blocks_after n os keyword = if is_end keyword then without_innermost os else opens n os (opened_by (place_of os) keyword)
+blocks_after n os keyword =
+    if is_end keyword then without_innermost os else opens n os (opened_by (place_of os) keyword)
 
 -- no block is open
 abbrev pub is_top : List Opening → Bool

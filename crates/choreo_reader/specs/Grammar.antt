@@ -1,5 +1,6 @@
 -- Which text stands for which show.
-use Rattle.std.specs.Prelude.{◌≡◌, ℕ, ◌≤◌, List, [], ◌∷◌, ◌++◌, map, length, slice_index_or, Option, Some, None, IfSome, codes, IsTrue}
+use Rattle.std.specs.Prelude.{◌≡◌, ℕ, ◌≤◌, List, [], ◌∷◌, ◌++◌, map, length, slice_index_or, Option, Some, None, IfSome}
+use Rattle.std.specs.Prelude.{codes, IsTrue}
 use Rattle.std.specs.List.{All, AllZip, flat_map, list_all}
 use Rattle.text_lines.specs.declared.token.Comments.TheVariants.{FromHash}
 use Rattle.text_lines.specs.Lines.{lines_of}
@@ -46,8 +47,10 @@ act_said (on.Form line formation smooth) = at line (entry.Form formation smooth)
 -- the lines of a body
 abbrev pub body_said : Body → List SaidLine
 body_said plain.Done = []
-body_said (plain.Cue line ms acts rest) = at line (entry.Cue ms) ∷ (map act_said acts ++ anywhere entry.End ∷ body_said rest)
-body_said (plain.Repeat line times inside rest) = at line (entry.Repeat times) ∷ (body_said inside ++ anywhere entry.End ∷ body_said rest)
+body_said (plain.Cue line ms acts rest) =
+    at line (entry.Cue ms) ∷ (map act_said acts ++ anywhere entry.End ∷ body_said rest)
+body_said (plain.Repeat line times inside rest) =
+    at line (entry.Repeat times) ∷ (body_said inside ++ anywhere entry.End ∷ body_said rest)
 body_said (plain.Perform line figure frame drones rest) = at line (entry.Perform figure frame drones) ∷ body_said rest
 
 -- an item at top; Blocks is a stretch of cues, repeats and performs
@@ -151,8 +154,8 @@ abbrev pub header_of : Form → List (List ℕ)
 header_of Whole = codes "choreo" ∷ codes "1" ∷ []
 header_of Units = codes "choreo" ∷ codes "2" ∷ []
 
--- The text stands for the show: there are items that make the show, and the text is a header, of the words `choreo 1` or
--- `choreo 2`, and their lines in the form that it names. Outside comments it has no byte that may not stand there.
+-- The text stands for the show: there are items that make the show, and the text is a header, of the words `choreo 1`
+-- or `choreo 2`, and their lines in the form that it names. Outside comments it has no byte that may not stand there.
 pub record StandsFor (text : List ℕ) (show : PlainShow) : Type 0 where
   pub form : Form
   pub items : List Item

@@ -1,12 +1,14 @@
 -- How a text is read, line by line: the steps of the reader on lists.
-use Rattle.std.specs.Prelude.{nat_le, ℕ, Bool, true, false, List, [], ◌∷◌, ◌++◌, Option, Some, None, Result, Ok, Err, if◌then◌else◌, unwrap_or, is_some}
+use Rattle.std.specs.Prelude.{nat_le, ℕ, Bool, true, false, List, [], ◌∷◌, ◌++◌, Option, Some, None, Result, Ok, Err}
+use Rattle.std.specs.Prelude.{if◌then◌else◌, unwrap_or, is_some}
 use Rattle.text_lines.specs.Words.{Line}
 use Rattle.choreo_reader.specs.Text.{show_lines}
 use Rattle.choreo_lines.specs.Fields.{entry_of}
 use Rattle.choreo_show.specs.Plain as plain
 use Rattle.choreo_lines.specs.Name.{Name}
 use Rattle.choreo_show.specs.Plain.{Body, PlainFigure, PlainShow, has_block, ◌⨾◌, most_nested}
-use Rattle.choreo_reader.specs.Context.{Context, Opening, OpenFormation, OpenFigure, OpenRepeat, OpenCue, fault_if, repeats, is_empty_block, place_of, form_of, end_fault}
+use Rattle.choreo_reader.specs.Context.{Context, Opening, OpenFormation, OpenFigure, OpenRepeat, OpenCue, fault_if}
+use Rattle.choreo_reader.specs.Context.{repeats, is_empty_block, place_of, form_of, end_fault}
 use Rattle.choreo_lines.specs.declared.table.Form.{Form}
 use Rattle.choreo_reader.specs.Text.{Fault, fault_at, forbidden}
 use Rattle.choreo_lines.specs.declared.line.LineKind.{LineKind}
@@ -57,7 +59,19 @@ pub record Built : Type 0 where
 
 -- nothing was read
 abbrev pub nothing : Built
-nothing = record { memory = None; trajectory = None; ellipsoid = None; stray = None; late = None; drones = []; formations = []; figures = []; body = plain.Done; open_blocks = [] }
+nothing =
+    record {
+      memory = None;
+      trajectory = None;
+      ellipsoid = None;
+      stray = None;
+      late = None;
+      drones = [];
+      formations = [];
+      figures = [];
+      body = plain.Done;
+      open_blocks = [];
+    }
 
 -- a list with something in it
 abbrev pub is_any : {A : Type 0} → List A → Bool
@@ -110,9 +124,15 @@ add_block s (o ∷ os) b = record s { open_blocks = with_block o b ∷ os }
 -- closes this block, which stands inside these
 abbrev pub close : Built → Open → List Open → Built
 close s (InFormation line name places) os =
-    record s { formations = s.formations ++ record { line = line; name = name; places = places } ∷ []; open_blocks = os }
+    record s {
+      formations = s.formations ++ record { line = line; name = name; places = places } ∷ [];
+      open_blocks = os;
+    }
 close s (InFigure line name roles body) os =
-    record s { figures = s.figures ++ record { line = line; name = name; roles = roles; body = body } ∷ []; open_blocks = os }
+    record s {
+      figures = s.figures ++ record { line = line; name = name; roles = roles; body = body } ∷ [];
+      open_blocks = os;
+    }
 close s (InRepeat line times body) os = add_block s os (plain.Repeat line times body plain.Done)
 close s (InCue line ms acts) os = add_block s os (plain.Cue line ms acts plain.Done)
 
@@ -153,11 +173,13 @@ build s n (entry.Stray mm) = record s { stray = Some mm }
 build s n (entry.Late ms) = record s { late = Some ms }
 build s n (entry.Drone name at) = record s { drones = s.drones ++ record { line = n; name = name; at = at } ∷ [] }
 build s n (entry.Formation name) = record s { open_blocks = InFormation n name [] ∷ s.open_blocks }
-build s n (entry.At name at) = record s { open_blocks = with_place s.open_blocks (record { line = n; name = name; at = at }) }
+build s n (entry.At name at) =
+    record s { open_blocks = with_place s.open_blocks (record { line = n; name = name; at = at }) }
 build s n (entry.Figure name roles) = record s { open_blocks = InFigure n name roles plain.Done ∷ s.open_blocks }
 build s n (entry.Cue ms) = record s { open_blocks = InCue n ms [] ∷ s.open_blocks }
 build s n (entry.Repeat times) = record s { open_blocks = InRepeat n times plain.Done ∷ s.open_blocks }
-build s n (entry.Perform figure frame drones) = add_block s s.open_blocks (plain.Perform n figure frame drones plain.Done)
+build s n (entry.Perform figure frame drones) =
+    add_block s s.open_blocks (plain.Perform n figure frame drones plain.Done)
 build s n (entry.Form formation smooth) = record s { open_blocks = with_act s.open_blocks (on.Form n formation smooth) }
 build s n (entry.One name a) = record s { open_blocks = with_act s.open_blocks (on.One n name a) }
 build s n entry.End = close_innermost s s.open_blocks
@@ -176,7 +198,14 @@ settings_of s = record {
 
 -- the show of what was read
 abbrev pub built_show : Built → PlainShow
-built_show s = record { settings = settings_of s; drones = s.drones; formations = s.formations; figures = s.figures; body = s.body }
+built_show s =
+    record {
+      settings = settings_of s;
+      drones = s.drones;
+      formations = s.formations;
+      figures = s.figures;
+      body = s.body;
+    }
 
 -- what is built after a line, or the first fault
 abbrev pub Step : Type 0

@@ -1,6 +1,7 @@
 //! A show that is read line by line.
 
-ghost use Rattle.std.specs.Prelude.{◌≡◌, ℕ, List, Ok, Some, take, drop, ◌+◌, ◌<◌, ◌≤◌, length, OnOk, IfOk, MatchResult, ◌++◌, ◌∷◌, []};
+ghost use Rattle.std.specs.Prelude.{◌≡◌, ℕ, List, Ok, Some, take, drop, ◌+◌, ◌<◌, ◌≤◌, length, OnOk, IfOk, MatchResult};
+ghost use Rattle.std.specs.Prelude.{◌++◌, ◌∷◌, []};
 ghost use Rattle.fleet_math.specs.Limits.{most_text};
 ghost use Rattle.choreo_show.specs.Plain.{block_of, body_of, plain as plain_show, PlainShow, ◌⨾◌};
 ghost use Rattle.choreo_reader.specs.Grammar.{StandsFor};
@@ -8,13 +9,22 @@ ghost use Rattle.choreo_show.specs.Plain as plain;
 ghost use Rattle.choreo_show.specs.Valid.{IsValid};
 ghost use Rattle.choreo_reader.specs.Laws.{ShowLaw};
 ghost use Rattle.choreo_reader.specs.Reader.{open_of, opens_of, built_of, Steps, ShowGives, ReadingFails, FaultGives};
-ghost use Rattle.choreo_reader.specs.Context.{is_figure as is_figure_of, is_repeat as is_repeat_of, in_figure as in_figure_of, repeats as repeats_of, place_of, is_empty_block as is_empty_block_of, form_named as form_named_of, form_of as form_of_words, fault};
+ghost use Rattle.choreo_reader.specs.Context.{is_figure as is_figure_of, is_repeat as is_repeat_of};
+ghost use Rattle.choreo_reader.specs.Context.{in_figure as in_figure_of, repeats as repeats_of, place_of};
+ghost use Rattle.choreo_reader.specs.Context.{is_empty_block as is_empty_block_of, form_named as form_named_of};
+ghost use Rattle.choreo_reader.specs.Context.{form_of as form_of_words, fault};
 ghost use Rattle.choreo_reader.specs.Text.{show_lines};
 ghost use Rattle.text_lines.specs.Lines.{lines_of, between_feeds};
 ghost use Rattle.text_lines.specs.Words.{visible, words_of, line_with, numbered};
 ghost use Rattle.text_lines.specs.Tokens.{words_in};
 ghost use Rattle.text_lines.specs.declared.token.Comments.TheVariants.{FromHash};
-ghost use Rattle.choreo_reader.specs.Reading.{InFormation, InFigure, InRepeat, InCue, entry_fault as entry_fault_of, with_block as with_block_of, act_added, place_added, add_block as add_block_of, close as close_of, close_innermost as close_innermost_of, with_act as with_act_of, with_place as with_place_of, nothing, build, settings_of, opening_of, openings_of, context_of, built_by, line_step, lines_step, finish as finish_of, read_lines, reading};
+ghost use Rattle.choreo_reader.specs.Reading.{InFormation, InFigure, InRepeat, InCue, entry_fault as entry_fault_of};
+ghost use Rattle.choreo_reader.specs.Reading.{with_block as with_block_of, act_added, place_added};
+ghost use Rattle.choreo_reader.specs.Reading.{add_block as add_block_of, close as close_of};
+ghost use Rattle.choreo_reader.specs.Reading.{close_innermost as close_innermost_of, with_act as with_act_of};
+ghost use Rattle.choreo_reader.specs.Reading.{with_place as with_place_of, nothing, build, settings_of, opening_of};
+ghost use Rattle.choreo_reader.specs.Reading.{openings_of, context_of, built_by, line_step, lines_step};
+ghost use Rattle.choreo_reader.specs.Reading.{finish as finish_of, read_lines, reading};
 
 use crate::fault::ShowFault;
 use crate::token::{first_bad_line, line_words};
@@ -316,7 +326,8 @@ impl Reader {
 
     // One more block, in the innermost open one or at top.
     fn add_block(&mut self, block: Block) -> Result<(), AllocError>
-        ensures { OnOk result (built_of self.new ≡ add_block_of (built_of self.old) (built_of self.old).open_blocks (block_of block plain.Done)) }
+        ensures { OnOk result (built_of self.new
+            ≡ add_block_of (built_of self.old) (built_of self.old).open_blocks (block_of block plain.Done)) }
     {
         match self.opened.pop() {
             None => push_block(&mut self.body, block),
@@ -330,7 +341,8 @@ impl Reader {
 
     // Closes a block that was taken off the open ones.
     fn close(&mut self, inner: OpenBlock) -> Result<(), AllocError>
-        ensures { OnOk result (built_of self.new ≡ close_of (built_of self.old) (open_of inner) (built_of self.old).open_blocks) }
+        ensures { OnOk result
+            (built_of self.new ≡ close_of (built_of self.old) (open_of inner) (built_of self.old).open_blocks) }
     {
         match inner {
             OpenBlock::Formation { line, name, places } => {
@@ -377,7 +389,8 @@ impl Reader {
     }
 
     fn close_innermost(&mut self) -> Result<(), AllocError>
-        ensures { OnOk result (built_of self.new ≡ close_innermost_of (built_of self.old) (built_of self.old).open_blocks) }
+        ensures { OnOk result
+            (built_of self.new ≡ close_innermost_of (built_of self.old) (built_of self.old).open_blocks) }
     {
         match self.opened.pop() {
             None => Ok(()),
@@ -386,7 +399,8 @@ impl Reader {
     }
 
     fn add_act(&mut self, act: ActLine) -> Result<(), AllocError>
-        ensures { OnOk result (built_of self.new ≡ record (built_of self.old) { open_blocks = with_act_of (built_of self.old).open_blocks act }) }
+        ensures { OnOk result (built_of self.new
+            ≡ record (built_of self.old) { open_blocks = with_act_of (built_of self.old).open_blocks act }) }
     {
         match self.opened.last_mut() {
             Some(inner) => put_act(inner, act),
@@ -395,7 +409,8 @@ impl Reader {
     }
 
     fn add_place(&mut self, place: DroneLine) -> Result<(), AllocError>
-        ensures { OnOk result (built_of self.new ≡ record (built_of self.old) { open_blocks = with_place_of (built_of self.old).open_blocks place }) }
+        ensures { OnOk result (built_of self.new
+            ≡ record (built_of self.old) { open_blocks = with_place_of (built_of self.old).open_blocks place }) }
     {
         match self.opened.pop() {
             None => Ok(()),
@@ -408,14 +423,16 @@ impl Reader {
     }
 
     fn begin(&mut self, inner: OpenBlock) -> Result<(), AllocError>
-        ensures { OnOk result (built_of self.new ≡ record (built_of self.old) { open_blocks = open_of inner ∷ (built_of self.old).open_blocks }) }
+        ensures { OnOk result (built_of self.new
+            ≡ record (built_of self.old) { open_blocks = open_of inner ∷ (built_of self.old).open_blocks }) }
     {
         self.opened.push(inner)?;
         Ok(())
     }
 
     fn add_drone(&mut self, drone: DroneLine) -> Result<(), AllocError>
-        ensures { OnOk result (built_of self.new ≡ record (built_of self.old) { drones = (built_of self.old).drones ++ drone ∷ [] }) }
+        ensures { OnOk result
+            (built_of self.new ≡ record (built_of self.old) { drones = (built_of self.old).drones ++ drone ∷ [] }) }
     {
         push(&mut self.drones, drone, LEAST_ROOM)
     }
@@ -474,8 +491,8 @@ impl Reader {
         }
     }
 
-    // What one more line says, unless earlier lines forbid it. Beside the act lines a show has few lines: they are a call
-    // of their own, so that the room that their entries need isn't cleared at each act line.
+    // What one more line says, unless earlier lines forbid it. Beside the act lines a show has few lines: they are a
+    // call of their own, so that the room that their entries need isn't cleared at each act line.
     #[inline(never)]
     fn accept(&mut self, alloc: Global, line: u32, entry: Entry) -> Result<(), ShowFault>
         ensures { Steps result (built_of self.new) (built_by (built_of self.old) line (Ok entry)) }
@@ -499,7 +516,8 @@ impl Reader {
         number: u32,
     ) -> Result<(), ShowFault>
         requires { 0 < length words.now }
-        ensures { Steps result (built_of self.new) (line_step form (built_of self.old) (record { number = number; words = words_in text.now words.now })) }
+        ensures { Steps result (built_of self.new)
+            (line_step form (built_of self.old) (record { number = number; words = words_in text.now words.now })) }
     {
         match entry_of(alloc, form, place(self.opened.as_slice()), text, words) {
             Ok(Entry::One { name, act }) => match self.add_act(ActLine::One {
@@ -527,7 +545,8 @@ impl Reader {
     ) -> Result<(), ShowFault>
         requires within { length line.now ≤ most_text }
         requires one { between_feeds line.now ≡ line.now ∷ [] }
-        ensures { Steps result (built_of self.new) (lines_step form (built_of self.old) (line_with number (words_of (visible FromHash line.now)) [])) }
+        ensures { Steps result (built_of self.new)
+            (lines_step form (built_of self.old) (line_with number (words_of (visible FromHash line.now)) [])) }
     {
         line_words(words, line)?;
         if words.is_empty() {
@@ -540,7 +559,8 @@ impl Reader {
     fn lines(&mut self, alloc: Global, form: Form, text: &[u8], first: u32) -> Result<(), ShowFault>
         requires within { length text.now ≤ most_text }
         requires few { first + length text.now ≤ most_text + 1 }
-        ensures { Steps result (built_of self.new) (lines_step form (built_of self.old) (numbered FromHash first (lines_of text.now))) }
+        ensures { Steps result (built_of self.new)
+            (lines_step form (built_of self.old) (numbered FromHash first (lines_of text.now))) }
     {
         let mut words = Vec::new(alloc);
         let mut number = first;
@@ -640,7 +660,8 @@ fn form_of(text: &[u8], words: &[Token]) -> Option<Form>
 fn after_header(alloc: Global, text: &[u8]) -> Result<(Form, &[u8], u32), ShowFault>
     requires { length text.now ≤ most_text }
     ensures { MatchResult result
-        (λ cut. (read_lines (show_lines text.now) ≡ finish_of (lines_step cut.0 nothing (numbered FromHash cut.2 (lines_of cut.1.now))))
+        (λ cut. (read_lines (show_lines text.now)
+        ≡ finish_of (lines_step cut.0 nothing (numbered FromHash cut.2 (lines_of cut.1.now))))
         × (cut.2 + length cut.1.now ≤ length text.now + 1)
         × (length cut.1.now ≤ length text.now))
         (λ e. ReadingFails e (read_lines (show_lines text.now))) }

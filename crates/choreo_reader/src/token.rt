@@ -8,7 +8,8 @@ ghost use Rattle.text_lines.specs.Lines.{between_feeds};
 ghost use Rattle.text_lines.specs.Words.{visible as visible_of, words_of};
 ghost use Rattle.text_lines.specs.Tokens.{words_in};
 ghost use Rattle.std.specs.List.{list_all};
-ghost use Rattle.choreo_reader.specs.Text.{is_allowed as is_allowed_of, are_allowed as are_allowed_of, forbidden, fault_at, TokensGive};
+ghost use Rattle.choreo_reader.specs.Text.{is_allowed as is_allowed_of, are_allowed as are_allowed_of, forbidden};
+ghost use Rattle.choreo_reader.specs.Text.{fault_at, TokensGive};
 ghost use Rattle.choreo_reader.specs.Steps.{stands_anywhere as stands_anywhere_of};
 
 use crate::fault::ShowFault;
@@ -50,7 +51,8 @@ fn is_plain(text: &[u8]) -> bool
 #[tactic(auto, using(crate::proofs::Allowed::plain_allowed))]
 pub(crate) fn first_bad_line(text: &[u8]) -> Option<u32>
     requires { length text.now ≤ most_text }
-    ensures { MatchOption result (forbidden text.now ≡ None) (λ line. forbidden text.now ≡ Some (fault_at line kind.BadByte)) }
+    ensures { MatchOption result (forbidden text.now ≡ None)
+        (λ line. forbidden text.now ≡ Some (fault_at line kind.BadByte)) }
 {
     if is_plain(text) {
         return None;

@@ -42,7 +42,8 @@ FitsFrame f = (f.turns ≤ 3) × FitsCoordinate f.dx × FitsCoordinate f.dy × F
 -- a line with a first word of its own: its values are as its row wants them, and this many names stand after them
 abbrev pub FitsLine : Entry → Type 0
 FitsLine e =
-    IsTrue (has_count (row_of (keyword_in e)) (length (fields_of e))) × AllFit (row_of (keyword_in e)).places (fields_of e)
+    IsTrue (has_count (row_of (keyword_in e)) (length (fields_of e)))
+    × AllFit (row_of (keyword_in e)).places (fields_of e)
 
 -- an act line
 abbrev pub FitsActLine : ActLine → Type 0
@@ -81,7 +82,8 @@ FitFigures (f ∷ fs) =
 
 -- settings in their ranges
 abbrev pub FitsSettings : Settings → Type 0
-FitsSettings s = (s.offset ≤ 4095) × (s.trajectory_id ≤ 9) × (1 ≤ s.r) × (s.r ≤ 2000) × (1 ≤ s.h) × (s.h ≤ 2000) × (s.stray ≤ 1000) × (s.late ≤ 1000)
+FitsSettings s = (s.offset ≤ 4095) × (s.trajectory_id ≤ 9) × (1 ≤ s.r) × (s.r ≤ 2000) × (1 ≤ s.h) × (s.h ≤ 2000)
+    × (s.stray ≤ 1000) × (s.late ≤ 1000)
 
 -- The numbers of the lines.
 

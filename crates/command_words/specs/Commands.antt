@@ -1,13 +1,19 @@
 -- The words of the command line, and what they ask for (docs/COMMANDS.md, "Options").
-use Rattle.std.specs.Prelude.{◌≡◌, ◌↔◌, ℕ, ◌≤◌, replicate, Bool, ◌&&◌, not, List, [], ◌∷◌, ◌++◌, length, find, is_some, nat_le, bytes_eq, codes, slice_index_or, slice_set, Option, Some, None, IfSome, unwrap_or, if◌then◌else◌, ◌==◌}
+use Rattle.std.specs.Prelude.{◌≡◌, ◌↔◌, ℕ, ◌≤◌, replicate, Bool, ◌&&◌, not, List, [], ◌∷◌, ◌++◌, length, find, is_some}
+use Rattle.std.specs.Prelude.{nat_le, bytes_eq, codes, slice_index_or, slice_set, Option, Some, None, IfSome, unwrap_or}
+use Rattle.std.specs.Prelude.{if◌then◌else◌, ◌==◌}
 use Rattle.std.specs.Option.{option_map, option_and_then}
 use Rattle.std.specs.List.{list_any}
 use Rattle.fleet_math.specs.Limits.{most_depth, most_drones, most_fine}
 use Rattle.text_lines.specs.Numbers.{natural_of}
 use Rattle.command_words.specs.declared.command.Command.{Command}
-use Rattle.command_words.specs.declared.command.Command.TheVariants.{Help, Version, Check, Compile, Certify, Play, Report, Verify, Rehearse, Upload, Direct, Drill, Boxes, Speed, Explain, Dynamics}
+use Rattle.command_words.specs.declared.command.Command.TheVariants.{Help, Version, Check, Compile, Certify, Play}
+use Rattle.command_words.specs.declared.command.Command.TheVariants.{Report, Verify, Rehearse, Upload, Direct, Drill}
+use Rattle.command_words.specs.declared.command.Command.TheVariants.{Boxes, Speed, Explain, Dynamics}
 use Rattle.command_words.specs.declared.options.OptionName.{OptionName}
-use Rattle.command_words.specs.declared.options.OptionName.TheVariants.{Depth, Step, Start, Readback, Limit, Fine, Accel, Jump, Near, At, Silence, Floor, Descent, Then}
+use Rattle.command_words.specs.declared.options.OptionName.TheVariants.{Depth, Step, Start, Readback, Limit, Fine}
+use Rattle.command_words.specs.declared.options.OptionName.TheVariants.{Accel, Jump, Near, At, Silence, Floor, Descent}
+use Rattle.command_words.specs.declared.options.OptionName.TheVariants.{Then}
 use Rattle.command_words.specs.declared.options.Range.{Range}
 use Rattle.command_words.specs.declared.options.Options.{Options}
 
@@ -28,7 +34,8 @@ most_step = 60000
 abbrev pub most_limit : ℕ
 most_limit = 999999999
 
--- the greatest limit on acceleration, in millimetres per second squared, and on a jump of speed, in millimetres per second
+-- the greatest limit on acceleration, in millimetres per second squared, and on a jump of speed, in millimetres per
+-- second
 abbrev pub most_bound : ℕ
 most_bound = 999999999
 
@@ -118,7 +125,9 @@ value_of name r word = number_from r.least r.most word
 
 -- the option that a word names
 abbrev pub named_by : List ℕ → Option OptionName
-named_by word = find (λ n. bytes_eq word (word_of n)) (Depth ∷ Step ∷ Start ∷ Readback ∷ Limit ∷ Fine ∷ Accel ∷ Jump ∷ Near ∷ At ∷ Silence ∷ Floor ∷ Descent ∷ Then ∷ [])
+named_by word =
+    find (λ n. bytes_eq word (word_of n)) (Depth ∷ Step ∷ Start ∷ Readback ∷ Limit ∷ Fine ∷ Accel ∷ Jump ∷ Near ∷ At
+    ∷ Silence ∷ Floor ∷ Descent ∷ Then ∷ [])
 
 -- An option that is given, with its number; a flag has 1.
 pub record Given : Type 0 where
@@ -246,7 +255,9 @@ bare c words = option_map (λ (o : Options). c) (options_for [] words)
 
 -- a command that takes a depth and the two flags
 abbrev pub with_flags : (ℕ → Bool → Bool → Command) → List (List ℕ) → Option Command
-with_flags make words = option_map (λ (o : Options). make (depth_in o) (has o Start) (has o Readback)) (options_for (Depth ∷ Start ∷ Readback ∷ []) words)
+with_flags make words =
+    option_map (λ (o : Options). make (depth_in o) (has o Start) (has o Readback))
+    (options_for (Depth ∷ Start ∷ Readback ∷ []) words)
 
 -- a drill of this many drones
 abbrev pub drill_with : List (List ℕ) → Option ℕ → Option Command
@@ -261,16 +272,21 @@ drill_in (number ∷ words) = drill_with words (number_from 1 most_drones number
 abbrev pub study : List ℕ → List (List ℕ) → Option Command
 study name words =
     if bytes_eq name (codes "boxes") then with_depth Boxes words
-    else (if bytes_eq name (codes "speed") then option_map (λ (o : Options). Speed (depth_in o) (given_in o Limit)) (options_for (Depth ∷ Limit ∷ []) words)
-    else (if bytes_eq name (codes "explain") then option_map (λ (o : Options). Explain (depth_in o) (fine_in o)) (options_for (Depth ∷ Fine ∷ []) words)
-    else (if bytes_eq name (codes "dynamics") then option_map (λ (o : Options). Dynamics (depth_in o) (given_in o Accel) (given_in o Jump)) (options_for (Depth ∷ Accel ∷ Jump ∷ []) words)
+    else (if bytes_eq name (codes "speed")
+    then option_map (λ (o : Options). Speed (depth_in o) (given_in o Limit)) (options_for (Depth ∷ Limit ∷ []) words)
+    else (if bytes_eq name (codes "explain")
+    then option_map (λ (o : Options). Explain (depth_in o) (fine_in o)) (options_for (Depth ∷ Fine ∷ []) words)
+    else (if bytes_eq name (codes "dynamics") then option_map
+    (λ (o : Options). Dynamics (depth_in o) (given_in o Accel) (given_in o Jump))
+    (options_for (Depth ∷ Accel ∷ Jump ∷ []) words)
     else None)))
 
 -- the command of this name that flies a show, with the words after it
 abbrev pub flying : List ℕ → List (List ℕ) → Option Command
 flying name words =
     if bytes_eq name (codes "direct")
-    then option_map (λ (o : Options). Direct (depth_in o) (near_in o) (at_in o) (silence_in o) (floor_in o) (descent_in o) (lands o))
+    then option_map
+    (λ (o : Options). Direct (depth_in o) (near_in o) (at_in o) (silence_in o) (floor_in o) (descent_in o) (lands o))
     (options_for (Depth ∷ Near ∷ At ∷ Silence ∷ Floor ∷ Descent ∷ Then ∷ []) words)
     else study name words
 
@@ -289,7 +305,8 @@ named name words =
     else (if bytes_eq name (codes "check") then with_depth Check words
     else (if bytes_eq name (codes "compile") then with_depth Compile words
     else (if bytes_eq name (codes "certify") then with_depth Certify words
-    else (if bytes_eq name (codes "play") then option_map (λ (o : Options). Play (depth_in o) (step_in o)) (options_for (Depth ∷ Step ∷ []) words)
+    else (if bytes_eq name (codes "play")
+    then option_map (λ (o : Options). Play (depth_in o) (step_in o)) (options_for (Depth ∷ Step ∷ []) words)
     else (if bytes_eq name (codes "report") then with_depth Report words
     else (if bytes_eq name (codes "verify") then bare Verify words
     else (if bytes_eq name (codes "drill") then drill_in words

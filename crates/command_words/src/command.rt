@@ -8,7 +8,8 @@ use crate::options::{OptionName, number_from, options_for};
 use fleet_math::{Depth, Fine, MOST_DRONES};
 
 /// What the program is asked for. `depth` says into how small parts a cue is cut: at most into 2^depth.
-/// `start` says whether the drones are started, `readback` whether the memories are read back before that. The forms are those of [`help_text`].
+/// `start` says whether the drones are started, `readback` whether the memories are read back before that. The forms
+/// are those of [`help_text`].
 #[derive(Clone, Copy, PartialEq, Eq)]
 pub enum Command {
     /// The forms of the commands.
@@ -77,14 +78,14 @@ pub enum Command {
         depth: Depth,
         limit: Option<u32>,
     },
-    /// Why the show is refused: its first blocked part, and where two drones come closest and touch among the instants that cut
-    /// each cue into 2^`fine` parts.
+    /// Why the show is refused: its first blocked part, and where two drones come closest and touch among the instants
+    /// that cut each cue into 2^`fine` parts.
     Explain {
         depth: Depth,
         fine: Fine,
     },
-    /// How fast the speeds of its drones change at most and where they jump, and whether that is within `accel` millimetres per second
-    /// squared and `jump` millimetres per second, each 0 to 999,999,999.
+    /// How fast the speeds of its drones change at most and where they jump, and whether that is within `accel`
+    /// millimetres per second squared and `jump` millimetres per second, each 0 to 999,999,999.
     Dynamics {
         depth: Depth,
         accel: Option<u32>,

@@ -1,7 +1,10 @@
 //! The options that are given, each at most once and in any order.
-ghost use Rattle.std.specs.Prelude.{◌≡◌, ℕ, ◌≤◌, Bool, map, string_bytes, IfSome, IfOk, length, option_map, option_and_then, is_some, true, Some};
+ghost use Rattle.std.specs.Prelude.{◌≡◌, ℕ, ◌≤◌, Bool, map, string_bytes, IfSome, IfOk, length, option_map};
+ghost use Rattle.std.specs.Prelude.{option_and_then, is_some, true, Some};
 ghost use Rattle.command_words.specs.Commands as commands;
-ghost use Rattle.command_words.specs.Commands.{at_in, depth_in, descent_in, fine_in, floor_in, given_in, has, lands, most_limit, near_in, no_options, noted, options_for, place_of, range_of, silence_in, step_in, takes, then_of, value_of, word_of};
+ghost use Rattle.command_words.specs.Commands.{at_in, depth_in, descent_in, fine_in, floor_in, given_in, has, lands};
+ghost use Rattle.command_words.specs.Commands.{most_limit, near_in, no_options, noted, options_for, place_of, range_of};
+ghost use Rattle.command_words.specs.Commands.{silence_in, step_in, takes, then_of, value_of, word_of};
 ghost use Rattle.command_words.specs.Steps.{AreInRange, IsInRange};
 
 use fleet_math::{Depth, Fine, MOST_DEPTH, MOST_FINE};
@@ -19,7 +22,8 @@ const MOST_STEP: u32 = 60_000;
 // The greatest limit on speed, in micrometres per second.
 const MOST_LIMIT: u32 = 999_999_999;
 
-// The greatest limit on acceleration, in millimetres per second squared, and on a jump of speed, in millimetres per second.
+// The greatest limit on acceleration, in millimetres per second squared, and on a jump of speed, in millimetres per
+// second.
 const MOST_BOUND: u32 = 999_999_999;
 
 // How finely a cue is listed where no option says it.

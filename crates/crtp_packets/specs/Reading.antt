@@ -1,9 +1,11 @@
 -- What a packet is read as: by the port and the channel of its header, and by the length of its
 -- payload. docs/RADIO.md, "Messages", has the table.
-use Rattle.std.specs.Prelude.{◌≡◌, ℕ, ◌^◌, ◌<◌, ◌≤◌, Bool, ◌&&◌, nat_lt, ◌==◌, if◌then◌else◌, List, [], ◌∷◌, ◌++◌, length, drop, slice_index, Option, Some, None, Result, Ok, Err}
+use Rattle.std.specs.Prelude.{◌≡◌, ℕ, ◌^◌, ◌<◌, ◌≤◌, Bool, ◌&&◌, nat_lt, ◌==◌, if◌then◌else◌, List, [], ◌∷◌, ◌++◌}
+use Rattle.std.specs.Prelude.{length, drop, slice_index, Option, Some, None, Result, Ok, Err}
 use Rattle.byteorder.specs.Endian.{little_number}
 use Rattle.crtp_packets.specs.Packets.{header_in, port, channel, memory_message}
-use Rattle.crtp_packets.specs.declared.packet.TheConstants.{MEMORY_PORT, READ_CHANNEL, WRITE_CHANNEL, COMMANDER_PORT, COMMAND_CHANNEL}
+use Rattle.crtp_packets.specs.declared.packet.TheConstants.{MEMORY_PORT, READ_CHANNEL, WRITE_CHANNEL, COMMANDER_PORT}
+use Rattle.crtp_packets.specs.declared.packet.TheConstants.{COMMAND_CHANNEL}
 use Rattle.crtp_packets.specs.declared.reading.TheConstants.{MEMORY_LEAST}
 use Rattle.crtp_packets.specs.declared.reading.PacketFault.{PacketFault}
 use Rattle.crtp_packets.specs.declared.reading.PacketFault.TheVariants.{Empty, Unknown, Short}
@@ -77,9 +79,11 @@ abbrev pub down_of : List ℕ → Result Down PacketFault
 down_of [] = Err Empty
 down_of (header ∷ payload) =
     if is_at header MEMORY_PORT WRITE_CHANNEL
-    then if_long payload MEMORY_LEAST (Write (slice_index payload 0) (little_number 4 (drop 1 payload)) (record { items = drop 5 payload }))
+    then if_long payload MEMORY_LEAST
+    (Write (slice_index payload 0) (little_number 4 (drop 1 payload)) (record { items = drop 5 payload }))
     else (if is_at header MEMORY_PORT READ_CHANNEL
-    then if_long payload MEMORY_LEAST (Read (slice_index payload 0) (little_number 4 (drop 1 payload)) (slice_index payload 5))
+    then if_long payload MEMORY_LEAST
+    (Read (slice_index payload 0) (little_number 4 (drop 1 payload)) (slice_index payload 5))
     else (if is_at header COMMANDER_PORT COMMAND_CHANNEL
     then if_long payload 1 (Command (record { items = payload }))
     else Err Unknown))
@@ -89,9 +93,12 @@ abbrev pub up_of : List ℕ → Result Up PacketFault
 up_of [] = Err Empty
 up_of (header ∷ payload) =
     if is_at header MEMORY_PORT WRITE_CHANNEL
-    then if_long payload MEMORY_LEAST (WriteAnswer (slice_index payload 0) (little_number 4 (drop 1 payload)) (slice_index payload 5))
+    then if_long payload MEMORY_LEAST
+    (WriteAnswer (slice_index payload 0) (little_number 4 (drop 1 payload)) (slice_index payload 5))
     else (if is_at header MEMORY_PORT READ_CHANNEL
-    then if_long payload MEMORY_LEAST (ReadAnswer (slice_index payload 0) (little_number 4 (drop 1 payload)) (slice_index payload 5) (record { items = drop 6 payload }))
+    then if_long payload MEMORY_LEAST (ReadAnswer (slice_index payload 0) (little_number 4 (drop 1 payload))
+    (slice_index payload 5) (record { items = drop 6 payload }))
     else (if is_at header COMMANDER_PORT COMMAND_CHANNEL
-    then if_long payload 4 (CommandAnswer (slice_index payload 0 ∷ slice_index payload 1 ∷ slice_index payload 2 ∷ []) (slice_index payload 3))
+    then if_long payload 4 (CommandAnswer (slice_index payload 0 ∷ slice_index payload 1 ∷ slice_index payload 2 ∷ [])
+    (slice_index payload 3))
     else Err Unknown))

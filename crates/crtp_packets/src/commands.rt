@@ -3,7 +3,8 @@
 //! makers and the reader both cite. docs/RADIO.md, "Commands", has the table.
 
 ghost use Rattle.std.specs.Prelude.{◌≡◌, ℕ, ◌<◌, ◌≤◌, ◌⊎◌, ◌↔◌, length, IfOk};
-ghost use Rattle.crtp_packets.specs.Commands.{define_of, start_of, answer_of, command_of, IsShort, IsUnknown, SpellsCommand};
+ghost use Rattle.crtp_packets.specs.Commands.{define_of, start_of, answer_of, command_of, IsShort, IsUnknown};
+ghost use Rattle.crtp_packets.specs.Commands.{SpellsCommand};
 
 use crate::packet::{COMMAND_HEADER, PACKET_BYTES, Packet, from_bytes};
 use byteorder::{ByteOrder, LittleEndian};

@@ -1,7 +1,8 @@
 //! A packet, 1 to 31 bytes, and the four messages of memory access as packets.
 
 ghost use Rattle.std.specs.Prelude.{◌≡◌, ◌≢◌, ℕ, ◌+◌, ◌<◌, ◌≤◌, ◌↔◌, List, length, IfOk};
-ghost use Rattle.crtp_packets.specs.Packets.{memory_message, write_request_of, write_answer_of, read_request_of, read_answer_of};
+ghost use Rattle.crtp_packets.specs.Packets.{memory_message, write_request_of, write_answer_of, read_request_of};
+ghost use Rattle.crtp_packets.specs.Packets.{read_answer_of};
 
 use crate::reading::{PacketFault, Piece};
 use arrayvec::ArrayVec;

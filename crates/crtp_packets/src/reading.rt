@@ -1,7 +1,8 @@
 //! What a packet is read as. The direction must be known to the caller, since a write of one byte
 //! and a write answer have the same form.
 
-ghost use Rattle.std.specs.Prelude.{◌≡◌, ◌≢◌, ℕ, ◌<◌, ◌≤◌, ◌↔◌, [], ◌∷◌, length, drop, slice_index, IfOk, IsSomeAnd, None};
+ghost use Rattle.std.specs.Prelude.{◌≡◌, ◌≢◌, ℕ, ◌<◌, ◌≤◌, ◌↔◌, [], ◌∷◌, length, drop, slice_index, IfOk, IsSomeAnd};
+ghost use Rattle.std.specs.Prelude.{None};
 ghost use Rattle.byteorder.specs.Endian.{little_number};
 ghost use Rattle.crtp_packets.specs.Packets.{header_in, payload_in, port, channel};
 ghost use Rattle.crtp_packets.specs.Reading.{if_long, least_down, least_up, down_of, up_of, SpellsDown, SpellsUp};
@@ -87,7 +88,8 @@ fn port_and_channel(header: u8) -> (u8, u8)
 
 /// The memory id and the address with which each payload of memory access begins.
 fn place_in(payload: &[u8]) -> Result<(u8, u32), PacketFault>
-    ensures { result ≡ if_long payload.now MEMORY_LEAST (slice_index payload.now 0, little_number 4 (drop 1 payload.now)) }
+    ensures { result ≡ if_long payload.now MEMORY_LEAST
+        (slice_index payload.now 0, little_number 4 (drop 1 payload.now)) }
 {
     if payload.len() < MEMORY_LEAST {
         return Err(PacketFault::Short);
@@ -141,7 +143,8 @@ pub fn parse_down(p: &Packet) -> Result<Down, PacketFault>
     ensures spells { IfOk result (SpellsDown p.now) }
     ensures spelled { (down : Down) → SpellsDown p.now down → result ≡ Ok down }
     ensures unknown { (result ≡ Err PacketFault.Unknown) ↔ (least_down (header_in p.now) ≡ None) }
-    ensures short { (result ≡ Err PacketFault.Short) ↔ IsSomeAnd (least_down (header_in p.now)) (λ least. length (payload_in p.now) < least) }
+    ensures short { (result ≡ Err PacketFault.Short)
+        ↔ IsSomeAnd (least_down (header_in p.now)) (λ least. length (payload_in p.now) < least) }
     ensures no_empty { result ≢ Err PacketFault.Empty }
     ensures no_too_long { result ≢ Err PacketFault.TooLong }
 {
@@ -206,7 +209,8 @@ pub fn parse_up_bytes(bytes: &[u8]) -> Result<Up, PacketFault>
     ensures spells { IfOk result (SpellsUp bytes.now) }
     ensures spelled { (up : Up) → SpellsUp bytes.now up → result ≡ Ok up }
     ensures unknown { (result ≡ Err PacketFault.Unknown) ↔ (least_up (header_in bytes.now) ≡ None) }
-    ensures short { (result ≡ Err PacketFault.Short) ↔ IsSomeAnd (least_up (header_in bytes.now)) (λ least. length (payload_in bytes.now) < least) }
+    ensures short { (result ≡ Err PacketFault.Short)
+        ↔ IsSomeAnd (least_up (header_in bytes.now)) (λ least. length (payload_in bytes.now) < least) }
     ensures no_empty { result ≢ Err PacketFault.Empty }
     ensures no_too_long { result ≢ Err PacketFault.TooLong }
 {
@@ -220,7 +224,8 @@ pub fn parse_up(p: &Packet) -> Result<Up, PacketFault>
     ensures spells { IfOk result (SpellsUp p.now) }
     ensures spelled { (up : Up) → SpellsUp p.now up → result ≡ Ok up }
     ensures unknown { (result ≡ Err PacketFault.Unknown) ↔ (least_up (header_in p.now) ≡ None) }
-    ensures short { (result ≡ Err PacketFault.Short) ↔ IsSomeAnd (least_up (header_in p.now)) (λ least. length (payload_in p.now) < least) }
+    ensures short { (result ≡ Err PacketFault.Short)
+        ↔ IsSomeAnd (least_up (header_in p.now)) (λ least. length (payload_in p.now) < least) }
     ensures no_empty { result ≢ Err PacketFault.Empty }
     ensures no_too_long { result ≢ Err PacketFault.TooLong }
 {

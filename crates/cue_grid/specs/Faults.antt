@@ -1,6 +1,7 @@
 -- The faults of names and cues, in the order in which they are judged: no drone, too many drones, the names by lines,
 -- no cue, too many cues.
-use Rattle.std.specs.Prelude.{ℕ, Bool, true, false, not, ◌||◌, List, [], ◌∷◌, ◌++◌, length, drop, Option, Some, None, ◌==◌, nat_lt, if◌then◌else◌}
+use Rattle.std.specs.Prelude.{ℕ, Bool, true, false, not, ◌||◌, List, [], ◌∷◌, ◌++◌, length, drop, Option, Some, None}
+use Rattle.std.specs.Prelude.{◌==◌, nat_lt, if◌then◌else◌}
 use Rattle.fleet_math.specs.Limits.{most_drones}
 use Rattle.choreo_show.specs.Plain as plain
 use Rattle.choreo_lines.specs.Name.{Name}
@@ -9,10 +10,12 @@ use Rattle.choreo_show.specs.declared.show.ActLine.{ActLine}
 use Rattle.choreo_show.specs.declared.show.ActLine.TheVariants as on
 use Rattle.choreo_show.specs.declared.show.DroneLine.{DroneLine}
 use Rattle.choreo_show.specs.declared.show.Formation.{Formation}
-use Rattle.cue_grid.specs.Names.{has_name, has_each, has_some, has_double, names_of, formation_named, figure_named, places_in}
+use Rattle.cue_grid.specs.Names.{has_name, has_each, has_some, has_double, names_of, formation_named, figure_named}
+use Rattle.cue_grid.specs.Names.{places_in}
 use Rattle.cue_grid.specs.Counts.{over_at}
 use Rattle.cue_grid.specs.declared.grid.GridFault.{GridFault}
-use Rattle.cue_grid.specs.declared.grid.GridFault.TheVariants.{NoDrone, TooManyDrones, DoubleName, UnknownName, DoubleAct, RoleCount, NoCue, TooManyCues}
+use Rattle.cue_grid.specs.declared.grid.GridFault.TheVariants.{NoDrone, TooManyDrones, DoubleName, UnknownName}
+use Rattle.cue_grid.specs.declared.grid.GridFault.TheVariants.{DoubleAct, RoleCount, NoCue, TooManyCues}
 
 -- the line that a fault names
 abbrev pub line_of : GridFault → ℕ
@@ -42,7 +45,8 @@ drone_faults earlier (d ∷ ds) =
 abbrev pub place_faults : List Name → List Name → List DroneLine → List GridFault
 place_faults drones earlier [] = []
 place_faults drones earlier (p ∷ ps) =
-    fault_if (not (has_name drones p.name)) (UnknownName p.line) (fault_if (has_name earlier p.name) (DoubleAct p.line) [])
+    fault_if (not (has_name drones p.name)) (UnknownName p.line)
+    (fault_if (has_name earlier p.name) (DoubleAct p.line) [])
     ++ place_faults drones (earlier ++ p.name ∷ []) ps
 
 -- a formation, after formations of these names
@@ -75,7 +79,8 @@ acted_by fs (on.Form line formation smooth) = names_of (places_in (formation_nam
 -- the lines of a cue, after lines that gave these names an act
 abbrev pub act_faults : List Name → List Formation → List Name → List ActLine → List GridFault
 act_faults known fs acted [] = []
-act_faults known fs acted (a ∷ rest) = act_line_faults known fs acted a ++ act_faults known fs (acted ++ acted_by fs a) rest
+act_faults known fs acted (a ∷ rest) =
+    act_line_faults known fs acted a ++ act_faults known fs (acted ++ acted_by fs a) rest
 
 -- a perform: its figure must be one, each role has a drone, each drone is one of the show, and none plays two roles
 abbrev pub perform_faults : List Name → ℕ → Option PlainFigure → List Name → List GridFault

@@ -1,6 +1,7 @@
 -- Who has an act in a cue, as the steps keep it: the names on `at` lines have numbers and are marked by them, other
 -- names are kept by themselves.
-use Rattle.std.specs.Prelude.{◌≡◌, ℕ, Bool, true, false, ◌||◌, List, [], ◌∷◌, length, map, get_or, set, Option, Some, None}
+use Rattle.std.specs.Prelude.{◌≡◌, ℕ, Bool, true, false, ◌||◌, List, [], ◌∷◌, length, map, get_or, set, Option, Some}
+use Rattle.std.specs.Prelude.{None}
 use Rattle.choreo_lines.specs.Name.{Name}
 use Rattle.choreo_show.specs.declared.show.Formation.{Formation}
 use Rattle.cue_grid.specs.Names.{has_name, names_of}
@@ -35,7 +36,8 @@ ArePlaced items keys (f ∷ fs) (v ∷ vs) = HasNumbers keys (names_of f.places)
 
 -- the same as an equation
 abbrev pub AllPlaced : {V : Type 0} → (V → List ℕ) → List Name → List Formation → List V → Type 0
-AllPlaced items keys fs vs = map (λ f. map (number_in keys) (names_of f.places)) fs ≡ map (λ v. map (λ k. Some k) (items v)) vs
+AllPlaced items keys fs vs =
+    map (λ f. map (number_in keys) (names_of f.places)) fs ≡ map (λ v. map (λ k. Some k) (items v)) vs
 
 -- whether a name has an act: by the mark of its number, or among the other names where it has none
 abbrev pub has_act : Option ℕ → List Bool → List Name → Name → Bool

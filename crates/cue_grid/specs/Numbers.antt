@@ -22,7 +22,8 @@ IsNumbered names entries = (n : Name) → lookup (same_name n) entries ≡ numbe
 
 -- one more name has a number, if it had none
 abbrev pub IsNoted : List (Name × ℕ) → List (Name × ℕ) → Name → ℕ → Type 0
-IsNoted old new name i = (n : Name) → lookup (same_name n) new ≡ number_or (lookup (same_name n) old) (same_name n name) i
+IsNoted old new name i = (n : Name) →
+    lookup (same_name n) new ≡ number_or (lookup (same_name n) old) (same_name n name) i
 
 -- the names of formations
 abbrev pub formation_names : List Formation → List Name

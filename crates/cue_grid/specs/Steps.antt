@@ -89,7 +89,8 @@ act_if b a = if b then Some a else None
 -- what a line gives a drone to do
 abbrev pub act_by : List Formation → Playing → Name → ActLine → Option Act
 act_by fs p drone (on.One line name a) = act_if (same_name drone (player p.roles p.drones name)) a
-act_by fs p drone (on.Form line formation smooth) = way_if smooth (place_named (places_in (formation_named fs formation)) drone)
+act_by fs p drone (on.Form line formation smooth) =
+    way_if smooth (place_named (places_in (formation_named fs formation)) drone)
 
 -- the number of an act line or a `form` line
 abbrev pub act_line_number : ActLine → ℕ

@@ -5,7 +5,8 @@ ghost use Rattle.choreo_show.specs.Plain.{block_of, body_of};
 ghost use Rattle.choreo_show.specs.Plain as plain;
 ghost use Rattle.cue_grid.specs.Cues.{cue_of, player as player_of, cues_in, cues_of as cues_of_show};
 ghost use Rattle.cue_grid.specs.Shown.{shown, played, AreDistinct};
-ghost use Rattle.cue_grid.specs.Steps.{act_if, way_if, way_to, figure_cues, performed_cues, put_acts, put_line_of, stands_at};
+ghost use Rattle.cue_grid.specs.Steps.{act_if, way_if, way_to, figure_cues, performed_cues, put_acts, put_line_of};
+ghost use Rattle.cue_grid.specs.Steps.{stands_at};
 ghost use Rattle.cue_grid.specs.Frames.{no_frame};
 ghost use Rattle.cue_grid.specs.Names.{same_name as same_name_of, has_name, has_double, names_of, place_named};
 

@@ -9,8 +9,12 @@ ghost use Rattle.cue_grid.specs.Numbers.{formation_names, figure_names};
 ghost use Rattle.choreo_lines.specs.Name.{Name as NameOf};
 ghost use Rattle.cue_grid.specs.Marks.{number_in, has_act};
 ghost use Rattle.cue_grid.specs.Shown.{shown, place_names, HaveActs};
-ghost use Rattle.cue_grid.specs.Steps.{named_faults, first_of, gives as gives_of, lines_after, name_fault as name_fault_of};
-ghost use Rattle.cue_grid.specs.Faults.{drone_faults, place_faults, one_formation_faults, formation_faults, act_line_faults, form_faults, act_faults, perform_faults, body_faults, one_figure_faults, figure_faults, earlier_of as earlier_of_two, line_of as line_of_fault};
+ghost use Rattle.cue_grid.specs.Steps.{named_faults, first_of, gives as gives_of, lines_after};
+ghost use Rattle.cue_grid.specs.Steps.{name_fault as name_fault_of};
+ghost use Rattle.cue_grid.specs.Faults.{drone_faults, place_faults, one_formation_faults, formation_faults};
+ghost use Rattle.cue_grid.specs.Faults.{act_line_faults, form_faults, act_faults, perform_faults, body_faults};
+ghost use Rattle.cue_grid.specs.Faults.{one_figure_faults, figure_faults, earlier_of as earlier_of_two};
+ghost use Rattle.cue_grid.specs.Faults.{line_of as line_of_fault};
 
 use crate::acted::{Acted, has_acted, has_some_acted, nobody, put_acted};
 use crate::grid::GridFault;

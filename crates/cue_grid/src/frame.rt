@@ -1,7 +1,8 @@
 //! Where a frame puts a point: its mirror, then its quarter turns, then its shift.
 
 ghost use Rattle.std.specs.Prelude.{◌≡◌, ◌≤◌, ◌^◌, ◌+ℤ◌};
-ghost use Rattle.cue_grid.specs.Frames.{shifted, mirrored, turned_once, turned, applied, IsPointUpTo, IsShiftUpTo, IsUpTo};
+ghost use Rattle.cue_grid.specs.Frames.{shifted, mirrored, turned_once, turned, applied, IsPointUpTo, IsShiftUpTo};
+ghost use Rattle.cue_grid.specs.Frames.{IsUpTo};
 
 use choreo_show::{Frame, Mirror, Point};
 

@@ -1,7 +1,8 @@
 //! Names: which are the same, and which are among others.
 
 ghost use Rattle.std.specs.Prelude.{◌≡◌};
-ghost use Rattle.cue_grid.specs.Names.{same_name as same_name_of, has_name, has_each, has_double as has_double_of, names_of};
+ghost use Rattle.cue_grid.specs.Names.{same_name as same_name_of, has_name, has_each, has_double as has_double_of};
+ghost use Rattle.cue_grid.specs.Names.{names_of};
 
 use choreo_show::{DroneLine, Name};
 

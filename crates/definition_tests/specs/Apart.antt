@@ -23,7 +23,8 @@ pub record LateRows : Type 0 where
 pub record TouchRows : Type 0 where
   pub between : FlyApart 1 1 0 0 (flight (pos 0) (pos 1000) ∷ flight (pos 150) (pos 150) ∷ []) → ⊥
   pub at_the_end : FlyApart 1 1 0 0 (flight (pos 0) (pos 10) ∷ flight (pos 20) (pos 11) ∷ []) → ⊥
-  pub last_two : FlyApart 1 1 0 0 (flight (pos 0) (pos 0) ∷ flight (pos 50) (pos 50) ∷ flight (pos 51) (pos 51) ∷ []) → ⊥
+  pub last_two : FlyApart 1 1 0 0 (flight (pos 0) (pos 0) ∷ flight (pos 50) (pos 50) ∷ flight (pos 51) (pos 51) ∷ []) →
+      ⊥
 
 -- two drones that stay, 7 mm apart
 abbrev pub beside : List Traj

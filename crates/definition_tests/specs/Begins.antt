@@ -16,7 +16,15 @@ use Rattle.crtp_packets.specs.Commands.{start_of}
 
 -- One drone and a load of three bytes, one segment: its packets are a write, the define and the start.
 abbrev pub session : Upload
-session = record { memory_id = 0; offset = 0; trajectory_id = 0; loads = record { bytes = 1 ∷ 2 ∷ 3 ∷ []; pieces = 1 } ∷ []; readback = false; start = true }
+session =
+    record {
+      memory_id = 0;
+      offset = 0;
+      trajectory_id = 0;
+      loads = record { bytes = 1 ∷ 2 ∷ 3 ∷ []; pieces = 1 } ∷ [];
+      readback = false;
+      start = true;
+    }
 
 abbrev pub blank : ℕ → DroneState
 blank d = record { memory_id = 0; memory = replicate 8 255; table = replicate 10 None; started = None }
@@ -45,7 +53,8 @@ pub record BeginRows : Type 0 where
   pub once : beginnings session (start_world session blank) 0 (loaded ++ Take 0 2 ∷ []) ≡ 1
   pub repeated : beginnings session (start_world session blank) 0 (loaded ++ Take 0 2 ∷ Take 0 2 ∷ []) ≡ 2
   pub sent_again : beginnings session (start_world session blank) 0 (loaded ++ Take 0 2 ∷ Tick ∷ Take 0 3 ∷ []) ≡ 2
-  pub other_packets : beginnings session (start_world session blank) 0 (loaded ++ Take 0 0 ∷ Take 0 1 ∷ Take 1 2 ∷ []) ≡ 0
+  pub other_packets : beginnings session (start_world session blank) 0 (loaded ++ Take 0 0 ∷ Take 0 1 ∷ Take 1 2 ∷ [])
+      ≡ 0
   pub done : progress session (world session blank started).heard ≡ Done
   pub one : TakesOneStart session blank started 0
   pub two : TakesOneStart session blank (loaded ++ Take 0 2 ∷ Take 0 2 ∷ []) 0 → ⊥
@@ -71,9 +80,11 @@ pub record OrderRows : Type 0 where
 -- changed, or in which all is acknowledged and a drone hasn't its load, or hasn't started.
 pub record SafeRows : Type 0 where
   pub start_first : IsSafe session blank (moment_of [] blank (start_of 0 ∷ [])) → ⊥
-  pub outside : IsSafe session blank (moment_of [] (λ d. record (blank d) { memory = 255 ∷ 255 ∷ 255 ∷ 254 ∷ 255 ∷ 255 ∷ 255 ∷ 255 ∷ [] }) []) → ⊥
+  pub outside : IsSafe session blank
+      (moment_of [] (λ d. record (blank d) { memory = 255 ∷ 255 ∷ 255 ∷ 254 ∷ 255 ∷ 255 ∷ 255 ∷ 255 ∷ [] }) []) → ⊥
   pub not_loaded : IsSafe session blank (moment_of (world session blank started).heard blank []) → ⊥
-  pub not_started : IsSafe session blank (moment_of (world session blank started).heard (λ d. record ((world session blank started).drones d) { started = None }) []) → ⊥
+  pub not_started : IsSafe session blank (moment_of (world session blank started).heard
+      (λ d. record ((world session blank started).drones d) { started = None }) []) → ⊥
 
 -- with read-back: packet 2 is a read, and 3 the start
 abbrev pub reading : Upload
@@ -86,5 +97,6 @@ byte_after drones events place = slice_index ((world reading drones events).dron
 -- A read that was right found the bytes of the load, for all drones and all events.
 pub record ReadRows : Type 0 where
   pub found : (drones : ℕ → DroneState) (events : List WorldEvent) → WasRight reading drones events 0 0 →
-      (i : ℕ) × (byte_after drones (take i events) 0 ≡ 1) × (byte_after drones (take i events) 1 ≡ 2) × (byte_after drones (take i events) 2 ≡ 3)
+      (i : ℕ) × (byte_after drones (take i events) 0 ≡ 1) × (byte_after drones (take i events) 1 ≡ 2)
+      × (byte_after drones (take i events) 2 ≡ 3)
   pub unread : WasRight reading blank loaded 0 0 → ⊥

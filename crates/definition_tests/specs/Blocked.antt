@@ -18,8 +18,8 @@ pair = flight (pos 0) (pos 0) ∷ around ∷ []
 abbrev pub blocked_by : Clearance → ℕ → Option BlockedPart
 blocked_by c depth = blocked_in c depth (raised_of pair) (slots_of pair)
 
--- No direction separates the two in the whole cue: a depth of 0 refuses them, by its only part, and a depth of 1 accepts
--- them. With half axes of 5 mm they touch at the beginning, so it refuses them by its first part.
+-- No direction separates the two in the whole cue: a depth of 0 refuses them, by its only part, and a depth of 1
+-- accepts them. With half axes of 5 mm they touch at the beginning, so it refuses them by its first part.
 pub record BlockedRows : Type 0 where
   pub whole : blocked_by (kept 0 0 0) 0 ≡ Some (blocked_at (slot_at 0 1 0) 0)
   pub in_halves : blocked_by (kept 0 0 0) 1 ≡ None

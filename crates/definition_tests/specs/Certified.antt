@@ -29,4 +29,5 @@ pub record ValidRows : Type 0 where
   pub strayed_by_three : IsValid (along_x ∷ []) (raised_of beside) (kept 3 0 0) (with_trees ((Leaf 0 ∷ []) ∷ [])) → ⊥
   pub no_tree : IsValid (along_x ∷ []) (raised_of behind) (kept 0 4 4) (with_trees []) → ⊥
   pub half_a_tree : IsValid (along_x ∷ []) (raised_of behind) (kept 0 4 4) (with_trees ((Split ∷ Leaf 0 ∷ []) ∷ [])) → ⊥
-  pub two_trees : IsValid (along_x ∷ []) (raised_of behind) (kept 0 4 4) (with_trees ((Leaf 0 ∷ []) ∷ (Leaf 0 ∷ []) ∷ [])) → ⊥
+  pub two_trees : IsValid (along_x ∷ []) (raised_of behind) (kept 0 4 4)
+      (with_trees ((Leaf 0 ∷ []) ∷ (Leaf 0 ∷ []) ∷ [])) → ⊥

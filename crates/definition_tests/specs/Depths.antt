@@ -18,7 +18,8 @@ around = record {
   start = pos 10 ∷ pos 0 ∷ pos 0 ∷ pos 0 ∷ [];
   segments = record {
     ms = 10;
-    elements = Cubic (pos 10 ∷ negsuc 9 ∷ negsuc 9 ∷ []) ∷ Cubic (pos 16 ∷ pos 16 ∷ pos 0 ∷ []) ∷ Constant ∷ Constant ∷ [];
+    elements = Cubic (pos 10 ∷ negsuc 9 ∷ negsuc 9 ∷ []) ∷ Cubic (pos 16 ∷ pos 16 ∷ pos 0 ∷ []) ∷ Constant ∷ Constant
+        ∷ [];
   } ∷ [];
 }
 
@@ -40,8 +41,8 @@ rules depth = record { clearance = near; depth = depth }
 abbrev pub halves : Tree
 halves = split (leaf 0) (leaf 1)
 
--- No direction separates the two drones in the whole cue, and each half has one. So the pair is clear by a depth of 1 and
--- not of 0, and its tree is split, where the depth lets it be, with each half by its own direction.
+-- No direction separates the two drones in the whole cue, and each half has one. So the pair is clear by a depth of 1
+-- and not of 0, and its tree is split, where the depth lets it be, with each half by its own direction.
 pub record DepthRows : Type 0 where
   pub whole : IsClear near turning slants 0 → ⊥
   pub in_halves : IsClear near turning slants 1
@@ -60,8 +61,8 @@ first_of place =
     if place.depth == 1 && place.index == 1 then None else
     if place.depth == 2 && place.index == 2 then None else Some place.index
 
--- The first part of a depth without a direction blocks it, and a greater depth where each has one is clear. The best tree
--- has the largest parts that have a direction as its leaves.
+-- The first part of a depth without a direction blocks it, and a greater depth where each has one is clear. The best
+-- tree has the largest parts that have a direction as its leaves.
 pub record SearchRows : Type 0 where
   pub whole : blocked_place first_of 0 ≡ Some 0
   pub second_half : blocked_place first_of 1 ≡ Some 1

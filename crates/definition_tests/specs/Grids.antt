@@ -71,25 +71,40 @@ pub record CountRows : Type 0 where
   pub too_many : grid_fault (show (crowd 33 2) [] [] (cue [])) ≡ Some (fault.TooManyDrones 34)
   pub nothing : grid_fault (show two [] [] plain.Done) ≡ Some (fault.NoCue 1)
   pub thousand : grid_fault (show two [] [] (plain.Repeat 19 1000 (cue []) plain.Done)) ≡ None
-  pub thousand_and_one : grid_fault (show two [] [] (plain.Repeat 19 1000 (cue []) (plain.Cue 22 10 [] plain.Done))) ≡ Some (fault.TooManyCues 22)
-  pub performed : grid_fault (show two [] (figured (codes "p" ∷ [])) (plain.Repeat 19 1001 (performs (codes "a" ∷ [])) plain.Done)) ≡ Some (fault.TooManyCues 19)
+  pub thousand_and_one : grid_fault (show two [] [] (plain.Repeat 19 1000 (cue []) (plain.Cue 22 10 [] plain.Done)))
+      ≡ Some (fault.TooManyCues 22)
+  pub performed : grid_fault (show two [] (figured (codes "p" ∷ []))
+      (plain.Repeat 19 1001 (performs (codes "a" ∷ [])) plain.Done)) ≡ Some (fault.TooManyCues 19)
 
 -- Names stand once, where they have to, and are known. Of two faults the one of the earlier line counts.
 pub record NamingRows : Type 0 where
-  pub doubled : grid_fault (show (on_line 2 (codes "a") ∷ on_line 3 (codes "b") ∷ on_line 4 (codes "a") ∷ []) [] [] (cue [])) ≡ Some (fault.DoubleName 4)
+  pub doubled : grid_fault (show (on_line 2 (codes "a") ∷ on_line 3 (codes "b") ∷ on_line 4 (codes "a") ∷ []) [] []
+      (cue [])) ≡ Some (fault.DoubleName 4)
   pub holding : grid_fault (show two [] [] (cue (holds 21 (codes "b") ∷ []))) ≡ None
   pub unknown : grid_fault (show two [] [] (cue (holds 21 (codes "c") ∷ []))) ≡ Some (fault.UnknownName 21)
-  pub twice : grid_fault (show two [] [] (cue (holds 21 (codes "a") ∷ holds 22 (codes "a") ∷ []))) ≡ Some (fault.DoubleAct 22)
+  pub twice : grid_fault (show two [] [] (cue (holds 21 (codes "a") ∷ holds 22 (codes "a") ∷ [])))
+      ≡ Some (fault.DoubleAct 22)
   pub formation : grid_fault (show two (formed two) [] (cue (on.Form 21 (called (codes "f")) true ∷ []))) ≡ None
-  pub no_formation : grid_fault (show two [] [] (cue (on.Form 21 (called (codes "f")) true ∷ []))) ≡ Some (fault.UnknownName 21)
-  pub formed_twice : grid_fault (show two (formed two) [] (cue (holds 21 (codes "b") ∷ on.Form 22 (called (codes "f")) true ∷ []))) ≡ Some (fault.DoubleAct 22)
-  pub place_of_nobody : grid_fault (show two (formed (on_line 6 (codes "c") ∷ [])) [] (cue [])) ≡ Some (fault.UnknownName 6)
-  pub two_places : grid_fault (show two (formed (on_line 6 (codes "a") ∷ on_line 7 (codes "a") ∷ [])) [] (cue [])) ≡ Some (fault.DoubleAct 7)
-  pub figure : grid_fault (show two [] (figured (codes "p" ∷ codes "q" ∷ [])) (performs (codes "b" ∷ codes "a" ∷ []))) ≡ None
-  pub doubled_role : grid_fault (show two [] (figured (codes "p" ∷ codes "p" ∷ [])) (performs (codes "b" ∷ codes "a" ∷ []))) ≡ Some (fault.DoubleName 10)
-  pub unknown_role : grid_fault (show two [] (figured (codes "a" ∷ [])) (performs (codes "b" ∷ []))) ≡ Some (fault.UnknownName 12)
+  pub no_formation : grid_fault (show two [] [] (cue (on.Form 21 (called (codes "f")) true ∷ [])))
+      ≡ Some (fault.UnknownName 21)
+  pub formed_twice : grid_fault (show two (formed two) []
+      (cue (holds 21 (codes "b") ∷ on.Form 22 (called (codes "f")) true ∷ []))) ≡ Some (fault.DoubleAct 22)
+  pub place_of_nobody : grid_fault (show two (formed (on_line 6 (codes "c") ∷ [])) [] (cue []))
+      ≡ Some (fault.UnknownName 6)
+  pub two_places : grid_fault (show two (formed (on_line 6 (codes "a") ∷ on_line 7 (codes "a") ∷ [])) [] (cue []))
+      ≡ Some (fault.DoubleAct 7)
+  pub figure : grid_fault (show two [] (figured (codes "p" ∷ codes "q" ∷ [])) (performs (codes "b" ∷ codes "a" ∷ [])))
+      ≡ None
+  pub doubled_role : grid_fault (show two [] (figured (codes "p" ∷ codes "p" ∷ []))
+      (performs (codes "b" ∷ codes "a" ∷ []))) ≡ Some (fault.DoubleName 10)
+  pub unknown_role : grid_fault (show two [] (figured (codes "a" ∷ [])) (performs (codes "b" ∷ [])))
+      ≡ Some (fault.UnknownName 12)
   pub no_figure : grid_fault (show two [] [] (performs (codes "b" ∷ []))) ≡ Some (fault.UnknownName 20)
-  pub one_too_few : grid_fault (show two [] (figured (codes "p" ∷ codes "q" ∷ [])) (performs (codes "b" ∷ []))) ≡ Some (fault.RoleCount 20)
-  pub by_nobody : grid_fault (show two [] (figured (codes "p" ∷ [])) (performs (codes "c" ∷ []))) ≡ Some (fault.UnknownName 20)
-  pub two_roles : grid_fault (show two [] (figured (codes "p" ∷ codes "q" ∷ [])) (performs (codes "a" ∷ codes "a" ∷ []))) ≡ Some (fault.DoubleAct 20)
-  pub earlier : grid_fault (show (on_line 2 (codes "a") ∷ on_line 8 (codes "a") ∷ []) (formed (on_line 6 (codes "c") ∷ [])) [] (cue [])) ≡ Some (fault.UnknownName 6)
+  pub one_too_few : grid_fault (show two [] (figured (codes "p" ∷ codes "q" ∷ [])) (performs (codes "b" ∷ [])))
+      ≡ Some (fault.RoleCount 20)
+  pub by_nobody : grid_fault (show two [] (figured (codes "p" ∷ [])) (performs (codes "c" ∷ [])))
+      ≡ Some (fault.UnknownName 20)
+  pub two_roles : grid_fault (show two [] (figured (codes "p" ∷ codes "q" ∷ []))
+      (performs (codes "a" ∷ codes "a" ∷ []))) ≡ Some (fault.DoubleAct 20)
+  pub earlier : grid_fault (show (on_line 2 (codes "a") ∷ on_line 8 (codes "a") ∷ [])
+      (formed (on_line 6 (codes "c") ∷ [])) [] (cue [])) ≡ Some (fault.UnknownName 6)

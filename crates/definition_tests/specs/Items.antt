@@ -6,8 +6,8 @@ use Rattle.choreo_reader.specs.Grammar.Item.{Blocks, Drone, Ellipsoid, Figured, 
 use Rattle.definition_tests.specs.Ranges.{drone, formation}
 use Rattle.definition_tests.specs.Shapes.{cue, figure_of, form_line, nested, one_cue, one_line, performed, twice}
 
--- Each setting may stand once, beside the others. None may stand twice, be it with one value or with two, nor with other
--- lines between.
+-- Each setting may stand once, beside the others. None may stand twice, be it with one value or with two, nor with
+-- other lines between.
 pub record SingleRows : Type 0 where
   pub each : HasSingleSettings (parts_of (Memory 2 0 ∷ Trajectory 0 ∷ Ellipsoid 120 300 ∷ Stray 5 ∷ Late 6 ∷ []))
   pub none : HasSingleSettings (parts_of [])
@@ -16,10 +16,11 @@ pub record SingleRows : Type 0 where
   pub ellipsoid : HasSingleSettings (parts_of (Ellipsoid 120 300 ∷ Ellipsoid 120 300 ∷ [])) → ⊥
   pub stray : HasSingleSettings (parts_of (Stray 5 ∷ Stray 6 ∷ [])) → ⊥
   pub late : HasSingleSettings (parts_of (Late 6 ∷ Late 6 ∷ [])) → ⊥
-  pub between : HasSingleSettings (parts_of (Stray 5 ∷ Drone (drone (codes "a")) ∷ Late 6 ∷ Blocks one_cue ∷ Stray 5 ∷ [])) → ⊥
+  pub between : HasSingleSettings
+      (parts_of (Stray 5 ∷ Drone (drone (codes "a")) ∷ Late 6 ∷ Blocks one_cue ∷ Stray 5 ∷ [])) → ⊥
 
--- No formation, figure or repeat of a text is empty, no repeat stands inside eight others, and no figure has a perform or
--- a `form` line.
+-- No formation, figure or repeat of a text is empty, no repeat stands inside eight others, and no figure has a perform
+-- or a `form` line.
 pub record ItemRows : Type 0 where
   pub formation_of_one : IsItem (Formed (formation (drone (codes "a") ∷ [])))
   pub empty_formation : IsItem (Formed (formation [])) → ⊥

@@ -19,7 +19,8 @@ pub record SpeedRows : Type 0 where
 abbrev pub parabola : Traj
 parabola = record {
   start = pos 0 ∷ pos 0 ∷ pos 0 ∷ pos 0 ∷ [];
-  segments = record { ms = 10; elements = Cubic (pos 0 ∷ pos 1 ∷ pos 3 ∷ []) ∷ Constant ∷ Constant ∷ Constant ∷ [] } ∷ [];
+  segments = record { ms = 10; elements = Cubic (pos 0 ∷ pos 1 ∷ pos 3 ∷ []) ∷ Constant ∷ Constant ∷ Constant ∷ [] }
+      ∷ [];
 }
 
 -- Its acceleration is 6 / 100 mm per square millisecond, 6 10^7 micrometres per second squared, and not one less; it

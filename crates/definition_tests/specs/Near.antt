@@ -29,7 +29,8 @@ holding_at p = holding_for 10 p
 abbrev pub going_to : Point → Grid
 going_to p = record {
   starts = begins_at (spot (pos 0) (pos 0) (pos 0) (pos 0)) ∷ begins_at (spot (pos 0) (pos 0) (pos 0) (pos 0)) ∷ [];
-  cues = record { ms = 5; jobs = no_job ∷ no_job ∷ [] } ∷ record { ms = 5; jobs = no_job ∷ record no_job { act = act.Line p } ∷ [] } ∷ [];
+  cues = record { ms = 5; jobs = no_job ∷ no_job ∷ [] }
+      ∷ record { ms = 5; jobs = no_job ∷ record no_job { act = act.Line p } ∷ [] } ∷ [];
 }
 
 -- that of a drone that is half a millimetre off the whole ones on x and on y
@@ -49,5 +50,7 @@ pub record ShowRows : Type 0 where
   pub moves : KeepsNearShow (holding_at (spot (pos 0) (pos 0) (pos 0) (pos 0))) (flight (pos 0) (pos 1) ∷ []) → ⊥
   pub shorter : KeepsNearShow (holding_for 9 (spot (pos 0) (pos 0) (pos 0) (pos 0))) (flight (pos 0) (pos 0) ∷ []) → ⊥
   pub longer : KeepsNearShow (holding_for 11 (spot (pos 0) (pos 0) (pos 0) (pos 0))) (flight (pos 0) (pos 0) ∷ []) → ⊥
-  pub last : KeepsNearShow (going_to (spot (pos 0) (pos 501) (pos 0) (pos 0))) (flight (pos 0) (pos 0) ∷ flight (pos 0) (pos 0) ∷ []) → ⊥
-  pub count : KeepsNearShow (holding_at (spot (pos 0) (pos 0) (pos 0) (pos 0))) (flight (pos 0) (pos 0) ∷ flight (pos 0) (pos 0) ∷ []) → ⊥
+  pub last : KeepsNearShow (going_to (spot (pos 0) (pos 501) (pos 0) (pos 0)))
+      (flight (pos 0) (pos 0) ∷ flight (pos 0) (pos 0) ∷ []) → ⊥
+  pub count : KeepsNearShow (holding_at (spot (pos 0) (pos 0) (pos 0) (pos 0)))
+      (flight (pos 0) (pos 0) ∷ flight (pos 0) (pos 0) ∷ []) → ⊥

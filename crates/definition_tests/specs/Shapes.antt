@@ -28,7 +28,8 @@ twice inside rest = plain.Repeat 2 2 inside rest
 -- figure `g`, performed by drone a, and blocks after it
 abbrev pub performed : Body → Body
 performed rest =
-    plain.Perform 4 (called (codes "g")) (record { mirror = mirror.None; turns = 0; dx = pos 0; dy = pos 0; dz = pos 0 })
+    plain.Perform 4 (called (codes "g"))
+    (record { mirror = mirror.None; turns = 0; dx = pos 0; dy = pos 0; dz = pos 0 })
     (called (codes "a") ∷ []) rest
 
 -- the line of one drone or role, and a line that forms all

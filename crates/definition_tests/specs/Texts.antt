@@ -29,28 +29,32 @@ in_repeats (suc n) lines = codes "repeat 2" ∷ (in_repeats n lines ++ codes "en
 -- Each setting may stand once, in any order. None may stand twice, be it with one value or with two, nor with lines
 -- between.
 pub record TwiceRows : Type 0 where
-  pub each : IsShow (codes "late 6" ∷ codes "stray 5" ∷ codes "ellipsoid 120 300" ∷ codes "trajectory 0" ∷ codes "memory 2 0" ∷ [])
+  pub each : IsShow
+      (codes "late 6" ∷ codes "stray 5" ∷ codes "ellipsoid 120 300" ∷ codes "trajectory 0" ∷ codes "memory 2 0" ∷ [])
   pub memory : IsNoShow (codes "memory 2 0" ∷ codes "memory 2 0" ∷ []) 3 kind.DoubleSetting
   pub trajectory : IsNoShow (codes "trajectory 0" ∷ codes "trajectory 1" ∷ []) 3 kind.DoubleSetting
   pub ellipsoid : IsNoShow (codes "ellipsoid 120 300" ∷ codes "ellipsoid 120 300" ∷ []) 3 kind.DoubleSetting
   pub stray : IsNoShow (codes "stray 5" ∷ codes "stray 6" ∷ []) 3 kind.DoubleSetting
   pub late : IsNoShow (codes "late 6" ∷ codes "late 6" ∷ []) 3 kind.DoubleSetting
-  pub between : IsNoShow (codes "stray 5" ∷ codes "drone a 0 0 0 0" ∷ codes "cue 10" ∷ codes "end" ∷ codes "stray 5" ∷ []) 6 kind.DoubleSetting
+  pub between : IsNoShow (codes "stray 5" ∷ codes "drone a 0 0 0 0" ∷ codes "cue 10" ∷ codes "end" ∷ codes "stray 5"
+      ∷ []) 6 kind.DoubleSetting
 
--- A formation, a figure and a repeat have a line in them; a cue need not. A figure has no perform and no `form` line. Eight
--- repeats stand inside each other, and a ninth doesn't. A block ends, once.
+-- A formation, a figure and a repeat have a line in them; a cue need not. A figure has no perform and no `form` line.
+-- Eight repeats stand inside each other, and a ninth doesn't. A block ends, once.
 pub record BlockRows : Type 0 where
   pub cue : IsShow (codes "cue 10" ∷ codes "end" ∷ [])
   pub formation : IsShow (codes "formation f" ∷ codes "at a 0 0 0 0" ∷ codes "end" ∷ [])
   pub empty_formation : IsNoShow (codes "formation f" ∷ codes "end" ∷ []) 3 kind.EmptyBlock
   pub repeated : IsShow (codes "repeat 2" ∷ codes "cue 10" ∷ codes "end" ∷ codes "end" ∷ [])
   pub empty_repeat : IsNoShow (codes "repeat 2" ∷ codes "end" ∷ []) 3 kind.EmptyBlock
-  pub empty_inside : IsNoShow (codes "repeat 2" ∷ codes "cue 10" ∷ codes "end" ∷ codes "repeat 2" ∷ codes "end" ∷ codes "end" ∷ []) 6 kind.EmptyBlock
+  pub empty_inside : IsNoShow (codes "repeat 2" ∷ codes "cue 10" ∷ codes "end" ∷ codes "repeat 2" ∷ codes "end"
+      ∷ codes "end" ∷ []) 6 kind.EmptyBlock
   pub figure : IsShow (codes "figure g r" ∷ codes "cue 10" ∷ codes "r hold" ∷ codes "end" ∷ codes "end" ∷ [])
   pub empty_figure : IsNoShow (codes "figure g r" ∷ codes "end" ∷ []) 3 kind.EmptyBlock
   pub performing : IsNoShow (codes "figure g r" ∷ codes "perform g none 0 0 0 0 r" ∷ codes "end" ∷ []) 3 kind.BadWord
   pub formed : IsShow (codes "cue 10" ∷ codes "form f move" ∷ codes "end" ∷ [])
-  pub formed_in_a_figure : IsNoShow (codes "figure g r" ∷ codes "cue 10" ∷ codes "form f move" ∷ codes "end" ∷ codes "end" ∷ []) 4 kind.BadName
+  pub formed_in_a_figure : IsNoShow
+      (codes "figure g r" ∷ codes "cue 10" ∷ codes "form f move" ∷ codes "end" ∷ codes "end" ∷ []) 4 kind.BadName
   pub eight_deep : IsShow (in_repeats 8 (codes "cue 10" ∷ codes "end" ∷ []))
   pub nine_deep : IsNoShow (in_repeats 9 (codes "cue 10" ∷ codes "end" ∷ [])) 10 kind.Nesting
   pub unfinished : IsNoShow (codes "cue 10" ∷ []) 2 kind.NoEnd

@@ -99,8 +99,8 @@ pub fn stands_rows()
     show_law();
 }
 
-/// A law. A show of one drone has a text of each form; a bare length among units, a unit among whole numbers and a part of
-/// a micrometre are faults.
+/// A law. A show of one drone has a text of each form; a bare length among units, a unit among whole numbers and a part
+/// of a micrometre are faults.
 #[tactic(auto, using(crate::proofs::FormRows::forms))]
 pub fn form_rows()
     ensures { FormRows }
@@ -313,8 +313,8 @@ pub fn limit_rows()
     show_law();
 }
 
-/// A law. The headline doesn't hold of a plan that isn't the show's: of a neighbouring show, another entry, another place
-/// in the memory or another drone.
+/// A law. The headline doesn't hold of a plan that isn't the show's: of a neighbouring show, another entry, another
+/// place in the memory or another drone.
 #[tactic(auto, using(crate::proofs::WrittenRows::written))]
 pub fn written_rows()
     ensures { WrittenRows }
@@ -348,8 +348,8 @@ pub fn naming_rows()
     ensures { NamingRows }
 {}
 
-/// A law. A depth refuses two drones by the first part in which no direction separates them, and a greater depth accepts
-/// them.
+/// A law. A depth refuses two drones by the first part in which no direction separates them, and a greater depth
+/// accepts them.
 #[tactic(auto, using(crate::proofs::BlockedRows::blocked))]
 pub fn blocked_rows()
     ensures { BlockedRows }

@@ -51,6 +51,8 @@ after t axis cue q x = decoded t axis (record { cue = cue; a = x; c = q * durati
 abbrev pub KeepsAcceleration : Traj → ℕ → ℕ → Type 0
 KeepsAcceleration t axis a =
     (cue q x y z : ℕ) → cue < length t.segments → x ≤ y → y ≤ z → z ≤ q * duration t cue →
-    IsWithin ((pos a *ℤ ((pos z -ℤ pos x) *ℤ ((pos z -ℤ pos y) *ℤ (pos y -ℤ pos x)))) *ℤ power (pos (q * duration t cue)) 7)
+    IsWithin ((pos a *ℤ ((pos z -ℤ pos x) *ℤ ((pos z -ℤ pos y) *ℤ (pos y -ℤ pos x))))
+    *ℤ power (pos (q * duration t cue)) 7)
     (pos (2000000000 * (q * q)) *ℤ
-    ((after t axis cue q z -ℤ after t axis cue q y) *ℤ (pos y -ℤ pos x) -ℤ (after t axis cue q y -ℤ after t axis cue q x) *ℤ (pos z -ℤ pos y)))
+    ((after t axis cue q z -ℤ after t axis cue q y) *ℤ (pos y -ℤ pos x)
+    -ℤ (after t axis cue q y -ℤ after t axis cue q x) *ℤ (pos z -ℤ pos y)))

@@ -1,5 +1,6 @@
 -- How fast a drone is at the two ends of a segment, and how much its velocity jumps at each edge.
-use Rattle.std.specs.Prelude.{◌≡◌, ℕ, zero, suc, ◌-◌, ◌*◌, ◌≤◌, ◌<◌, Bool, nat_lt, nat_eq, ◌&&◌, ℤ, pos, ◌-ℤ◌, ◌*ℤ◌, unsigned_abs, List, length, if◌then◌else◌}
+use Rattle.std.specs.Prelude.{◌≡◌, ℕ, zero, suc, ◌-◌, ◌*◌, ◌≤◌, ◌<◌, Bool, nat_lt, nat_eq, ◌&&◌, ℤ, pos, ◌-ℤ◌, ◌*ℤ◌}
+use Rattle.std.specs.Prelude.{unsigned_abs, List, length, if◌then◌else◌}
 use Rattle.std.specs.Int.{div_ceil}
 use Rattle.fleet_math.specs.Sums.{power}
 use Rattle.fleet_math.specs.Bernstein.{at}
@@ -81,10 +82,12 @@ is_rest_at t edge = nat_eq (jump t 0 edge) 0 && nat_eq (jump t 1 edge) 0 && nat_
 pub record KeepsTangents (t : Traj) (axis a cue q x : ℕ) : Type 0 where
   pub first : IsWithin ((pos a *ℤ (pos x *ℤ pos x)) *ℤ power (pos (q * duration t cue)) 7)
       (pos (2000000000 * (q * q)) *ℤ
-      ((after t axis cue q x -ℤ after t axis cue q 0) -ℤ pos x *ℤ (first_step (points t cue axis) *ℤ power (pos (q * duration t cue)) 6)))
+      ((after t axis cue q x -ℤ after t axis cue q 0)
+      -ℤ pos x *ℤ (first_step (points t cue axis) *ℤ power (pos (q * duration t cue)) 6)))
   pub last : IsWithin ((pos a *ℤ (pos x *ℤ pos x)) *ℤ power (pos (q * duration t cue)) 7)
       (pos (2000000000 * (q * q)) *ℤ
-      ((after t axis cue q (q * duration t cue) -ℤ after t axis cue q (q * duration t cue - x)) -ℤ pos x *ℤ (last_step (points t cue axis) *ℤ power (pos (q * duration t cue)) 6)))
+      ((after t axis cue q (q * duration t cue) -ℤ after t axis cue q (q * duration t cue - x))
+      -ℤ pos x *ℤ (last_step (points t cue axis) *ℤ power (pos (q * duration t cue)) 6)))
 
 -- on an axis a trajectory keeps to them in each of its segments, with its bound on acceleration by parts of any depth
 abbrev pub HasVelocities : Traj → ℕ → Type 0

@@ -31,7 +31,8 @@ jumps_at limit t edge = above kind.Jump limit edge (λ axis. jump t axis edge)
 abbrev pub excess_before : Limits → ℕ → Traj → ℕ → Option Excess
 excess_before limits depth t zero = None
 excess_before limits depth t (suc k) =
-    option_or (excess_before limits depth t k) (option_or (sharp_at limits.acceleration depth t k) (jumps_at limits.jump t k))
+    option_or (excess_before limits depth t k)
+    (option_or (sharp_at limits.acceleration depth t k) (jumps_at limits.jump t k))
 
 -- at the last edge there is a jump, and no segment after it
 abbrev pub first_excess : Limits → ℕ → Traj → Option Excess
@@ -41,4 +42,5 @@ first_excess limits depth t =
 -- no bound on an acceleration, and no jump, is above its limit, if there is one
 pub record IsWithinLimits (limits : Limits) (depth : ℕ) (t : Traj) : Type 0 where
   pub acceleration : IfSome limits.acceleration (λ most. (axis : ℕ) → axis ≤ 2 → acceleration depth t axis ≤ most)
-  pub jumps : IfSome limits.jump (λ most. (axis edge : ℕ) → axis ≤ 2 → edge ≤ length t.segments → jump t axis edge ≤ most)
+  pub jumps : IfSome limits.jump
+      (λ most. (axis edge : ℕ) → axis ≤ 2 → edge ≤ length t.segments → jump t axis edge ≤ most)

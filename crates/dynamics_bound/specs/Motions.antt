@@ -82,7 +82,8 @@ greater_axes a b = record { x = max a.x b.x; y = max a.y b.y; z = max a.z b.z }
 
 -- the same of two trajectories
 abbrev pub greater : Extremes → Extremes → Extremes
-greater a b = record { accelerations = greater_axes a.accelerations b.accelerations; jumps = greater_axes a.jumps b.jumps }
+greater a b =
+    record { accelerations = greater_axes a.accelerations b.accelerations; jumps = greater_axes a.jumps b.jumps }
 
 -- the extremes of none
 abbrev pub nothing : Extremes

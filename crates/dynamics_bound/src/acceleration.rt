@@ -5,7 +5,8 @@ ghost use Rattle.fleet_math.specs.Numbers.{IsBelow};
 ghost use Rattle.fleet_math.specs.Bernstein.{at};
 ghost use Rattle.fleet_math.specs.Limits.{most_depth};
 ghost use Rattle.traj_codec.specs.Spelling.{HasDuration};
-ghost use Rattle.dynamics_bound.specs.Accelerations.{KeepsAcceleration, acceleration, acceleration_of, segment_acceleration};
+ghost use Rattle.dynamics_bound.specs.Accelerations.{KeepsAcceleration, acceleration, acceleration_of};
+ghost use Rattle.dynamics_bound.specs.Accelerations.{segment_acceleration};
 
 use crate::bends::widest_above;
 use crate::walk::Walk;

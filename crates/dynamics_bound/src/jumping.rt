@@ -2,7 +2,8 @@
 
 ghost use Rattle.std.specs.Prelude.{◌≡◌, ℕ, suc, ◌^◌, ◌≤◌, ◌<◌, ◌∷◌, [], ◌&&◌, nat_eq, All, length};
 ghost use Rattle.traj_codec.specs.Spelling.{HasDuration};
-ghost use Rattle.dynamics_bound.specs.Edges.{AreSame, HasVelocities, IsGreatestJump, arrival, departure, greatest_jump, greatest_of, is_rest_at, jump};
+ghost use Rattle.dynamics_bound.specs.Edges.{AreSame, HasVelocities, IsGreatestJump, arrival, departure, greatest_jump};
+ghost use Rattle.dynamics_bound.specs.Edges.{greatest_of, is_rest_at, jump};
 ghost use Rattle.dynamics_bound.specs.Steps.{greatest_before, three};
 ghost use Rattle.traj_codec.specs.declared.traj.Traj.{Traj};
 
@@ -32,7 +33,8 @@ pub fn jumps(t: &Traj) -> [Jump; 3]
     ensures velocities { (axis : ℕ) → axis ≤ 2 → HasVelocities t.now axis }
     ensures none { (axis edge : ℕ) → edge ≤ length t.now.segments → jump t.now axis edge ≡ 0
         → AreSame (arrival t.now axis edge) (departure t.now axis edge) }
-    ensures same { (axis edge : ℕ) → edge ≤ length t.now.segments → AreSame (arrival t.now axis edge) (departure t.now axis edge)
+    ensures same { (axis edge : ℕ) → edge ≤ length t.now.segments
+        → AreSame (arrival t.now axis edge) (departure t.now axis edge)
         → jump t.now axis edge ≡ 0 }
 {
     formed_law(t);

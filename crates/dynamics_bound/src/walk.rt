@@ -81,7 +81,8 @@ impl Walk {
         requires inside { k < length t.now.segments }
         requires durations { All HasDuration t.now.segments }
         requires most { All (λ v. v < 2 ^ 53) most.now }
-        ensures exact { result ≡ three (λ axis. max (slice_index_or most.now axis 0) (acceleration_in depth t.now axis k)) }
+        ensures exact { result ≡ three
+            (λ axis. max (slice_index_or most.now axis 0) (acceleration_in depth t.now axis k)) }
         ensures small { All (λ v. v < 2 ^ 53) result }
     {
         let s = &t.segments.as_slice()[k];

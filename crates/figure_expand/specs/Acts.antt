@@ -1,5 +1,6 @@
 -- What a job does, in the show's own frame, and the control points of arcs.
-use Rattle.std.specs.Prelude.{ℕ, zero, suc, Bool, not, List, [], ◌∷◌, map, ℤ, pos, neg_ℤ, ◌+ℤ◌, ◌-ℤ◌, ◌*ℤ◌, if◌then◌else◌}
+use Rattle.std.specs.Prelude.{ℕ, zero, suc, Bool, not, List, [], ◌∷◌, map, ℤ, pos, neg_ℤ, ◌+ℤ◌, ◌-ℤ◌, ◌*ℤ◌}
+use Rattle.std.specs.Prelude.{if◌then◌else◌}
 use Rattle.std.specs.Int.{int_div_euclid}
 use Rattle.fleet_math.specs.Bernstein.{at}
 use Rattle.choreo_lines.specs.declared.parts.Point.{Point}
@@ -27,8 +28,8 @@ sense_in mirror.Y ccw = not ccw
 abbrev pub control_in : Frame → List ℤ → List ℤ
 control_in f v = map (on_axis (applied f (record { x = at v 0; y = at v 1; z = at v 2; yaw = pos 0 }))) (0 ∷ 1 ∷ 2 ∷ [])
 
--- The act in the show's frame: the frame acts on the end points, curve points, centres and yaws that are written. Of a point that
--- isn't written whole the other numbers are 0, and of no interest.
+-- The act in the show's frame: the frame acts on the end points, curve points, centres and yaws that are written. Of a
+-- point that isn't written whole the other numbers are 0, and of no interest.
 abbrev pub act_in : Frame → Act → Act
 act_in f act.Hold = act.Hold
 act_in f (act.Line to) = act.Line (applied f to)
@@ -36,10 +37,12 @@ act_in f (act.Move to) = act.Move (applied f to)
 act_in f (act.Turn yaw) = act.Turn (applied f (record { x = pos 0; y = pos 0; z = pos 0; yaw = yaw })).yaw
 act_in f (act.Arc ccw cx cy yaw) =
     act.Arc (sense_in f.mirror ccw) (applied f (record { x = cx; y = cy; z = pos 0; yaw = yaw })).x
-    (applied f (record { x = cx; y = cy; z = pos 0; yaw = yaw })).y (applied f (record { x = cx; y = cy; z = pos 0; yaw = yaw })).yaw
+    (applied f (record { x = cx; y = cy; z = pos 0; yaw = yaw })).y
+    (applied f (record { x = cx; y = cy; z = pos 0; yaw = yaw })).yaw
 act_in f (act.Eased how ccw cx cy yaw) =
     act.Eased how (sense_in f.mirror ccw) (applied f (record { x = cx; y = cy; z = pos 0; yaw = yaw })).x
-    (applied f (record { x = cx; y = cy; z = pos 0; yaw = yaw })).y (applied f (record { x = cx; y = cy; z = pos 0; yaw = yaw })).yaw
+    (applied f (record { x = cx; y = cy; z = pos 0; yaw = yaw })).y
+    (applied f (record { x = cx; y = cy; z = pos 0; yaw = yaw })).yaw
 act_in f (act.Curve p1 p2 to) = act.Curve (control_in f p1) (control_in f p2) (applied f to)
 
 -- the act of a job in the show's frame
@@ -58,7 +61,8 @@ abbrev pub arc_points : ℤ → ℤ → ℤ → ℤ → List ℤ
 arc_points present centre v w =
     present ∷ (present +ℤ handle w) ∷ (centre +ℤ w +ℤ handle v) ∷ (centre +ℤ w) ∷ []
 
--- those on x, which is axis 0, and on y, around (cx, cy): counter-clockwise the way (vx, vy) turns to (-vy, vx), else to (vy, -vx)
+-- those on x, which is axis 0, and on y, around (cx, cy): counter-clockwise the way (vx, vy) turns to (-vy, vx), else
+-- to (vy, -vx)
 abbrev pub arc_on : Point → Bool → ℤ → ℤ → ℕ → List ℤ
 arc_on p ccw cx cy zero = arc_points p.x cx (p.x -ℤ cx) (if ccw then neg_ℤ (p.y -ℤ cy) else p.y -ℤ cy)
 arc_on p ccw cx cy (suc axis) = arc_points p.y cy (p.y -ℤ cy) (if ccw then p.x -ℤ cx else neg_ℤ (p.x -ℤ cx))
@@ -69,17 +73,22 @@ arc_on p ccw cx cy (suc axis) = arc_points p.y cy (p.y -ℤ cy) (if ccw then p.x
 abbrev pub millionths : ℕ → ℤ → ℤ
 millionths r s = int_div_euclid ((pos r *ℤ s) +ℤ pos 500000) (pos 1000000)
 
--- The table of docs/TRAJECTORY.md, "The eased quarter circles". By control point: how many millionths of the way from the centre to
--- the start are in it, and how many of the way from the centre to the end. `arc_out` is `arc_in` backwards.
+-- The table of docs/TRAJECTORY.md, "The eased quarter circles". By control point: how many millionths of the way from
+-- the centre to the start are in it, and how many of the way from the centre to the end. `arc_out` is `arc_in`
+-- backwards.
 abbrev pub shares : Ease → List (ℕ × ℕ)
 shares ease.InOut =
-    (1000000, 0) ∷ (1000000, 0) ∷ (1000000, 0) ∷ (1063179, 696647) ∷ (696647, 1063179) ∷ (0, 1000000) ∷ (0, 1000000) ∷ (0, 1000000) ∷ []
+    (1000000, 0) ∷ (1000000, 0) ∷ (1000000, 0) ∷ (1063179, 696647) ∷ (696647, 1063179) ∷ (0, 1000000) ∷ (0, 1000000)
+    ∷ (0, 1000000) ∷ []
 shares ease.In =
-    (1000000, 0) ∷ (1000000, 0) ∷ (1000144, 114406) ∷ (993507, 186897) ∷ (974935, 507934) ∷ (785073, 741519) ∷ (473387, 1000000) ∷ (0, 1000000) ∷ []
+    (1000000, 0) ∷ (1000000, 0) ∷ (1000144, 114406) ∷ (993507, 186897) ∷ (974935, 507934) ∷ (785073, 741519)
+    ∷ (473387, 1000000) ∷ (0, 1000000) ∷ []
 shares ease.Out =
-    (1000000, 0) ∷ (1000000, 473387) ∷ (741519, 785073) ∷ (507934, 974935) ∷ (186897, 993507) ∷ (114406, 1000144) ∷ (0, 1000000) ∷ (0, 1000000) ∷ []
+    (1000000, 0) ∷ (1000000, 473387) ∷ (741519, 785073) ∷ (507934, 974935) ∷ (186897, 993507) ∷ (114406, 1000144)
+    ∷ (0, 1000000) ∷ (0, 1000000) ∷ []
 
--- a control point on one axis, around the centre, with the way v from the centre to the start and the way w from the centre to the end
+-- a control point on one axis, around the centre, with the way v from the centre to the start and the way w from the
+-- centre to the end
 abbrev pub eased_point : ℤ → ℤ → ℤ → ℕ × ℕ → ℤ
 eased_point centre v w share = centre +ℤ millionths share.0 v +ℤ millionths share.1 w
 

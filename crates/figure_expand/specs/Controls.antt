@@ -19,7 +19,8 @@ axis_with vs = Eight vs
 -- the control points of an act in the show's frame on x, y, z and yaw, from the present point
 abbrev pub axes_of : Point → Act → List Axis
 axes_of p a =
-    axis_with (written_points p a 0) ∷ axis_with (written_points p a 1) ∷ axis_with (written_points p a 2) ∷ axis_with (written_points p a 3) ∷ []
+    axis_with (written_points p a 0) ∷ axis_with (written_points p a 1) ∷ axis_with (written_points p a 2)
+    ∷ axis_with (written_points p a 3) ∷ []
 
 -- what a drone at this point does in a cue of this many milliseconds with this job
 abbrev pub piece_of : Point → ℕ → Job → MicroPiece

@@ -15,17 +15,19 @@ use Rattle.figure_expand.specs.Expanded.{no_job, expanded}
 
 -- where a drone starts; the numbers count from 0
 abbrev pub start_of : Grid → ℕ → Point
-start_of g d = slice_index_or (map (λ (s : DroneLine). s.at) g.starts) d (record { x = pos 0; y = pos 0; z = pos 0; yaw = pos 0 })
+start_of g d =
+    slice_index_or (map (λ (s : DroneLine). s.at) g.starts) d (record { x = pos 0; y = pos 0; z = pos 0; yaw = pos 0 })
 
 -- the jobs of a drone in these cues: one job stands for each drone, in the order of the drones
 abbrev pub jobs_in : ℕ → List Cue → List Job
 jobs_in d cues = map (λ (cue : Cue). slice_index_or cue.jobs d no_job) cues
 
--- The written position of a drone on an axis at the part a / c of a cue: by its job there, from where its earlier jobs end, or from its
--- start.
+-- The written position of a drone on an axis at the part a / c of a cue: by its job there, from where its earlier jobs
+-- end, or from its start.
 abbrev pub written_at : Grid → ℕ → ℕ → ℕ → ℕ → ℕ → ℤ
 written_at g d k axis a c =
-    position (written_points (point_after (start_of g d) (take k (jobs_in d g.cues))) (act_of (slice_index_or (jobs_in d g.cues) k no_job)) axis) a c
+    position (written_points (point_after (start_of g d) (take k (jobs_in d g.cues)))
+    (act_of (slice_index_or (jobs_in d g.cues) k no_job)) axis) a c
 
 -- the job of a drone in a cue
 abbrev pub job_at : Grid → ℕ → ℕ → Job

@@ -1,4 +1,5 @@
--- The written position: that of the Bézier curves whose control points the text says, in micrometres, and on yaw in tenths of a degree.
+-- The written position: that of the Bézier curves whose control points the text says, in micrometres, and on yaw in
+-- tenths of a degree.
 use Rattle.std.specs.Prelude.{◌≡◌, ℕ, List, [], ◌∷◌, map, ℤ, pos, ◌+ℤ◌, ◌-ℤ◌, ◌*ℤ◌, ◌==◌, if◌then◌else◌}
 use Rattle.std.specs.Int.{int_div_euclid}
 use Rattle.fleet_math.specs.Sums.{power}
@@ -43,8 +44,8 @@ eased_yaw ease.InOut D E = from_rest D E
 eased_yaw ease.In D E = map (yaw_in D E) squares
 eased_yaw ease.Out D E = map (yaw_out D E) squares_left
 
--- The control points of an act in the show's frame, from the present point, on an axis: 0 to 3 for x, y, z and yaw. What stays has one,
--- what goes evenly two, an arc and a curve four, an eased arc eight.
+-- The control points of an act in the show's frame, from the present point, on an axis: 0 to 3 for x, y, z and yaw.
+-- What stays has one, what goes evenly two, an arc and a curve four, an eased arc eight.
 abbrev pub written_points : Point → Act → ℕ → List ℤ
 written_points p act.Hold axis = on_axis p axis ∷ []
 written_points p (act.Line to) axis = on_axis p axis ∷ on_axis to axis ∷ []

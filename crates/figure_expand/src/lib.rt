@@ -2,8 +2,8 @@
 //!
 //! `step` returns the piece of a drone in a cue. On each axis and at each fraction of the cue the piece is exactly at
 //! the position that the show's text says (`expansion_law`, `specs/Written.antt`). `range_fault` names the first value
-//! that no trajectory can hold. The acts and their control values are those of docs/LANGUAGE.md. It stands on `cue_grid` for the
-//! cues, and on `mm_rounding` for the pieces.
+//! that no trajectory can hold. The acts and their control values are those of docs/LANGUAGE.md. It stands on
+//! `cue_grid` for the cues, and on `mm_rounding` for the pieces.
 #![tactic(auto)]
 
 mod acts;

@@ -7,7 +7,9 @@ ghost use Rattle.fleet_math.specs.Limits.{most_cues};
 ghost use Rattle.cue_grid.specs.Frames.{IsPointUpTo};
 ghost use Rattle.cue_grid.specs.Grids.{FitJobs, FitCues, IsGrid};
 ghost use Rattle.figure_expand.specs.Bounds.{AreInReach};
-ghost use Rattle.figure_expand.specs.Expanded.{fits_axis, values_on, values_of, point_values, start_values, start_points, cue_values, points_after, values_from, first_unfit, range_fault};
+ghost use Rattle.figure_expand.specs.Expanded.{fits_axis, values_on, values_of, point_values, start_values};
+ghost use Rattle.figure_expand.specs.Expanded.{start_points, cue_values, points_after, values_from, first_unfit};
+ghost use Rattle.figure_expand.specs.Expanded.{range_fault};
 
 use crate::acts::act_of;
 use crate::fault::AxisValue;
@@ -26,8 +28,8 @@ const LEAST: i64 = -32_768_500;
 
 const GREATEST: i64 = 32_767_499;
 
-// Whether a trajectory can hold the value: positions in millimetres, a yaw as it is. A position is compared as it is, since
-// it is rounded once more where the trajectory is made.
+// Whether a trajectory can hold the value: positions in millimetres, a yaw as it is. A position is compared as it is,
+// since it is rounded once more where the trajectory is made.
 fn fits(axis: u8, value: i64) -> bool
     ensures { result ≡ fits_axis axis value }
 {

@@ -5,9 +5,11 @@ ghost use Rattle.std.specs.List.{All};
 ghost use Rattle.mm_rounding.specs.declared.piece.Axis.TheVariants.{One, Two, Four, Eight};
 ghost use Rattle.choreo_lines.specs.declared.parts.Act.TheVariants as act;
 ghost use Rattle.cue_grid.specs.Frames.{IsUpTo, IsPointUpTo};
-ghost use Rattle.figure_expand.specs.Acts.{handle, arc_points, arc_on, shares, millionths, eased_point, eased_points, eased_on};
+ghost use Rattle.figure_expand.specs.Acts.{handle, arc_points, arc_on, shares, millionths, eased_point, eased_points};
+ghost use Rattle.figure_expand.specs.Acts.{eased_on};
 ghost use Rattle.figure_expand.specs.Controls.{axes_of};
-ghost use Rattle.figure_expand.specs.Written.{from_rest, forty_seconds, squares, squares_left, yaw_in, yaw_out, eased_yaw, end_of};
+ghost use Rattle.figure_expand.specs.Written.{from_rest, forty_seconds, squares, squares_left, yaw_in, yaw_out};
+ghost use Rattle.figure_expand.specs.Written.{eased_yaw, end_of};
 ghost use Rattle.figure_expand.specs.Bounds.{IsActUpTo, AreSmall};
 
 use choreo_lines::{Act, Ease, Point};
@@ -96,8 +98,8 @@ fn arc_y(p: &Point, ccw: bool, cx: i64, cy: i64) -> [i64; 4]
     arc_points(p.y, cy, vy, wy)
 }
 
-// How many millionths of the way from the centre to the start, and of the way from the centre to the end, are in each of the
-// eight control points of an eased arc (docs/TRAJECTORY.md, "The eased quarter circles").
+// How many millionths of the way from the centre to the start, and of the way from the centre to the end, are in each
+// of the eight control points of an eased arc (docs/TRAJECTORY.md, "The eased quarter circles").
 const SWING: [(u32, u32); 8] = [
     (1_000_000, 0),
     (1_000_000, 0),

@@ -22,8 +22,8 @@ pub record DecodesTo (drone : DroneState) (id : ℕ) (t : Traj) : Type 0 where
   pub listed : slice_get drone.table id ≡ Some (Some entry)
   pub begins : BeginsWith (drop entry.offset drone.memory) entry.pieces t used
 
--- A drone carries this trajectory: its memory decodes to it, and right after its bytes stand the three zero bytes at which a flight ends.
--- Firmware flies on until it reads them, whatever number of segments the entry says.
+-- A drone carries this trajectory: its memory decodes to it, and right after its bytes stand the three zero bytes at
+-- which a flight ends. Firmware flies on until it reads them, whatever number of segments the entry says.
 pub record Carries (drone : DroneState) (id : ℕ) (t : Traj) : Type 0 where
   pub decodes : DecodesTo drone id t
   pub rest : List ℕ
@@ -41,5 +41,6 @@ last_value t axis = fold (λ (v : ℤ) (s : Segment). value_after v (element_on 
 pub record CurveLaw : Type 0 where
   pub one : (drone : DroneState) (id : ℕ) (t u : Traj) → DecodesTo drone id t → DecodesTo drone id u → t ≡ u
   pub loaded : (s : Upload) (drone : DroneState) (d : ℕ) (t : Traj) → IsSession s → d < drone_count s →
-      load_of s d ≡ load_for t → IsTrajectory t → All HasDuration t.segments → length drone.memory ≡ MEMORY_BYTES → HasLoad s (load_of s d) drone →
+      load_of s d ≡ load_for t → IsTrajectory t → All HasDuration t.segments → length drone.memory ≡ MEMORY_BYTES →
+      HasLoad s (load_of s d) drone →
       HasEntry s (load_of s d) drone → Carries drone s.trajectory_id t

@@ -26,7 +26,8 @@ pub struct Drone {
 
 /// A drone with this memory, no entry, and nothing started.
 pub fn make(memory_id: u8, memory: [u8; MEMORY_BYTES]) -> Drone
-    ensures { shown result ≡ record { memory_id = memory_id; memory = memory; table = replicate TABLE_ENTRIES None; started = None } }
+    ensures { shown result
+        ≡ record { memory_id = memory_id; memory = memory; table = replicate TABLE_ENTRIES None; started = None } }
 {
     Drone {
         memory_id,

@@ -1,5 +1,6 @@
 -- The raised curves of a fleet, and the trajectories that they stand for.
-use Rattle.std.specs.Prelude.{◌≡◌, ℕ, ◌+◌, ◌*◌, ◌^◌, ◌≤◌, ◌<◌, ℤ, ◌-ℤ◌, List, [], ◌∷◌, length, slice_index_or, slice_get, map, Some, All}
+use Rattle.std.specs.Prelude.{◌≡◌, ℕ, ◌+◌, ◌*◌, ◌^◌, ◌≤◌, ◌<◌, ℤ, ◌-ℤ◌, List, [], ◌∷◌, length, slice_index_or}
+use Rattle.std.specs.Prelude.{slice_get, map, Some, All}
 use Rattle.std.specs.List.{flat_map}
 use Rattle.fleet_math.specs.Bernstein.{at}
 use Rattle.fleet_math.specs.Limits.{most_cues, most_drones}
@@ -89,7 +90,8 @@ abbrev pub raised_from : ℤ → ℤ → ℤ → List Segment → List (List (Be
 raised_from x y z [] = []
 raised_from x y z (s ∷ rest) =
     (raised_element x (element_on s 0) ∷ raised_element y (element_on s 1) ∷ raised_element z (element_on s 2) ∷ [])
-    ∷ raised_from (value_after x (element_on s 0)) (value_after y (element_on s 1)) (value_after z (element_on s 2)) rest
+    ∷ raised_from (value_after x (element_on s 0)) (value_after y (element_on s 1)) (value_after z (element_on s 2))
+    rest
 
 -- the raised curves of a trajectory, cue by cue
 abbrev pub raised_traj : Traj → List (List (Bez 8))

@@ -8,7 +8,8 @@ ghost use Rattle.bezier_core.specs.Raised.{eight, raised};
 ghost use Rattle.fleet_math.specs.Limits.{most_cues, most_drones};
 ghost use Rattle.traj_codec.specs.Spelling.{stored};
 ghost use Rattle.traj_codec.specs.Positions.{element_on};
-ghost use Rattle.fleet_curves.specs.Raised.{CurvesStandFor, IsOneShow, curves_at, curves_of, difference, less, raised_element, raised_traj, raised_of};
+ghost use Rattle.fleet_curves.specs.Raised.{CurvesStandFor, IsOneShow, curves_at, curves_of, difference, less};
+ghost use Rattle.fleet_curves.specs.Raised.{raised_element, raised_traj, raised_of};
 ghost use Rattle.fleet_curves.specs.Steps.{AreSmallCurves, IsFormed, all_curves};
 
 use crate::difference::Difference;
@@ -133,7 +134,8 @@ fn differences(second: &[[i32; 8]; 3], first: &[[i32; 8]; 3]) -> Difference
     requires second { AreSmallCurves (curves_of second.now) }
     requires first { AreSmallCurves (curves_of first.now) }
     ensures { result ≡ less (curves_of second.now) (curves_of first.now) 0
-        ∷ less (curves_of second.now) (curves_of first.now) 1 ∷ less (curves_of second.now) (curves_of first.now) 2 ∷ [] }
+        ∷ less (curves_of second.now) (curves_of first.now) 1 ∷ less (curves_of second.now) (curves_of first.now) 2
+        ∷ [] }
 {
     Difference::of_rows([
         one_less(second, first, 0),

@@ -1,5 +1,6 @@
 -- What a reader of parts holds, and how it asks its source.
-use Rattle.std.specs.Prelude.{◌≡◌, ℕ, ◌≤◌, List, [], ◌∷◌, ◌++◌, length, Bool, false, Option, Some, None, Result, Ok, Err}
+use Rattle.std.specs.Prelude.{◌≡◌, ℕ, ◌≤◌, List, [], ◌∷◌, ◌++◌, length, Bool, false, Option, Some, None, Result, Ok}
+use Rattle.std.specs.Prelude.{Err}
 use Rattle.std.specs.Io.KnownBytes.{prepend_known}
 use Rattle.fleet_io.specs.Told.{Told}
 use Rattle.text_lines.specs.Lines.{between_feeds}
@@ -40,8 +41,8 @@ without_last (piece ∷ next ∷ rest) = piece ∷ without_last (next ∷ rest)
 abbrev pub has_whole_marker : List ℕ → Bool
 has_whole_marker bytes = has_marker (without_last (between_feeds bytes))
 
--- A call that began with these waiting bytes read from its source, and before each read what it held had no whole marker
--- line: `before` is what it had read when it asked last, and `last` is what it got then.
+-- A call that began with these waiting bytes read from its source, and before each read what it held had no whole
+-- marker line: `before` is what it had read when it asked last, and `last` is what it got then.
 pub record Asked (waiting : List ℕ) (old new : Told) : Type 0 where
   pub before : List ℕ
   pub last : List ℕ

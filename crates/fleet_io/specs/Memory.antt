@@ -28,11 +28,27 @@ read_fails s = is_listed s.fails (counted s.calls)
 
 -- after a call that failed
 abbrev pub read_failed : MemoryIn → MemoryIn
-read_failed s = record { given = s.given; left = s.left; cut = s.cut; fails = s.fails; calls = counted s.calls; faults = counted s.faults }
+read_failed s =
+    record {
+      given = s.given;
+      left = s.left;
+      cut = s.cut;
+      fails = s.fails;
+      calls = counted s.calls;
+      faults = counted s.faults;
+    }
 
 -- after a call that gave n bytes
 abbrev pub read_gave : MemoryIn → ℕ → MemoryIn
-read_gave s n = record { given = s.given ++ take n s.left; left = drop n s.left; cut = s.cut; fails = s.fails; calls = counted s.calls; faults = s.faults }
+read_gave s n =
+    record {
+      given = s.given ++ take n s.left;
+      left = drop n s.left;
+      cut = s.cut;
+      fails = s.fails;
+      calls = counted s.calls;
+      faults = s.faults;
+    }
 
 -- what a sink over memory holds
 pub record MemoryOut : Type 0 where
@@ -51,15 +67,32 @@ pub record MemoryOut : Type 0 where
 
 -- the next call with these bytes fails: its number is one of those, or there are bytes and the room is full
 abbrev pub write_fails : MemoryOut → List ℕ → Bool
-write_fails s bytes = is_listed s.fails (counted s.calls) || (nat_lt 0 (length bytes) && nat_le s.room (length s.written))
+write_fails s bytes =
+    is_listed s.fails (counted s.calls) || (nat_lt 0 (length bytes) && nat_le s.room (length s.written))
 
 -- after a call that failed
 abbrev pub write_failed : MemoryOut → MemoryOut
-write_failed s = record { written = s.written; room = s.room; cut = s.cut; fails = s.fails; calls = counted s.calls; faults = counted s.faults }
+write_failed s =
+    record {
+      written = s.written;
+      room = s.room;
+      cut = s.cut;
+      fails = s.fails;
+      calls = counted s.calls;
+      faults = counted s.faults;
+    }
 
 -- after a call that took the first n of these bytes
 abbrev pub write_took : MemoryOut → List ℕ → ℕ → MemoryOut
-write_took s bytes n = record { written = s.written ++ take n bytes; room = s.room; cut = s.cut; fails = s.fails; calls = counted s.calls; faults = s.faults }
+write_took s bytes n =
+    record {
+      written = s.written ++ take n bytes;
+      room = s.room;
+      cut = s.cut;
+      fails = s.fails;
+      calls = counted s.calls;
+      faults = s.faults;
+    }
 
 -- what a sink that never fails holds
 pub record SureOut : Type 0 where

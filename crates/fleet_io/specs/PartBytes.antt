@@ -1,5 +1,6 @@
 -- A part of a text byte by byte.
-use Rattle.std.specs.Prelude.{◌≡◌, ℕ, suc, ◌<◌, ◌≤◌, ◌==◌, Bool, true, false, ◌&&◌, ◌||◌, bytes_eq, List, [], ◌∷◌, ◌++◌, length, take, drop, Option, Some, if◌then◌else◌}
+use Rattle.std.specs.Prelude.{◌≡◌, ℕ, suc, ◌<◌, ◌≤◌, ◌==◌, Bool, true, false, ◌&&◌, ◌||◌, bytes_eq, List, [], ◌∷◌, ◌++◌}
+use Rattle.std.specs.Prelude.{length, take, drop, Option, Some, if◌then◌else◌}
 use Rattle.std.specs.Io.KnownBytes.{prepend_known}
 use Rattle.std.specs.List.{position_or_len}
 use Rattle.text_lines.specs.Lines.{between_feeds}
@@ -32,7 +33,8 @@ is_marked_left at_line (b ∷ bytes) = if is_marked_here at_line (b ∷ bytes) t
 
 abbrev pub rest_left : Bool → List ℕ → List ℕ
 rest_left at_line [] = []
-rest_left at_line (b ∷ bytes) = if is_marked_here at_line (b ∷ bytes) then after_piece (b ∷ bytes) else rest_left (b == 10) bytes
+rest_left at_line (b ∷ bytes) =
+    if is_marked_here at_line (b ∷ bytes) then after_piece (b ∷ bytes) else rest_left (b == 10) bytes
 
 -- a line begins after these bytes, where one begins before them or not
 abbrev pub begins_after : Bool → List ℕ → Bool
@@ -44,12 +46,14 @@ abbrev pub ArePlain : Bool → List ℕ → List ℕ → Type 0
 ArePlain at_line [] rest = Unit {0}
 ArePlain at_line (b ∷ bytes) rest = (is_marked_here at_line (b ∷ bytes ++ rest) ≡ false) × ArePlain (b == 10) bytes rest
 
--- What a call gives is what comes next of all bytes to come: the first of those that wait, at none of which a marker line
--- stands; the marker line, after which the others are still to come; or the end.
+-- What a call gives is what comes next of all bytes to come: the first of those that wait, at none of which a marker
+-- line stands; the marker line, after which the others are still to come; or the end.
 abbrev pub AsksNext : Ask → Bool → List ℕ → List ℕ → Option (List ℕ) → Type 0
 AsksNext (ask.Bytes count) at_line all waiting left =
-    (rest : List ℕ) × (all ≡ take count waiting ++ rest) × (prepend_known (drop count waiting) left ≡ Some rest) × ArePlain at_line (take count waiting) rest
-AsksNext ask.Marker at_line all waiting left = (is_marked_here at_line all ≡ true) × (prepend_known waiting left ≡ Some (after_piece all))
+    (rest : List ℕ) × (all ≡ take count waiting ++ rest) × (prepend_known (drop count waiting) left ≡ Some rest)
+    × ArePlain at_line (take count waiting) rest
+AsksNext ask.Marker at_line all waiting left = (is_marked_here at_line all ≡ true)
+    × (prepend_known waiting left ≡ Some (after_piece all))
 AsksNext ask.«End» at_line all waiting left = (all ≡ []) × (prepend_known waiting left ≡ Some [])
 
 -- the bytes that a call gives wait, and are some
@@ -72,7 +76,9 @@ pub record PartLaw : Type 0 where
 
 -- these bytes, where a line begins, can still be followed by the rest of a marker line
 abbrev pub may_be_marker : List ℕ → Bool
-may_be_marker bytes = bytes_eq bytes [] || (bytes_eq bytes (37 ∷ []) || (bytes_eq bytes (37 ∷ 37 ∷ []) || bytes_eq bytes (37 ∷ 37 ∷ 13 ∷ [])))
+may_be_marker bytes =
+    bytes_eq bytes []
+    || (bytes_eq bytes (37 ∷ []) || (bytes_eq bytes (37 ∷ 37 ∷ []) || bytes_eq bytes (37 ∷ 37 ∷ 13 ∷ [])))
 
 -- whether these bytes that wait leave open what comes next, where a line begins or not
 abbrev pub is_untold : Bool → List ℕ → Bool

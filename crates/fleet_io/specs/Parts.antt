@@ -24,4 +24,5 @@ TakesFewAfter old left = IfSome old (λ all. IfSome left (λ rest. length (rest_
 abbrev pub MarkerLaw : Type 0
 MarkerLaw =
     (text more : List ℕ) → has_whole_marker text ≡ true →
-    (part_of (text ++ more) ≡ part_of text) × (rest_of (text ++ more) ≡ rest_of text ++ more) × (has_marker (between_feeds (text ++ more)) ≡ true)
+    (part_of (text ++ more) ≡ part_of text) × (rest_of (text ++ more) ≡ rest_of text ++ more)
+    × (has_marker (between_feeds (text ++ more)) ≡ true)

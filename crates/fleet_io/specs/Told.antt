@@ -1,5 +1,6 @@
 -- What a source exposes of itself, and what it may still give.
-use Rattle.std.specs.Prelude.{◌≡◌, ℕ, ◌<◌, ◌≤◌, List, [], ◌++◌, length, take, drop, Bool, Option, Some, Result, Ok, Err, IfOk, OnErr, IsTrue}
+use Rattle.std.specs.Prelude.{◌≡◌, ℕ, ◌<◌, ◌≤◌, List, [], ◌++◌, length, take, drop, Bool, Option, Some, Result, Ok, Err}
+use Rattle.std.specs.Prelude.{IfOk, OnErr, IsTrue}
 use Rattle.std.specs.Io.KnownBytes.{Consumes, IsAtEnd}
 use Rattle.fleet_io.specs.Causes.{Rose}
 
@@ -41,22 +42,23 @@ pub record Gives (old new : Told) : Type 0 where
   pub at_end : (IsTrue old.ended → IsAtEnd old.left) → IsTrue new.ended → IsAtEnd new.left
   pub later : old.faults ≤ new.faults
 
--- What a source did for a reader, of which `met` and `meets` say whether it had met the end and has met it now. A reader
--- that has met the end never reads again, whether or not the source could go on.
+-- What a source did for a reader, of which `met` and `meets` say whether it had met the end and has met it now. A
+-- reader that has met the end never reads again, whether or not the source could go on.
 pub record Went (met meets : Bool) (old new : Told) : Type 0 where
   pub gives : Gives old new
   pub at_end : IsTrue meets → IsTrue new.ended
   pub stays : IsTrue met → IsTrue meets × (new ≡ old)
 
--- `all` may be all bytes that a source ever gives to a reader: those that it gave, and any others after them, but none where
--- the reader has met the end.
+-- `all` may be all bytes that a source ever gives to a reader: those that it gave, and any others after them, but none
+-- where the reader has met the end.
 pub record MayGive (met : Bool) (t : Told) (all : List ℕ) : Type 0 where
   pub rest : List ℕ
   pub is : all ≡ t.given ++ rest
   pub none : IsTrue met → rest ≡ []
 
--- `all` may be all bytes that a source ever gives: those that it gave, and any others after them, but none where its last
--- read met the end. So the bytes that it gave until now are such an input, and after the end they are the only one.
+-- `all` may be all bytes that a source ever gives: those that it gave, and any others after them, but none where its
+-- last read met the end. So the bytes that it gave until now are such an input, and after the end they are the only
+-- one.
 abbrev pub IsInput : Told → List ℕ → Type 0
 IsInput t all = MayGive t.ended t all
 

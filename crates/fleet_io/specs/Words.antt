@@ -1,5 +1,6 @@
 -- Words, templates and lines of a text.
-use Rattle.std.specs.Prelude.{◌≡◌, ℕ, ◌-◌, ◌/◌, ◌%◌, ◌+◌, List, [], ◌∷◌, ◌++◌, true, false, ◌==◌, nat_lt, if◌then◌else◌, length, map, decimal, slice_index_or}
+use Rattle.std.specs.Prelude.{◌≡◌, ℕ, ◌-◌, ◌/◌, ◌%◌, ◌+◌, List, [], ◌∷◌, ◌++◌, true, false, ◌==◌, nat_lt, if◌then◌else◌}
+use Rattle.std.specs.Prelude.{length, map, decimal, slice_index_or}
 use Rattle.std.specs.Fmt.{signed_decimal}
 use Rattle.std.specs.List.{flat_map, sum_by}
 use Rattle.fleet_io.specs.declared.words.Word.{Word}
@@ -33,7 +34,8 @@ word_bytes (entry.Decimal z) = signed_decimal z
 abbrev pub filled : List ℕ → List (List ℕ) → List ℕ
 filled [] words = []
 filled (byte ∷ rest) [] = byte ∷ rest
-filled (byte ∷ rest) (word ∷ words) = elim (byte == 63) [ true ↦ word ++ filled rest words | false ↦ byte ∷ filled rest (word ∷ words) ]
+filled (byte ∷ rest) (word ∷ words) =
+    elim (byte == 63) [ true ↦ word ++ filled rest words | false ↦ byte ∷ filled rest (word ∷ words) ]
 
 -- the line of a template with these words at its places
 abbrev pub filled_line : List ℕ → List Word → List ℕ

@@ -74,7 +74,8 @@ impl Lines {
     }
 }
 
-// The line of a template, with a word at each question mark. An `Err` keeps what stood there, and may leave more after it.
+// The line of a template, with a word at each question mark. An `Err` keeps what stood there, and may leave more after
+// it.
 fn put_line(text: &mut Vec<u8>, template: &[u8], words: &[Word]) -> Result<(), AllocError>
     ensures ok { OnOk result (text.new.items ≡ text.old.items ++ filled_line template.now words.now) }
     ensures err { OnErr result (take (length text.old.items) text.new.items ≡ text.old.items) }
@@ -93,7 +94,8 @@ fn put_line(text: &mut Vec<u8>, template: &[u8], words: &[Word]) -> Result<(), A
 fn put_next(text: &mut Vec<u8>, byte: u8, words: &[Word]) -> Result<usize, AllocError>
     ensures one { IfOk result (λ taken. taken ≤ 1) }
     ensures few { IfOk result (λ taken. taken ≤ length words.now) }
-    ensures filled { IfOk result (λ taken. (rest : List ℕ) → text.new.items ++ filled rest (map word_bytes (drop taken words.now))
+    ensures filled { IfOk result
+        (λ taken. (rest : List ℕ) → text.new.items ++ filled rest (map word_bytes (drop taken words.now))
         ≡ text.old.items ++ filled (byte ∷ rest) (map word_bytes words.now)) }
     ensures longer { length text.old.items ≤ length text.new.items }
     ensures keeps { take (length text.old.items) text.new.items ≡ text.old.items }
@@ -122,8 +124,8 @@ fn put_hex_line(text: &mut Vec<u8>, word: &[u8], bytes: &[u8]) -> Result<(), All
     Ok(())
 }
 
-// A space and a byte in two digits. It is pushed digit by digit: a call that copies a slice takes longer than two digits do.
-// An `Err` keeps what stood there, and may leave a prefix of the word after it.
+// A space and a byte in two digits. It is pushed digit by digit: a call that copies a slice takes longer than two
+// digits do. An `Err` keeps what stood there, and may leave a prefix of the word after it.
 fn put_spaced_hex(text: &mut Vec<u8>, byte: u8) -> Result<(), AllocError>
     ensures ok { OnOk result (text.new.items ≡ text.old.items ++ 32 ∷ hex_word byte) }
     ensures err { OnErr result (take (length text.old.items) text.new.items ≡ text.old.items) }

@@ -1,9 +1,11 @@
 //! Sources and sinks over memory, with failures where they are asked for.
-ghost use Rattle.std.specs.Prelude.{◌≡◌, ◌≤◌, ◌<◌, ◌-◌, ◌++◌, [], length, take, drop, min, Some, IfOk, OnErr, is_err, vec_len, vec_capacity};
+ghost use Rattle.std.specs.Prelude.{◌≡◌, ◌≤◌, ◌<◌, ◌-◌, ◌++◌, [], length, take, drop, min, Some, IfOk, OnErr, is_err};
+ghost use Rattle.std.specs.Prelude.{vec_len, vec_capacity};
 ghost use Rattle.std.specs.Io.{ReadsAtMost};
 ghost use Rattle.std.specs.Io.KnownBytes.{WriteAppends};
 ghost use Rattle.fleet_io.specs.Causes.{HasCause};
-ghost use Rattle.fleet_io.specs.Memory.{told_memory, read_fails, read_failed, read_gave, write_fails, write_failed, write_took, is_listed};
+ghost use Rattle.fleet_io.specs.Memory.{told_memory, read_fails, read_failed, read_gave, write_fails, write_failed};
+ghost use Rattle.fleet_io.specs.Memory.{write_took, is_listed};
 ghost use Rattle.fleet_io.specs.Told.{Reads};
 
 use crate::stream::{Failed, Sink, Source};
@@ -45,7 +47,14 @@ impl Model for MemSource {
 
     ghost Value = { MemoryIn };
 
-    ghost view = { λ s. record { given = take s.at s.bytes.items; left = drop s.at s.bytes.items; cut = s.cut; fails = s.fails.items; calls = s.calls; faults = s.faults } };
+    ghost view = { λ s. record {
+      given = take s.at s.bytes.items;
+      left = drop s.at s.bytes.items;
+      cut = s.cut;
+      fails = s.fails.items;
+      calls = s.calls;
+      faults = s.faults;
+    } };
 
     ghost invariant = { λ s. (s.at ≤ length s.bytes.items) × (1 ≤ s.cut) };
 }
@@ -54,7 +63,14 @@ impl MemSource {
     /// A source of these bytes, of which no call was made yet.
     pub fn make(bytes: Vec<u8>, cut: usize, fails: Vec<u64>) -> MemSource
         requires { 1 ≤ cut }
-        ensures { result ≡ record { given = []; left = bytes.items; cut = cut; fails = fails.items; calls = 0; faults = 0 } }
+        ensures { result ≡ record {
+          given = [];
+          left = bytes.items;
+          cut = cut;
+          fails = fails.items;
+          calls = 0;
+          faults = 0;
+        } }
     {
         MemSource {
             bytes,
@@ -109,7 +125,14 @@ impl Model for MemSink {
 
     ghost Value = { MemoryOut };
 
-    ghost view = { λ s. record { written = s.bytes.items; room = s.room; cut = s.cut; fails = s.fails.items; calls = s.calls; faults = s.faults } };
+    ghost view = { λ s. record {
+      written = s.bytes.items;
+      room = s.room;
+      cut = s.cut;
+      fails = s.fails.items;
+      calls = s.calls;
+      faults = s.faults;
+    } };
 
     ghost invariant = { λ s. (s.room ≤ vec_capacity s.bytes) × (length s.bytes.items ≤ s.room) × (1 ≤ s.cut) };
 }
@@ -123,7 +146,8 @@ impl MemSink {
         fails: Vec<u64>,
     ) -> Result<MemSink, AllocError>
         requires { 1 ≤ cut }
-        ensures { IfOk result (λ sink. sink ≡ record { written = []; room = room; cut = cut; fails = fails.items; calls = 0; faults = 0 }) }
+        ensures { IfOk result (λ sink. sink
+            ≡ record { written = []; room = room; cut = cut; fails = fails.items; calls = 0; faults = 0 }) }
     {
         Ok(MemSink {
             bytes: Vec::with_capacity(alloc, room)?,
@@ -157,7 +181,8 @@ impl Sink for MemSink {
         ensures fails { is_err result ≡ write_fails self.old bytes.now }
         ensures failed { OnErr result (self.new ≡ write_failed self.old) }
         ensures took { IfOk result (λ n. self.new ≡ write_took self.old bytes.now n) }
-        ensures count { IfOk result (λ n. n ≡ min (min (length bytes.now) self.old.cut) (self.old.room - length self.old.written)) }
+        ensures count { IfOk result
+            (λ n. n ≡ min (min (length bytes.now) self.old.cut) (self.old.room - length self.old.written)) }
     {
         self.calls = self.calls.saturating_add(1);
         let left = self.room - self.bytes.len();

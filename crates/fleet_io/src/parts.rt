@@ -1,11 +1,14 @@
 //! The parts of an input, which marker lines divide.
-ghost use Rattle.std.specs.Prelude.{◌≡◌, ℕ, ◌<◌, ◌≤◌, ◌+◌, ◌∷◌, [], List, length, Bool, true, false, IsTrue, IfOk, IfSome, IfNone, OnOk, OnErr, IfErr, ◌++◌, ◌⊎◌, ◌==◌, ◌&&◌, if◌then◌else◌, take, drop, is_ok, Some};
+ghost use Rattle.std.specs.Prelude.{◌≡◌, ℕ, ◌<◌, ◌≤◌, ◌+◌, ◌∷◌, [], List, length, Bool, true, false, IsTrue, IfOk};
+ghost use Rattle.std.specs.Prelude.{IfSome, IfNone, OnOk, OnErr, IfErr, ◌++◌, ◌⊎◌, ◌==◌, ◌&&◌, if◌then◌else◌, take};
+ghost use Rattle.std.specs.Prelude.{drop, is_ok, Some};
 ghost use Rattle.fleet_io.specs.declared.parts.IoFault.TheVariants.{Memory};
 ghost use Rattle.fleet_io.specs.Causes.{Rose};
 ghost use Rattle.fleet_io.specs.Told.{MayGive, Took, Went, to_come};
 ghost use Rattle.text_lines.specs.Marker.{is_marker, part_of};
 ghost use Rattle.fleet_io.specs.Held.{stream, byte_of, Asked, has_whole_marker, buffer_bytes, text_limit};
-ghost use Rattle.fleet_io.specs.PartBytes.{AsksNext, begins_after, begins_line, first_piece, is_marked_here, is_untold, IsWithin, may_be_marker, PartLaw, plain_len};
+ghost use Rattle.fleet_io.specs.PartBytes.{AsksNext, begins_after, begins_line, first_piece, is_marked_here, is_untold};
+ghost use Rattle.fleet_io.specs.PartBytes.{IsWithin, may_be_marker, PartLaw, plain_len};
 ghost use Rattle.fleet_io.specs.Parts.{MarkerLaw, TakesFewAfter, TakesPart, TookMarked};
 ghost use Rattle.fleet_io.specs.Steps.{Goes, Runs};
 
@@ -66,7 +69,13 @@ impl Model for Parts {
 
     ghost Value = { Held };
 
-    ghost view = { λ p. record { waiting = drop p.start (take p.end p.buf); sound = p.sound; ended = p.ended; lines = p.lines; at_line = p.at_line } };
+    ghost view = { λ p. record {
+      waiting = drop p.start (take p.end p.buf);
+      sound = p.sound;
+      ended = p.ended;
+      lines = p.lines;
+      at_line = p.at_line;
+    } };
 
     ghost invariant = { λ p. (p.start ≤ p.end) × (p.end ≤ buffer_bytes) };
 }
@@ -131,7 +140,8 @@ impl Parts {
     fn next<S: Source>(&mut self, source: &mut S) -> Result<Option<u8>, Failed>
         requires { IsTrue self.old.ended → IsTrue (S.told source.old).ended }
         ensures took { Took self.old.waiting self.new.waiting (S.told source.old) (S.told source.new) (byte_of result) }
-        ensures none { IfOk result (λ next. IfNone next ((self.old.waiting ≡ []) × (self.new.waiting ≡ []) × IsTrue self.new.ended)) }
+        ensures none { IfOk result
+            (λ next. IfNone next ((self.old.waiting ≡ []) × (self.new.waiting ≡ []) × IsTrue self.new.ended)) }
         ensures alone { OnErr result ((self.old.waiting ≡ []) × (self.new.waiting ≡ []) × (self.old.ended ≡ false)) }
         ensures goes { Goes self.old self.new (S.told source.old) (S.told source.new) }
         ensures failed { OnErr result (Rose (S.told source.old).faults (S.told source.new).faults) }
@@ -201,7 +211,8 @@ impl Parts {
         requires { IsTrue self.old.ended → IsTrue (S.told source.old).ended }
         ensures took { Took self.old.waiting self.new.waiting (S.told source.old) (S.told source.new) [] }
         ensures tells { OnOk result ((is_untold self.new.at_line self.new.waiting ≡ false) ⊎ IsTrue self.new.ended) }
-        ensures unasked { is_untold self.old.at_line self.old.waiting ≡ false → (self.new.waiting ≡ self.old.waiting) × (S.told source.new ≡ S.told source.old) }
+        ensures unasked { is_untold self.old.at_line self.old.waiting ≡ false
+            → (self.new.waiting ≡ self.old.waiting) × (S.told source.new ≡ S.told source.old) }
         ensures goes { Goes self.old self.new (S.told source.old) (S.told source.new) }
         ensures failed { OnErr result (Rose (S.told source.old).faults (S.told source.new).faults) }
         ensures at_line { self.new.at_line ≡ self.old.at_line }
@@ -216,8 +227,9 @@ impl Parts {
         Ok(())
     }
 
-    // One byte more of the lines that are gathered, and then those of the bytes that wait before a line feed, up to this
-    // many bytes in all. What is left of a line is copied at once, where byte by byte it would take ten times as long.
+    // One byte more of the lines that are gathered, and then those of the bytes that wait before a line feed, up to
+    // this many bytes in all. What is left of a line is copied at once, where byte by byte it would take ten times as
+    // long.
     fn add_run(
         &mut self,
         bytes: &mut Vec<u8>,
@@ -253,16 +265,26 @@ impl Parts {
     ) -> Result<Part, IoFault>
         requires limit { limit ≤ text_limit }
         requires at_end { IsTrue self.old.ended → IsTrue (S.told source.old).ended }
-        ensures part { (all : List ℕ) → MayGive self.new.ended (S.told source.new) all → IfOk result (λ part. TakesPart (stream self.old (to_come all (S.told source.old))) (stream self.new (to_come all (S.told source.new))) part.bytes.items part.marker) }
+        ensures part { (all : List ℕ) → MayGive self.new.ended (S.told source.new) all
+            → IfOk result (λ part. TakesPart (stream self.old (to_come all (S.told source.old)))
+            (stream self.new (to_come all (S.told source.new))) part.bytes.items part.marker) }
         ensures fits { IfOk result (λ part. length part.bytes.items ≤ limit) }
-        ensures too_long { (all : List ℕ) → MayGive self.new.ended (S.told source.new) all → result ≡ Err IoFault.TooLong → IfSome (stream self.old (to_come all (S.told source.old))) (λ comes. limit < length (part_of comes)) }
+        ensures too_long { (all : List ℕ) → MayGive self.new.ended (S.told source.new) all
+            → result ≡ Err IoFault.TooLong
+            → IfSome (stream self.old (to_come all (S.told source.old))) (λ comes. limit < length (part_of comes)) }
         ensures read { result ≡ Err IoFault.Read → Rose (S.told source.old).faults (S.told source.new).faults }
         ensures goes { Goes self.old self.new (S.told source.old) (S.told source.new) }
         ensures at_line { self.new.at_line ≡ self.old.at_line }
-        ensures unmarked { result ≡ Err IoFault.Read → (self.old.ended ≡ false) × (self.new.waiting ≡ []) × ((taken : List ℕ) × Took self.old.waiting [] (S.told source.old) (S.told source.new) taken × (has_whole_marker taken ≡ false)) }
-        ensures fed { IfOk result (λ part. part.marker ≡ true → IsTrue self.new.ended ⊎ TookMarked self.old.waiting self.new.waiting (S.told source.old) (S.told source.new)) }
+        ensures unmarked { result ≡ Err IoFault.Read
+            → (self.old.ended ≡ false) × (self.new.waiting ≡ [])
+            × ((taken : List ℕ) × Took self.old.waiting [] (S.told source.old) (S.told source.new) taken
+            × (has_whole_marker taken ≡ false)) }
+        ensures fed { IfOk result (λ part. part.marker ≡ true
+            → IsTrue self.new.ended
+            ⊎ TookMarked self.old.waiting self.new.waiting (S.told source.old) (S.told source.new)) }
         ensures to_end { IfOk result (λ part. part.marker ≡ false → IsTrue self.new.ended) }
-        ensures asks { (S.told source.new ≡ S.told source.old) ⊎ Asked self.old.waiting (S.told source.old) (S.told source.new) }
+        ensures asks { (S.told source.new ≡ S.told source.old)
+            ⊎ Asked self.old.waiting (S.told source.old) (S.told source.new) }
         ensures patient { has_whole_marker self.old.waiting ≡ true → S.told source.new ≡ S.told source.old }
         ensures few { length (S.told source.new).given ≤ length (S.told source.old).given + (limit + 4 + buffer_bytes) }
         ensures most { length self.new.waiting ≤ buffer_bytes }
@@ -301,26 +323,40 @@ impl Parts {
         requires lines { IsTrue self.old.lines }
         requires limit { limit ≤ text_limit }
         requires at_end { IsTrue self.old.ended → IsTrue (S.told source.old).ended }
-        ensures part { (all : List ℕ) → MayGive self.new.ended (S.told source.new) all → IfOk result (λ part. TakesPart (stream self.old (to_come all (S.told source.old))) (stream self.new (to_come all (S.told source.new))) part.bytes.items part.marker) }
+        ensures part { (all : List ℕ) → MayGive self.new.ended (S.told source.new) all
+            → IfOk result (λ part. TakesPart (stream self.old (to_come all (S.told source.old)))
+            (stream self.new (to_come all (S.told source.new))) part.bytes.items part.marker) }
         ensures fits { IfOk result (λ part. length part.bytes.items ≤ limit) }
-        ensures too_long { (all : List ℕ) → MayGive self.new.ended (S.told source.new) all → result ≡ Err IoFault.TooLong → IfSome (stream self.old (to_come all (S.told source.old))) (λ comes. limit < length (part_of comes)) }
+        ensures too_long { (all : List ℕ) → MayGive self.new.ended (S.told source.new) all
+            → result ≡ Err IoFault.TooLong
+            → IfSome (stream self.old (to_come all (S.told source.old))) (λ comes. limit < length (part_of comes)) }
         ensures read { result ≡ Err IoFault.Read → Rose (S.told source.old).faults (S.told source.new).faults }
         ensures went { Went self.old.ended self.new.ended (S.told source.old) (S.told source.new) }
         ensures sound { self.new.sound ≡ is_ok result }
         ensures lines { self.new.lines ≡ self.old.lines }
         ensures at_line { OnOk result (self.new.at_line ≡ true) }
-        ensures unmarked { result ≡ Err IoFault.Read → (self.old.ended ≡ false) × (self.new.waiting ≡ []) × ((taken : List ℕ) × Took self.old.waiting [] (S.told source.old) (S.told source.new) taken × (has_whole_marker taken ≡ false)) }
+        ensures unmarked { result ≡ Err IoFault.Read
+            → (self.old.ended ≡ false) × (self.new.waiting ≡ [])
+            × ((taken : List ℕ) × Took self.old.waiting [] (S.told source.old) (S.told source.new) taken
+            × (has_whole_marker taken ≡ false)) }
         // Where a marker line ended the part before the source's end was met, it had its line feed.
-        ensures fed { IfOk result (λ part. part.marker ≡ true → IsTrue self.new.ended ⊎ TookMarked self.old.waiting self.new.waiting (S.told source.old) (S.told source.new)) }
+        ensures fed { IfOk result (λ part. part.marker ≡ true
+            → IsTrue self.new.ended
+            ⊎ TookMarked self.old.waiting self.new.waiting (S.told source.old) (S.told source.new)) }
         ensures to_end { IfOk result (λ part. part.marker ≡ false → IsTrue self.new.ended) }
-        ensures asks { (S.told source.new ≡ S.told source.old) ⊎ Asked self.old.waiting (S.told source.old) (S.told source.new) }
+        ensures asks { (S.told source.new ≡ S.told source.old)
+            ⊎ Asked self.old.waiting (S.told source.old) (S.told source.new) }
         ensures patient { has_whole_marker self.old.waiting ≡ true → S.told source.new ≡ S.told source.old }
         ensures most { length self.new.waiting ≤ buffer_bytes }
-        // How much it reads: in any case at most 4,096 bytes more than `limit` and a marker line; of what stands after the
-        // part and its marker line at most 4,096 bytes; and to the end where no marker line is whole.
+        // How much it reads: in any case at most 4,096 bytes more than `limit` and a marker line; of what stands after
+        // the part and its marker line at most 4,096 bytes; and to the end where no marker line is whole.
         ensures few { length (S.told source.new).given ≤ length (S.told source.old).given + (limit + 4 + buffer_bytes) }
-        ensures after { (all : List ℕ) → MayGive self.new.ended (S.told source.new) all → IfOk result (λ _. TakesFewAfter (stream self.old (to_come all (S.told source.old))) (to_come all (S.told source.new))) }
-        ensures met { (all : List ℕ) → MayGive self.new.ended (S.told source.new) all → IfOk result (λ _. IfSome (stream self.old (to_come all (S.told source.old))) (λ comes. has_whole_marker comes ≡ false → IsTrue self.new.ended)) }
+        ensures after { (all : List ℕ) → MayGive self.new.ended (S.told source.new) all
+            → IfOk result
+            (λ _. TakesFewAfter (stream self.old (to_come all (S.told source.old))) (to_come all (S.told source.new))) }
+        ensures met { (all : List ℕ) → MayGive self.new.ended (S.told source.new) all
+            → IfOk result (λ _. IfSome (stream self.old (to_come all (S.told source.old)))
+            (λ comes. has_whole_marker comes ≡ false → IsTrue self.new.ended)) }
     {
         match self.gather(alloc, source, limit) {
             Ok(part) => {
@@ -340,7 +376,8 @@ impl Parts {
         requires sound { IsTrue self.old.sound }
         requires at_end { IsTrue self.old.ended → IsTrue (S.told source.old).ended }
         ensures took { Took self.old.waiting self.new.waiting (S.told source.old) (S.told source.new) (byte_of result) }
-        ensures none { IfOk result (λ next. IfNone next ((self.old.waiting ≡ []) × (self.new.waiting ≡ []) × IsTrue self.new.ended)) }
+        ensures none { IfOk result
+            (λ next. IfNone next ((self.old.waiting ≡ []) × (self.new.waiting ≡ []) × IsTrue self.new.ended)) }
         // It failed while nothing was waiting, and before the end was met.
         ensures alone { OnErr result ((self.old.waiting ≡ []) × (self.new.waiting ≡ []) × (self.old.ended ≡ false)) }
         ensures went { Went self.old.ended self.new.ended (S.told source.old) (S.told source.new) }
@@ -360,8 +397,8 @@ impl Parts {
         }
     }
 
-    /// Takes the first bytes of those that wait, as as many calls of `byte` do, and asks the source for none. No part can be
-    /// read afterwards.
+    /// Takes the first bytes of those that wait, as as many calls of `byte` do, and asks the source for none. No part
+    /// can be read afterwards.
     pub fn take_waiting(&mut self, count: usize)
         requires { count ≤ length self.old.waiting }
         ensures waiting { self.new.waiting ≡ drop count self.old.waiting }
@@ -373,17 +410,20 @@ impl Parts {
         self.start += count;
     }
 
-    /// What comes next of the part: bytes, the marker line that ends it, which is taken, or the end of the input. It takes no
-    /// memory. The bytes are the first of those that wait, and `consume` takes them. So a part is what `text` gives of it
-    /// (`part_law`), where the calls begin at the part's first byte: the lines that `text` cuts begin where its call begins.
-    /// After `Failed` the reader isn't `sound`.
+    /// What comes next of the part: bytes, the marker line that ends it, which is taken, or the end of the input. It
+    /// takes no memory. The bytes are the first of those that wait, and `consume` takes them. So a part is what `text`
+    /// gives of it (`part_law`), where the calls begin at the part's first byte: the lines that `text` cuts begin where
+    /// its call begins. After `Failed` the reader isn't `sound`.
     pub fn part_bytes<S: Source>(&mut self, source: &mut S) -> Result<Ask, Failed>
         requires sound { IsTrue self.old.sound }
         requires lines { IsTrue self.old.lines }
         requires at_end { IsTrue self.old.ended → IsTrue (S.told source.old).ended }
-        ensures asks { (all : List ℕ) → MayGive self.new.ended (S.told source.new) all → IfOk result (λ ask. IfSome (stream self.old (to_come all (S.told source.old))) (λ comes. AsksNext ask self.old.at_line comes self.new.waiting (to_come all (S.told source.new)))) }
+        ensures asks { (all : List ℕ) → MayGive self.new.ended (S.told source.new) all
+            → IfOk result (λ ask. IfSome (stream self.old (to_come all (S.told source.old)))
+            (λ comes. AsksNext ask self.old.at_line comes self.new.waiting (to_come all (S.told source.new)))) }
         ensures within { IfOk result (λ ask. IsWithin ask self.new.waiting) }
-        // It asks the source only where no byte waits, or where a line begins and what waits may still be a marker line.
+        // It asks the source only where no byte waits, or where a line begins and what waits may still be a marker
+        // line.
         ensures unasked { is_untold self.old.at_line self.old.waiting ≡ false → S.told source.new ≡ S.told source.old }
         ensures line { IfOk result (λ ask. self.new.at_line ≡ begins_line self.old.at_line ask) }
         ensures ended { IfOk result (λ ask. ask ≡ Ask.«End» → IsTrue self.new.ended) }
@@ -539,7 +579,8 @@ fn whole_part(mut bytes: Vec<u8>, marker: bool) -> Part
 // The part of which the line that begins at `start` is the marker line.
 fn up_to_marker(mut bytes: Vec<u8>, start: usize, limit: usize) -> Result<Part, IoFault>
     requires { start ≤ length bytes.items }
-    ensures ok { IfOk result (λ part. (part.bytes.items ≡ take start bytes.items) × (part.marker ≡ true) × (start ≤ limit)) }
+    ensures ok { IfOk result
+        (λ part. (part.bytes.items ≡ take start bytes.items) × (part.marker ≡ true) × (start ≤ limit)) }
     ensures err { IfErr result (λ fault. (fault ≡ IoFault.TooLong) × (limit < start)) }
 {
     bytes.truncate(start);

@@ -11,9 +11,9 @@ use crate::stream::{Failed, Sink, Source};
 use std::io::{Read, Write};
 use std::marker::Model;
 
-/// Any reader of std, with a count of its faults that stays at its type's last value. It exposes the bytes that the reader
-/// gave; those still to come only where the reader exposes them, which standard input doesn't. It has met its end where the
-/// last read gave no byte for a non-empty buffer; a later read may give more, as at a terminal.
+/// Any reader of std, with a count of its faults that stays at its type's last value. It exposes the bytes that the
+/// reader gave; those still to come only where the reader exposes them, which standard input doesn't. It has met its
+/// end where the last read gave no byte for a non-empty buffer; a later read may give more, as at a terminal.
 #[derive(Drop)]
 pub struct StdSource<R: Read + Drop> {
     reader: R,
@@ -27,7 +27,8 @@ impl<R: Read + Drop> Model for StdSource<R> {
 
     ghost Value = { StdIn };
 
-    ghost view = { λ s. record { given = s.log.bytes; ended = s.ended; remaining = R.remaining s.reader; faults = s.faults } };
+    ghost view = { λ s.
+        record { given = s.log.bytes; ended = s.ended; remaining = R.remaining s.reader; faults = s.faults } };
 }
 
 impl<R: Read + Drop> StdSource<R> {

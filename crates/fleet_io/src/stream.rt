@@ -12,11 +12,12 @@ pub struct Failed;
 
 /// Bytes that come in.
 pub trait Source {
-    /// What it exposes of itself: the bytes that its reads gave, whether the last one met the end, how many failed, and,
-    /// where it knows them, the bytes still to come.
+    /// What it exposes of itself: the bytes that its reads gave, whether the last one met the end, how many failed,
+    /// and, where it knows them, the bytes still to come.
     ghost told: { Self → Told };
 
-    /// Writes the next bytes to the first places of `buf`, and returns how many. No byte for a non-empty `buf` is the end.
+    /// Writes the next bytes to the first places of `buf`, and returns how many. No byte for a non-empty `buf` is the
+    /// end.
     fn read(&mut self, buf: &mut [u8]) -> Result<usize, Failed>
         ensures bound { ReadsAtMost result buf.new }
         ensures reads { Reads (told self.old) (told self.new) result buf.new };

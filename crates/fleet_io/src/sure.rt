@@ -55,8 +55,8 @@ impl Source for SureSource {
     }
 }
 
-/// A sink into memory that never fails and keeps the first bytes that it has room for. It takes all, and doesn't expose what
-/// was written.
+/// A sink into memory that never fails and keeps the first bytes that it has room for. It takes all, and doesn't expose
+/// what was written.
 #[derive(Drop)]
 pub struct SureSink {
     bytes: Vec<u8>,

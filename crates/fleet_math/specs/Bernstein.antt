@@ -1,5 +1,5 @@
--- Bernstein sums, the textbook's form of a Bézier curve, in whole numbers: the curve's value at the fraction a / c is the
--- sum at a and c divided by c to the power of the degree.
+-- Bernstein sums, the textbook's form of a Bézier curve, in whole numbers: the curve's value at the fraction a / c is
+-- the sum at a and c divided by c to the power of the degree.
 use Rattle.std.specs.Prelude.{ℕ, zero, suc, ◌+◌, ◌-◌, ℤ, pos, ◌-ℤ◌, ◌*ℤ◌, List, length, slice_index_or}
 use Rattle.fleet_math.specs.Sums.{sum_below, power}
 

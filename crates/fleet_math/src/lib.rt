@@ -2,8 +2,8 @@
 //!
 //! The functions are exact on 128 bits. The definitions, over whole numbers without a bound, are those that clauses
 //! everywhere cite: sums, powers and bounds, Bernstein sums of control values, where an instant lies in a row of
-//! durations, the exact position of a trajectory there, and when two positions are near. The limits that several crates share
-//! are constants and definitions here. It stands on no other crate.
+//! durations, the exact position of a trajectory there, and when two positions are near. The limits that several crates
+//! share are constants and definitions here. It stands on no other crate.
 #![tactic(auto)]
 
 ghost use Rattle.std.specs.Prelude.{◌≡◌, ◌+◌, ◌<◌, ◌≤◌, ℕ, List, length, All, ℤ, pos, ◌^◌, ◌-ℤ◌, ◌*ℤ◌, ◌<ℤ◌, ◌≤ℤ◌};

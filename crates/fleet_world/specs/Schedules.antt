@@ -1,5 +1,6 @@
 -- A schedule as text: one event a line (docs/RADIO.md, "Schedules").
-use Rattle.std.specs.Prelude.{◌≡◌, ℕ, ◌+◌, ◌-◌, Bool, false, ◌&&◌, ◌==◌, nat_le, if◌then◌else◌, List, [], ◌∷◌, length, codes, slice_index_or, Option, Some, None, Result, Ok, Err}
+use Rattle.std.specs.Prelude.{◌≡◌, ℕ, ◌+◌, ◌-◌, Bool, false, ◌&&◌, ◌==◌, nat_le, if◌then◌else◌, List, [], ◌∷◌, length}
+use Rattle.std.specs.Prelude.{codes, slice_index_or, Option, Some, None, Result, Ok, Err}
 use Rattle.std.specs.Str.{bytes_eq}
 use Rattle.text_lines.specs.declared.token.Comments.TheVariants.{Absent}
 use Rattle.text_lines.specs.Lines.{lines_of}
@@ -8,7 +9,8 @@ use Rattle.text_lines.specs.Numbers.{natural_of}
 use Rattle.upload_model.specs.declared.events.WorldEvent.{WorldEvent}
 use Rattle.upload_model.specs.declared.events.WorldEvent.TheVariants.{Tick, Take, Hear, Alter}
 use Rattle.upload_model.specs.Theorem.{IsUnaltered}
-use Rattle.fleet_world.specs.declared.schedule.TheConstants.{MOST_DIGITS, ADDRESS_DIGITS, LAST_ADDRESS, VALUE_DIGITS, MOST_VALUE}
+use Rattle.fleet_world.specs.declared.schedule.TheConstants.{MOST_DIGITS, ADDRESS_DIGITS, LAST_ADDRESS, VALUE_DIGITS}
+use Rattle.fleet_world.specs.declared.schedule.TheConstants.{MOST_VALUE}
 
 -- The text counts packets and answers from 1, an event counts them from 0. There is no packet 0.
 abbrev pub counted_from_0 : Option ℕ → Option ℕ
@@ -58,7 +60,9 @@ alter_with None address value = None
 abbrev pub alteration_of : List (List ℕ) → List (List ℕ) → Option WorldEvent
 alteration_of names words =
     if bytes_eq (slice_index_or words 0 []) (codes "alter")
-    then alter_with (drone_of names (slice_index_or words 1 [])) (number_to ADDRESS_DIGITS LAST_ADDRESS (slice_index_or words 2 [])) (number_to VALUE_DIGITS MOST_VALUE (slice_index_or words 3 []))
+    then alter_with (drone_of names (slice_index_or words 1 []))
+    (number_to ADDRESS_DIGITS LAST_ADDRESS (slice_index_or words 2 []))
+    (number_to VALUE_DIGITS MOST_VALUE (slice_index_or words 3 []))
     else None
 
 -- The event of a line: `tick`, or `take` or `hear` with a name and a number; with read-back (true) also
@@ -66,7 +70,8 @@ alteration_of names words =
 abbrev pub event_of : Bool → List (List ℕ) → List (List ℕ) → Option WorldEvent
 event_of readback names words =
     if length words == 1 then (if bytes_eq (slice_index_or words 0 []) (codes "tick") then Some Tick else None)
-    else (if length words == 3 then event_with (slice_index_or words 0 []) (drone_of names (slice_index_or words 1 [])) (number_of (slice_index_or words 2 []))
+    else (if length words == 3 then event_with (slice_index_or words 0 []) (drone_of names (slice_index_or words 1 []))
+    (number_of (slice_index_or words 2 []))
     else (if readback && length words == 4 then alteration_of names words else None))
 
 -- A line's event in front of those of the lines after it; or the line, where it is faulty.
@@ -92,4 +97,5 @@ schedule_of readback names text = events_of readback names (numbered Absent 1 (l
 -- Without read-back a schedule alters no byte.
 abbrev pub ScheduleLaw : Type 0
 ScheduleLaw =
-    (names : List (List ℕ)) (text : List ℕ) (events : List WorldEvent) → schedule_of false names text ≡ Ok events → IsUnaltered events
+    (names : List (List ℕ)) (text : List ℕ) (events : List WorldEvent) → schedule_of false names text ≡ Ok events →
+    IsUnaltered events

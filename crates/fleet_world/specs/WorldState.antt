@@ -25,7 +25,8 @@ pub record WorldState : Type 0 where
 
 -- A drone, if there is one. Past the last drone stands one that nobody speaks of.
 abbrev pub state_of : Option Drone → DroneState
-state_of None = record { memory_id = 0; memory = replicate MEMORY_BYTES 0; table = replicate TABLE_ENTRIES None; started = None }
+state_of None =
+    record { memory_id = 0; memory = replicate MEMORY_BYTES 0; table = replicate TABLE_ENTRIES None; started = None }
 state_of (Some d) = shown d
 
 -- Drone d of a list.

@@ -1,6 +1,7 @@
 //! The answers of one drone, in a few bytes each.
 
-ghost use Rattle.std.specs.Prelude.{◌≡◌, ℕ, ◌+◌, ◌<◌, ◌≤◌, List, [], ◌∷◌, ◌++◌, length, slice_get, slice_range, OnOk, OnErr};
+ghost use Rattle.std.specs.Prelude.{◌≡◌, ℕ, ◌+◌, ◌<◌, ◌≤◌, List, [], ◌∷◌, ◌++◌, length, slice_get, slice_range, OnOk};
+ghost use Rattle.std.specs.Prelude.{OnErr};
 ghost use Rattle.upload_model.specs.Drones.{handled};
 ghost use Rattle.upload_model.specs.Worlds.{option_list};
 ghost use Rattle.firmware_memory.specs.Shown.{shown};

@@ -1,9 +1,11 @@
 //! Schedules: what happens in a world, as text, one event a line.
 
-ghost use Rattle.std.specs.Prelude.{◌≡◌, ℕ, Bool, ◌+◌, ◌<◌, ◌≤◌, ◌^◌, List, [], ◌∷◌, ◌++◌, length, map, Some, None, Ok, IfOk, IfErr, OnOk};
+ghost use Rattle.std.specs.Prelude.{◌≡◌, ℕ, Bool, ◌+◌, ◌<◌, ◌≤◌, ◌^◌, List, [], ◌∷◌, ◌++◌, length, map, Some, None, Ok};
+ghost use Rattle.std.specs.Prelude.{IfOk, IfErr, OnOk};
 ghost use Rattle.fleet_math.specs.Limits.{most_drones, most_text};
 ghost use Rattle.text_lines.specs.Tokens.{words_in};
-ghost use Rattle.fleet_world.specs.Schedules.{number_of as number_word, place_from, event_with, number_to, alteration_of, event_of, events_of, schedule_of, ScheduleLaw};
+ghost use Rattle.fleet_world.specs.Schedules.{number_of as number_word, place_from, event_with, number_to};
+ghost use Rattle.fleet_world.specs.Schedules.{alteration_of, event_of, events_of, schedule_of, ScheduleLaw};
 ghost use Rattle.fleet_world.specs.Faults.{FaultGives};
 ghost use Rattle.fleet_world.specs.Steps.{IsLine, prepended};
 ghost use Rattle.text_lines.specs.Words.{numbered};
@@ -189,10 +191,13 @@ fn put_line(
     requires short { length line.now ≤ most_text }
     requires names { length names.now ≤ most_drones }
     ensures ok { OnOk result ((later : List (List ℕ)) →
-        prepended events.new.items (events_of readback (map (λ name. name.items) names.now) (numbered Absent (number + 1) later))
-        ≡ prepended events.old.items (events_of readback (map (λ name. name.items) names.now) (numbered Absent number (line.now ∷ later)))) }
+        prepended events.new.items
+        (events_of readback (map (λ name. name.items) names.now) (numbered Absent (number + 1) later))
+        ≡ prepended events.old.items
+        (events_of readback (map (λ name. name.items) names.now) (numbered Absent number (line.now ∷ later)))) }
     ensures fault { IfErr result (λ fault. (later : List (List ℕ)) →
-        FaultGives fault (events_of readback (map (λ name. name.items) names.now) (numbered Absent number (line.now ∷ later)))) }
+        FaultGives fault
+        (events_of readback (map (λ name. name.items) names.now) (numbered Absent number (line.now ∷ later)))) }
 {
     let words = tokens(alloc, line, Comments::Absent)?;
     if words.is_empty() {

@@ -1,6 +1,7 @@
 //! What went to each drone and what came back, in order, so that any of it is found at once.
 
-ghost use Rattle.std.specs.Prelude.{◌≡◌, ◌≢◌, ℕ, ◌+◌, ◌<◌, ◌≤◌, List, [], ◌∷◌, ◌++◌, length, replicate, slice_get, IfOk, OnOk};
+ghost use Rattle.std.specs.Prelude.{◌≡◌, ◌≢◌, ℕ, ◌+◌, ◌<◌, ◌≤◌, List, [], ◌∷◌, ◌++◌, length, replicate, slice_get};
+ghost use Rattle.std.specs.Prelude.{IfOk, OnOk};
 ghost use Rattle.fleet_world.specs.Traffics.{sent_of, given_of, row_of, HasRoom};
 
 use crate::answers::Answers;

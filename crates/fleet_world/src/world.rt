@@ -1,6 +1,7 @@
 //! The world, one event at a time.
 
-ghost use Rattle.std.specs.Prelude.{◌≡◌, ℕ, ◌+◌, ◌<◌, ◌≤◌, List, [], ◌∷◌, ◌++◌, length, IfOk, OnOk, OnErr, slice_get, Some, All};
+ghost use Rattle.std.specs.Prelude.{◌≡◌, ℕ, ◌+◌, ◌<◌, ◌≤◌, List, [], ◌∷◌, ◌++◌, length, IfOk, OnOk, OnErr, slice_get};
+ghost use Rattle.std.specs.Prelude.{Some, All};
 ghost use Rattle.upload_model.specs.declared.events.WorldEvent.{WorldEvent};
 ghost use Rattle.upload_model.specs.Sessions.{Upload, drone_count};
 ghost use Rattle.upload_model.specs.Hosts.{progress as progress_of};
@@ -150,7 +151,8 @@ impl World {
         requires known { drone < drone_count self.old.host.session }
         requires inside { address < MEMORY_BYTES }
         ensures stands { (s : Upload) (w : Worlds.World) → WorldStandsAt self.old s w →
-            WorldStandsAt self.new s (record w { drones = changed w.drones drone (altered (w.drones drone) address value) }) }
+            WorldStandsAt self.new s
+            (record w { drones = changed w.drones drone (altered (w.drones drone) address value) }) }
         ensures progress { self.new.progress ≡ self.old.progress }
         ensures count { length self.new.drones ≡ length self.old.drones }
     {

@@ -52,7 +52,8 @@ fn is_near(f: &Flight, t: &Traj, ms: u32, x: &Sample) -> bool
     requires lasts { f.now.show_ms ≤ duration_of t.now }
     requires short { f.now.show_ms ≤ 1000000000 }
     requires inside { ms ≤ f.now.show_ms }
-    ensures { result ≡ list_any (λ i. word_within f.now.stray (played t.now i) x.now) (instants_near f.now.late f.now.show_ms ms) }
+    ensures { result ≡ list_any (λ i. word_within f.now.stray (played t.now i) x.now)
+        (instants_near f.now.late f.now.show_ms ms) }
 {
     let half = f.late as u32 / 2;
     let first = ms - ms.min(half);

@@ -3,7 +3,8 @@
 ghost use Rattle.std.specs.Prelude.{◌≡◌, ◌≤◌, ◌+◌, ◌++◌, ◌<◌, length};
 ghost use Rattle.std.specs.List.{list_any};
 ghost use Rattle.flight_model.specs.declared.events.Note.{Note};
-ghost use Rattle.flight_model.specs.Directors.{note_if as word_note, falls_silent as word_falls, silent_from, sample_notes};
+ghost use Rattle.flight_model.specs.Directors.{note_if as word_note, falls_silent as word_falls, silent_from};
+ghost use Rattle.flight_model.specs.Directors.{sample_notes};
 
 use crate::tracks::{is_astray, is_lost, is_silent, older};
 use arrayvec::ArrayVec;

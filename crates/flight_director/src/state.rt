@@ -1,12 +1,22 @@
 //! The director's state, and one event.
 
-ghost use Rattle.std.specs.Prelude.{slice_set, slice_get, All, true, if◌then◌else◌, None, ◌≡◌, ◌≤◌, ◌+◌, ◌++◌, ◌<◌, ◌&&◌, ◌∷◌, length, map, [], Some};
+ghost use Rattle.std.specs.Prelude.{slice_set, slice_get, All, true, if◌then◌else◌, None, ◌≡◌, ◌≤◌, ◌+◌, ◌++◌, ◌<◌};
+ghost use Rattle.std.specs.Prelude.{◌&&◌, ◌∷◌, length, map, [], Some};
 ghost use Rattle.std.specs.List.{list_any, list_all};
 ghost use Rattle.flight_model.specs.declared.events.Note.{Note};
 ghost use Rattle.flight_model.specs.declared.flights.Step.{Step as StepWord};
 ghost use Rattle.flight_model.specs.declared.events.Frame.TheVariants.{Noted, Over};
 ghost use Rattle.flight_model.specs.declared.states.Choice.TheVariants.{Begin};
-ghost use Rattle.flight_model.specs.Directors.{start, drones, in_show, is_off as word_off, track_with as word_track, tracks_after, harms as word_harms, heard, fits, next_step, noticed as word_noticed, overdue as word_overdue, notes as word_notes, is_due as word_due, is_due_step, is_late_step, is_grave as word_grave, is_over as word_over, chosen, has_risen as word_risen, frames_of, landings, done, led, happens, says, is_fault, is_go as word_go, is_land as word_land, is_stop as word_stop, passed as word_passed, is_rise as word_rise, order_in, frames_of_step, frames_from, into, starts_with, unfit_in, is_flying as word_flying, land_order, is_flown, State as StateWord};
+ghost use Rattle.flight_model.specs.Directors.{start, drones, in_show, is_off as word_off, track_with as word_track};
+ghost use Rattle.flight_model.specs.Directors.{tracks_after, harms as word_harms, heard, fits, next_step};
+ghost use Rattle.flight_model.specs.Directors.{noticed as word_noticed, overdue as word_overdue, notes as word_notes};
+ghost use Rattle.flight_model.specs.Directors.{is_due as word_due, is_due_step, is_late_step, is_grave as word_grave};
+ghost use Rattle.flight_model.specs.Directors.{is_over as word_over, chosen, has_risen as word_risen, frames_of};
+ghost use Rattle.flight_model.specs.Directors.{landings, done, led, happens, says, is_fault, is_go as word_go};
+ghost use Rattle.flight_model.specs.Directors.{is_land as word_land, is_stop as word_stop, passed as word_passed};
+ghost use Rattle.flight_model.specs.Directors.{is_rise as word_rise, order_in, frames_of_step, frames_from, into};
+ghost use Rattle.flight_model.specs.Directors.{starts_with, unfit_in, is_flying as word_flying, land_order, is_flown};
+ghost use Rattle.flight_model.specs.Directors.{State as StateWord};
 ghost use Rattle.flight_director.specs.Held.{IsHeld, AreFew, with_tracks};
 
 use crate::curve::is_kept;

@@ -3,7 +3,10 @@
 ghost use Rattle.std.specs.Prelude.{◌≡◌, ◌≤◌, map, length, not};
 ghost use Rattle.std.specs.List.{list_any};
 ghost use Rattle.flight_model.specs.declared.states.Track.{Track};
-ghost use Rattle.flight_model.specs.Directors.{later as word_later, older as word_older, aged, off_with as word_off, is_silent as word_silent, is_lost as word_lost, is_astray as word_astray, is_down as word_down, is_disarmed as word_disarmed, all_seen};
+ghost use Rattle.flight_model.specs.Directors.{later as word_later, older as word_older, aged, off_with as word_off};
+ghost use Rattle.flight_model.specs.Directors.{is_silent as word_silent, is_lost as word_lost};
+ghost use Rattle.flight_model.specs.Directors.{is_astray as word_astray, is_down as word_down};
+ghost use Rattle.flight_model.specs.Directors.{is_disarmed as word_disarmed, all_seen};
 
 use flight_model::{Sample, Track};
 

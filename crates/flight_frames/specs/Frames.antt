@@ -1,5 +1,7 @@
 -- The frames between a bridge and the flight director, as bytes (docs/PROMISES.md, "Its frames").
-use Rattle.std.specs.Prelude.{◌≡◌, ⊤, ℕ, ◌+◌, ◌*◌, ◌/◌, ◌%◌, ◌^◌, ◌<◌, ◌≤◌, Bool, true, false, nat_le, nat_lt, ◌==◌, if◌then◌else◌, List, [], ◌∷◌, ◌++◌, length, drop, slice_index, Option, Some, None, Result, Ok, Err, ℤ, FitsSigned}
+use Rattle.std.specs.Prelude.{◌≡◌, ⊤, ℕ, ◌+◌, ◌*◌, ◌/◌, ◌%◌, ◌^◌, ◌<◌, ◌≤◌, Bool, true, false, nat_le, nat_lt, ◌==◌}
+use Rattle.std.specs.Prelude.{if◌then◌else◌, List, [], ◌∷◌, ◌++◌, length, drop, slice_index, Option, Some, None, Result}
+use Rattle.std.specs.Prelude.{Ok, Err, ℤ, FitsSigned}
 use Rattle.std.specs.Int.{w16, cast_signed, cast_unsigned}
 use Rattle.byteorder.specs.Endian.{little_bytes, little_number}
 use Rattle.flight_model.specs.declared.events.Order.{Order}
@@ -89,7 +91,8 @@ signed_at place bytes = cast_signed w16 (little_number 2 (drop place bytes))
 -- the sample of a frame without its kind
 abbrev pub seen_of : List ℕ → Sample
 seen_of bytes =
-    sample_from (little_number 2 (drop 1 bytes)) (signed_at 3 bytes) (signed_at 5 bytes) (signed_at 7 bytes) (slice_index bytes 9)
+    sample_from (little_number 2 (drop 1 bytes)) (signed_at 3 bytes) (signed_at 5 bytes) (signed_at 7 bytes)
+    (slice_index bytes 9)
 
 abbrev pub clock_in : List ℕ → Result Event FrameFault
 clock_in bytes = if length bytes == 2 then Ok (Clock (little_number 2 bytes)) else Err fault.Length
@@ -105,7 +108,8 @@ sample_in drones bytes =
 abbrev pub answer_in : ℕ → List ℕ → Result Event FrameFault
 answer_in drones bytes =
     if length bytes == 2
-    then (if nat_le drones (slice_index bytes 0) then Err fault.Drone else Ok (Answered (slice_index bytes 0) (slice_index bytes 1)))
+    then (if nat_le drones (slice_index bytes 0) then Err fault.Drone
+    else Ok (Answered (slice_index bytes 0) (slice_index bytes 1)))
     else Err fault.Length
 
 abbrev pub signal_in : ℕ → Result Event FrameFault
@@ -162,7 +166,8 @@ output_bytes (Over flown kept) = 4 ∷ over_byte flown kept ∷ []
 abbrev pub IsOrder : Order → Type 0
 IsOrder order.Arm = ⊤
 IsOrder (order.Rise z ms) = FitsSigned w16 z × (ms < 2 ^ 32)
-IsOrder (order.Go x y z yaw ms) = FitsSigned w16 x × FitsSigned w16 y × FitsSigned w16 z × FitsSigned w16 yaw × (ms < 2 ^ 32)
+IsOrder (order.Go x y z yaw ms) =
+    FitsSigned w16 x × FitsSigned w16 y × FitsSigned w16 z × FitsSigned w16 yaw × (ms < 2 ^ 32)
 IsOrder (order.Land z ms) = FitsSigned w16 z × (ms < 2 ^ 32)
 IsOrder order.Start = ⊤
 IsOrder order.Halt = ⊤
@@ -175,7 +180,8 @@ height_in make bytes = make (cast_signed w16 (little_number 2 bytes)) (little_nu
 abbrev pub go_in : List ℕ → Order
 go_in bytes =
     order.Go (cast_signed w16 (little_number 2 bytes)) (cast_signed w16 (little_number 2 (drop 2 bytes)))
-    (cast_signed w16 (little_number 2 (drop 4 bytes))) (cast_signed w16 (little_number 2 (drop 6 bytes))) (little_number 4 (drop 8 bytes))
+    (cast_signed w16 (little_number 2 (drop 4 bytes))) (cast_signed w16 (little_number 2 (drop 6 bytes)))
+    (little_number 4 (drop 8 bytes))
 
 abbrev pub order_in : List ℕ → Option Order
 order_in [] = None
@@ -224,7 +230,8 @@ pub record FrameLaw : Type 0 where
   -- an event's frame is read as the event
   pub read : (drones : ℕ) (e : Event) → IsEvent drones e → event_in drones (event_bytes e) ≡ Ok e
   -- bytes that are read as an event are its frame
-  pub only : (drones : ℕ) (bytes : List ℕ) (e : Event) → ((i : ℕ) → slice_index bytes i < 256) → event_in drones bytes ≡ Ok e →
+  pub only : (drones : ℕ) (bytes : List ℕ) (e : Event) → ((i : ℕ) → slice_index bytes i < 256) →
+      event_in drones bytes ≡ Ok e →
       IsEvent drones e × (bytes ≡ event_bytes e)
   -- a frame has the length that its first byte says
   pub lasts : (e : Event) → length_of (slice_index (event_bytes e) 0) ≡ Some (length (event_bytes e))

@@ -3,7 +3,9 @@
 ghost use Rattle.std.specs.Prelude.{◌≡◌, ℕ, ◌<◌, ◌≤◌, ◌+◌, Ok, IfOk, drop, length};
 ghost use Rattle.byteorder.specs.Endian.{little_number};
 ghost use Rattle.flight_model.specs.declared.events.Event.{Event as EventWord};
-ghost use Rattle.flight_frames.specs.Frames.{IsEvent, answer_in, bit_at, clock_in, event_bytes, event_in, length_of, sample_from as word_from, sample_in, said_in, seen_of, signed_at as word_signed};
+ghost use Rattle.flight_frames.specs.Frames.{IsEvent, answer_in, bit_at, clock_in, event_bytes, event_in, length_of};
+ghost use Rattle.flight_frames.specs.Frames.{sample_from as word_from, sample_in, said_in, seen_of};
+ghost use Rattle.flight_frames.specs.Frames.{signed_at as word_signed};
 
 use byteorder::{ByteOrder, LittleEndian};
 use flight_model::{Event, Sample, Signal};

@@ -2,7 +2,8 @@
 
 ghost use Rattle.std.specs.Prelude.{◌≡◌, ◌+◌, ◌≤◌, ◌<◌, ◌++◌, ◌∷◌, [], length};
 ghost use Rattle.byteorder.specs.Endian.{little_bytes};
-ghost use Rattle.flight_frames.specs.Frames.{fault_byte as word_fault, order_bytes, output_bytes, over_byte as word_over, position as word_position, signed};
+ghost use Rattle.flight_frames.specs.Frames.{fault_byte as word_fault, order_bytes, output_bytes};
+ghost use Rattle.flight_frames.specs.Frames.{over_byte as word_over, position as word_position, signed};
 
 use arrayvec::ArrayVec;
 use byteorder::{ByteOrder, LittleEndian};

@@ -1,7 +1,8 @@
 -- A flight through frames as a dialogue over a link: how it ends, and what it sends.
 use Rattle.std.specs.Prelude.{◌≡◌, ◌↔◌, ℕ, List, Option, None}
 use Rattle.link_dialogue.specs.Dialogues.{BeginsWith, Dialogue, DialogueFails, DialogueGives}
-use Rattle.link_dialogue.specs.Dialogues.{IsPrompt as IsPromptDialogue, StaysPrompt as StaysPromptDialogue, StopsAtEnd as DialogueStops, Takes as DialogueTakes}
+use Rattle.link_dialogue.specs.Dialogues.{IsPrompt as IsPromptDialogue, StaysPrompt as StaysPromptDialogue}
+use Rattle.link_dialogue.specs.Dialogues.{StopsAtEnd as DialogueStops, Takes as DialogueTakes}
 use Rattle.flight_model.specs.declared.events.Event.{Event}
 use Rattle.flight_model.specs.declared.flights.Flight.{Flight}
 use Rattle.flight_model.specs.declared.states.Phase.TheVariants.{Ended}

@@ -26,10 +26,13 @@ pub record SaysWhole (f : Flight) (bytes output : List ℕ) : Type 0 where
 
 pub record OrdersLaw : Type 0 where
   -- whatever the status
-  pub ended : (f : Flight) (bytes : List ℕ) (status : ℕ) (output : List ℕ) → FlightGives f bytes status output → Says f bytes status output
+  pub ended : (f : Flight) (bytes : List ℕ) (status : ℕ) (output : List ℕ) → FlightGives f bytes status output →
+      Says f bytes status output
   pub failed : (f : Flight) (taken output : List ℕ) → FlightFails f taken output → Says f taken 6 output
   -- what a failed write leaves of it is a prefix of what the director says, or begins with all of that
-  pub cut : (f : Flight) (bytes : List ℕ) (status : ℕ) (output part : List ℕ) (s : Says f bytes status output) → BeginsWith part output →
+  pub cut : (f : Flight) (bytes : List ℕ) (status : ℕ) (output part : List ℕ) (s : Says f bytes status output) →
+      BeginsWith part output →
       BeginsWith part (sent_over f s.events) ⊎ BeginsWith (sent_over f s.events) part
   -- status 0
-  pub whole : (f : Flight) (bytes output : List ℕ) → 1 ≤ length f.steps → FlightGives f bytes 0 output → SaysWhole f bytes output
+  pub whole : (f : Flight) (bytes output : List ℕ) → 1 ≤ length f.steps → FlightGives f bytes 0 output →
+      SaysWhole f bytes output

@@ -1,5 +1,6 @@
-//! Flights of two drones through frames, over memory: one leg up, a show of one cue, one leg down. The bytes were written
-//! out by hand from the tables of docs/PROMISES.md, "Its frames"; what is said at each event is in flight_model's example.
+//! Flights of two drones through frames, over memory: one leg up, a show of one cue, one leg down. The bytes were
+//! written out by hand from the tables of docs/PROMISES.md, "Its frames"; what is said at each event is in
+//! flight_model's example.
 
 ghost use Rattle.std.specs.Prelude.{◌≡◌, ◌≤◌, length, IfOk, All};
 ghost use Rattle.traj_codec.specs.declared.traj.Traj.{Traj as TrajWord};

@@ -1,6 +1,8 @@
 -- The flight director as a function of all that happened to it: its state after a list of events, and what it said.
 -- `happens` and `says` at the end of this file are one event; all above them is in the order in which an event passes.
-use Rattle.std.specs.Prelude.{ℕ, suc, ◌+◌, ◌-◌, Bool, true, false, not, ◌&&◌, ◌||◌, nat_le, nat_lt, ◌==◌, if◌then◌else◌, List, [], ◌∷◌, ◌++◌, length, map, take, slice_get, slice_set, Option, Some, None, min, replicate}
+use Rattle.std.specs.Prelude.{ℕ, suc, ◌+◌, ◌-◌, Bool, true, false, not, ◌&&◌, ◌||◌, nat_le, nat_lt, ◌==◌, if◌then◌else◌}
+use Rattle.std.specs.Prelude.{List, [], ◌∷◌, ◌++◌, length, map, take, slice_get, slice_set, Option, Some, None, min}
+use Rattle.std.specs.Prelude.{replicate}
 use Rattle.std.specs.List.{list_any, list_all, range_with_len}
 use Rattle.flight_model.specs.declared.events.Order.{Order}
 use Rattle.flight_model.specs.declared.events.Order.TheVariants as order
@@ -134,7 +136,8 @@ is_silent silence (Some x) = nat_lt silence x.age
 -- what harms a show: a sample off its curve, or a drone that becomes silent before the show's end
 abbrev pub harms : Flight → State → Event → Bool
 harms f s (Clock ms) =
-    s.showing && nat_lt s.waited f.show_ms && list_any (λ (t : Track). is_silent f.silence (older (min ms (f.show_ms - s.waited)) t.seen)) s.tracks
+    s.showing && nat_lt s.waited f.show_ms
+    && list_any (λ (t : Track). is_silent f.silence (older (min ms (f.show_ms - s.waited)) t.seen)) s.tracks
 harms f s (Seen d x) = is_off f s d x
 harms f s (Answered d status) = false
 harms f s (Said w) = false
@@ -238,7 +241,8 @@ is_flying p = false
 -- the next step is late, for the sake of this drone
 abbrev pub overdue : Flight → State → Event → List Note
 overdue f s e =
-    note_if (is_flying s.phase && not (is_due f s e) && is_late_step s (next_step f s)) (unfit_in f s (next_step f s)) Late
+    note_if (is_flying s.phase && not (is_due f s e) && is_late_step s (next_step f s)) (unfit_in f s (next_step f s))
+    Late
 
 -- all notes of an event
 unfoldable pub notes : Flight → State → Event → List Note

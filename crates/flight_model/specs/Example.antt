@@ -34,7 +34,10 @@ up_at x = record {
 abbrev pub show_at : ℤ → Traj
 show_at x = record {
   start = x ∷ pos 0 ∷ pos 1000 ∷ pos 0 ∷ [];
-  segments = record { ms = 1000; elements = Constant ∷ Cubic (pos 300 ∷ pos 300 ∷ pos 0 ∷ []) ∷ Constant ∷ Constant ∷ [] } ∷ [];
+  segments = record {
+    ms = 1000;
+    elements = Constant ∷ Cubic (pos 300 ∷ pos 300 ∷ pos 0 ∷ []) ∷ Constant ∷ Constant ∷ [];
+  } ∷ [];
 }
 
 abbrev pub down_at : ℤ → Traj

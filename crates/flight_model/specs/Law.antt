@@ -1,5 +1,7 @@
 -- The laws of the flight director: each holds of every flight and every list of events. Kept.antt has one more.
-use Rattle.std.specs.Prelude.{◌≡◌, ◌≢◌, ◌⊎◌, ℕ, ◌<◌, ◌≤◌, Bool, true, false, ◌==◌, if◌then◌else◌, List, [], ◌∷◌, ◌++◌, length, map, take, slice_get, Option, Some, None, ℤ, pos, ◌+ℤ◌, ◌-ℤ◌, ◌≤ℤ◌, All, Contains, ◌+◌, suc}
+use Rattle.std.specs.Prelude.{◌≡◌, ◌≢◌, ◌⊎◌, ℕ, ◌<◌, ◌≤◌, Bool, true, false, ◌==◌, if◌then◌else◌, List, [], ◌∷◌, ◌++◌}
+use Rattle.std.specs.Prelude.{length, map, take, slice_get, Option, Some, None, ℤ, pos, ◌+ℤ◌, ◌-ℤ◌, ◌≤ℤ◌, All, Contains}
+use Rattle.std.specs.Prelude.{◌+◌, suc}
 use Rattle.std.specs.List.{flat_map, list_any}
 use Rattle.flight_model.specs.declared.events.Order.{Order}
 use Rattle.flight_model.specs.declared.events.Order.TheVariants as order
@@ -15,7 +17,9 @@ use Rattle.flight_model.specs.declared.flights.Condition.{Condition}
 use Rattle.flight_model.specs.declared.flights.Step.{Step}
 use Rattle.flight_model.specs.declared.flights.Flight.{Flight}
 use Rattle.flight_model.specs.Samples.{square}
-use Rattle.flight_model.specs.Directors.{Phase, is_off, next_step, is_silent, all_fit, Steps, Landing, Off, Halted, Ended, Track, State, start, drones, order_in, land_order, landings, frames_from, has_risen, heard, notes, is_fault, happens, says, after, sent}
+use Rattle.flight_model.specs.Directors.{Phase, is_off, next_step, is_silent, all_fit, Steps, Landing, Off, Halted}
+use Rattle.flight_model.specs.Directors.{Ended, Track, State, start, drones, order_in, land_order, landings}
+use Rattle.flight_model.specs.Directors.{frames_from, has_risen, heard, notes, is_fault, happens, says, after, sent}
 
 -- ---- only: what a drone is told
 

@@ -1,6 +1,8 @@
 -- From three shows to the steps of a flight: the way up, the show and the way down, each a trajectory for each drone
 -- with one segment a cue.
-use Rattle.std.specs.Prelude.{◌≡◌, ◌⊎◌, ℕ, suc, ◌-◌, ◌<◌, ◌≤◌, ◌==◌, Bool, true, false, not, ◌&&◌, if◌then◌else◌, List, [], ◌∷◌, ◌++◌, length, map, take, drop, slice_index_or, slice_get, Option, Some, None, ℤ, int_le, All}
+use Rattle.std.specs.Prelude.{◌≡◌, ◌⊎◌, ℕ, suc, ◌-◌, ◌<◌, ◌≤◌, ◌==◌, Bool, true, false, not, ◌&&◌, if◌then◌else◌, List}
+use Rattle.std.specs.Prelude.{[], ◌∷◌, ◌++◌, length, map, take, drop, slice_index_or, slice_get, Option, Some, None, ℤ}
+use Rattle.std.specs.Prelude.{int_le, All}
 use Rattle.std.specs.List.{flat_map, list_any, range_with_len, sum}
 use Rattle.fleet_math.specs.Bernstein.{at}
 use Rattle.traj_codec.specs.declared.traj.Segment.{Segment}
@@ -175,12 +177,22 @@ down_bound w legs k = if will_move legs k then w.at_place else w.near
 -- before those that rise in leg k are armed: who has risen is armed, all others are ready
 abbrev pub arm_condition : Routes → ℕ → List Leg → Condition
 arm_condition w k legs =
-    record { position = position_of (leg legs k).from; bound = up_bound w legs k; ready = not (has_moved legs k); armed = has_moved legs k }
+    record {
+      position = position_of (leg legs k).from;
+      bound = up_bound w legs k;
+      ready = not (has_moved legs k);
+      armed = has_moved legs k;
+    }
 
 -- once they are
 abbrev pub up_condition : Routes → ℕ → List Leg → Condition
 up_condition w k legs =
-    record { position = position_of (leg legs k).from; bound = up_bound w legs k; ready = false; armed = has_moved legs (suc k) }
+    record {
+      position = position_of (leg legs k).from;
+      bound = up_bound w legs k;
+      ready = false;
+      armed = has_moved legs (suc k);
+    }
 
 -- the step that arms those that rise in leg k; the first one waits for the operator's go
 abbrev pub arm_step : Routes → List (List Leg) → ℕ → Step
@@ -218,7 +230,13 @@ start_step w ups = record {
 
 -- leg k of the way down, after the show or the leg before
 abbrev pub down_condition : Routes → ℕ → List Leg → Condition
-down_condition w k legs = record { position = position_of (leg legs k).from; bound = down_bound w legs k; ready = false; armed = will_move legs k }
+down_condition w k legs =
+    record {
+      position = position_of (leg legs k).from;
+      bound = down_bound w legs k;
+      ready = false;
+      armed = will_move legs k;
+    }
 
 abbrev pub down_step : Routes → ℕ → List (List Leg) → ℕ → Step
 down_step w show_ms all k = record {
@@ -250,7 +268,8 @@ lasts (t ∷ rest) = sum (durations t.segments)
 abbrev pub steps_between : Routes → List (List Leg) → List (List Leg) → List Step
 steps_between w ups downs =
     flat_map (λ k. arm_step w ups k ∷ up_step w ups k ∷ []) (range_with_len 0 (leg_count ups))
-    ++ start_step w ups ∷ (map (down_step w (lasts w.show) downs) (range_with_len 0 (leg_count downs)) ++ last_step w downs ∷ [])
+    ++ start_step w ups
+    ∷ (map (down_step w (lasts w.show) downs) (range_with_len 0 (leg_count downs)) ++ last_step w downs ∷ [])
 
 -- All steps of a flight: leg by leg up, each after its drones are armed; the start; leg by leg down; and the end.
 unfoldable pub steps_of : Routes → List Step

@@ -19,7 +19,8 @@ up_leg legs k = one_of (arm_order legs k) ++ one_of (up_order legs k)
 abbrev pub plan_of : Routes → List Leg → List Leg → List Order
 plan_of w up down =
     flat_map (up_leg up) (range_with_len 0 (leg_count (map legs_of w.up)))
-    ++ order.Start ∷ (flat_map (λ k. one_of (down_order down k)) (range_with_len 0 (leg_count (map legs_of w.down))) ++ order.Disarm ∷ [])
+    ++ order.Start ∷ (flat_map (λ k. one_of (down_order down k)) (range_with_len 0 (leg_count (map legs_of w.down)))
+    ++ order.Disarm ∷ [])
 
 abbrev pub PlanLaw : Type 0
 PlanLaw = (w : Routes) (d : ℕ) (up down : Traj) → slice_get w.up d ≡ Some up → slice_get w.down d ≡ Some down →

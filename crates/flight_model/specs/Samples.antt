@@ -1,5 +1,6 @@
 -- What a sample says of its drone: that it meets a condition, and that it is on its curve.
-use Rattle.std.specs.Prelude.{ℕ, ◌+◌, ◌-◌, ◌*◌, ◌/◌, Bool, false, not, ◌&&◌, ◌||◌, nat_le, List, slice_get, Option, Some, None, min, ℤ, pos, ◌+ℤ◌, ◌-ℤ◌, ◌*ℤ◌, int_le}
+use Rattle.std.specs.Prelude.{ℕ, ◌+◌, ◌-◌, ◌*◌, ◌/◌, Bool, false, not, ◌&&◌, ◌||◌, nat_le, List, slice_get, Option}
+use Rattle.std.specs.Prelude.{Some, None, min, ℤ, pos, ◌+ℤ◌, ◌-ℤ◌, ◌*ℤ◌, int_le}
 use Rattle.std.specs.List.{list_any, range_with_len}
 use Rattle.fleet_math.specs.Bernstein.{at}
 use Rattle.traj_codec.specs.declared.traj.Traj.{Traj}

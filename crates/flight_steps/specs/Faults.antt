@@ -1,7 +1,8 @@
 -- Why three shows are no flight: the first cause, in this order. Names on the way up, then on the way down; drone by
 -- drone, whether each of the three begins where the one before ended; drone by drone, the way up; then the way down;
 -- then how far drones may stand from their pads.
-use Rattle.std.specs.Prelude.{◌≡◌, ℕ, suc, Bool, true, ◌&&◌, nat_le, if◌then◌else◌, List, [], ◌∷◌, length, map, Option, Some, None, ℤ, bytes_eq, Result, Ok, Err, All}
+use Rattle.std.specs.Prelude.{◌≡◌, ℕ, suc, Bool, true, ◌&&◌, nat_le, if◌then◌else◌, List, [], ◌∷◌, length, map, Option}
+use Rattle.std.specs.Prelude.{Some, None, ℤ, bytes_eq, Result, Ok, Err, All}
 use Rattle.std.specs.Ordering.{int_eq}
 use Rattle.std.specs.Cmp.Lexicographic.{pointwise}
 use Rattle.std.specs.Option.{option_or}
@@ -14,7 +15,8 @@ use Rattle.traj_codec.specs.declared.traj.Traj.{Traj}
 use Rattle.arrayvec.specs.ArrayVec.{ArrayVec}
 use Rattle.flight_model.specs.declared.flights.Step.{Step}
 use Rattle.flight_model.specs.declared.flights.Leg.{Leg}
-use Rattle.flight_model.specs.Legs.{Routes, IsFlight, after_segment, way_begins, way_ends, legs_of, first_move, last_move, is_vertical, steps_of}
+use Rattle.flight_model.specs.Legs.{Routes, IsFlight, after_segment, way_begins, way_ends, legs_of, first_move}
+use Rattle.flight_model.specs.Legs.{last_move, is_vertical, steps_of}
 use Rattle.flight_steps.specs.declared.faults.Way.{Way}
 use Rattle.flight_steps.specs.declared.faults.Way.TheVariants as way
 use Rattle.flight_steps.specs.declared.faults.Seam.{Seam}
@@ -62,8 +64,8 @@ seams_fault d (u ∷ us) (s ∷ ss) (n ∷ ns) = option_or (seam_fault d u s n) 
 
 -- ---- rest
 
--- From a value on, these control points stay, since there are none, or go from rest to rest: with the value itself, which
--- isn't stored, they are four times the value, and four times another.
+-- From a value on, these control points stay, since there are none, or go from rest to rest: with the value itself,
+-- which isn't stored, they are four times the value, and four times another.
 abbrev pub rests_on : ℤ → List ℤ → Bool
 rests_on u [] = true
 rests_on u (v ∷ vs) =
@@ -118,7 +120,8 @@ narrow w = if nat_le w.near w.stray then None else Some (fault.Narrow w.near w.s
 -- what is wrong with the names
 abbrev pub crew_fault : Crews → Option FlightFault
 crew_fault c =
-    option_or (other_drone way.Up (first_other 0 c.up.now c.show.now)) (other_drone way.Down (first_other 0 c.down.now c.show.now))
+    option_or (other_drone way.Up (first_other 0 c.up.now c.show.now))
+    (other_drone way.Down (first_other 0 c.down.now c.show.now))
 
 -- what is wrong with the ways
 abbrev pub route_fault : Routes → Option FlightFault

@@ -95,7 +95,10 @@ pub record FlightRows : Type 0 where
       (fault.Gap seam.DownToUp 0)
   -- not from rest to rest: a curve, and a constant speed in the second cue
   pub restless_up : Refuses
-      (record hop { up = way_from (pos 0) (pos 0) (leg_by Constant (Cubic (pos 0 ∷ pos 1000 ∷ pos 1000 ∷ [])) ∷ []) ∷ [] })
+      (record hop {
+        up = way_from (pos 0) (pos 0) (leg_by Constant (Cubic (pos 0 ∷ pos 1000 ∷ pos 1000 ∷ [])) ∷ [])
+            ∷ [];
+      })
       (fault.Restless way.Up 0 0)
   pub restless_down : Refuses
       (after_ascent (held_at (pos 0) (pos 1000))

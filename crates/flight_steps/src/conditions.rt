@@ -1,7 +1,10 @@
 //! The conditions under which steps begin.
 
 ghost use Rattle.std.specs.Prelude.{◌≡◌, suc};
-ghost use Rattle.flight_model.specs.Legs.{position_of as word_position, up_bound as word_up_bound, down_bound as word_down_bound, arm_condition as word_arm, up_condition as word_up, down_condition as word_down, start_condition as word_start, last_condition as word_last};
+ghost use Rattle.flight_model.specs.Legs.{position_of as word_position, up_bound as word_up_bound};
+ghost use Rattle.flight_model.specs.Legs.{down_bound as word_down_bound, arm_condition as word_arm};
+ghost use Rattle.flight_model.specs.Legs.{up_condition as word_up, down_condition as word_down};
+ghost use Rattle.flight_model.specs.Legs.{start_condition as word_start, last_condition as word_last};
 ghost use Rattle.flight_steps.specs.Ways.{routes};
 
 use crate::legs::way_ends;

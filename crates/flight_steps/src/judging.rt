@@ -4,9 +4,17 @@ ghost use Rattle.std.specs.Prelude.{◌≡◌, ◌<◌, ◌≤◌, ◌∷◌, []
 ghost use Rattle.fleet_math.specs.Bernstein.{at};
 ghost use Rattle.std.specs.Option.{option_or};
 ghost use Rattle.traj_codec.specs.declared.traj.Traj.{Traj as TrajWord};
-ghost use Rattle.flight_model.specs.Legs.{after_segment, way_begins, way_ends as word_ends, first_move as word_first, last_move as word_last, legs_of};
+ghost use Rattle.flight_model.specs.Legs.{after_segment, way_begins, way_ends as word_ends, first_move as word_first};
+ghost use Rattle.flight_model.specs.Legs.{last_move as word_last, legs_of};
 ghost use Rattle.flight_steps.specs.declared.faults.Way.TheVariants as way_word;
-ghost use Rattle.flight_steps.specs.Faults.{first_other as word_other, other_drone as word_drone, crew_fault as word_crew, gap as word_gap, same_place, seam_fault as word_seam, seams_fault as word_seams, rests_on as word_rests_on, rests_by as word_rests_by, rests_in as word_rests_in, restless as word_restless, way_fault as word_way, ups_fault as word_ups, downs_fault as word_downs, narrow as word_narrow, route_fault as word_route, flight_fault as word_flight};
+ghost use Rattle.flight_steps.specs.Faults.{first_other as word_other, other_drone as word_drone};
+ghost use Rattle.flight_steps.specs.Faults.{crew_fault as word_crew, gap as word_gap, same_place};
+ghost use Rattle.flight_steps.specs.Faults.{seam_fault as word_seam, seams_fault as word_seams};
+ghost use Rattle.flight_steps.specs.Faults.{rests_on as word_rests_on, rests_by as word_rests_by};
+ghost use Rattle.flight_steps.specs.Faults.{rests_in as word_rests_in, restless as word_restless};
+ghost use Rattle.flight_steps.specs.Faults.{way_fault as word_way, ups_fault as word_ups, downs_fault as word_downs};
+ghost use Rattle.flight_steps.specs.Faults.{narrow as word_narrow, route_fault as word_route};
+ghost use Rattle.flight_steps.specs.Faults.{flight_fault as word_flight};
 ghost use Rattle.flight_steps.specs.Ways.{routes};
 
 use crate::faults::{FlightFault, Seam, Way};

@@ -1,7 +1,10 @@
 //! Conditions and orders of all drones.
 
 ghost use Rattle.std.specs.Prelude.{◌≡◌, map, IfOk};
-ghost use Rattle.flight_model.specs.Legs.{arm_condition as word_arm, up_condition as word_up, down_condition as word_down, start_condition as word_start, last_condition as word_last, arm_order as arm_word, up_order as up_word, down_order as down_word};
+ghost use Rattle.flight_model.specs.Legs.{arm_condition as word_arm, up_condition as word_up};
+ghost use Rattle.flight_model.specs.Legs.{down_condition as word_down, start_condition as word_start};
+ghost use Rattle.flight_model.specs.Legs.{last_condition as word_last, arm_order as arm_word, up_order as up_word};
+ghost use Rattle.flight_model.specs.Legs.{down_order as down_word};
 ghost use Rattle.flight_steps.specs.Ways.{routes};
 
 use crate::conditions::{

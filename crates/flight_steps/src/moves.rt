@@ -2,7 +2,9 @@
 
 ghost use Rattle.std.specs.Prelude.{◌≡◌, ◌<◌, ℕ, suc, length};
 ghost use Rattle.std.specs.List.{list_any};
-ghost use Rattle.flight_model.specs.Legs.{same_on as word_same, moves as word_moves, is_vertical as word_vertical, has_moved as word_has, will_move as word_will, first_move as word_first, last_move as word_last, leg as word_leg};
+ghost use Rattle.flight_model.specs.Legs.{same_on as word_same, moves as word_moves, is_vertical as word_vertical};
+ghost use Rattle.flight_model.specs.Legs.{has_moved as word_has, will_move as word_will, first_move as word_first};
+ghost use Rattle.flight_model.specs.Legs.{last_move as word_last, leg as word_leg};
 ghost use Rattle.flight_steps.specs.Steps.{IsLike};
 
 use flight_model::Leg;

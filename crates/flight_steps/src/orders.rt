@@ -1,7 +1,8 @@
 //! What each drone is ordered in a leg.
 
 ghost use Rattle.std.specs.Prelude.{◌≡◌};
-ghost use Rattle.flight_model.specs.Legs.{arm_order as word_arm, up_order as word_up, down_order as word_down, go_to as word_go, leg as word_leg};
+ghost use Rattle.flight_model.specs.Legs.{arm_order as word_arm, up_order as word_up, down_order as word_down};
+ghost use Rattle.flight_model.specs.Legs.{go_to as word_go, leg as word_leg};
 
 use crate::moves::{has_moved, is_move, leg, will_move_after};
 use flight_model::{Leg, Order};

@@ -3,7 +3,10 @@
 ghost use Rattle.std.specs.Prelude.{◌≡◌, ◌++◌, ◌<◌, ◌∷◌, [], List, map, OnOk, IfOk};
 ghost use Rattle.std.specs.List.{flat_map, range_with_len};
 ghost use Rattle.flight_model.specs.declared.flights.Step.{Step as StepWord};
-ghost use Rattle.flight_model.specs.Legs.{arm_step as word_arm, up_step as word_up, start_step as word_start, down_step as word_down, last_step as word_last, leg_count as word_count, leg_ms as word_ms, ms_before as word_before, lasts, legs_of as word_legs, steps_between, steps_of as word_steps};
+ghost use Rattle.flight_model.specs.Legs.{arm_step as word_arm, up_step as word_up, start_step as word_start};
+ghost use Rattle.flight_model.specs.Legs.{down_step as word_down, last_step as word_last, leg_count as word_count};
+ghost use Rattle.flight_model.specs.Legs.{leg_ms as word_ms, ms_before as word_before, lasts, legs_of as word_legs};
+ghost use Rattle.flight_model.specs.Legs.{steps_between, steps_of as word_steps};
 ghost use Rattle.flight_steps.specs.Faults.{StepsGive};
 ghost use Rattle.flight_steps.specs.Ways.{routes, AreFitted};
 
@@ -131,7 +134,8 @@ fn put_ups(
     steps: &mut Vec<Step>,
 ) -> Result<(), AllocError>
     ensures { OnOk result (steps.new.items ≡ steps.old.items
-        ++ flat_map (λ k. word_arm (routes w.now) all.now k ∷ word_up (routes w.now) all.now k ∷ []) (range_with_len 0 (word_count all.now))) }
+        ++ flat_map (λ k. word_arm (routes w.now) all.now k ∷ word_up (routes w.now) all.now k ∷ [])
+        (range_with_len 0 (word_count all.now))) }
 {
     for k in 0..leg_count(all) {
         let arm = arm_step(alloc, w, all, k)?;

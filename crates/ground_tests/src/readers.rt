@@ -1,4 +1,5 @@
-//! Readers of std as pipes, terminals and broken files are, under `StdSource`: what the source hands on, and what `Parts` says.
+//! Readers of std as pipes, terminals and broken files are, under `StdSource`: what the source hands on, and what
+//! `Parts` says.
 use fleet_io::{IoFault, Parts, StdSource};
 use std::alloc::{AllocError, Global};
 use std::cell::Cell;
@@ -84,8 +85,8 @@ fn handed(alloc: Global, steps: &[Step<'_>], reads: usize) -> Result<Vec<u8>, Al
     Ok(bytes)
 }
 
-// What a reader does; then how often it was read, what it gave by then, which is what the source's log has, the two texts, and
-// whether the end was met.
+// What a reader does; then how often it was read, what it gave by then, which is what the source's log has, the two
+// texts, and whether the end was met.
 #[derive(Clone, Copy)]
 struct Row<'a> {
     steps: &'a [Step<'a>],

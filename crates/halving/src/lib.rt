@@ -1,8 +1,8 @@
 //! Halves of curves of degree seven, by de Casteljau's rule.
 //!
-//! `halve` gives both halves of a curve, and halving again and again reaches each dyadic part of it; a `Place` names such a
-//! part. What the control values of a part are is told by the polar form, and two laws say that halving gives it. It stands
-//! on `bezier_core`.
+//! `halve` gives both halves of a curve, and halving again and again reaches each dyadic part of it; a `Place` names
+//! such a part. What the control values of a part are is told by the polar form, and two laws say that halving gives
+//! it. It stands on `bezier_core`.
 #![tactic(auto)]
 
 ghost use Rattle.std.specs.Prelude.{◌≡◌, ℕ, ◌+◌, ◌-◌, ◌*◌, ◌^◌, ◌<◌, ◌≤◌, ◌≤ℤ◌, ℤ, pos, ◌+ℤ◌, ◌*ℤ◌, All};
@@ -95,8 +95,8 @@ fn halve_by<const BITS: usize>(b: &Bez<8>) -> (Bez<8>, Bez<8>)
     (Bez { b: left }, Bez { b: right })
 }
 
-// One row of the triangle: its ends go into the halves, and the row after it is made. The number of the row is a constant
-// of the type, so that the compiler writes out each row and keeps it in registers.
+// One row of the triangle: its ends go into the halves, and the row after it is made. The number of the row is a
+// constant of the type, so that the compiler writes out each row and keeps it in registers.
 fn next_row<const K: usize, const BITS: usize>(
     b: &Bez<8>,
     row: &mut [i128; 8],
@@ -173,8 +173,8 @@ fn power_of_two(times: usize) -> i64
     }
 }
 
-/// A law. The left half at `a / c` is the whole at `a / (2 c)`, and the right half the whole at `(a + c) / (2 c)`, all in
-/// scaled numbers. `everywhere` says it of all whole numbers, whether or not a type holds them.
+/// A law. The left half at `a / c` is the whole at `a / (2 c)`, and the right half the whole at `(a + c) / (2 c)`, all
+/// in scaled numbers. `everywhere` says it of all whole numbers, whether or not a type holds them.
 pub fn half_law(b: &Bez<8>, a: i128, c: i128)
     requires values { All (IsBelow (2 ^ 118)) b.now.b }
     requires positive { pos 0 ≤ℤ a }
@@ -193,7 +193,8 @@ pub fn half_law(b: &Bez<8>, a: i128, c: i128)
 pub fn chain_law(b: &Bez<8>, p: Place)
     requires valid { IsPlace p.depth p.index }
     requires values { All (IsBelow (2 ^ 60)) b.now.b }
-    ensures here { (k : ℕ) → k ≤ 7 → halved_along p.depth p.index (at b.now.b) k ≡ part_value p.depth p.index (at b.now.b) k }
+    ensures here { (k : ℕ) → k ≤ 7
+        → halved_along p.depth p.index (at b.now.b) k ≡ part_value p.depth p.index (at b.now.b) k }
     ensures everywhere { (f : ℕ → ℤ) (depth index k : ℕ) → index < 2 ^ depth → k ≤ 7
         → halved_along depth index f k ≡ part_value depth index f k }
 {}

@@ -24,14 +24,23 @@ pub struct Answer {
 
 /// The answer of the command that the words are, over this input. `Err` is out of memory, as status 1 is.
 pub fn answer_of(alloc: Global, words: &Vec<String>, input: &[u8]) -> Result<Answer, AllocError>
-    ensures behaves { IfOk result (λ a. (c : Command) → command_in words.now.items ≡ Some c → RunsOver (verb_of c) input.now a.bytes.items a.status) }
+    ensures behaves { IfOk result (λ a. (c : Command) → command_in words.now.items ≡ Some c
+        → RunsOver (verb_of c) input.now a.bytes.items a.status) }
     ensures outcomes { IfOk result (λ a. (c : Command) → OutcomeLaw (verb_of c)) }
-    ensures usage { IfOk result (λ a. command_in words.now.items ≡ None → (a.status ≡ 2) × (a.bytes.items ≡ usage_line)) }
-    ensures flies { IfOk result (λ a. (name : List ℕ) → IsCalled words.now.items name → Contains judges_apart name → a.status ≡ 0 → FliesText (part_of input.now)) }
-    ensures uploads { IfOk result (λ a. (name : List ℕ) → IsCalled words.now.items name → Contains judges_apart name → a.status ≡ 0 → UploadsText (part_of input.now)) }
-    ensures drilled { IfOk result (λ a. (drones depth : ℕ) → command_in words.now.items ≡ Some (Command.Drill drones depth) → a.status ≡ 0 → FliesText (part_of (drill_text drones))) }
-    ensures headline { IfOk result (λ a. IsCalled words.now.items (codes "compile") → a.status ≡ 0 → Headline input.now (Some []) (Some a.bytes.items)) }
-    ensures begun { IfOk result (λ a. (depth : ℕ) (start readback : Bool) → command_in words.now.items ≡ Some (Command.Upload depth start readback) → HasBegun (Some []) (Some a.bytes.items) → UploadsText (part_of input.now)) }
+    ensures usage { IfOk result
+        (λ a. command_in words.now.items ≡ None → (a.status ≡ 2) × (a.bytes.items ≡ usage_line)) }
+    ensures flies { IfOk result (λ a. (name : List ℕ) → IsCalled words.now.items name → Contains judges_apart name
+        → a.status ≡ 0 → FliesText (part_of input.now)) }
+    ensures uploads { IfOk result (λ a. (name : List ℕ) → IsCalled words.now.items name → Contains judges_apart name
+        → a.status ≡ 0 → UploadsText (part_of input.now)) }
+    ensures drilled { IfOk result (λ a. (drones depth : ℕ)
+        → command_in words.now.items ≡ Some (Command.Drill drones depth) → a.status ≡ 0
+        → FliesText (part_of (drill_text drones))) }
+    ensures headline { IfOk result (λ a. IsCalled words.now.items (codes "compile") → a.status ≡ 0
+        → Headline input.now (Some []) (Some a.bytes.items)) }
+    ensures begun { IfOk result (λ a. (depth : ℕ) (start readback : Bool)
+        → command_in words.now.items ≡ Some (Command.Upload depth start readback)
+        → HasBegun (Some []) (Some a.bytes.items) → UploadsText (part_of input.now)) }
     ensures memory { IfOk result (λ a. a.status ≡ 1 → a.bytes.items ≡ []) }
     ensures read { IfOk result (λ a. a.status ≢ 6) }
     ensures write { IfOk result (λ a. a.status ≢ 7) }

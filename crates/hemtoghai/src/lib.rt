@@ -6,7 +6,8 @@
 //! stands in that file.
 #![tactic(auto)]
 
-ghost use Rattle.std.specs.Prelude.{◌≡◌, ◌≢◌, ℕ, ◌<◌, ◌≤◌, Bool, List, [], length, take, All, IsUtf8, Contains, codes, Option, Some, None};
+ghost use Rattle.std.specs.Prelude.{◌≡◌, ◌≢◌, ℕ, ◌<◌, ◌≤◌, Bool, List, [], length, take, All, IsUtf8, Contains, codes};
+ghost use Rattle.std.specs.Prelude.{Option, Some, None};
 ghost use Rattle.text_lines.specs.Marker.{part_of};
 ghost use Rattle.command_words.specs.Commands.{command_of};
 ghost use Rattle.drill_show.specs.Drill.{drill_text};
@@ -66,30 +67,39 @@ pub extern "C" fn hemtoghai_run(
 
     // The words are no command.
     ensures usage { command_of (words_in words.now) ≡ None → result ≢ 1 → result ≢ 17
-        → (output.new ≡ put_in output.old usage_line) × (size.new ≡ length usage_line) × (result ≡ said_in output.old usage_line 2) }
+        → (output.new ≡ put_in output.old usage_line) × (size.new ≡ length usage_line)
+        × (result ≡ said_in output.old usage_line 2) }
 
     // 0 of a command that judges whether drones keep apart: the show's text stands for a show, near to which they fly
     // and apart, at every instant; and each upload of that show goes right.
-    ensures flies { (name : List ℕ) → IsNamed (words_in words.now) name → Contains judges_apart name → result ≡ 0 → FliesText (part_of input.now) }
-    ensures uploads { (name : List ℕ) → IsNamed (words_in words.now) name → Contains judges_apart name → result ≡ 0 → UploadsText (part_of input.now) }
-    ensures drilled { (drones depth : ℕ) → command_of (words_in words.now) ≡ Some (Command.Drill drones depth) → result ≡ 0 → FliesText (part_of (drill_text drones)) }
+    ensures flies { (name : List ℕ) → IsNamed (words_in words.now) name → Contains judges_apart name → result ≡ 0
+        → FliesText (part_of input.now) }
+    ensures uploads { (name : List ℕ) → IsNamed (words_in words.now) name → Contains judges_apart name → result ≡ 0
+        → UploadsText (part_of input.now) }
+    ensures drilled { (drones depth : ℕ) → command_of (words_in words.now) ≡ Some (Command.Drill drones depth)
+        → result ≡ 0 → FliesText (part_of (drill_text drones)) }
 
     // 0 of `compile`: the input stands for a show, and its plan stands in the first `size` bytes of `output`.
-    ensures headline { IsNamed (words_in words.now) (codes "compile") → result ≡ 0 → Headline input.now (Some []) (Some (take size.new output.new)) }
+    ensures headline { IsNamed (words_in words.now) (codes "compile") → result ≡ 0
+        → Headline input.now (Some []) (Some (take size.new output.new)) }
 
     // 0 of `boxes`, `speed`, `explain` and `dynamics`: what stands in the first `size` bytes of `output` holds at every
     // instant of the flight, also of drones that collide.
     ensures regions { (depth : ℕ) → command_of (words_in words.now) ≡ Some (Command.Boxes depth) → result ≡ 0
         → StaysInRegions input.now (Some []) (Some (take size.new output.new)) }
-    ensures speeds { (depth : ℕ) (limit : Option ℕ) → command_of (words_in words.now) ≡ Some (Command.Speed depth limit) → result ≡ 0
+    ensures speeds { (depth : ℕ) (limit : Option ℕ) → command_of (words_in words.now) ≡ Some (Command.Speed depth limit)
+        → result ≡ 0
         → KeepsSpeeds limit depth input.now (Some []) (Some (take size.new output.new)) }
-    ensures touches { (depth fine : ℕ) → command_of (words_in words.now) ≡ Some (Command.Explain depth fine) → result ≡ 0
+    ensures touches { (depth fine : ℕ) → command_of (words_in words.now) ≡ Some (Command.Explain depth fine)
+        → result ≡ 0
         → TellsTouches depth fine input.now (Some []) (Some (take size.new output.new)) }
-    ensures motions { (depth : ℕ) (accel jump : Option ℕ) → command_of (words_in words.now) ≡ Some (Command.Dynamics depth accel jump) → result ≡ 0
+    ensures motions { (depth : ℕ) (accel jump : Option ℕ)
+        → command_of (words_in words.now) ≡ Some (Command.Dynamics depth accel jump) → result ≡ 0
         → KeepsDynamics depth accel jump input.now (Some []) (Some (take size.new output.new)) }
 
     // Of `upload` it holds at each status, once the first byte of a packet stands in `output`.
-    ensures begun { (depth : ℕ) (start readback : Bool) → command_of (words_in words.now) ≡ Some (Command.Upload depth start readback)
+    ensures begun { (depth : ℕ) (start readback : Bool)
+        → command_of (words_in words.now) ≡ Some (Command.Upload depth start readback)
         → HasBegun (Some []) (Some (take size.new output.new)) → UploadsText (part_of input.now) }
 
     // 0: the whole answer stands in `output`. 7: there is no room for it, and for no other cause.
@@ -97,7 +107,8 @@ pub extern "C" fn hemtoghai_run(
     ensures no_room { result ≡ 7 → length output.old < size.new }
     // 1 is out of memory, and 17 where a word isn't UTF-8; then nothing is answered.
     ensures memory { result ≡ 1 → (size.new ≡ 0) × (output.new ≡ output.old) }
-    ensures no_words { result ≡ 17 → (All IsUtf8 (words_in words.now) → ⊥) × (size.new ≡ 0) × (output.new ≡ output.old) }
+    ensures no_words { result ≡ 17
+        → (All IsUtf8 (words_in words.now) → ⊥) × (size.new ≡ 0) × (output.new ≡ output.old) }
     // No read fails, and there is no status above 20.
     ensures read { result ≢ 6 }
     ensures known { result ≤ 20 }

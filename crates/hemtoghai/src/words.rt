@@ -1,5 +1,6 @@
 //! The words of a call, from its bytes.
-ghost use Rattle.std.specs.Prelude.{◌≡◌, ◌≤◌, ◌<◌, ◌+◌, ◌++◌, [], ◌∷◌, drop, Err, All, IsUtf8, IfOk, OnOk, map, length, string_bytes};
+ghost use Rattle.std.specs.Prelude.{◌≡◌, ◌≤◌, ◌<◌, ◌+◌, ◌++◌, [], ◌∷◌, drop, Err, All, IsUtf8, IfOk, OnOk, map, length};
+ghost use Rattle.std.specs.Prelude.{string_bytes};
 ghost use Rattle.std.specs.List.{position_or_len};
 ghost use Rattle.text_lines.specs.Words.{without_empty};
 ghost use Rattle.hemtoghai.specs.Words.{divides, words_in};
@@ -60,7 +61,8 @@ fn after_byte(bytes: &[u8], at: usize) -> &[u8]
 
 // One word more, unless it has no byte.
 fn put_word(alloc: Global, list: &mut Vec<String>, word: &[u8]) -> Result<(), WordsFault>
-    ensures ok { OnOk result (map string_bytes list.new.items ≡ map string_bytes list.old.items ++ without_empty (word.now ∷ [])) }
+    ensures ok { OnOk result
+        (map string_bytes list.new.items ≡ map string_bytes list.old.items ++ without_empty (word.now ∷ [])) }
     ensures not_text { result ≡ Err WordsFault.NotText → All IsUtf8 (without_empty (word.now ∷ [])) → ⊥ }
 {
     if word.is_empty() {

@@ -1,6 +1,7 @@
 -- What is played: the exact position at a whole millisecond, rounded down to micrometres, and the exact yaw, rounded
 -- down to hundredths of a degree; and the rows of a whole show (docs/COMMANDS.md, `play`).
-use Rattle.std.specs.Prelude.{ℕ, suc, ◌-◌, ◌*◌, ◌/◌, ◌%◌, ◌^◌, ◌≤◌, ◌==◌, List, [], ◌∷◌, ◌++◌, length, map, sum, nat_lt, if◌then◌else◌, ℤ, pos, ◌*ℤ◌}
+use Rattle.std.specs.Prelude.{ℕ, suc, ◌-◌, ◌*◌, ◌/◌, ◌%◌, ◌^◌, ◌≤◌, ◌==◌, List, [], ◌∷◌, ◌++◌, length, map, sum, nat_lt}
+use Rattle.std.specs.Prelude.{if◌then◌else◌, ℤ, pos, ◌*ℤ◌}
 use Rattle.std.specs.List.{All, flat_map, range_with_len}
 use Rattle.std.specs.Fmt.{decimal, signed_decimal}
 use Rattle.fleet_io.specs.Words.{line}
@@ -44,7 +45,8 @@ pub record IsPlayable (t : Traj) : Type 0 where
 abbrev pub duration_of : Traj → ℕ
 duration_of t = sum (durations t.segments)
 
--- the row of a drone at an instant: the instant, the drone's name and the numbers, a space between them, and a line feed
+-- the row of a drone at an instant: the instant, the drone's name and the numbers, a space between them, and a line
+-- feed
 abbrev pub row : ℕ → List ℕ → List ℤ → List ℕ
 row ms name values = line (decimal ms) (name ∷ map signed_decimal values)
 

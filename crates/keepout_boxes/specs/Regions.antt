@@ -1,5 +1,6 @@
 -- A text of regions: one region a line.
-use Rattle.std.specs.Prelude.{◌≡◌, ℕ, zero, suc, ◌+◌, ◌&&◌, ◌==◌, ℤ, pos, neg_ℤ, int_le, Bool, if◌then◌else◌, List, [], ◌∷◌, length, codes, slice_index_or, Option, Some, None, Result, Ok, Err}
+use Rattle.std.specs.Prelude.{◌≡◌, ℕ, zero, suc, ◌+◌, ◌&&◌, ◌==◌, ℤ, pos, neg_ℤ, int_le, Bool, if◌then◌else◌, List, []}
+use Rattle.std.specs.Prelude.{◌∷◌, length, codes, slice_index_or, Option, Some, None, Result, Ok, Err}
 use Rattle.std.specs.Str.{bytes_eq}
 use Rattle.text_lines.specs.declared.token.Comments.TheVariants.{Absent}
 use Rattle.text_lines.specs.Lines.{lines_of}

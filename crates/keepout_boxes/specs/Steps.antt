@@ -1,5 +1,6 @@
 -- Words of private steps. No public clause cites them.
-use Rattle.std.specs.Prelude.{◌≡◌, ℕ, ◌*◌, ◌^◌, ◌≤◌, ◌<◌, ℤ, pos, neg_ℤ, ◌*ℤ◌, ◌≤ℤ◌, List, Option, Some, None, slice_get, slice_index_or}
+use Rattle.std.specs.Prelude.{◌≡◌, ℕ, ◌*◌, ◌^◌, ◌≤◌, ◌<◌, ℤ, pos, neg_ℤ, ◌*ℤ◌, ◌≤ℤ◌, List, Option, Some, None}
+use Rattle.std.specs.Prelude.{slice_get, slice_index_or}
 use Rattle.fleet_math.specs.Numbers.{IsIn}
 use Rattle.fleet_math.specs.Bernstein.{at}
 use Rattle.bezier_core.specs.declared.Bez.{Bez}
@@ -81,7 +82,8 @@ Covers c drone flight m =
 
 -- such rows for each of the first m drones, over all cues
 abbrev pub CoverAll : Raised → List (List (Bez 8)) → ℕ → Type 0
-CoverAll c boxes m = (drone : ℕ) → drone < m → (none : List (Bez 8)) → Covers c drone (slice_index_or boxes drone none) c.cues
+CoverAll c boxes m = (drone : ℕ) → drone < m → (none : List (Bez 8)) →
+    Covers c drone (slice_index_or boxes drone none) c.cues
 
 -- Ends that lie as far out as those before, and have eight control values between them.
 pub record IsWider (low high : ℤ) (g : ℕ → ℤ) (lower higher : ℤ) : Type 0 where

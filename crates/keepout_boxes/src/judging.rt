@@ -2,7 +2,8 @@
 
 ghost use Rattle.std.specs.Prelude.{◌≡◌, ℕ, ◌*◌, ◌^◌, ◌≤◌, ◌<◌, pos, length, All, MatchOption};
 ghost use Rattle.keepout_boxes.specs.Kept.{IsExtent, IsNear, JudgeGives, StaysClear, most_regions};
-ghost use Rattle.keepout_boxes.specs.Steps.{CoverAll, Covers, CueKept, DroneKept, IsFirstOfCue, IsFirstOfDrone, IsFirstOfRegion, RegionKept};
+ghost use Rattle.keepout_boxes.specs.Steps.{CoverAll, Covers, CueKept, DroneKept, IsFirstOfCue, IsFirstOfDrone};
+ghost use Rattle.keepout_boxes.specs.Steps.{IsFirstOfRegion, RegionKept};
 
 use crate::flight::{Boxes, boxes_of};
 use crate::part::is_kept;

@@ -1,6 +1,7 @@
 //! One part of a drone's way against one region.
 
-ghost use Rattle.std.specs.Prelude.{◌≡◌, ◌⊎◌, ◌↔◌, ℕ, ◌+◌, ◌*◌, ◌^◌, ◌≤◌, ◌<◌, ℤ, pos, ◌+ℤ◌, ◌-ℤ◌, ◌*ℤ◌, ◌≤ℤ◌, ◌<ℤ◌, IsTrue, All};
+ghost use Rattle.std.specs.Prelude.{◌≡◌, ◌⊎◌, ◌↔◌, ℕ, ◌+◌, ◌*◌, ◌^◌, ◌≤◌, ◌<◌, ℤ, pos, ◌+ℤ◌, ◌-ℤ◌, ◌*ℤ◌, ◌≤ℤ◌, ◌<ℤ◌};
+ghost use Rattle.std.specs.Prelude.{IsTrue, All};
 ghost use Rattle.fleet_math.specs.Numbers.{IsBelow, IsIn};
 ghost use Rattle.fleet_math.specs.Bernstein.{at};
 ghost use Rattle.keepout_boxes.specs.Kept.{AllAbove, AllBelow, AllBetween, AreEnds, IsExtent, IsKept, IsNear};

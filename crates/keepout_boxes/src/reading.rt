@@ -1,10 +1,13 @@
 //! Regions as text, one a line.
 
-ghost use Rattle.std.specs.Prelude.{◌≡◌, ℕ, ◌+◌, ◌<◌, ◌≤◌, ◌^◌, List, [], ◌∷◌, ◌++◌, length, Some, None, Ok, IfOk, IfErr, IfSome, OnOk, All, ℤ};
+ghost use Rattle.std.specs.Prelude.{◌≡◌, ℕ, ◌+◌, ◌<◌, ◌≤◌, ◌^◌, List, [], ◌∷◌, ◌++◌, length, Some, None, Ok, IfOk};
+ghost use Rattle.std.specs.Prelude.{IfErr, IfSome, OnOk, All, ℤ};
 ghost use Rattle.text_lines.specs.Tokens.{words_in};
 ghost use Rattle.keepout_boxes.specs.Kept.{AreEnds, IsNear, most_regions};
 ghost use Rattle.fleet_math.specs.Limits.{most_text};
-ghost use Rattle.keepout_boxes.specs.Regions.{FaultGives, are_ordered as ordered_ends, coordinate as coordinate_word, corner as corner_words, region_of, region_with as region_of_kind, regions_of};
+ghost use Rattle.keepout_boxes.specs.Regions.{FaultGives, are_ordered as ordered_ends, coordinate as coordinate_word};
+ghost use Rattle.keepout_boxes.specs.Regions.{corner as corner_words, region_of, region_with as region_of_kind};
+ghost use Rattle.keepout_boxes.specs.Regions.{regions_of};
 ghost use Rattle.keepout_boxes.specs.Steps.{IsCoordinate};
 
 use crate::region::Region;

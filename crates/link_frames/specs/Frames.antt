@@ -1,5 +1,6 @@
 -- The frames of a link as bytes, and which frames a list of bytes is (docs/RADIO.md, "Link frames").
-use Rattle.std.specs.Prelude.{◌≡◌, ℕ, ◌+◌, ◌≤◌, ◌&&◌, nat_lt, nat_le, ◌==◌, if◌then◌else◌, List, [], ◌∷◌, ◌++◌, length, drop, slice_index}
+use Rattle.std.specs.Prelude.{◌≡◌, ℕ, ◌+◌, ◌≤◌, ◌&&◌, nat_lt, nat_le, ◌==◌, if◌then◌else◌, List, [], ◌∷◌, ◌++◌, length}
+use Rattle.std.specs.Prelude.{drop, slice_index}
 use Rattle.std.specs.List.{flat_map, All}
 use Rattle.fleet_math.specs.Limits.{most_drones}
 use Rattle.link_frames.specs.declared.frame.Frame.{Frame}
@@ -39,7 +40,8 @@ end_frame status = end_byte ∷ status ∷ []
 -- a frame that may stand on a link: a drone, counted from 1, a packet of 1 to 31 bytes
 abbrev pub IsFrame : Frame → Type 0
 IsFrame frame.Tick = Unit {0}
-IsFrame (frame.Packet drone packet) = (1 ≤ drone) × (drone ≤ most_drones) × (1 ≤ length packet) × (length packet ≤ most_bytes)
+IsFrame (frame.Packet drone packet) = (1 ≤ drone) × (drone ≤ most_drones) × (1 ≤ length packet)
+    × (length packet ≤ most_bytes)
 
 -- the frame that a view shows
 abbrev pub frame_of : View → Frame
@@ -70,14 +72,17 @@ BeginsWithFrame bytes f = IsFrame f × ((later : List ℕ) × (bytes ≡ frame_b
 
 -- a first byte
 abbrev pub fed_kind : ℕ → Fed
-fed_kind byte = if byte == tick_byte then fed_is.Frame frame.Tick else (if byte == packet_byte then fed_is.More else fed_is.Bad Kind)
+fed_kind byte =
+    if byte == tick_byte then fed_is.Frame frame.Tick
+    else (if byte == packet_byte then fed_is.More else fed_is.Bad Kind)
 
 -- a byte of the packet: the last one makes the frame whole
 abbrev pub fed_packet : ℕ → ℕ → List ℕ → ℕ → Fed
 fed_packet drone len packet byte =
     if nat_lt (length packet + 1) len then fed_is.More else fed_is.Frame (frame.Packet drone (packet ++ byte ∷ []))
 
--- What a byte gives after those since the last whole frame: it is the kind, the drone, the length, or one of the packet.
+-- What a byte gives after those since the last whole frame: it is the kind, the drone, the length, or one of the
+-- packet.
 abbrev pub fed : List ℕ → ℕ → Fed
 fed begun byte =
     if length begun == 0 then fed_kind byte
@@ -108,7 +113,9 @@ pub record FrameLaw : Type 0 where
   -- a frame that is begun is no whole one
   pub begun : (bytes : List ℕ) → IsBegun bytes → BeginsNoFrame bytes
   -- bytes that begin with a frame begin with no other
-  pub step : (f g : Frame) (later after : List ℕ) → frame_bytes f ++ later ≡ frame_bytes g ++ after → (f ≡ g) × (later ≡ after)
+  pub step : (f g : Frame) (later after : List ℕ) →
+      frame_bytes f ++ later ≡ frame_bytes g ++ after → (f ≡ g) × (later ≡ after)
   -- bytes are one list of frames with less than a frame, or a faulty one, after it
-  pub one : (frames others : List Frame) (rest left : List ℕ) → All IsFrame frames → All IsFrame others → BeginsNoFrame rest → BeginsNoFrame left →
+  pub one : (frames others : List Frame) (rest left : List ℕ) → All IsFrame frames → All IsFrame others →
+      BeginsNoFrame rest → BeginsNoFrame left →
       frames_bytes frames ++ rest ≡ frames_bytes others ++ left → (frames ≡ others) × (rest ≡ left)

@@ -113,8 +113,8 @@ fn whole_packet(rest: &[u8]) -> Option<View<'_>>
     Some(View::Packet { drone, packet })
 }
 
-/// The frame with which bytes begin, where it stands whole there: it is the only one (`frame_law`). No byte is copied. `None` where they begin
-/// with no whole frame, since one of its bytes has no place or some of them are still to come.
+/// The frame with which bytes begin, where it stands whole there: it is the only one (`frame_law`). No byte is copied.
+/// `None` where they begin with no whole frame, since one of its bytes has no place or some of them are still to come.
 pub fn whole_frame(bytes: &[u8]) -> Option<View<'_>>
     ensures some { IfSome result (λ view. BeginsWithFrame bytes.now (frame_of view)) }
     ensures none { IfNone result (BeginsNoFrame bytes.now) }

@@ -33,8 +33,8 @@ impl Frames {
         }
     }
 
-    /// What the next byte gives after those before it. After `Bad` the reader takes no more bytes: no frame begins with those
-    /// that it has.
+    /// What the next byte gives after those before it. After `Bad` the reader takes no more bytes: no frame begins with
+    /// those that it has.
     pub fn feed(&mut self, byte: u8) -> Fed
         requires { IsBegun self.old }
         ensures value { result ≡ fed self.old byte }

@@ -23,7 +23,8 @@ NextGives Faulty old new = IsFaulty BeginsNoFrame old
 
 -- The host took this frame from the bytes to come, of an upload that was going: the status with which it has ended the
 -- upload then, if it has, and what is to be sent.
-pub record TakesFrame (status_now : Option ℕ) (old new : HostState) (sent : List Sent) (before after : Option (List ℕ)) : Type 0 where
+pub record TakesFrame (status_now : Option ℕ) (old new : HostState) (sent : List Sent) (before after : Option (List ℕ))
+    : Type 0 where
   pub frame : Frame
   pub formed : IsFrame frame
   pub taken : Consumes before after (frame_bytes frame)
@@ -33,7 +34,8 @@ pub record TakesFrame (status_now : Option ℕ) (old new : HostState) (sent : Li
   pub answer : (h : List Event) → HostStandsFor (view_of old) h → (link_of old.session).ended h ≡ None →
       status_now ≡ (link_of old.session).ended (h ++ event_in (link_of old.session) frame)
   pub sends : (h : List Event) → HostStandsFor (view_of old) h → (link_of old.session).ended h ≡ None →
-      packet_frames (link_of old.session) sent ≡ answers_after (link_of old.session) h (event_in (link_of old.session) frame)
+      packet_frames (link_of old.session) sent
+      ≡ answers_after (link_of old.session) h (event_in (link_of old.session) frame)
   pub known : All (IsPacketOf new.session) sent
   pub statuses : IfSome status_now (λ status. Contains (0 ∷ 9 ∷ 10 ∷ 14 ∷ []) status)
 

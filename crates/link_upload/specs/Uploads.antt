@@ -1,7 +1,8 @@
 -- An upload through frames as a dialogue over a link: how it ends, and what it sends.
 use Rattle.std.specs.Prelude.{◌≡◌, ℕ, List, Option}
 use Rattle.link_dialogue.specs.Dialogues.{BeginsWith, Dialogue, DialogueFails, DialogueGives}
-use Rattle.link_dialogue.specs.Dialogues.{IsPrompt as IsPromptDialogue, StaysPrompt as StaysPromptDialogue, StopsAtEnd as DialogueStops, Takes as DialogueTakes}
+use Rattle.link_dialogue.specs.Dialogues.{IsPrompt as IsPromptDialogue, StaysPrompt as StaysPromptDialogue}
+use Rattle.link_dialogue.specs.Dialogues.{StopsAtEnd as DialogueStops, Takes as DialogueTakes}
 use Rattle.link_frames.specs.declared.frame.Frame.{Frame}
 use Rattle.link_frames.specs.Frames.{IsBegun, IsFrame, frame_bytes}
 use Rattle.link_upload.specs.Sends.{events_in, sent_over}

@@ -1,6 +1,7 @@
 //! An upload between a source and a sink, from the first packets to the end frame.
 
-ghost use Rattle.std.specs.Prelude.{◌≡◌, ◌≢◌, ◌⊎◌, ◌≤◌, ◌++◌, [], ◌∷◌, ℕ, List, length, false, None, IsTrue, All, Contains, IfOk, IfSome, OnOk, OnErr, Err};
+ghost use Rattle.std.specs.Prelude.{◌≡◌, ◌≢◌, ◌⊎◌, ◌≤◌, ◌++◌, [], ◌∷◌, ℕ, List, length, false, None, IsTrue, All};
+ghost use Rattle.std.specs.Prelude.{Contains, IfOk, IfSome, OnOk, OnErr, Err};
 ghost use Rattle.std.specs.Io.KnownBytes.{Appends, Consumes};
 ghost use Rattle.fleet_io.specs.Causes.{Rose};
 ghost use Rattle.fleet_io.specs.Held.{buffer_bytes, stream};
@@ -35,7 +36,8 @@ fn take_frame(host: &mut Host, frame: View<'_>, out: &mut Out) -> Option<u8>
     ensures answer { (h : List Event) → HostStandsFor (view_of host.old) h → (link_of host.old.session).ended h ≡ None
         → result ≡ (link_of host.old.session).ended (h ++ event_in (link_of host.old.session) (frame_of frame.entry)) }
     ensures sent { (h : List Event) → HostStandsFor (view_of host.old) h → (link_of host.old.session).ended h ≡ None
-        → packet_frames (link_of host.old.session) out.new.items ≡ answers_after (link_of host.old.session) h (event_in (link_of host.old.session) (frame_of frame.entry)) }
+        → packet_frames (link_of host.old.session) out.new.items
+        ≡ answers_after (link_of host.old.session) h (event_in (link_of host.old.session) (frame_of frame.entry)) }
     ensures known { All (IsPacketOf host.new.session) out.new.items }
     ensures statuses { IfSome result (λ status. Contains (0 ∷ 9 ∷ 10 ∷ 14 ∷ []) status) }
 {
@@ -68,10 +70,12 @@ fn step<S: Source>(
     requires sound { IsTrue parts.old.sound }
     requires at_end { IsTrue parts.old.ended → IsTrue (S.told source.old).ended }
     requires holds { length parts.old.waiting ≤ buffer_bytes }
-    ensures gives { (all : List ℕ) → MayGive parts.new.ended (S.told source.new) all → IfOk result (λ stepped. StepGives stepped host.old host.new out.new.items
+    ensures gives { (all : List ℕ) → MayGive parts.new.ended (S.told source.new) all
+        → IfOk result (λ stepped. StepGives stepped host.old host.new out.new.items
         (stream parts.old (to_come all (S.told source.old))) (stream parts.new (to_come all (S.told source.new)))) }
     ensures failed { OnErr result ((parts.old.ended ≡ false) × (parts.new.waiting ≡ [])
-        × ((begun : List ℕ) × IsBegun begun × Took parts.old.waiting [] (S.told source.old) (S.told source.new) begun)) }
+        × ((begun : List ℕ) × IsBegun begun
+        × Took parts.old.waiting [] (S.told source.old) (S.told source.new) begun)) }
     ensures sound { OnOk result (IsTrue parts.new.sound) }
     ensures holds { length parts.new.waiting ≤ buffer_bytes }
     ensures began { parts.new.ended ≡ false → parts.old.ended ≡ false }
@@ -115,13 +119,23 @@ fn carry<S: Source, K: Sink>(
     requires at_end { IsTrue parts.old.ended → IsTrue (S.told source.old).ended }
     requires holds { length parts.old.waiting ≤ buffer_bytes }
     requires new { HostStandsFor (view_of host) [] }
-    ensures ends { (all : List ℕ) → MayGive parts.new.ended (S.told source.new) all → IfOk result (λ status. Ends (upload_of (link_of host.session)) status (stream parts.old (to_come all (S.told source.old))) (K.written sink.old) (K.written sink.new)) }
-    ensures read { (all : List ℕ) → MayGive parts.new.ended (S.told source.new) all → result ≡ Err Broken.Read → Rose (S.told source.old).faults (S.told source.new).faults × (parts.old.ended ≡ false)
-        × Fails (upload_of (link_of host.session)) (stream parts.old (to_come all (S.told source.old))) (to_come all (S.told source.new)) (K.written sink.old) (K.written sink.new) }
-    ensures write { (all : List ℕ) → MayGive parts.new.ended (S.told source.new) all → result ≡ Err Broken.Write → Rose (K.faults sink.old) (K.faults sink.new)
-        × Breaks (upload_of (link_of host.session)) (stream parts.old (to_come all (S.told source.old))) (K.written sink.old) (K.written sink.new) }
-    ensures prompt { (all : List ℕ) → MayGive parts.new.ended (S.told source.new) all → StaysPrompt (link_of host.session) (stream parts.old (to_come all (S.told source.old))) (to_come all (S.told source.new)) (K.written sink.old) (K.written sink.new) }
-    ensures stops { (all : List ℕ) → MayGive parts.new.ended (S.told source.new) all → StopsAtEnd (link_of host.session) (stream parts.old (to_come all (S.told source.old))) (to_come all (S.told source.new)) }
+    ensures ends { (all : List ℕ) → MayGive parts.new.ended (S.told source.new) all
+        → IfOk result (λ status. Ends (upload_of (link_of host.session)) status
+        (stream parts.old (to_come all (S.told source.old))) (K.written sink.old) (K.written sink.new)) }
+    ensures read { (all : List ℕ) → MayGive parts.new.ended (S.told source.new) all → result ≡ Err Broken.Read
+        → Rose (S.told source.old).faults (S.told source.new).faults × (parts.old.ended ≡ false)
+        × Fails (upload_of (link_of host.session)) (stream parts.old (to_come all (S.told source.old)))
+        (to_come all (S.told source.new)) (K.written sink.old) (K.written sink.new) }
+    ensures write { (all : List ℕ) → MayGive parts.new.ended (S.told source.new) all → result ≡ Err Broken.Write
+        → Rose (K.faults sink.old) (K.faults sink.new)
+        × Breaks (upload_of (link_of host.session)) (stream parts.old (to_come all (S.told source.old)))
+        (K.written sink.old) (K.written sink.new) }
+    ensures prompt { (all : List ℕ) → MayGive parts.new.ended (S.told source.new) all
+        → StaysPrompt (link_of host.session) (stream parts.old (to_come all (S.told source.old)))
+        (to_come all (S.told source.new)) (K.written sink.old) (K.written sink.new) }
+    ensures stops { (all : List ℕ) → MayGive parts.new.ended (S.told source.new) all
+        → StopsAtEnd (link_of host.session) (stream parts.old (to_come all (S.told source.old)))
+        (to_come all (S.told source.new)) }
     ensures grown { (sent : List ℕ) × Appends (K.written sink.old) (K.written sink.new) sent }
     ensures known { IfOk result (λ status. Contains (0 ∷ 8 ∷ 9 ∷ 10 ∷ 11 ∷ 13 ∷ 14 ∷ []) status) }
     ensures went { Went parts.old.ended parts.new.ended (S.told source.old) (S.told source.new) }
@@ -169,22 +183,34 @@ pub fn upload<S: Source, K: Sink>(parts: &mut Parts, source: &mut S, host: Host,
     requires holds { length parts.old.waiting ≤ buffer_bytes }
     requires new { HostStandsFor (view_of host) [] }
     // Each status but 6 and 7 is that to which the bytes lead, and all that they lead to was sent.
-    ensures ends { (all : List ℕ) → MayGive parts.new.ended (S.told source.new) all → result ≢ 6 → result ≢ 7 → IfSome (stream parts.old (to_come all (S.told source.old))) (λ bytes. (output : List ℕ)
-        × UploadGives (link_of host.session) bytes result output × Appends (K.written sink.old) (K.written sink.new) output) }
+    ensures ends { (all : List ℕ) → MayGive parts.new.ended (S.told source.new) all → result ≢ 6 → result ≢ 7
+        → IfSome (stream parts.old (to_come all (S.told source.old))) (λ bytes. (output : List ℕ)
+        × UploadGives (link_of host.session) bytes result output
+        × Appends (K.written sink.old) (K.written sink.new) output) }
     // A read failed: what the frames before it lead to was sent, and the end frame of 6.
-    ensures six { (all : List ℕ) → MayGive parts.new.ended (S.told source.new) all → result ≡ 6 → Rose (S.told source.old).faults (S.told source.new).faults × (parts.old.ended ≡ false)
-        × IfSome (stream parts.old (to_come all (S.told source.old))) (λ _. (taken output : List ℕ) × Consumes (stream parts.old (to_come all (S.told source.old))) (to_come all (S.told source.new)) taken
+    ensures six { (all : List ℕ) → MayGive parts.new.ended (S.told source.new) all → result ≡ 6
+        → Rose (S.told source.old).faults (S.told source.new).faults × (parts.old.ended ≡ false)
+        × IfSome (stream parts.old (to_come all (S.told source.old)))
+        (λ _. (taken output : List ℕ)
+        × Consumes (stream parts.old (to_come all (S.told source.old))) (to_come all (S.told source.new)) taken
         × UploadFails (link_of host.session) taken output × Appends (K.written sink.old) (K.written sink.new) output) }
     // A write failed: a prefix was sent of what the bytes lead to, or those before a failed read.
-    ensures seven { (all : List ℕ) → MayGive parts.new.ended (S.told source.new) all → result ≡ 7 → Rose (K.faults sink.old) (K.faults sink.new)
-        × IfSome (stream parts.old (to_come all (S.told source.old))) (λ bytes. (output : List ℕ) × AppendsFront (K.written sink.old) (K.written sink.new) output
+    ensures seven { (all : List ℕ) → MayGive parts.new.ended (S.told source.new) all → result ≡ 7
+        → Rose (K.faults sink.old) (K.faults sink.new)
+        × IfSome (stream parts.old (to_come all (S.told source.old)))
+        (λ bytes. (output : List ℕ) × AppendsFront (K.written sink.old) (K.written sink.new) output
         × (((status : ℕ) × UploadGives (link_of host.session) bytes status output)
         ⊎ (Rose (S.told source.old).faults (S.told source.new).faults × (parts.old.ended ≡ false)
-        × ((taken : List ℕ) × Consumes (stream parts.old (to_come all (S.told source.old))) (to_come all (S.told source.new)) taken × UploadFails (link_of host.session) taken output)))) }
+        × ((taken : List ℕ) × Consumes (stream parts.old (to_come all (S.told source.old)))
+        (to_come all (S.told source.new)) taken × UploadFails (link_of host.session) taken output)))) }
     // No answer waits for much further input.
-    ensures prompt { (all : List ℕ) → MayGive parts.new.ended (S.told source.new) all → StaysPrompt (link_of host.session) (stream parts.old (to_come all (S.told source.old))) (to_come all (S.told source.new)) (K.written sink.old) (K.written sink.new) }
+    ensures prompt { (all : List ℕ) → MayGive parts.new.ended (S.told source.new) all
+        → StaysPrompt (link_of host.session) (stream parts.old (to_come all (S.told source.old)))
+        (to_come all (S.told source.new)) (K.written sink.old) (K.written sink.new) }
     // Once the upload is over no more is read: at most 4,096 bytes after its frames were taken.
-    ensures stops { (all : List ℕ) → MayGive parts.new.ended (S.told source.new) all → StopsAtEnd (link_of host.session) (stream parts.old (to_come all (S.told source.old))) (to_come all (S.told source.new)) }
+    ensures stops { (all : List ℕ) → MayGive parts.new.ended (S.told source.new) all
+        → StopsAtEnd (link_of host.session) (stream parts.old (to_come all (S.told source.old)))
+        (to_come all (S.told source.new)) }
     // Whether or not the source tells its bytes: what the sink holds only grows.
     ensures grown { (sent : List ℕ) × Appends (K.written sink.old) (K.written sink.new) sent }
     ensures known { Contains (0 ∷ 6 ∷ 7 ∷ 8 ∷ 9 ∷ 10 ∷ 11 ∷ 13 ∷ 14 ∷ []) result }

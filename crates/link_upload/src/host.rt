@@ -46,10 +46,13 @@ pub fn packet_of(host: &Host, x: Sent) -> Packet
 // A tick. `out` is replaced by what is to be sent now. Returns the status of the upload's end, if it has ended.
 pub fn take_tick(host: &mut Host, out: &mut Out) -> Option<u8>
     ensures session { host.new.session ≡ host.old.session }
-    ensures stands { (h : List Event) → HostStandsFor (view_of host.old) h → HostStandsFor (view_of host.new) (h ++ Event.Tick ∷ []) }
-    ensures sent { (h : List Event) → HostStandsFor (view_of host.old) h → out.new.items ≡ (link_of host.old.session).out h Event.Tick }
+    ensures stands { (h : List Event) → HostStandsFor (view_of host.old) h
+        → HostStandsFor (view_of host.new) (h ++ Event.Tick ∷ []) }
+    ensures sent { (h : List Event) → HostStandsFor (view_of host.old) h
+        → out.new.items ≡ (link_of host.old.session).out h Event.Tick }
     ensures known { All (IsPacketOf host.new.session) out.new.items }
-    ensures answer { (h : List Event) → HostStandsFor (view_of host.old) h → result ≡ (link_of host.old.session).ended (h ++ Event.Tick ∷ []) }
+    ensures answer { (h : List Event) → HostStandsFor (view_of host.old) h
+        → result ≡ (link_of host.old.session).ended (h ++ Event.Tick ∷ []) }
     ensures statuses { IfSome result (λ status. Contains (0 ∷ 9 ∷ 10 ∷ 14 ∷ []) status) }
 {
     status(host.event(Event::Tick, out))
@@ -60,10 +63,13 @@ pub fn take_packet(host: &mut Host, drone: u8, packet: &[u8], out: &mut Out) -> 
     requires not_empty { 1 ≤ length packet.now }
     requires fits { length packet.now ≤ PACKET_BYTES }
     ensures session { host.new.session ≡ host.old.session }
-    ensures stands { (h : List Event) → HostStandsFor (view_of host.old) h → HostStandsFor (view_of host.new) (h ++ Event.Up drone packet.now ∷ []) }
-    ensures sent { (h : List Event) → HostStandsFor (view_of host.old) h → out.new.items ≡ (link_of host.old.session).out h (Event.Up drone packet.now) }
+    ensures stands { (h : List Event) → HostStandsFor (view_of host.old) h
+        → HostStandsFor (view_of host.new) (h ++ Event.Up drone packet.now ∷ []) }
+    ensures sent { (h : List Event) → HostStandsFor (view_of host.old) h
+        → out.new.items ≡ (link_of host.old.session).out h (Event.Up drone packet.now) }
     ensures known { All (IsPacketOf host.new.session) out.new.items }
-    ensures answer { (h : List Event) → HostStandsFor (view_of host.old) h → result ≡ (link_of host.old.session).ended (h ++ Event.Up drone packet.now ∷ []) }
+    ensures answer { (h : List Event) → HostStandsFor (view_of host.old) h
+        → result ≡ (link_of host.old.session).ended (h ++ Event.Up drone packet.now ∷ []) }
     ensures statuses { IfSome result (λ status. Contains (0 ∷ 9 ∷ 10 ∷ 14 ∷ []) status) }
 {
     status(host.hear(drone, packet, out))

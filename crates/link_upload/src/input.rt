@@ -22,9 +22,12 @@ pub fn next_frame<S: Source>(parts: &mut Parts, source: &mut S) -> Result<Next, 
     requires sound { IsTrue parts.old.sound }
     requires at_end { IsTrue parts.old.ended → IsTrue (S.told source.old).ended }
     requires holds { length parts.old.waiting ≤ buffer_bytes }
-    ensures gives { (all : List ℕ) → MayGive parts.new.ended (S.told source.new) all → IfOk result (λ next. NextGives next (stream parts.old (to_come all (S.told source.old))) (stream parts.new (to_come all (S.told source.new)))) }
+    ensures gives { (all : List ℕ) → MayGive parts.new.ended (S.told source.new) all
+        → IfOk result (λ next. NextGives next (stream parts.old (to_come all (S.told source.old)))
+        (stream parts.new (to_come all (S.told source.new)))) }
     ensures failed { OnErr result ((parts.old.ended ≡ false) × (parts.new.waiting ≡ [])
-        × ((begun : List ℕ) × IsBegun begun × Took parts.old.waiting [] (S.told source.old) (S.told source.new) begun)) }
+        × ((begun : List ℕ) × IsBegun begun
+        × Took parts.old.waiting [] (S.told source.old) (S.told source.new) begun)) }
     ensures sound { OnOk result (IsTrue parts.new.sound) }
     ensures holds { length parts.new.waiting ≤ buffer_bytes }
     ensures began { parts.new.ended ≡ false → parts.old.ended ≡ false }

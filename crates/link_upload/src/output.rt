@@ -39,8 +39,10 @@ pub fn send<K: Sink>(
 ) -> Result<(), Failed>
     requires known { All (IsPacketOf host.now.session) sent.now }
     requires few { length sent.now ≤ MOST_SENT }
-    ensures ok { OnOk result (Appends (K.written sink.old) (K.written sink.new) (packet_frames (link_of host.now.session) sent.now)) }
-    ensures front { OnErr result (AppendsFront (K.written sink.old) (K.written sink.new) (packet_frames (link_of host.now.session) sent.now)) }
+    ensures ok { OnOk result
+        (Appends (K.written sink.old) (K.written sink.new) (packet_frames (link_of host.now.session) sent.now)) }
+    ensures front { OnErr result
+        (AppendsFront (K.written sink.old) (K.written sink.new) (packet_frames (link_of host.now.session) sent.now)) }
     ensures cause { HasCause (K.faults sink.old) (K.faults sink.new) result }
 {
     if sent.is_empty() {

@@ -38,7 +38,8 @@ AtEachFraction Holds = (a c : ℕ) → 1 ≤ c → a ≤ c → Holds a c
 -- axis.
 abbrev pub KeepsNear : Axis → Element → Type 0
 KeepsNear axis e =
-    AtEachFraction (λ a c. IsNear (position (controls axis) a c) (position (first_control (rounded axis) ∷ stored e) a c) c)
+    AtEachFraction
+    (λ a c. IsNear (position (controls axis) a c) (position (first_control (rounded axis) ∷ stored e) a c) c)
 
 -- The element, which begins at the first control value, is the curve of the axis.
 abbrev pub KeepsEqual : Axis → Element → Type 0

@@ -1,5 +1,6 @@
 -- Micrometres rounded to millimetres, and the segment of a trajectory that a piece in micrometres rounds to.
-use Rattle.std.specs.Prelude.{ℕ, Bool, ◌&&◌, List, [], ◌∷◌, map, Option, Some, None, ℤ, pos, neg_ℤ, ◌+ℤ◌, int_le, nat_le, slice_index_or, if◌then◌else◌}
+use Rattle.std.specs.Prelude.{ℕ, Bool, ◌&&◌, List, [], ◌∷◌, map, Option, Some, None, ℤ, pos, neg_ℤ, ◌+ℤ◌, int_le}
+use Rattle.std.specs.Prelude.{nat_le, slice_index_or, if◌then◌else◌}
 use Rattle.std.specs.List.{list_all}
 use Rattle.std.specs.Int.{int_div_euclid}
 use Rattle.std.specs.Ordering.{int_eq}

@@ -3,7 +3,8 @@
 ghost use Rattle.std.specs.Prelude.{◌≡◌, ◌≤◌, ◌*ℤ◌, ◌-ℤ◌, pos, neg_ℤ, map, length, IfSome};
 ghost use Rattle.fleet_math.specs.Numbers.{IsIn};
 ghost use Rattle.mm_rounding.specs.declared.piece.Axis.TheVariants.{Two, Four, Eight};
-ghost use Rattle.mm_rounding.specs.Rounding.{millimetres, short, shorts, rounded, all_equal, element_of, fitted, rounding};
+ghost use Rattle.mm_rounding.specs.Rounding.{millimetres, short, shorts, rounded, all_equal, element_of, fitted};
+ghost use Rattle.mm_rounding.specs.Rounding.{rounding};
 ghost use Rattle.mm_rounding.specs.Near.{StaysNear};
 
 use crate::piece::{Axis, MicroPiece};

@@ -1,5 +1,6 @@
 -- How far curves reach, and when that tells two drones. No public clause cites these words.
-use Rattle.std.specs.Prelude.{◌≡◌, ◌⊎◌, ℕ, ◌+◌, ◌*◌, ◌^◌, ◌≤◌, ◌<◌, ℤ, pos, negsuc, ◌-ℤ◌, ◌≤ℤ◌, List, [], ◌∷◌, length, slice_index_or}
+use Rattle.std.specs.Prelude.{◌≡◌, ◌⊎◌, ℕ, ◌+◌, ◌*◌, ◌^◌, ◌≤◌, ◌<◌, ℤ, pos, negsuc, ◌-ℤ◌, ◌≤ℤ◌, List, [], ◌∷◌, length}
+use Rattle.std.specs.Prelude.{slice_index_or}
 use Rattle.fleet_math.specs.Bernstein.{at}
 use Rattle.fleet_math.specs.Numbers.{IsBelow}
 use Rattle.bezier_core.specs.declared.Bez.{Bez}
@@ -33,7 +34,8 @@ IsFlight c drone e = (cue : ℕ) → cue < c.cues → IsExtent (curves_at c dron
 
 -- such an extent for each of the first m drones
 abbrev pub HaveFlights : Raised → List Extent → ℕ → Type 0
-HaveFlights c flights m = (drone : ℕ) → drone < m → (none : Extent) → IsFlight c drone (slice_index_or flights drone none)
+HaveFlights c flights m = (drone : ℕ) → drone < m → (none : Extent) →
+    IsFlight c drone (slice_index_or flights drone none)
 
 -- and for each
 abbrev pub AreFlights : Raised → List Extent → Type 0
@@ -41,7 +43,8 @@ AreFlights c flights = HaveFlights c flights c.drones
 
 -- what lies in one of two extents lies in the third
 abbrev pub IsWider : Extent → Extent → Extent → Type 0
-IsWider first second wide = (a b : List (Bez 8)) → IsExtent a first → IsExtent b second → IsExtent a wide × IsExtent b wide
+IsWider first second wide = (a b : List (Bez 8)) → IsExtent a first → IsExtent b second →
+    IsExtent a wide × IsExtent b wide
 
 -- what is kept clear on an axis whose half axis has this length: two half axes, two strays and the way of a drone that
 -- is late
@@ -58,11 +61,15 @@ IsBetween high low distance = distance ≤ℤ (low -ℤ high)
 
 -- with so much room between them on an axis the one extent lies beyond the other
 abbrev pub IsFarOn : ℕ → ℕ → Extent → Extent → Type 0
-IsFarOn room axis first second = IsBetween (at first.high axis) (at second.low axis) (least_distance room) ⊎ IsBetween (at second.high axis) (at first.low axis) (least_distance room)
+IsFarOn room axis first second =
+    IsBetween (at first.high axis) (at second.low axis) (least_distance room)
+    ⊎ IsBetween (at second.high axis) (at first.low axis) (least_distance room)
 
 -- on some axis
 abbrev pub IsFar : Clearance → Extent → Extent → Type 0
-IsFar c first second = IsFarOn (room_on c c.r 0) 0 first second ⊎ (IsFarOn (room_on c c.r 1) 1 first second ⊎ IsFarOn (room_on c c.h 2) 2 first second)
+IsFar c first second =
+    IsFarOn (room_on c c.r 0) 0 first second
+    ⊎ (IsFarOn (room_on c c.r 1) 1 first second ⊎ IsFarOn (room_on c c.h 2) 2 first second)
 
 -- a table has the directions of the three axes, both ways
 pub record HasAxes (dirs : List (List ℤ)) : Type 0 where

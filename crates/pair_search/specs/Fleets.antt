@@ -22,7 +22,8 @@ direction_at m curves slot = first_by m (difference curves slot.a slot.b slot.cu
 abbrev pub blocked_in : {A : Type 0} → (Slot → ℕ → A) → Measure → ℕ → Raised → List Slot → Option A
 blocked_in named m depth curves [] = None
 blocked_in named m depth curves (slot ∷ others) =
-    option_or (option_map (named slot) (blocked_place (direction_at m curves slot) depth)) (blocked_in named m depth curves others)
+    option_or (option_map (named slot) (blocked_place (direction_at m curves slot) depth))
+    (blocked_in named m depth curves others)
 
 -- a tree's nodes in preorder, where there is a tree
 abbrev pub nodes_of : Option Tree → List Node
@@ -54,9 +55,11 @@ slots_in curves = slots curves.drones curves.cues
 -- The trees of all slots, where no part is blocked; else the first part that is.
 abbrev pub GivesTrees : Measure → ℕ → Raised → Result (List (List Node)) SearchFault → Type 0
 GivesTrees m depth curves result =
-    FindsOf (blocked_in fault.Blocked m depth curves (slots_in curves)) (map (best_nodes m depth curves) (slots_in curves)) result
+    FindsOf (blocked_in fault.Blocked m depth curves (slots_in curves))
+    (map (best_nodes m depth curves) (slots_in curves)) result
 
 -- How many nodes these trees have, where no part is blocked; else the first part that is.
 abbrev pub GivesCount : Measure → ℕ → Raised → Result ℕ SearchFault → Type 0
 GivesCount m depth curves result =
-    FindsOf (blocked_in fault.Blocked m depth curves (slots_in curves)) (nodes_in m depth curves (slots_in curves)) result
+    FindsOf (blocked_in fault.Blocked m depth curves (slots_in curves)) (nodes_in m depth curves (slots_in curves))
+    result

@@ -1,5 +1,6 @@
 -- What the words of a search mean, and what is true of the tree that it finds.
-use Rattle.std.specs.Prelude.{◌≡◌, ◌↔◌, ℕ, ◌^◌, ◌≤◌, ◌<◌, ℤ, Bool, true, false, List, [], ◌∷◌, length, take, Option, Some, None}
+use Rattle.std.specs.Prelude.{◌≡◌, ◌↔◌, ℕ, ◌^◌, ◌≤◌, ◌<◌, ℤ, Bool, true, false, List, [], ◌∷◌, length, take, Option}
+use Rattle.std.specs.Prelude.{Some, None}
 use Rattle.bezier_core.specs.declared.Bez.{Bez}
 use Rattle.halving.specs.declared.Place.{Place}
 use Rattle.sep_parts.specs.declared.clearance.Clearance.{Clearance}
@@ -11,7 +12,8 @@ use Rattle.sep_parts.specs.Trees.{Tree, leaf, split, IsValidTree}
 use Rattle.pair_search.specs.Search.{HasDirection, IsClear, best_tree, blocked_place, first_direction, place_at}
 
 -- the direction with this number separates the place, and none before it in the table does
-pub record IsFirstDirection (c : Clearance) (diff : List (Bez 8)) (dirs : List (List ℤ)) (place : Place) (dir : ℕ) : Type 0 where
+pub record IsFirstDirection (c : Clearance) (diff : List (Bez 8)) (dirs : List (List ℤ)) (place : Place) (dir : ℕ) :
+    Type 0 where
   pub inside : dir < length dirs
   pub separates : Separates c diff place (direction_of dirs dir)
   pub none_before : (k : ℕ) → k < dir → Separates c diff place (direction_of dirs k) → ⊥
@@ -59,6 +61,8 @@ pub record SearchLaw : Type 0 where
   pub there : (c : Clearance) (diff : List (Bez 8)) (dirs : List (List ℤ)) (depth : ℕ) →
       ((tree : Tree) × (best_tree (first_direction c diff dirs) depth root ≡ Some tree)) ↔ IsClear c diff dirs depth
   pub valid : (rules : Rules) (diff : List (Bez 8)) (dirs : List (List ℤ)) (tree : Tree) →
-      best_tree (first_direction rules.clearance diff dirs) rules.depth root ≡ Some tree → IsValidTree rules dirs diff root tree
-  pub largest : (first : Place → Option ℕ) (depth : ℕ) (tree : Tree) → best_tree first depth root ≡ Some tree → (way : List Bool) (dir : ℕ) →
+      best_tree (first_direction rules.clearance diff dirs) rules.depth root ≡ Some tree →
+      IsValidTree rules dirs diff root tree
+  pub largest : (first : Place → Option ℕ) (depth : ℕ) (tree : Tree) →
+      best_tree first depth root ≡ Some tree → (way : List Bool) (dir : ℕ) →
       (leaf_on tree way ≡ Some dir) ↔ ((length way ≤ depth) × IsLargest first root way dir)

@@ -1,6 +1,7 @@
 -- What a search finds: the first direction that separates a place, the tree with the largest possible leaves, and the
 -- first place of the greatest depth that no direction separates.
-use Rattle.std.specs.Prelude.{◌≡◌, ℕ, zero, suc, ◌^◌, ◌<◌, ℤ, List, [], length, position, Option, Some, None, is_none, if◌then◌else◌, Result, Ok, Err}
+use Rattle.std.specs.Prelude.{◌≡◌, ℕ, zero, suc, ◌^◌, ◌<◌, ℤ, List, [], length, position, Option, Some, None, is_none}
+use Rattle.std.specs.Prelude.{if◌then◌else◌, Result, Ok, Err}
 use Rattle.std.specs.Option.{option_map, option_or}
 use Rattle.std.specs.declared.alloc.AllocError.{AllocError}
 use Rattle.bezier_core.specs.declared.Bez.{Bez}
@@ -49,7 +50,8 @@ split_of (Some left) (Some right) = Some (split left right)
 abbrev pub best_tree : (Place → Option ℕ) → ℕ → Place → Option Tree
 best_tree first zero place = option_map leaf (first place)
 best_tree first (suc n) place =
-    option_or (option_map leaf (first place)) (split_of (best_tree first n (left_half place)) (best_tree first n (right_half place)))
+    option_or (option_map leaf (first place))
+    (split_of (best_tree first n (left_half place)) (best_tree first n (right_half place)))
 
 -- ---- the first place that is blocked
 -- the first of n numbers from k on for which nothing is given
@@ -64,6 +66,7 @@ blocked_place first depth = first_without (λ index. first (place_at depth index
 -- ---- what a search gives Clear: no part of the depth is blocked, and the nodes are those of the best tree. Blocked:
 -- the first part that is, and no node. Out of memory: no node.
 abbrev pub SearchGives : (Place → Option ℕ) → ℕ → Result Found AllocError → List Node → Type 0
-SearchGives first depth (Ok Clear) nodes = (blocked_place first depth ≡ None) × (option_map preorder (best_tree first depth root) ≡ Some nodes)
+SearchGives first depth (Ok Clear) nodes = (blocked_place first depth ≡ None)
+    × (option_map preorder (best_tree first depth root) ≡ Some nodes)
 SearchGives first depth (Ok (Blocked index)) nodes = (blocked_place first depth ≡ Some index) × (nodes ≡ [])
 SearchGives first depth (Err e) nodes = nodes ≡ []

@@ -1,5 +1,6 @@
 -- Words of private steps of the search. No public clause cites them.
-use Rattle.std.specs.Prelude.{◌≡◌, ℕ, ◌+◌, ◌-◌, ◌≤◌, ◌<◌, nat_lt, Bool, true, false, List, length, Option, Some, None, is_none, if◌then◌else◌, Result, Ok, Err}
+use Rattle.std.specs.Prelude.{◌≡◌, ℕ, ◌+◌, ◌-◌, ◌≤◌, ◌<◌, nat_lt, Bool, true, false, List, length, Option, Some, None}
+use Rattle.std.specs.Prelude.{is_none, if◌then◌else◌, Result, Ok, Err}
 use Rattle.std.specs.Option.{option_map, option_or}
 use Rattle.std.specs.declared.alloc.AllocError.{AllocError}
 use Rattle.bezier_core.specs.declared.Bez.{Bez}
@@ -23,7 +24,8 @@ use Rattle.pair_search.specs.Fleets.{StopsBy, best_nodes, direction_at, nodes_of
 -- The node of a place: a leaf with its first direction, else a split where the place is less deep than the greatest
 -- depth.
 abbrev pub node_for : (Place → Option ℕ) → ℕ → Place → Option Node
-node_for first depth place = option_or (option_map Leaf (first place)) (if nat_lt place.depth depth then Some Split else None)
+node_for first depth place =
+    option_or (option_map Leaf (first place)) (if nat_lt place.depth depth then Some Split else None)
 
 -- whether the direction with this number separates a place
 abbrev pub does_separate : Measure → List (Bez 8) → Place → ℕ → Bool
@@ -31,16 +33,19 @@ does_separate m diff place dir = is_none (low_value m.clearance diff place (dire
 
 -- none of the directions from one number on and before another separates a place
 abbrev pub NoneFrom : Measure → List (Bez 8) → Place → ℕ → ℕ → Type 0
-NoneFrom m diff place begin past = (k : ℕ) → begin ≤ k → k < past → k < length m.directions → does_separate m diff place k ≡ false
+NoneFrom m diff place begin past = (k : ℕ) → begin ≤ k → k < past → k < length m.directions →
+    does_separate m diff place k ≡ false
 
 -- the first direction among these that separates a place, if one does
 abbrev pub FindsFrom : Measure → List (Bez 8) → Place → ℕ → ℕ → Option ℕ → Type 0
 FindsFrom m diff place begin past None = NoneFrom m diff place begin past
-FindsFrom m diff place begin past (Some dir) = (begin ≤ dir) × (dir < length m.directions) × NoneFrom m diff place begin dir × (does_separate m diff place dir ≡ true)
+FindsFrom m diff place begin past (Some dir) = (begin ≤ dir) × (dir < length m.directions)
+    × NoneFrom m diff place begin dir × (does_separate m diff place dir ≡ true)
 
 -- what a walk gives: as a search, but that nodes may be left where it isn't clear
 abbrev pub WalkGives : (Place → Option ℕ) → ℕ → Result Found AllocError → List Node → Type 0
-WalkGives first depth (Ok Clear) nodes = (blocked_place first depth ≡ None) × (option_map preorder (best_tree first depth root) ≡ Some nodes)
+WalkGives first depth (Ok Clear) nodes = (blocked_place first depth ≡ None)
+    × (option_map preorder (best_tree first depth root) ≡ Some nodes)
 WalkGives first depth (Ok (Blocked index)) nodes = blocked_place first depth ≡ Some index
 WalkGives first depth (Err e) nodes = Unit {0}
 
@@ -50,7 +55,8 @@ blocked_slot m depth curves slot = option_map (fault.Blocked slot) (blocked_plac
 
 -- what is found at a slot: the nodes of its tree
 abbrev pub FindsTree : Measure → ℕ → Raised → Slot → List Node → Result (Unit {0}) SearchFault → Type 0
-FindsTree m depth curves slot nodes (Ok found) = (blocked_slot m depth curves slot ≡ None) × (nodes ≡ best_nodes m depth curves slot)
+FindsTree m depth curves slot nodes (Ok found) = (blocked_slot m depth curves slot ≡ None)
+    × (nodes ≡ best_nodes m depth curves slot)
 FindsTree m depth curves slot nodes (Err f) = StopsBy (blocked_slot m depth curves slot) f
 
 -- ---- a count of nodes, with no direction named
@@ -60,24 +66,28 @@ marked first place = option_map (λ dir. 0) (first place)
 
 -- How many nodes the best tree has, where no part is blocked; else the first part that is.
 abbrev pub CountGives : (Place → Option ℕ) → ℕ → Result ℕ ℕ → Type 0
-CountGives first depth (Ok count) = (blocked_place first depth ≡ None) × (count ≡ length (nodes_of (best_tree first depth root)))
+CountGives first depth (Ok count) = (blocked_place first depth ≡ None)
+    × (count ≡ length (nodes_of (best_tree first depth root)))
 CountGives first depth (Err index) = blocked_place first depth ≡ Some index
 
 -- how many nodes the tree of a slot has
 abbrev pub FindsCount : Measure → ℕ → Raised → Slot → Result ℕ SearchFault → Type 0
-FindsCount m depth curves slot (Ok count) = (blocked_slot m depth curves slot ≡ None) × (count ≡ length (best_nodes m depth curves slot))
+FindsCount m depth curves slot (Ok count) = (blocked_slot m depth curves slot ≡ None)
+    × (count ≡ length (best_nodes m depth curves slot))
 FindsCount m depth curves slot (Err f) = StopsBy (blocked_slot m depth curves slot) f
 
 -- all cues of a slot's pair are to come, and each as a whole has a direction
 pub record IsPairFar (m : Measure) (curves : Raised) (slot : Slot) : Type 0 where
   pub begins : slot.cue ≡ 0
-  pub each : (cue : ℕ) → cue < curves.cues → HasDirection m.clearance (difference curves slot.a slot.b cue) m.directions root
+  pub each : (cue : ℕ) → cue < curves.cues →
+      HasDirection m.clearance (difference curves slot.a slot.b cue) m.directions root
 
 -- ---- whether there is a direction, whichever
 -- neither a direction of the first half of the table nor the one as far from its end separates a place
 abbrev pub NeitherAt : Measure → List (Bez 8) → Place → ℕ → Type 0
 NeitherAt m diff place i =
-    i + i < length m.directions → (does_separate m diff place i ≡ false) × (does_separate m diff place (length m.directions - (i + 1)) ≡ false)
+    i + i < length m.directions → (does_separate m diff place i ≡ false)
+    × (does_separate m diff place (length m.directions - (i + 1)) ≡ false)
 
 -- the same of each direction from one number on and before another
 abbrev pub NeitherFrom : Measure → List (Bez 8) → Place → ℕ → ℕ → Type 0

@@ -1,11 +1,13 @@
 //! How far the curves of a drone in a cue reach, which tells two drones that are far apart.
 
-ghost use Rattle.std.specs.Prelude.{◌≡◌, ℕ, ◌+◌, ◌*◌, ◌^◌, ◌≤◌, ◌<◌, ℤ, pos, ◌-ℤ◌, ◌≤ℤ◌, ◌⊎◌, All, IfOk, OnOk, IsTrue, length};
+ghost use Rattle.std.specs.Prelude.{◌≡◌, ℕ, ◌+◌, ◌*◌, ◌^◌, ◌≤◌, ◌<◌, ℤ, pos, ◌-ℤ◌, ◌≤ℤ◌, ◌⊎◌, All, IfOk, OnOk, IsTrue};
+ghost use Rattle.std.specs.Prelude.{length};
 ghost use Rattle.fleet_math.specs.Bernstein.{at};
 ghost use Rattle.fleet_math.specs.Numbers.{IsBelow};
 ghost use Rattle.fleet_curves.specs.Raised.{curves_at, curves_of};
 ghost use Rattle.sep_parts.specs.Directions.{IsAxis, IsClearance, reach_on};
-ghost use Rattle.pair_search.specs.Extents.{AreExtents, AreFlights, HasAxes, HasExtents, IsBetween, IsExtent, IsFar, IsFarOn, IsFlight, IsWider, least_distance, room_on};
+ghost use Rattle.pair_search.specs.Extents.{AreExtents, AreFlights, HasAxes, HasExtents, IsBetween, IsExtent, IsFar};
+ghost use Rattle.pair_search.specs.Extents.{IsFarOn, IsFlight, IsWider, least_distance, room_on};
 
 use crate::lanes::greater;
 use fleet_curves::Curves;
@@ -171,8 +173,10 @@ pub fn extent_at(curves: &Curves, all: &[Extent], drone: usize, cue: usize) -> E
 /// Whether two extents are so far apart on an axis that its direction separates the drones in the whole cue.
 pub fn are_far(first: &Extent, second: &Extent, clearance: &Clearance) -> bool
     requires clearance { IsClearance clearance.now }
-    requires first { (axis : ℕ) → axis ≤ 2 → IsBelow (2 ^ 28) (at first.now.low axis) × IsBelow (2 ^ 28) (at first.now.high axis) }
-    requires second { (axis : ℕ) → axis ≤ 2 → IsBelow (2 ^ 28) (at second.now.low axis) × IsBelow (2 ^ 28) (at second.now.high axis) }
+    requires first { (axis : ℕ) → axis ≤ 2
+        → IsBelow (2 ^ 28) (at first.now.low axis) × IsBelow (2 ^ 28) (at first.now.high axis) }
+    requires second { (axis : ℕ) → axis ≤ 2
+        → IsBelow (2 ^ 28) (at second.now.low axis) × IsBelow (2 ^ 28) (at second.now.high axis) }
     ensures { IsTrue result → IsFar clearance.now first.now second.now }
 {
     if are_far_on(first, second, 0, room_on(clearance, clearance.r, 0)) {
@@ -199,8 +203,10 @@ fn room_on(clearance: &Clearance, half: u16, axis: usize) -> u32
 fn are_far_on(first: &Extent, second: &Extent, axis: usize, room: u32) -> bool
     requires axis { axis ≤ 2 }
     requires room { room ≤ 71536 }
-    requires first { (axis : ℕ) → axis ≤ 2 → IsBelow (2 ^ 28) (at first.now.low axis) × IsBelow (2 ^ 28) (at first.now.high axis) }
-    requires second { (axis : ℕ) → axis ≤ 2 → IsBelow (2 ^ 28) (at second.now.low axis) × IsBelow (2 ^ 28) (at second.now.high axis) }
+    requires first { (axis : ℕ) → axis ≤ 2
+        → IsBelow (2 ^ 28) (at first.now.low axis) × IsBelow (2 ^ 28) (at first.now.high axis) }
+    requires second { (axis : ℕ) → axis ≤ 2
+        → IsBelow (2 ^ 28) (at second.now.low axis) × IsBelow (2 ^ 28) (at second.now.high axis) }
     ensures { IsTrue result → IsFarOn room axis first.now second.now }
 {
     let distance = least_distance(room);

@@ -111,7 +111,8 @@ fn first_from<const M: usize>(
 ) -> Option<u8>
     requires level { IsLevel diff.now level.now }
     requires begin { begin ≤ 96 }
-    requires near { (i : ℕ) → i < 16 → begin + i < length ruler.now.directions → at near.now i <ℤ pos 0 → does_separate ruler.now diff.now level.now.place (begin + i) ≡ false }
+    requires near { (i : ℕ) → i < 16 → begin + i < length ruler.now.directions → at near.now i <ℤ pos 0
+        → does_separate ruler.now diff.now level.now.place (begin + i) ≡ false }
     ensures { FindsFrom ruler.now diff.now level.now.place begin (begin + 16) result }
 {
     let count = ruler.count();

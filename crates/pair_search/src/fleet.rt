@@ -108,7 +108,8 @@ fn is_far<const M: usize>(curves: &Curves, extents: &[Extent], ruler: &Ruler<M>,
     requires slot { IsSlot curves.now.drones curves.now.cues slot }
     requires extents { AreExtents curves.now extents.now }
     requires axes { HasAxes ruler.now.directions }
-    ensures { IsTrue result → HasDirection ruler.now.clearance (difference curves.now slot.a slot.b slot.cue) ruler.now.directions root }
+    ensures { IsTrue result
+        → HasDirection ruler.now.clearance (difference curves.now slot.a slot.b slot.cue) ruler.now.directions root }
 {
     let first = extent_at(curves, extents, slot.a as usize, slot.cue as usize);
     let second = extent_at(curves, extents, slot.b as usize, slot.cue as usize);

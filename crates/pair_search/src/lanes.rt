@@ -1,13 +1,15 @@
 //! Directions side by side, which tell by whole steps of a few millimetres that most of them don't separate a part.
 
-ghost use Rattle.std.specs.Prelude.{◌≡◌, ◌⊎◌, ℕ, ◌+◌, ◌*◌, ◌^◌, ◌≤◌, ◌<◌, ℤ, pos, ◌+ℤ◌, ◌-ℤ◌, ◌*ℤ◌, ◌≤ℤ◌, ◌<ℤ◌, All, IfSome, length};
+ghost use Rattle.std.specs.Prelude.{◌≡◌, ◌⊎◌, ℕ, ◌+◌, ◌*◌, ◌^◌, ◌≤◌, ◌<◌, ℤ, pos, ◌+ℤ◌, ◌-ℤ◌, ◌*ℤ◌, ◌≤ℤ◌, ◌<ℤ◌, All};
+ghost use Rattle.std.specs.Prelude.{IfSome, length};
 ghost use Rattle.fleet_math.specs.Bernstein.{at};
 ghost use Rattle.fleet_math.specs.Numbers.{IsBelow};
 ghost use Rattle.bezier_core.specs.Along.{controls};
 ghost use Rattle.bezier_core.specs.Steps.{IsWithin};
 ghost use Rattle.sep_parts.specs.Directions.{direction_of, threshold, weights};
 ghost use Rattle.sep_parts.specs.Levels.{IsLevel};
-ghost use Rattle.pair_search.specs.Lanes.{AreLanes, AreSmallLanes, IsFloor, IsLowAt, IsPoint, IsSmallPoint, lane_value, slack_of, slack_on, steps_of};
+ghost use Rattle.pair_search.specs.Lanes.{AreLanes, AreSmallLanes, IsFloor, IsLowAt, IsPoint, IsSmallPoint, lane_value};
+ghost use Rattle.pair_search.specs.Lanes.{slack_of, slack_on, steps_of};
 
 use fleet_curves::Difference;
 use fleet_math::Depth;

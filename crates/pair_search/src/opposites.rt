@@ -107,7 +107,8 @@ pub fn weigh(opposites: &Opposites, p: &Point, q: &Point, begin: usize, near: &m
     requires p { IsSmallPoint p.now }
     requires q { IsSmallPoint q.now }
     ensures all { result <ℤ pos 0 → (i : ℕ) → i < 28 → at near.new i <ℤ pos 0 }
-    ensures told { (i : ℕ) → i < 28 → at near.new i <ℤ pos 0 → IsLowAt opposites.now.lanes p.now q.now (begin + i) × IsHighAt opposites.now p.now q.now (begin + i) }
+    ensures told { (i : ℕ) → i < 28 → at near.new i <ℤ pos 0
+        → IsLowAt opposites.now.lanes p.now q.now (begin + i) × IsHighAt opposites.now p.now q.now (begin + i) }
 {
     let mut all = -1;
     for i in 0..28 {

@@ -91,7 +91,8 @@ fn some_from<const M: usize>(
 ) -> Option<u8>
     requires level { IsLevel diff.now level.now }
     requires begin { begin ≤ 28 }
-    requires near { (i : ℕ) → i < 28 → at near.now i <ℤ pos 0 → NeitherAt ruler.now diff.now level.now.place (begin + i) }
+    requires near { (i : ℕ) → i < 28 → at near.now i <ℤ pos 0
+        → NeitherAt ruler.now diff.now level.now.place (begin + i) }
     ensures { FindsAmong ruler.now diff.now level.now.place begin (begin + 28) result }
 {
     for i in 0..28 {

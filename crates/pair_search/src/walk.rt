@@ -190,7 +190,8 @@ fn put(
     requires stack { IsStack diff.now waiting.old }
     requires shallow { (level : Level) (rest : List Level) → waiting.old ≡ level ∷ rest → IsShallow level.place node }
     ensures stack { OnOk result (IsStack diff.now waiting.new) }
-    ensures places { OnOk result ((level : Level) (rest : List Level) → waiting.old ≡ level ∷ rest → places_of waiting.new ≡ places_below level.place node ++ places_of rest) }
+    ensures places { OnOk result ((level : Level) (rest : List Level) → waiting.old ≡ level ∷ rest
+        → places_of waiting.new ≡ places_below level.place node ++ places_of rest) }
     ensures nodes { OnOk result (nodes.new.items ≡ nodes.old.items ++ node ∷ []) }
 {
     nodes.push(node)?;

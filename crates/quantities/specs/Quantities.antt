@@ -1,5 +1,7 @@
 -- Quantities: decimal numbers with a unit, which are a whole number of what a place counts.
-use Rattle.std.specs.Prelude.{◌≡◌, ℕ, ◌*◌, ◌/◌, ◌%◌, ◌^◌, ◌<◌, ◌⊎◌, Bool, true, false, List, [], ◌∷◌, ◌++◌, length, take, drop, ◌==◌, Option, Some, None, option_map, Result, ℤ, pos, ◌≤ℤ◌, int_le, ◌&&◌, if◌then◌else◌}
+use Rattle.std.specs.Prelude.{◌≡◌, ℕ, ◌*◌, ◌/◌, ◌%◌, ◌^◌, ◌<◌, ◌⊎◌, Bool, true, false, List, [], ◌∷◌, ◌++◌, length}
+use Rattle.std.specs.Prelude.{take, drop, ◌==◌, Option, Some, None, option_map, Result, ℤ, pos, ◌≤ℤ◌, int_le, ◌&&◌}
+use Rattle.std.specs.Prelude.{if◌then◌else◌}
 use Rattle.std.specs.List.{prefix_len}
 use Rattle.text_lines.specs.Numbers.{is_digit, natural_of, signed, begins_with_minus, number_of, in_range}
 use Rattle.text_lines.specs.declared.number.NumberFault.{NumberFault}

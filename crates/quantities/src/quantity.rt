@@ -1,8 +1,10 @@
 //! Numbers with a unit.
 
-ghost use Rattle.std.specs.Prelude.{◌≡◌, ℕ, ◌+◌, ◌*◌, ◌^◌, ◌<◌, ◌≤◌, ◌==◌, ◌≤ℤ◌, ◌<ℤ◌, pos, neg_ℤ, min, option_map, Option, IsTrue, IfOk, length};
+ghost use Rattle.std.specs.Prelude.{◌≡◌, ℕ, ◌+◌, ◌*◌, ◌^◌, ◌<◌, ◌≤◌, ◌==◌, ◌≤ℤ◌, ◌<ℤ◌, pos, neg_ℤ, min, option_map};
+ghost use Rattle.std.specs.Prelude.{Option, IsTrue, IfOk, length};
 ghost use Rattle.std.specs.List.{prefix_len, list_all};
-ghost use Rattle.text_lines.specs.Numbers.{is_digit as is_digit_of, signed, begins_with_minus as begins_with_minus_of, in_range as in_range_of};
+ghost use Rattle.text_lines.specs.Numbers.{is_digit as is_digit_of, signed, begins_with_minus as begins_with_minus_of};
+ghost use Rattle.text_lines.specs.Numbers.{in_range as in_range_of};
 ghost use Rattle.quantities.specs.Quantities as spec;
 ghost use Rattle.quantities.specs.Steps.{AreDigits, number_after, capped, moved as moved_of};
 ghost use Rattle.quantities.specs.declared.unit.Shift.TheVariants as shift;

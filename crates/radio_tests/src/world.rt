@@ -150,7 +150,8 @@ fn packets_come_turned_round_and_twice(rt: HostRuntime) -> Result<(), Fail> {
     let alloc = rt.alloc();
     let names = solo_name(alloc)?;
     let text =
-        b"take solo 2\ntake solo 1\n\ntake solo 1\nhear solo 1\n hear solo 1\r\nhear solo 2\ntake\tsolo 3\nhear solo 000000004";
+        b"take solo 2\ntake solo 1\n\ntake solo 1\nhear solo 1\n hear solo 1\r\nhear solo 2\ntake\tsolo 3\n\
+        hear solo 000000004";
     let mut world = solo_world(alloc, false)?;
     assert!(rt; run(alloc, &mut world, &names, text)? == Progress::Done);
     assert!(rt; has_path(world.drone(0)));
@@ -233,7 +234,8 @@ fn silence_ends_at_twenty_ticks(rt: HostRuntime) -> Result<(), Fail> {
     let names = solo_name(alloc)?;
     let mut world = solo_world(alloc, false)?;
     let nineteen =
-        b"tick\ntick\ntick\ntick\ntick\ntick\ntick\ntick\ntick\ntick\ntick\ntick\ntick\ntick\ntick\ntick\ntick\ntick\ntick\n";
+        b"tick\ntick\ntick\ntick\ntick\ntick\ntick\ntick\ntick\ntick\ntick\ntick\ntick\ntick\ntick\ntick\ntick\ntick\n\
+        tick\n";
     assert!(rt; run(alloc, &mut world, &names, nineteen)? == Progress::Going);
     let ended = Progress::GaveUp {
         drone: 0,
@@ -369,7 +371,8 @@ fn windows_of_four_drones_come_in_reverse(rt: HostRuntime) -> Result<(), Fail> {
     // start.
     let windows: [(&[u8], Progress); 4] = [
         (
-            b"take ? 1\ntake ? 1\ntake ? 2\ntake ? 2\ntake ? 3\ntake ? 3\ntake ? 4\ntake ? 4\nhear ? 8\nhear ? 7\nhear ? 6\nhear ? 5\nhear ? 4\nhear ? 3\nhear ? 2\nhear ? 1\n",
+            b"take ? 1\ntake ? 1\ntake ? 2\ntake ? 2\ntake ? 3\ntake ? 3\ntake ? 4\ntake ? 4\nhear ? 8\nhear ? 7\n\
+            hear ? 6\nhear ? 5\nhear ? 4\nhear ? 3\nhear ? 2\nhear ? 1\n",
             Progress::Going,
         ),
         (

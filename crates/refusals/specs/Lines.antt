@@ -68,12 +68,14 @@ gave_up_line name packet = refusal (codes "9") (codes "drone" ∷ name ∷ codes
 -- a drone refused a packet with this status
 abbrev pub refused_line : List ℕ → ℕ → ℕ → List ℕ
 refused_line name packet status =
-    refusal (codes "10") (codes "drone" ∷ name ∷ codes "packet" ∷ decimal (packet + 1) ∷ codes "status" ∷ decimal status ∷ [])
+    refusal (codes "10")
+    (codes "drone" ∷ name ∷ codes "packet" ∷ decimal (packet + 1) ∷ codes "status" ∷ decimal status ∷ [])
 
 -- a byte that was read back from a drone's memory differs from the load's
 abbrev pub differs_line : List ℕ → ℕ → ℕ → ℕ → List ℕ
 differs_line name address wanted got =
-    refusal (codes "14") (codes "drone" ∷ name ∷ codes "address" ∷ decimal address ∷ codes "wanted" ∷ hex_word wanted ∷ codes "got" ∷ hex_word got ∷ [])
+    refusal (codes "14") (codes "drone" ∷ name ∷ codes "address" ∷ decimal address ∷ codes "wanted" ∷ hex_word wanted
+    ∷ codes "got" ∷ hex_word got ∷ [])
 
 -- ---- two drones in a cue
 
@@ -102,7 +104,8 @@ missing_line pair = refusal (codes "12") (codes "missing" ∷ pair_words pair)
 
 -- a tree of no pair and cue, in a text of this version: trees count from 0, and stand after its first lines
 abbrev pub extra_line : ℕ → ℕ → List ℕ
-extra_line version tree = refusal (codes "12") (codes "extra" ∷ codes "line" ∷ decimal (tree + 1 + head_count version) ∷ [])
+extra_line version tree =
+    refusal (codes "12") (codes "extra" ∷ codes "line" ∷ decimal (tree + 1 + head_count version) ∷ [])
 
 -- a split of the tree of the two in this cue stands at the greatest depth of the certificate
 abbrev pub too_deep_line : Pair → List ℕ
@@ -113,7 +116,8 @@ too_deep_line pair = refusal (codes "12") (codes "too-deep" ∷ pair_words pair)
 abbrev pub fails_line : Pair → Place → ℕ → ℕ → ℕ → List ℕ
 fails_line pair place version dir control =
     refusal (codes "12") (codes "fails" ∷ pair_words pair
-    ++ codes "part" ∷ decimal place.depth ∷ decimal place.index ∷ codes "direction" ∷ direction_word version dir ∷ codes "control" ∷ decimal control ∷ [])
+    ++ codes "part" ∷ decimal place.depth ∷ decimal place.index ∷ codes "direction" ∷ direction_word version dir
+    ∷ codes "control" ∷ decimal control ∷ [])
 
 -- ---- regions, speeds, accelerations and jumps
 
@@ -133,7 +137,8 @@ too_fast_line name axis speed =
 -- the program and from 1 in the line
 abbrev pub excess_line : List ℕ → ℕ → List ℕ → ℕ → ℤ → List ℕ
 excess_line name cue what axis value =
-    refusal (codes "18") (codes "drone" ∷ name ∷ codes "cue" ∷ decimal (cue + 1) ∷ what ∷ axis_word axis ∷ signed_decimal value ∷ [])
+    refusal (codes "18")
+    (codes "drone" ∷ name ∷ codes "cue" ∷ decimal (cue + 1) ∷ what ∷ axis_word axis ∷ signed_decimal value ∷ [])
 
 -- the bound on a drone's acceleration on an axis, in what begins with this cue, is above the limit; it is in
 -- micrometres per second squared

@@ -244,7 +244,8 @@ impl Refusal {
 fn fails_line<'a>(pair: &'a Pair, place: Place, direction: &'a [u8], control: u8) -> ShortLine
     requires { length direction.now ≤ 2 }
     ensures { result ≡ refusal (codes "12") (codes "fails" ∷ pair_words pair.now
-        ++ codes "part" ∷ decimal place.depth ∷ decimal place.index ∷ codes "direction" ∷ direction.now ∷ codes "control" ∷ decimal control ∷ []) }
+        ++ codes "part" ∷ decimal place.depth ∷ decimal place.index ∷ codes "direction" ∷ direction.now
+        ∷ codes "control" ∷ decimal control ∷ []) }
 {
     ShortLine::of(
         b"error 12 fails pair ? ? cue ? part ? ? direction ? control ?",

@@ -11,7 +11,12 @@ use Rattle.upload_model.specs.Worlds.{World, world}
 -- nothing started.
 abbrev pub blank_drone : Upload → DroneState
 blank_drone s =
-    record { memory_id = s.memory_id; memory = replicate MEMORY_BYTES 255; table = replicate TABLE_ENTRIES None; started = None }
+    record {
+      memory_id = s.memory_id;
+      memory = replicate MEMORY_BYTES 255;
+      table = replicate TABLE_ENTRIES None;
+      started = None;
+    }
 
 -- the world after a schedule
 abbrev pub rehearsed : Upload → List WorldEvent → World

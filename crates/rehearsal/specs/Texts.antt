@@ -1,6 +1,7 @@
 -- The text that says what the drones hold after a rehearsal (docs/COMMANDS.md, `rehearse`). With which values a
 -- memory's trajectory ends is stated by what the memory decodes to, so the text is a relation.
-use Rattle.std.specs.Prelude.{◌≡◌, ℕ, suc, ◌*◌, ◌/◌, ◌%◌, List, [], ◌∷◌, ◌++◌, codes, decimal, drop, take, map, Option, Some, None}
+use Rattle.std.specs.Prelude.{◌≡◌, ℕ, suc, ◌*◌, ◌/◌, ◌%◌, List, [], ◌∷◌, ◌++◌, codes, decimal, drop, take, map, Option}
+use Rattle.std.specs.Prelude.{Some, None}
 use Rattle.std.specs.List.{flat_map, range_with_len}
 use Rattle.std.specs.Fmt.{signed_decimal}
 use Rattle.fleet_io.specs.Words.{hex_word, line}

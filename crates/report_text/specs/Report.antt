@@ -1,6 +1,7 @@
 -- The report on a show.
 use Rattle.std.specs.Prelude.{ℕ, List, [], ◌∷◌, ◌++◌, codes}
-use Rattle.serde_json.specs.Data.{Data, Items, array, item, member, no_items, no_members, number, object, string, unsigned}
+use Rattle.serde_json.specs.Data.{Data, Items, array, item, member, no_items, no_members, number, object, string}
+use Rattle.serde_json.specs.Data.{unsigned}
 use Rattle.serde_json.specs.Written.{compact_text}
 
 -- numbers, and names, as lists of JSON

@@ -1,5 +1,6 @@
 -- Certificates: when one is whole, when it is valid, and its first fault.
-use Rattle.std.specs.Prelude.{◌≡◌, ℕ, suc, ◌^◌, ◌≤◌, ◌<◌, ℤ, nat_lt, List, [], ◌∷◌, length, Option, Some, None, if◌then◌else◌, All}
+use Rattle.std.specs.Prelude.{◌≡◌, ℕ, suc, ◌^◌, ◌≤◌, ◌<◌, ℤ, nat_lt, List, [], ◌∷◌, length, Option, Some, None}
+use Rattle.std.specs.Prelude.{if◌then◌else◌, All}
 use Rattle.std.specs.Option.{option_flatten, option_map, option_or}
 use Rattle.bezier_core.specs.declared.Bez.{Bez}
 use Rattle.halving.specs.declared.Place.{Place}
@@ -37,7 +38,8 @@ pub record IsWhole (cert : Certificate) : Type 0 where
 -- the list spells a tree that is valid for the slot
 abbrev pub IsValidAt : Rules → List (List ℤ) → Raised → Slot → List Node → Type 0
 IsValidAt rules dirs curves slot nodes =
-    (tree : Tree) × (nodes ≡ preorder tree) × IsValidTree rules dirs (difference curves slot.a slot.b slot.cue) root tree
+    (tree : Tree) × (nodes ≡ preorder tree)
+    × IsValidTree rules dirs (difference curves slot.a slot.b slot.cue) root tree
 
 -- there is one tree for each slot, and each is valid
 abbrev pub AreValid : Rules → List (List ℤ) → Raised → List Slot → List (List Node) → Type 0
@@ -92,7 +94,8 @@ abbrev pub IsValid : List (List ℤ) → Raised → Clearance → Certificate �
 IsValid dirs curves c cert = AreValid (rules_of c cert) dirs curves (slots curves.drones curves.cues) cert.trees
 
 abbrev pub fault_of : List (List ℤ) → Raised → Clearance → Certificate → Option CertFault
-fault_of dirs curves c cert = first_fault_of (rules_of c cert) dirs curves (slots curves.drones curves.cues) 0 cert.trees
+fault_of dirs curves c cert =
+    first_fault_of (rules_of c cert) dirs curves (slots curves.drones curves.cues) 0 cert.trees
 
 -- What a fault names is there: a pair of drones and a cue of the curves, a tree of the certificate, a direction of
 -- its version, one of eight control values.

@@ -12,17 +12,21 @@ use Rattle.sep_parts.specs.Apart.{AreTogether, KeepReach, MayBeAt, Point, betwee
 pub record AreEllipsoidsDisjoint (r h : ℕ) (first second : Point) : Type 0 where
   pub disjoint :
       (pos (4 * (r * r) * (h * h)) *ℤ square (pos first.over *ℤ pos second.over))
-      <ℤ (pos (h * h) *ℤ (square (between first second 0) +ℤ square (between first second 1)) +ℤ pos (r * r) *ℤ square (between first second 2))
+      <ℤ (pos (h * h) *ℤ (square (between first second 0) +ℤ square (between first second 1))
+      +ℤ pos (r * r) *ℤ square (between first second 2))
 
 -- The ellipsoids around any two different drones share no point, whatever points these may be at, at whatever instants
 -- of the show that are at most `late` ms apart: what `FlyApart` says, without its margin.
 abbrev pub FlyDisjoint : (r h stray late : ℕ) → List Traj → Type 0
 FlyDisjoint r h stray late trajs =
     (a b : ℕ) (t u : Traj) → (a ≡ b → ⊥) → slice_get trajs a ≡ Some t → slice_get trajs b ≡ Some u →
-    (p q s w : ℕ) → 1 ≤ q → 1 ≤ w → p ≤ q * sum (durations t.segments) → s ≤ w * sum (durations u.segments) → AreTogether late p q s w →
-    (first second : Point) → MayBeAt stray t p q first → MayBeAt stray u s w second → AreEllipsoidsDisjoint r h first second
+    (p q s w : ℕ) → 1 ≤ q → 1 ≤ w → p ≤ q * sum (durations t.segments) → s ≤ w * sum (durations u.segments) →
+    AreTogether late p q s w →
+    (first second : Point) → MayBeAt stray t p q first → MayBeAt stray u s w second →
+    AreEllipsoidsDisjoint r h first second
 
 -- For each list of trajectories that the curves stand for, and that move within the reach, the ellipsoids around any
 -- two different drones are disjoint.
 abbrev pub KeepsDisjoint : Raised → Clearance → Type 0
-KeepsDisjoint curves c = (trajs : List Traj) → CurvesStandFor curves trajs → KeepReach c trajs → FlyDisjoint c.r c.h c.stray c.late trajs
+KeepsDisjoint curves c = (trajs : List Traj) → CurvesStandFor curves trajs → KeepReach c trajs →
+    FlyDisjoint c.r c.h c.stray c.late trajs

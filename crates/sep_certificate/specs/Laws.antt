@@ -13,11 +13,14 @@ use Rattle.sep_certificate.specs.Disjoint.{KeepsDisjoint}
 pub record CertificateLaw : Type 0 where
   -- Where a certificate is valid for curves, by any table of directions with entries from -2 to 2, any two different
   -- drones fly apart with the margin.
-  pub apart : (dirs : List (List ℤ)) (curves : Raised) (c : Clearance) (cert : Certificate) → All AreSmall dirs → IsValid dirs curves c cert → KeepsApart curves c
+  pub apart : (dirs : List (List ℤ)) (curves : Raised) (c : Clearance) (cert : Certificate) → All AreSmall dirs →
+      IsValid dirs curves c cert → KeepsApart curves c
   -- Where a certificate is valid for curves, by any table of directions whatever, the ellipsoids around any two
   -- different drones share no point.
-  pub disjoint : (dirs : List (List ℤ)) (curves : Raised) (c : Clearance) (cert : Certificate) → IsValid dirs curves c cert → KeepsDisjoint curves c
+  pub disjoint : (dirs : List (List ℤ)) (curves : Raised) (c : Clearance) (cert : Certificate) →
+      IsValid dirs curves c cert → KeepsDisjoint curves c
   -- A whole certificate, whose leaves name directions of the table, has no first fault exactly where it is valid for
   -- the curves.
-  pub exact : (dirs : List (List ℤ)) (curves : Raised) (c : Clearance) (cert : Certificate) → IsWholeIn (length dirs) cert →
+  pub exact : (dirs : List (List ℤ)) (curves : Raised) (c : Clearance) (cert : Certificate) →
+      IsWholeIn (length dirs) cert →
       (fault_of dirs curves c cert ≡ None) ↔ IsValid dirs curves c cert

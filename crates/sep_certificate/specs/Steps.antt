@@ -1,5 +1,6 @@
 -- Words of private steps of the checker and of the reader. No public clause cites them.
-use Rattle.std.specs.Prelude.{ℕ, zero, suc, ◌-◌, ◌<◌, ◌==◌, ℤ, Bool, true, false, List, [], ◌∷◌, ◌++◌, Option, Some, None, if◌then◌else◌}
+use Rattle.std.specs.Prelude.{ℕ, zero, suc, ◌-◌, ◌<◌, ◌==◌, ℤ, Bool, true, false, List, [], ◌∷◌, ◌++◌, Option, Some}
+use Rattle.std.specs.Prelude.{None, if◌then◌else◌}
 use Rattle.std.specs.Option.{option_or}
 use Rattle.bezier_core.specs.declared.Bez.{Bez}
 use Rattle.halving.specs.declared.Place.{Place}
@@ -41,13 +42,15 @@ is_spelled_wide zero (b ∷ bytes) = false
 is_spelled_wide (suc n) [] = false
 is_spelled_wide (suc n) (b ∷ []) = false
 is_spelled_wide (suc n) (b ∷ c ∷ bytes) =
-    if b == 46 then is_spelled_wide (suc (suc n)) (c ∷ bytes) else if is_wide_leaf b c then is_spelled_wide n bytes else false
+    if b == 46 then is_spelled_wide (suc (suc n)) (c ∷ bytes) else if is_wide_leaf b c then is_spelled_wide n bytes
+    else false
 
 -- the nodes that a line of version 2 spells
 abbrev pub wide_nodes : List ℕ → List Node
 wide_nodes [] = []
 wide_nodes (b ∷ []) = if b == 46 then Split ∷ [] else []
-wide_nodes (b ∷ c ∷ bytes) = if b == 46 then Split ∷ wide_nodes (c ∷ bytes) else Leaf (two_digits b c) ∷ wide_nodes bytes
+wide_nodes (b ∷ c ∷ bytes) =
+    if b == 46 then Split ∷ wide_nodes (c ∷ bytes) else Leaf (two_digits b c) ∷ wide_nodes bytes
 
 -- the node that a byte of a line is
 abbrev pub node_of_byte : ℕ → Node

@@ -1,5 +1,6 @@
 -- The text of a certificate.
-use Rattle.std.specs.Prelude.{◌≡◌, ℕ, suc, ◌+◌, ◌-◌, ◌*◌, Bool, ◌&&◌, nat_le, nat_lt, ◌==◌, bytes_eq, List, [], ◌∷◌, ◌++◌, map, flat_map, slice_index, All, Option, Some, None, codes, if◌then◌else◌}
+use Rattle.std.specs.Prelude.{◌≡◌, ℕ, suc, ◌+◌, ◌-◌, ◌*◌, Bool, ◌&&◌, nat_le, nat_lt, ◌==◌, bytes_eq, List, [], ◌∷◌}
+use Rattle.std.specs.Prelude.{◌++◌, map, flat_map, slice_index, All, Option, Some, None, codes, if◌then◌else◌}
 use Rattle.std.specs.Option.{is_some, option_flatten, option_map}
 use Rattle.std.specs.Str.Lines.{lines}
 use Rattle.sep_parts.specs.Versions.{direction_word, known_in}
@@ -37,7 +38,9 @@ fed line = line ++ 10 ∷ []
 
 -- the text that is written
 unfoldable pub text_of : Certificate → List ℕ
-text_of cert = flat_map fed (head_lines cert.version cert.depth) ++ flat_map (λ nodes. fed (tree_line cert.version nodes)) cert.trees
+text_of cert =
+    flat_map fed (head_lines cert.version cert.depth)
+    ++ flat_map (λ nodes. fed (tree_line cert.version nodes)) cert.trees
 
 -- The text says the certificate: its lines are those in front and a line for each tree.
 pub record Says (text : List ℕ) (cert : Certificate) : Type 0 where
@@ -90,7 +93,9 @@ IsTreeLine version line =
 
 -- the line says some depth from 0 to 8
 abbrev pub is_depth_line : List ℕ → Bool
-is_depth_line line = nat_le 48 (slice_index line 12) && nat_le (slice_index line 12) 56 && bytes_eq line (depth_line (slice_index line 12 - 48))
+is_depth_line line =
+    nat_le 48 (slice_index line 12) && nat_le (slice_index line 12) 56
+    && bytes_eq line (depth_line (slice_index line 12 - 48))
 
 -- the first line from number n on that isn't one whole tree
 abbrev pub bad_tree : ℕ → ℕ → List (List ℕ) → Option ℕ

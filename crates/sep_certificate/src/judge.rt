@@ -35,7 +35,8 @@ pub fn node_fault<const M: usize>(
 ) -> Option<CertFault>
     requires level { IsLevel diff.now level.now }
     requires known { IsKnown (length ruler.now.directions) node }
-    ensures exact { result ≡ node_fault (rules_by ruler.now depth) ruler.now.directions diff.now slot level.now.place node }
+    ensures exact { result ≡ node_fault (rules_by ruler.now depth) ruler.now.directions diff.now slot level.now.place
+        node }
     ensures shallow { result ≡ None → IsShallow level.now.place node }
 {
     match node {

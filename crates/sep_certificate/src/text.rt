@@ -5,12 +5,14 @@
 //! before, and a leaf is two digits, from `00` to `97`. Lines end with a line feed, which the last may lack; one
 //! carriage return before a line feed is dropped.
 
-ghost use Rattle.std.specs.Prelude.{◌≡◌, ◌↔◌, ◌<◌, ◌++◌, ◌∷◌, [], flat_map, All, IfOk, OnOk, MatchOption, IsFalse, IsTrue};
+ghost use Rattle.std.specs.Prelude.{◌≡◌, ◌↔◌, ◌<◌, ◌++◌, ◌∷◌, [], flat_map, All, IfOk, OnOk, MatchOption, IsFalse};
+ghost use Rattle.std.specs.Prelude.{IsTrue};
 ghost use Rattle.sep_parts.specs.Versions.{IsVersion, direction_word, known_in};
 ghost use Rattle.sep_certificate.specs.Certificates.{IsWhole};
 ghost use Rattle.sep_parts.specs.Trees.{IsKnown};
 ghost use Rattle.sep_certificate.specs.Readings.{TextLaw};
-ghost use Rattle.sep_certificate.specs.Texts.{Says, depth_line, fed, head_lines, is_depth_line, node_text, text_of, tree_line};
+ghost use Rattle.sep_certificate.specs.Texts.{Says, depth_line, fed, head_lines, is_depth_line, node_text, text_of};
+ghost use Rattle.sep_certificate.specs.Texts.{tree_line};
 
 use crate::certificate::Certificate;
 use fleet_math::Depth;

@@ -1,5 +1,7 @@
 -- The directions along which two drones are told apart, and how far apart they must be along each.
-use Rattle.std.specs.Prelude.{◌≡◌, ◌⊎◌, ℕ, zero, suc, ◌+◌, ◌*◌, ◌%◌, ◌==◌, ◌≤◌, ◌<◌, ℤ, pos, negsuc, neg_ℤ, ◌+ℤ◌, ◌-ℤ◌, ◌*ℤ◌, ◌≤ℤ◌, ◌<ℤ◌, Bool, true, false, not, ◌&&◌, ◌||◌, int_lt, List, [], ◌∷◌, length, map, filter, flat_map, unsigned_abs, slice_index_or, if◌then◌else◌}
+use Rattle.std.specs.Prelude.{◌≡◌, ◌⊎◌, ℕ, zero, suc, ◌+◌, ◌*◌, ◌%◌, ◌==◌, ◌≤◌, ◌<◌, ℤ, pos, negsuc, neg_ℤ, ◌+ℤ◌, ◌-ℤ◌}
+use Rattle.std.specs.Prelude.{◌*ℤ◌, ◌≤ℤ◌, ◌<ℤ◌, Bool, true, false, not, ◌&&◌, ◌||◌, int_lt, List, [], ◌∷◌, length, map}
+use Rattle.std.specs.Prelude.{filter, flat_map, unsigned_abs, slice_index_or, if◌then◌else◌}
 use Rattle.fleet_math.specs.Bernstein.{at}
 use Rattle.sep_parts.specs.declared.clearance.Clearance.{Clearance}
 
@@ -150,7 +152,8 @@ for_strays c n = pos (root_reaching (stray_limit c n))
 -- what the way of a drone that is late takes away along it, at most: |w_x| times its reach on x, and so on
 abbrev pub for_reach : Clearance → List ℤ → ℤ
 for_reach c n =
-    pos (unsigned_abs (at n 0 *ℤ pos c.h) * reach_on c 0 + unsigned_abs (at n 1 *ℤ pos c.h) * reach_on c 1 + unsigned_abs (at n 2 *ℤ pos c.r) * reach_on c 2)
+    pos (unsigned_abs (at n 0 *ℤ pos c.h) * reach_on c 0 + unsigned_abs (at n 1 *ℤ pos c.h) * reach_on c 1
+    + unsigned_abs (at n 2 *ℤ pos c.r) * reach_on c 2)
 
 -- The threshold of a direction: how far apart along it two curves must be, so that the ellipsoids around two drones
 -- share no point.

@@ -25,7 +25,8 @@ right_half p = record { depth = p.depth + 1; index = 2 * p.index + 1 }
 pub record IsLevel (diff : List (Bez 8)) (level : Level) : Type 0 where
   pub place : IsPlace level.place.depth level.place.index
   pub axes : length level.part ≡ 3
-  pub part : (axis : ℕ) → axis ≤ 2 → controls level.part axis ≡ eight (part_value level.place.depth level.place.index (at (controls diff axis)))
+  pub part : (axis : ℕ) → axis ≤ 2 →
+      controls level.part axis ≡ eight (part_value level.place.depth level.place.index (at (controls diff axis)))
 
 -- each level has the parts at its place, and fewer stand below it than it is deep
 abbrev pub IsStack : List (Bez 8) → List Level → Type 0

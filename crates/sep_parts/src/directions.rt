@@ -1,8 +1,12 @@
 //! The directions along which drones are told apart, and how far apart they must be along each.
 
-ghost use Rattle.std.specs.Prelude.{◌≡◌, ℕ, ◌+◌, ◌*◌, ◌^◌, ◌≤◌, ◌<◌, ℤ, pos, neg_ℤ, ◌+ℤ◌, ◌-ℤ◌, ◌*ℤ◌, ◌≤ℤ◌, ◌<ℤ◌, All, map, IsTrue, unsigned_abs};
+ghost use Rattle.std.specs.Prelude.{◌≡◌, ℕ, ◌+◌, ◌*◌, ◌^◌, ◌≤◌, ◌<◌, ℤ, pos, neg_ℤ, ◌+ℤ◌, ◌-ℤ◌, ◌*ℤ◌, ◌≤ℤ◌, ◌<ℤ◌, All};
+ghost use Rattle.std.specs.Prelude.{map, IsTrue, unsigned_abs};
 ghost use Rattle.fleet_math.specs.Numbers.{IsBelow};
-ghost use Rattle.sep_parts.specs.Directions.{AreSmall, IsAxis, IsClearance, IsSquare, IsTableSize, ThresholdLaw, directions, for_ellipsoids, for_reach, for_strays, is_closed, is_rising, length_squared, limit_along, root_reaching, stray_limit, threshold, wide_directions};
+ghost use Rattle.sep_parts.specs.Directions.{AreSmall, IsAxis, IsClearance, IsSquare, IsTableSize, ThresholdLaw};
+ghost use Rattle.sep_parts.specs.Directions.{directions, for_ellipsoids, for_reach, for_strays, is_closed, is_rising};
+ghost use Rattle.sep_parts.specs.Directions.{length_squared, limit_along, root_reaching, stray_limit, threshold};
+ghost use Rattle.sep_parts.specs.Directions.{wide_directions};
 
 use crate::clearance::Clearance;
 use crate::part::long_weights;

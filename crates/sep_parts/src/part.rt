@@ -1,6 +1,7 @@
 //! One part of three curves against one direction, and its halves.
 
-ghost use Rattle.std.specs.Prelude.{◌≡◌, ℕ, ◌+◌, ◌*◌, ◌^◌, ◌≤◌, ◌<◌, ℤ, pos, ◌+ℤ◌, ◌*ℤ◌, ◌≤ℤ◌, ◌<ℤ◌, int_lt, position, All, IsTrue, true, false, ◌↔◌, length};
+ghost use Rattle.std.specs.Prelude.{◌≡◌, ℕ, ◌+◌, ◌*◌, ◌^◌, ◌≤◌, ◌<◌, ℤ, pos, ◌+ℤ◌, ◌*ℤ◌, ◌≤ℤ◌, ◌<ℤ◌, int_lt, position};
+ghost use Rattle.std.specs.Prelude.{All, IsTrue, true, false, ◌↔◌, length};
 ghost use Rattle.fleet_math.specs.Numbers.{IsBelow};
 ghost use Rattle.fleet_math.specs.Bernstein.{at};
 ghost use Rattle.bezier_core.specs.Along.{along_value, controls};
@@ -165,8 +166,10 @@ fn scale(depth: Depth) -> i128
 pub fn halves(part: &[Bez<8>; 3]) -> ([Bez<8>; 3], [Bez<8>; 3])
     requires { All (λ curve. All (IsBelow (2 ^ 118)) curve.b) part.now }
     ensures sizes { (length result.0 ≡ 3) × (length result.1 ≡ 3) }
-    ensures left { (axis : ℕ) → axis ≤ 2 → controls result.0 axis ≡ eight (part_value 1 0 (at (controls part.now axis))) }
-    ensures right { (axis : ℕ) → axis ≤ 2 → controls result.1 axis ≡ eight (part_value 1 1 (at (controls part.now axis))) }
+    ensures left { (axis : ℕ) → axis ≤ 2
+        → controls result.0 axis ≡ eight (part_value 1 0 (at (controls part.now axis))) }
+    ensures right { (axis : ℕ) → axis ≤ 2
+        → controls result.1 axis ≡ eight (part_value 1 1 (at (controls part.now axis))) }
 {
     let (x_left, x_right) = halve(&part[0]);
     let (y_left, y_right) = halve(&part[1]);
@@ -179,8 +182,10 @@ pub fn halves(part: &[Bez<8>; 3]) -> ([Bez<8>; 3], [Bez<8>; 3])
 pub fn halves_short(part: &[Bez<8>; 3]) -> ([Bez<8>; 3], [Bez<8>; 3])
     requires { All (λ curve. All (IsBelow (2 ^ 54)) curve.b) part.now }
     ensures sizes { (length result.0 ≡ 3) × (length result.1 ≡ 3) }
-    ensures left { (axis : ℕ) → axis ≤ 2 → controls result.0 axis ≡ eight (part_value 1 0 (at (controls part.now axis))) }
-    ensures right { (axis : ℕ) → axis ≤ 2 → controls result.1 axis ≡ eight (part_value 1 1 (at (controls part.now axis))) }
+    ensures left { (axis : ℕ) → axis ≤ 2
+        → controls result.0 axis ≡ eight (part_value 1 0 (at (controls part.now axis))) }
+    ensures right { (axis : ℕ) → axis ≤ 2
+        → controls result.1 axis ≡ eight (part_value 1 1 (at (controls part.now axis))) }
 {
     let (x_left, x_right) = halve_short(&part[0]);
     let (y_left, y_right) = halve_short(&part[1]);

@@ -2,7 +2,8 @@
 
 ghost use Rattle.std.specs.Prelude.{◌≡◌, ◌^◌, ◌<◌, ◌≤◌, pos, ◌≤ℤ◌, ◌<ℤ◌, length, All, IsTrue, is_none};
 ghost use Rattle.fleet_math.specs.Numbers.{IsBelow};
-ghost use Rattle.sep_parts.specs.Directions.{AreSmall, IsClearance, IsTableSize, Stands, direction_of, threshold, weights};
+ghost use Rattle.sep_parts.specs.Directions.{AreSmall, IsClearance, IsTableSize, Stands, direction_of, threshold};
+ghost use Rattle.sep_parts.specs.Directions.{weights};
 ghost use Rattle.sep_parts.specs.Levels.{IsLevel, root};
 ghost use Rattle.sep_parts.specs.Separates.{low_value};
 
@@ -64,7 +65,8 @@ impl<const M: usize> Ruler<M> {
     /// The weights of the three curves along the direction with the number `dir`.
     pub fn weights_along(&self, dir: usize) -> [i64; 3]
         requires dir { dir < length self.now.directions }
-        ensures exact { result ≡ weights (direction_of self.now.directions dir) self.now.clearance.r self.now.clearance.h }
+        ensures exact { result ≡ weights (direction_of self.now.directions dir) self.now.clearance.r
+            self.now.clearance.h }
         ensures small { All (IsBelow 4001) result }
     {
         let directions = self.directions.n.as_slice();
@@ -109,7 +111,8 @@ impl<const M: usize> Ruler<M> {
     pub fn separates(&self, diff: &Difference, level: &Level, dir: usize) -> bool
         requires level { IsLevel diff.now level.now }
         requires dir { dir < length self.now.directions }
-        ensures { result ≡ is_none (low_value self.now.clearance diff.now level.now.place (direction_of self.now.directions dir)) }
+        ensures { result ≡ is_none
+            (low_value self.now.clearance diff.now level.now.place (direction_of self.now.directions dir)) }
     {
         diff.raised_law();
         let directions = self.directions.n.as_slice();
@@ -158,7 +161,8 @@ impl<const M: usize> Ruler<M> {
     pub fn low_control(&self, diff: &Difference, level: &Level, dir: usize) -> Option<usize>
         requires level { IsLevel diff.now level.now }
         requires dir { dir < length self.now.directions }
-        ensures { result ≡ low_value self.now.clearance diff.now level.now.place (direction_of self.now.directions dir) }
+        ensures { result ≡ low_value self.now.clearance diff.now level.now.place
+            (direction_of self.now.directions dir) }
     {
         diff.raised_law();
         let directions = self.directions.n.as_slice();

@@ -36,7 +36,8 @@ pub(crate) fn separates_by_short_sums(
     requires positive { pos 0 ≤ℤ threshold }
     requires small { threshold <ℤ pos (2 ^ 30) }
     requires depth { depth ≤ SHORT_SUMS_DEPTH }
-    ensures { IsTrue result ↔ ((k : ℕ) → k ≤ 7 → least_value threshold depth ≤ℤ along_value diff.now (weights n r h) k) }
+    ensures { IsTrue result
+        ↔ ((k : ℕ) → k ≤ 7 → least_value threshold depth ≤ℤ along_value diff.now (weights n r h) k) }
 {
     let w = weights(n, r, h);
     let least = scaled(threshold, depth) as i64;
@@ -119,7 +120,8 @@ pub(crate) fn separates_by_long_sums(
     requires h { IsAxis h }
     requires positive { pos 0 ≤ℤ threshold }
     requires small { threshold <ℤ pos (2 ^ 30) }
-    ensures { IsTrue result ↔ ((k : ℕ) → k ≤ 7 → least_value threshold depth ≤ℤ along_value diff.now (weights n r h) k) }
+    ensures { IsTrue result
+        ↔ ((k : ℕ) → k ≤ 7 → least_value threshold depth ≤ℤ along_value diff.now (weights n r h) k) }
 {
     let w = weights(n, r, h);
     let least = scaled(threshold, depth);
@@ -163,7 +165,8 @@ pub(crate) fn separates_rows(
     requires h { IsAxis h }
     requires positive { pos 0 ≤ℤ threshold }
     requires small { threshold <ℤ pos (2 ^ 30) }
-    ensures { IsTrue result ↔ ((k : ℕ) → k ≤ 7 → least_value threshold 0 ≤ℤ along_value (curves_of rows.now) (weights n r h) k) }
+    ensures { IsTrue result
+        ↔ ((k : ℕ) → k ≤ 7 → least_value threshold 0 ≤ℤ along_value (curves_of rows.now) (weights n r h) k) }
 {
     let w = weights(n, r, h);
     let least = whole_least(threshold);

@@ -96,7 +96,8 @@ impl Waiting {
         requires stack { IsStack diff.now self.old }
         requires shallow { (level : Level) (rest : List Level) → self.old ≡ level ∷ rest → IsShallow level.place node }
         ensures stack { IsStack diff.now self.new }
-        ensures places { (level : Level) (rest : List Level) → self.old ≡ level ∷ rest → places_of self.new ≡ places_below level.place node ++ places_of rest }
+        ensures places { (level : Level) (rest : List Level) → self.old ≡ level ∷ rest
+            → places_of self.new ≡ places_below level.place node ++ places_of rest }
     {
         match node {
             Node::Leaf { .. } => self.drop_next(),
@@ -110,7 +111,8 @@ impl Waiting {
         requires stack { IsStack diff.now self.old }
         requires shallow { (level : Level) (rest : List Level) → self.old ≡ level ∷ rest → level.place.depth < 8 }
         ensures stack { IsStack diff.now self.new }
-        ensures places { (level : Level) (rest : List Level) → self.old ≡ level ∷ rest → places_of self.new ≡ left_half level.place ∷ right_half level.place ∷ places_of rest }
+        ensures places { (level : Level) (rest : List Level) → self.old ≡ level ∷ rest
+            → places_of self.new ≡ left_half level.place ∷ right_half level.place ∷ places_of rest }
     {
         let level = self.first();
         let place = level.place;
@@ -123,8 +125,8 @@ impl Waiting {
         }
     }
 
-    // These parts of the halves take the place of the next part. Each caller has its own copy of this function, in which
-    // halves of 64 bits stay in registers.
+    // These parts of the halves take the place of the next part. Each caller has its own copy of this function, in
+    // which halves of 64 bits stay in registers.
     #[inline(always)]
     fn put_halves(&mut self, diff: &Difference, place: Place, parts: &([Bez<8>; 3], [Bez<8>; 3]))
         requires some { 1 ≤ length self.old }
@@ -134,7 +136,8 @@ impl Waiting {
         requires left { IsLevel diff.now (record { place = left_half place; part = parts.now.0 }) }
         requires right { IsLevel diff.now (record { place = right_half place; part = parts.now.1 }) }
         ensures stack { IsStack diff.now self.new }
-        ensures places { (level : Level) (rest : List Level) → self.old ≡ level ∷ rest → places_of self.new ≡ left_half place ∷ right_half place ∷ places_of rest }
+        ensures places { (level : Level) (rest : List Level) → self.old ≡ level ∷ rest
+            → places_of self.new ≡ left_half place ∷ right_half place ∷ places_of rest }
     {
         self.drop_next();
         self.push(place.right(), &parts.1);

@@ -219,11 +219,13 @@ const END: &[u8] =
 
 // Holds that are joined, before each of two lines.
 const JOINED: &[u8] =
-    b"choreo 1\ndrone solo 0 0 1000000 0\ncue 1000\nend\ncue 500\nend\ncue 2000\nsolo line 0 1000000 1000000 0\nend\ncue 700\nend\ncue 300\nend\ncue 4000\nsolo line 0 1000000 2000000 0\nend\n";
+    b"choreo 1\ndrone solo 0 0 1000000 0\ncue 1000\nend\ncue 500\nend\ncue 2000\nsolo line 0 1000000 1000000 0\nend\n\
+    cue 700\nend\ncue 300\nend\ncue 4000\nsolo line 0 1000000 2000000 0\nend\n";
 
 // Two drones: the first jumps later than the second one accelerates.
 const TWO: &[u8] =
-    b"choreo 1\ndrone a 0 0 1000000 0\ndrone b 0 5000000 1000000 0\ncue 1000\nb move 0 6000000 1000000 0\nend\ncue 1000\na line 1000000 0 1000000 0\nend\n";
+    b"choreo 1\ndrone a 0 0 1000000 0\ndrone b 0 5000000 1000000 0\ncue 1000\nb move 0 6000000 1000000 0\nend\n\
+    cue 1000\na line 1000000 0 1000000 0\nend\n";
 
 // A drone that begins at speed and accelerates.
 const BOTH: &[u8] =
@@ -231,7 +233,8 @@ const BOTH: &[u8] =
 
 // A drone that accelerates more in a later cue than the one at whose beginning it jumps.
 const LATER: &[u8] =
-    b"choreo 1\ndrone a 0 0 1000000 0\ncue 1000\na line 0 0 2000000 0\nend\ncue 1000\na move 3000000 0 2000000 0\nend\n";
+    b"choreo 1\ndrone a 0 0 1000000 0\ncue 1000\na line 0 0 2000000 0\nend\ncue 1000\na move 3000000 0 2000000 0\n\
+    end\n";
 
 // By fractions, from the definitions, outside the program: bench/dynamics.py.
 const DYNAMICS: [(&[&str], &[u8], u8, &[u8]); 21] = [
@@ -260,7 +263,8 @@ greatest acceleration 1878325 0 0 jump 0 0 0\n",
         &["dynamics"],
         ARC,
         0,
-        b"dynamics solo acceleration 2688000 2688000 0 jump 1656000 cue 2 1656000 cue 1 0 cue 1 begins moving ends moving\n\
+        b"dynamics solo acceleration 2688000 2688000 0 jump 1656000 cue 2 1656000 cue 1 0 cue 1 begins moving ends \
+        moving\n\
 greatest acceleration 2688000 2688000 0 jump 1656000 1656000 0\n",
     ),
     (

@@ -12,11 +12,15 @@ pub const SHOW: &[u8] =
     b"choreo 1\ndrone solo 0 0 1000000 0\ncue 2000\nsolo move 1000000 0 1000000 0\nend\n";
 
 pub const PLAN: &[u8] = b"plan 1\ndrone solo bytes 28 pieces 1\n\
-data 00 00 00 00 E8 03 00 00 03 D0 07 00 00 00 00 00 00 E8 03 E8 03 E8 03 E8 03 00 00 00\nwrite 4E 02 00 00 00 00 00 00 00 00 E8 03 00 00 03 D0 07 00 00 00 00 00 00 E8 03 E8 03 E8 03 E8\nwrite 4E 02 18 00 00 00 03 00 00 00\ndefine 8C 06 00 01 01 00 00 00 00 01\nstart 8C 05 00 00 00 00 00 00 80 3F\nend\n";
+data 00 00 00 00 E8 03 00 00 03 D0 07 00 00 00 00 00 00 E8 03 E8 03 E8 03 E8 03 00 00 00\n\
+write 4E 02 00 00 00 00 00 00 00 00 E8 03 00 00 03 D0 07 00 00 00 00 00 00 E8 03 E8 03 E8 03 E8\n\
+write 4E 02 18 00 00 00 03 00 00 00\ndefine 8C 06 00 01 01 00 00 00 00 01\nstart 8C 05 00 00 00 00 00 00 80 3F\nend\n";
 
 // The same plan in the last bytes of the memory.
 const PLAN_AT_THE_END: &[u8] = b"plan 1\ndrone solo bytes 28 pieces 1\n\
-data 00 00 00 00 E8 03 00 00 03 D0 07 00 00 00 00 00 00 E8 03 E8 03 E8 03 E8 03 00 00 00\nwrite 4E 02 E4 0F 00 00 00 00 00 00 E8 03 00 00 03 D0 07 00 00 00 00 00 00 E8 03 E8 03 E8 03 E8\nwrite 4E 02 FC 0F 00 00 03 00 00 00\ndefine 8C 06 00 01 01 E4 0F 00 00 01\nstart 8C 05 00 00 00 00 00 00 80 3F\nend\n";
+data 00 00 00 00 E8 03 00 00 03 D0 07 00 00 00 00 00 00 E8 03 E8 03 E8 03 E8 03 00 00 00\n\
+write 4E 02 E4 0F 00 00 00 00 00 00 E8 03 00 00 03 D0 07 00 00 00 00 00 00 E8 03 E8 03 E8 03 E8\n\
+write 4E 02 FC 0F 00 00 03 00 00 00\ndefine 8C 06 00 01 01 E4 0F 00 00 01\nstart 8C 05 00 00 00 00 00 00 80 3F\nend\n";
 
 // Two drones that change places, one of them a metre higher than the other.
 pub const APART: &[u8] =
@@ -288,13 +292,21 @@ fn words_that_are_no_command(rt: HostRuntime) -> Result<(), Fail> {
 fn plans(rt: HostRuntime) -> Result<(), Fail> {
     let repeated = b"repeat 255\ncue 1000\nend\nend\n";
     let greatest = b"plan 1\ndrone solo bytes 28 pieces 1\n\
-data FF 7F 00 00 E8 03 00 00 03 D0 07 FF 7F FF 7F FF 7F E8 03 E8 03 E8 03 E8 03 00 00 00\nwrite 4E 02 00 00 00 00 FF 7F 00 00 E8 03 00 00 03 D0 07 FF 7F FF 7F FF 7F E8 03 E8 03 E8 03 E8\nwrite 4E 02 18 00 00 00 03 00 00 00\ndefine 8C 06 00 01 01 00 00 00 00 01\nstart 8C 05 00 00 00 00 00 00 80 3F\nend\n";
+data FF 7F 00 00 E8 03 00 00 03 D0 07 FF 7F FF 7F FF 7F E8 03 E8 03 E8 03 E8 03 00 00 00\n\
+write 4E 02 00 00 00 00 FF 7F 00 00 E8 03 00 00 03 D0 07 FF 7F FF 7F FF 7F E8 03 E8 03 E8 03 E8\n\
+write 4E 02 18 00 00 00 03 00 00 00\ndefine 8C 06 00 01 01 00 00 00 00 01\nstart 8C 05 00 00 00 00 00 00 80 3F\nend\n";
     let least = b"plan 1\ndrone solo bytes 28 pieces 1\n\
-data 00 80 00 00 E8 03 00 00 03 D0 07 00 80 00 80 00 80 E8 03 E8 03 E8 03 E8 03 00 00 00\nwrite 4E 02 00 00 00 00 00 80 00 00 E8 03 00 00 03 D0 07 00 80 00 80 00 80 E8 03 E8 03 E8 03 E8\nwrite 4E 02 18 00 00 00 03 00 00 00\ndefine 8C 06 00 01 01 00 00 00 00 01\nstart 8C 05 00 00 00 00 00 00 80 3F\nend\n";
+data 00 80 00 00 E8 03 00 00 03 D0 07 00 80 00 80 00 80 E8 03 E8 03 E8 03 E8 03 00 00 00\n\
+write 4E 02 00 00 00 00 00 80 00 00 E8 03 00 00 03 D0 07 00 80 00 80 00 80 E8 03 E8 03 E8 03 E8\n\
+write 4E 02 18 00 00 00 03 00 00 00\ndefine 8C 06 00 01 01 00 00 00 00 01\nstart 8C 05 00 00 00 00 00 00 80 3F\nend\n";
     let arc = b"plan 1\ndrone solo bytes 26 pieces 1\n\
-data E8 03 00 00 E8 03 00 00 0A E8 03 E8 03 28 02 00 00 28 02 E8 03 E8 03 00 00 00\nwrite 4E 02 00 00 00 00 E8 03 00 00 E8 03 00 00 0A E8 03 E8 03 28 02 00 00 28 02 E8 03 E8 03 00\nwrite 4E 02 18 00 00 00 00 00\ndefine 8C 06 00 01 01 00 00 00 00 01\nstart 8C 05 00 00 00 00 00 00 80 3F\nend\n";
+data E8 03 00 00 E8 03 00 00 0A E8 03 E8 03 28 02 00 00 28 02 E8 03 E8 03 00 00 00\n\
+write 4E 02 00 00 00 00 E8 03 00 00 E8 03 00 00 0A E8 03 E8 03 28 02 00 00 28 02 E8 03 E8 03 00\n\
+write 4E 02 18 00 00 00 00 00\ndefine 8C 06 00 01 01 00 00 00 00 01\nstart 8C 05 00 00 00 00 00 00 80 3F\nend\n";
     let mirrored = b"plan 1\ndrone solo bytes 20 pieces 1\n\
-data 00 00 00 00 E8 03 00 00 54 E8 03 E8 03 DC 05 84 03 00 00 00\nwrite 4E 02 00 00 00 00 00 00 00 00 E8 03 00 00 54 E8 03 E8 03 DC 05 84 03 00 00 00\ndefine 8C 06 00 01 01 00 00 00 00 01\nstart 8C 05 00 00 00 00 00 00 80 3F\nend\n";
+data 00 00 00 00 E8 03 00 00 54 E8 03 E8 03 DC 05 84 03 00 00 00\n\
+write 4E 02 00 00 00 00 00 00 00 00 E8 03 00 00 54 E8 03 E8 03 DC 05 84 03 00 00 00\n\
+define 8C 06 00 01 01 00 00 00 00 01\nstart 8C 05 00 00 00 00 00 00 80 3F\nend\n";
     let rows: [(&[u8], &[u8], &[u8]); 5] = [
         (
             b"choreo 1\ndrone solo 32767499 0 1000000 0\n",
@@ -332,15 +344,21 @@ data 00 00 00 00 E8 03 00 00 54 E8 03 E8 03 DC 05 84 03 00 00 00\nwrite 4E 02 00
 const JOINED: [(&[u8], &[u8]); 7] = [
     (
         b"cue 32767\nend\ncue 32768\nend\n",
-        b"plan 1\ndrone solo bytes 14 pieces 1\ndata 00 00 00 00 E8 03 00 00 00 FF FF 00 00 00\nwrite 4E 02 00 00 00 00 00 00 00 00 E8 03 00 00 00 FF FF 00 00 00\ndefine 8C 06 00 01 01 00 00 00 00 01\nstart 8C 05 00 00 00 00 00 00 80 3F\nend\n",
+        b"plan 1\ndrone solo bytes 14 pieces 1\ndata 00 00 00 00 E8 03 00 00 00 FF FF 00 00 00\n\
+        write 4E 02 00 00 00 00 00 00 00 00 E8 03 00 00 00 FF FF 00 00 00\ndefine 8C 06 00 01 01 00 00 00 00 01\n\
+        start 8C 05 00 00 00 00 00 00 80 3F\nend\n",
     ),
     (
         b"cue 32767\nend\ncue 32768\nend\ncue 1\nend\n",
-        b"plan 1\ndrone solo bytes 17 pieces 2\ndata 00 00 00 00 E8 03 00 00 00 FF FF 00 01 00 00 00 00\nwrite 4E 02 00 00 00 00 00 00 00 00 E8 03 00 00 00 FF FF 00 01 00 00 00 00\ndefine 8C 06 00 01 01 00 00 00 00 02\nstart 8C 05 00 00 00 00 00 00 80 3F\nend\n",
+        b"plan 1\ndrone solo bytes 17 pieces 2\ndata 00 00 00 00 E8 03 00 00 00 FF FF 00 01 00 00 00 00\n\
+        write 4E 02 00 00 00 00 00 00 00 00 E8 03 00 00 00 FF FF 00 01 00 00 00 00\n\
+        define 8C 06 00 01 01 00 00 00 00 02\nstart 8C 05 00 00 00 00 00 00 80 3F\nend\n",
     ),
     (
         b"cue 40000\nend\ncue 30000\nend\ncue 30000\nend\n",
-        b"plan 1\ndrone solo bytes 17 pieces 2\ndata 00 00 00 00 E8 03 00 00 00 40 9C 00 60 EA 00 00 00\nwrite 4E 02 00 00 00 00 00 00 00 00 E8 03 00 00 00 40 9C 00 60 EA 00 00 00\ndefine 8C 06 00 01 01 00 00 00 00 02\nstart 8C 05 00 00 00 00 00 00 80 3F\nend\n",
+        b"plan 1\ndrone solo bytes 17 pieces 2\ndata 00 00 00 00 E8 03 00 00 00 40 9C 00 60 EA 00 00 00\n\
+        write 4E 02 00 00 00 00 00 00 00 00 E8 03 00 00 00 40 9C 00 60 EA 00 00 00\n\
+        define 8C 06 00 01 01 00 00 00 00 02\nstart 8C 05 00 00 00 00 00 00 80 3F\nend\n",
     ),
     (
         b"cue 1000\nend\ncue 1000\nsolo turn 900\nend\ncue 1000\nend\n",
@@ -348,7 +366,9 @@ const JOINED: [(&[u8], &[u8]); 7] = [
     ),
     (
         b"cue 1000\nend\ncue 1000\nsolo move 400 0 1000000 0\nend\ncue 1000\nend\n",
-        b"plan 1\ndrone solo bytes 14 pieces 1\ndata 00 00 00 00 E8 03 00 00 00 B8 0B 00 00 00\nwrite 4E 02 00 00 00 00 00 00 00 00 E8 03 00 00 00 B8 0B 00 00 00\ndefine 8C 06 00 01 01 00 00 00 00 01\nstart 8C 05 00 00 00 00 00 00 80 3F\nend\n",
+        b"plan 1\ndrone solo bytes 14 pieces 1\ndata 00 00 00 00 E8 03 00 00 00 B8 0B 00 00 00\n\
+        write 4E 02 00 00 00 00 00 00 00 00 E8 03 00 00 00 B8 0B 00 00 00\ndefine 8C 06 00 01 01 00 00 00 00 01\n\
+        start 8C 05 00 00 00 00 00 00 80 3F\nend\n",
     ),
     (
         b"repeat 1000\ncue 1000\nend\nend\n",
@@ -458,7 +478,8 @@ fn refused_shows(rt: HostRuntime) -> Result<(), Fail> {
             b"error 5 pair a b cue 1 part 0 of 64\n",
         ),
         (
-            b"choreo 1\nellipsoid 120 300\ndrone a 0 0 1000000 0\ndrone b 1000000 0 1000000 0\nrepeat 999\ncue 10\nend\nend\n",
+            b"choreo 1\nellipsoid 120 300\ndrone a 0 0 1000000 0\ndrone b 1000000 0 1000000 0\nrepeat 999\ncue 10\n\
+            end\nend\n",
             b"cue 3000\na move 1000000 0 1000000 0\nb move 0 0 1000000 0\nend\n",
             5,
             b"error 5 pair a b cue 1000 part 28 of 64\n",

@@ -1,5 +1,5 @@
--- What `direct` gives, reads and writes: the way up, the show and the way down, each a text that a marker line ends, and
--- then the frames of their flight.
+-- What `direct` gives, reads and writes: the way up, the show and the way down, each a text that a marker line ends,
+-- and then the frames of their flight.
 use Rattle.std.specs.Prelude.{◌≡◌, ◌≢◌, ℕ, ◌+◌, ◌≤◌, List, ◌∷◌, ◌++◌, length, Option, Some, None}
 use Rattle.std.specs.Io.KnownBytes.{Appends}
 use Rattle.text_lines.specs.Marker.{part_of, rest_of}
@@ -29,8 +29,8 @@ abbrev pub FlightSucceeds : Flight → List ℕ → Type 0
 FlightSucceeds f bytes = (events : List Event) × (rest : List ℕ) × Takes f bytes events rest × (ended f events ≡ Some 0)
 
 -- The exchange of three shows, of which this is the flight, and this the first cause why they are none. Without a cause
--- the flight is flown through frames. With one a frame that names it and the end frame of 19 are written, and no byte is
--- read for them.
+-- the flight is flown through frames. With one a frame that names it and the end frame of 19 are written, and no byte
+-- is read for them.
 abbrev pub exchange_by : Options → PlainShow → PlainShow → PlainShow → Option FlightFault → Exchange
 exchange_by o up show down None = record {
   gives = λ bytes p. FlightGives (flight_of o up show down) bytes p.status p.output;
@@ -75,8 +75,8 @@ up_exchange o = text_exchange o.depth (λ up. show_exchange o up)
 
 -- The input is three texts and frames. The texts stand for shows that are a flight, of which the first keeps near to
 -- what it says, and apart. What was written is what the director says at events that stand in the frames. By these
--- events each drone was told all its orders and nothing else, was at its curve in each sample of the show, and was never
--- silent in it.
+-- events each drone was told all its orders and nothing else, was at its curve in each sample of the show, and was
+-- never silent in it.
 pub record FliesWhole (o : Options) (input : List ℕ) (old new : Option (List ℕ)) : Type 0 where
   pub up : FliesText (part_of input)
   pub show : PlainShow
@@ -91,7 +91,8 @@ pub record FliesWhole (o : Options) (input : List ℕ) (old new : Option (List �
 
 -- the way up, and then the show
 abbrev pub direct_verb : Options → Verb
-direct_verb o = record (text_verb o.depth (λ up. show_exchange o up)) { headline = λ input old new. FliesWhole o input old new }
+direct_verb o =
+    record (text_verb o.depth (λ up. show_exchange o up)) { headline = λ input old new. FliesWhole o input old new }
 
 -- The three texts at the front of an input stand for shows that are a flight. At every instant of each of them what its
 -- drones are sent keeps near to what it says, and any two drones keep apart.
@@ -105,7 +106,8 @@ pub record FlyAsOne (o : Options) (input : List ℕ) : Type 0 where
 -- frame of a cause. Of texts that are no flight these are all that is written.
 abbrev pub HasBegun : Option (List ℕ) → Option (List ℕ) → Type 0
 HasBegun old new =
-    (before later : List ℕ) × (byte : ℕ) × (old ≡ Some before) × (new ≡ Some (before ++ byte ∷ later)) × (byte ≢ end_byte) × (byte ≢ no_flight_byte)
+    (before later : List ℕ) × (byte : ℕ) × (old ≡ Some before) × (new ≡ Some (before ++ byte ∷ later))
+    × (byte ≢ end_byte) × (byte ≢ no_flight_byte)
 
 -- the laws of the three commands
 pub record DirectLaw : Type 0 where

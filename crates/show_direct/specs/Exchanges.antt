@@ -84,7 +84,8 @@ text_verb depth next = record {
   succeeds = λ s cut. (next s).succeeds cut.frames;
   stops = λ taken output. TextStops depth next (has_whole_marker taken) taken output;
   prompt = λ r. (taken sent : List ℕ) → Carried r taken sent → TextIsPrompt depth next taken sent;
-  reading = λ r status. IsJudged status → IfSome r.left (λ input. IfSome r.left_after (λ left. TextEnds depth next input left));
+  reading = λ r status. IsJudged status →
+      IfSome r.left (λ input. IfSome r.left_after (λ left. TextEnds depth next input left));
   headline = λ input old new. FliesText (part_of input);
 }
 

@@ -25,7 +25,8 @@ routes_of o up show down = record {
 -- The first cause why the three are no flight: of their names, and then of their ways.
 abbrev pub fault_of : Options → PlainShow → PlainShow → PlainShow → Option FlightFault
 fault_of o up show down =
-    option_or (option_or (other_drone way.Up (first_other 0 (names_of up) (names_of show))) (other_drone way.Down (first_other 0 (names_of down) (names_of show))))
+    option_or (option_or (other_drone way.Up (first_other 0 (names_of up) (names_of show)))
+    (other_drone way.Down (first_other 0 (names_of down) (names_of show))))
     (route_fault (routes_of o up show down))
 
 -- The three are a flight: the same drones, by name, in the same order; and their ways are a flight.

@@ -1,5 +1,6 @@
 -- The frame that names the first cause why three shows are no flight (docs/PROMISES.md, "Its frames").
-use Rattle.std.specs.Prelude.{◌≡◌, ℕ, ◌+◌, ◌*◌, ◌/◌, ◌%◌, ◌<◌, ◌==◌, if◌then◌else◌, List, [], ◌∷◌, ◌++◌, slice_index, Some}
+use Rattle.std.specs.Prelude.{◌≡◌, ℕ, ◌+◌, ◌*◌, ◌/◌, ◌%◌, ◌<◌, ◌==◌, if◌then◌else◌, List, [], ◌∷◌, ◌++◌, slice_index}
+use Rattle.std.specs.Prelude.{Some}
 use Rattle.choreo_show.specs.Plain.{PlainShow}
 use Rattle.link_frames.specs.Frames.{end_frame}
 use Rattle.flight_steps.specs.declared.faults.FlightFault.{FlightFault}
@@ -67,7 +68,8 @@ fault_from near stray cause place drone cue =
 -- the cause that a frame names
 abbrev pub fault_in : ℕ → ℕ → List ℕ → FlightFault
 fault_in near stray bytes =
-    fault_from near stray (slice_index bytes 1) (slice_index bytes 2) (slice_index bytes 3) (slice_index bytes 4 + 256 * slice_index bytes 5)
+    fault_from near stray (slice_index bytes 1) (slice_index bytes 2) (slice_index bytes 3)
+    (slice_index bytes 4 + 256 * slice_index bytes 5)
 
 -- the cause can be named: its numbers fit their bytes, and those of a narrow way up are these
 abbrev pub IsNamed : ℕ → ℕ → FlightFault → Type 0
@@ -84,4 +86,5 @@ pub record FaultFrameLaw : Type 0 where
   pub one : (near stray : ℕ) (f : FlightFault) → IsNamed near stray f → fault_in near stray (fault_frame f) ≡ f
   -- the first cause against three shows that are accepted can be named
   pub named : (o : Options) (first second third : List ℕ) (up show down : PlainShow) (f : FlightFault) →
-      Accepts o.depth first up → Accepts o.depth second show → Accepts o.depth third down → fault_of o up show down ≡ Some f → IsNamed o.near up.settings.stray f
+      Accepts o.depth first up → Accepts o.depth second show → Accepts o.depth third down →
+      fault_of o up show down ≡ Some f → IsNamed o.near up.settings.stray f

@@ -1,5 +1,6 @@
 -- Words of private steps. No public clause cites them.
-use Rattle.std.specs.Prelude.{◌≡◌, ◌⊎◌, ℕ, ◌+◌, ◌≤◌, Bool, true, false, List, [], ◌∷◌, ◌++◌, Contains, length, drop, Option, Some, None, Result, Ok, Err}
+use Rattle.std.specs.Prelude.{◌≡◌, ◌⊎◌, ℕ, ◌+◌, ◌≤◌, Bool, true, false, List, [], ◌∷◌, ◌++◌, Contains, length, drop}
+use Rattle.std.specs.Prelude.{Option, Some, None, Result, Ok, Err}
 use Rattle.std.specs.Io.KnownBytes.{Appends}
 use Rattle.text_lines.specs.Marker.{rest_of}
 use Rattle.choreo_show.specs.Plain.{PlainShow}
@@ -54,7 +55,8 @@ abbrev pub IsUnread : ℕ → List ℕ → List ℕ → Bool → ℕ → ℕ →
 IsUnread depth bytes left ended faults faults_after (unread.Refused r) =
     IsRefusedBy (text_ways depth) (cut_of bytes) r × IsOfInput r × (length (rest_of bytes) ≤ length left + buffer_bytes)
 IsUnread depth bytes left ended faults faults_after unread.Read =
-    (ended ≡ false) × Rose faults faults_after × ((taken : List ℕ) × (bytes ≡ taken ++ left) × (has_whole_marker taken ≡ false))
+    (ended ≡ false) × Rose faults faults_after
+    × ((taken : List ℕ) × (bytes ≡ taken ++ left) × (has_whole_marker taken ≡ false))
 IsUnread depth bytes left ended faults faults_after unread.Memory = Unit {0}
 
 -- what a text gives that was read whole
@@ -67,13 +69,15 @@ JudgeGives depth cut (Err unread.Memory) = Unit {0}
 -- a show was read, or this is why not
 abbrev pub ReadGives : ℕ → Held → Held → Told → Told → List ℕ → Result Accepted Unread → Type 0
 ReadGives depth held holds old new all (Ok a) = IsRead depth (coming held all old) (coming holds all new) holds.ended a
-ReadGives depth held holds old new all (Err why) = IsUnread depth (coming held all old) (left_of all new) held.ended old.faults new.faults why
+ReadGives depth held holds old new all (Err why) =
+    IsUnread depth (coming held all old) (left_of all new) held.ended old.faults new.faults why
 
 -- ---- an exchange is carried
 
 -- What is written where there is no show: the end frame with a status, or nothing for want of memory.
 abbrev pub EndsBy : Unread → Option (List ℕ) → Option (List ℕ) → ℕ → ℕ → ℕ → Type 0
-EndsBy (unread.Refused r) old new before after status = Wrote (status_of r) (end_frame (status_of r)) old new before after status
+EndsBy (unread.Refused r) old new before after status =
+    Wrote (status_of r) (end_frame (status_of r)) old new before after status
 EndsBy unread.Read old new before after status = Wrote 6 (end_frame 6) old new before after status
 EndsBy unread.Memory old new before after status = (status ≡ 1) × (new ≡ old) × (after ≡ before)
 
@@ -92,12 +96,16 @@ pub record IsCut (x : Exchange) (bytes left : List ℕ) (ended : Bool) (m : Span
 -- A call carried an exchange to a status. These bytes came, and these are left; `ended` says whether the reader had met
 -- the end before.
 pub record Carries (x : Exchange) (bytes left : List ℕ) (ended : Bool) (m : Span) (status : ℕ) : Type 0 where
-  pub gives : IsJudged status → (o : Outcome) × x.gives bytes o × (status ≡ o.status) × Appends m.written m.written_after o.output
+  pub gives : IsJudged status → (o : Outcome) × x.gives bytes o × (status ≡ o.status)
+      × Appends m.written m.written_after o.output
   pub one : status ≡ 1 → (m.written_after ≡ m.written) × (m.writes_failed_after ≡ m.writes_failed)
-  pub six : status ≡ 6 → (output : List ℕ) × IsCut x bytes left ended m output × Appends m.written m.written_after output
-  pub seven : status ≡ 7 → Rose m.writes_failed m.writes_failed_after × ((output : List ℕ) × AppendsFront m.written m.written_after output
+  pub six : status ≡ 6 → (output : List ℕ) × IsCut x bytes left ended m output
+      × Appends m.written m.written_after output
+  pub seven : status ≡ 7 →
+      Rose m.writes_failed m.writes_failed_after × ((output : List ℕ) × AppendsFront m.written m.written_after output
       × (((o : Outcome) × x.gives bytes o × (output ≡ o.output)) ⊎ IsCut x bytes left ended m output))
-  pub prompt : status ≡ 7 → (taken sent before : List ℕ) → bytes ≡ taken ++ left → m.written ≡ Some before → m.written_after ≡ Some (before ++ sent) → x.prompt taken sent
+  pub prompt : status ≡ 7 → (taken sent before : List ℕ) → bytes ≡ taken ++ left → m.written ≡ Some before →
+      m.written_after ≡ Some (before ++ sent) → x.prompt taken sent
   pub ends : IsJudged status → x.ends bytes left
   pub begun : HasBegun m.written m.written_after ⊎ (status ≡ 0) → x.begun bytes
   pub known : Contains direct_statuses status
@@ -120,5 +128,6 @@ FlightMade o up show down (Err error.Memory) = Unit {0}
 
 -- What is written where there is no flight: the first cause and the end frame of 19, or nothing for want of memory.
 abbrev pub EndsFlight : StepsError → Option (List ℕ) → Option (List ℕ) → ℕ → ℕ → ℕ → Type 0
-EndsFlight (error.Fault fault) old new before after status = Wrote 19 (no_flight_bytes fault) old new before after status
+EndsFlight (error.Fault fault) old new before after status =
+    Wrote 19 (no_flight_bytes fault) old new before after status
 EndsFlight error.Memory old new before after status = (status ≡ 1) × (new ≡ old) × (after ≡ before)

@@ -11,7 +11,8 @@ ghost use Rattle.show_plan.specs.Fitting.{IsFitted, IsValidFitted};
 ghost use Rattle.show_judge.specs.Runs.{Does};
 ghost use Rattle.show_judge.specs.Verb.{during};
 ghost use Rattle.show_direct.specs.declared.options.Options.{Options as Allowed};
-ghost use Rattle.show_direct.specs.Direct.{DirectLaw, FlyAsOne, HasBegun, direct_verb, down_exchange, flight_exchange, show_exchange, up_exchange};
+ghost use Rattle.show_direct.specs.Direct.{DirectLaw, FlyAsOne, HasBegun, direct_verb, down_exchange, flight_exchange};
+ghost use Rattle.show_direct.specs.Direct.{show_exchange, up_exchange};
 ghost use Rattle.show_direct.specs.Steps.{Carries, EndsFlight, FlightMade, coming, left_of};
 
 use crate::fault_frame::{NO_FLIGHT, no_flight_bytes};
@@ -31,7 +32,8 @@ use std::alloc::Global;
 // Ends where there is no flight: with the first cause and the end frame of 19, or with nothing written for want of
 // memory.
 fn end_flight<K: Sink>(sink: &mut K, error: StepsError) -> u8
-    ensures { EndsFlight error (K.written sink.old) (K.written sink.new) (K.faults sink.old) (K.faults sink.new) result }
+    ensures { EndsFlight error (K.written sink.old) (K.written sink.new) (K.faults sink.old) (K.faults sink.new)
+        result }
 {
     match error {
         StepsError::Fault { fault } => finish(sink, &no_flight_bytes(&fault), NO_FLIGHT),
@@ -51,8 +53,10 @@ fn fly<S: Source, K: Sink>(
     requires at_end { IsTrue parts.old.ended → IsTrue (S.told source.old).ended }
     requires holds { length parts.old.waiting ≤ buffer_bytes }
     requires held { IfOk made IsHeld }
-    ensures carries { (all : List ℕ) (o : Allowed) (up show down : PlainShow) → MayGive parts.new.ended (S.told source.new) all → FlightMade o up show down made
-        → Carries (flight_exchange o up show down) (coming parts.old all (S.told source.old)) (left_of all (S.told source.new)) parts.old.ended
+    ensures carries { (all : List ℕ) (o : Allowed) (up show down : PlainShow)
+        → MayGive parts.new.ended (S.told source.new) all → FlightMade o up show down made
+        → Carries (flight_exchange o up show down) (coming parts.old all (S.told source.old))
+        (left_of all (S.told source.new)) parts.old.ended
         (during S.told K.written K.faults source.old source.new sink.old sink.new) result }
     ensures went { Went parts.old.ended parts.new.ended (S.told source.old) (S.told source.new) }
 {
@@ -77,8 +81,10 @@ fn fly_down<S: Source, K: Sink>(
     requires holds { length parts.old.waiting ≤ buffer_bytes }
     requires up { IsValidFitted shows.up }
     requires show { IsValidFitted shows.show }
-    ensures carries { (all : List ℕ) (up show : PlainShow) → MayGive parts.new.ended (S.told source.new) all → IsFitted shows.up up → IsFitted shows.show show
-        → Carries (down_exchange options.now up show) (coming parts.old all (S.told source.old)) (left_of all (S.told source.new)) parts.old.ended
+    ensures carries { (all : List ℕ) (up show : PlainShow) → MayGive parts.new.ended (S.told source.new) all
+        → IsFitted shows.up up → IsFitted shows.show show
+        → Carries (down_exchange options.now up show) (coming parts.old all (S.told source.old))
+        (left_of all (S.told source.new)) parts.old.ended
         (during S.told K.written K.faults source.old source.new sink.old sink.new) result }
     ensures went { Went parts.old.ended parts.new.ended (S.told source.old) (S.told source.new) }
 {
@@ -107,8 +113,10 @@ fn fly_show<S: Source, K: Sink>(
     requires at_end { IsTrue parts.old.ended → IsTrue (S.told source.old).ended }
     requires holds { length parts.old.waiting ≤ buffer_bytes }
     requires up { IsValidFitted up }
-    ensures carries { (all : List ℕ) (rise : PlainShow) → MayGive parts.new.ended (S.told source.new) all → IsFitted up rise
-        → Carries (show_exchange options.now rise) (coming parts.old all (S.told source.old)) (left_of all (S.told source.new)) parts.old.ended
+    ensures carries { (all : List ℕ) (rise : PlainShow) → MayGive parts.new.ended (S.told source.new) all
+        → IsFitted up rise
+        → Carries (show_exchange options.now rise) (coming parts.old all (S.told source.old))
+        (left_of all (S.told source.new)) parts.old.ended
         (during S.told K.written K.faults source.old source.new sink.old sink.new) result }
     ensures went { Went parts.old.ended parts.new.ended (S.told source.old) (S.told source.new) }
 {
@@ -139,9 +147,11 @@ fn fly_up<S: Source, K: Sink>(
     requires at_end { IsTrue parts.old.ended → IsTrue (S.told source.old).ended }
     requires holds { length parts.old.waiting ≤ buffer_bytes }
     ensures carries { (all : List ℕ) → MayGive parts.new.ended (S.told source.new) all
-        → Carries (up_exchange options.now) (coming parts.old all (S.told source.old)) (left_of all (S.told source.new)) parts.old.ended
+        → Carries (up_exchange options.now) (coming parts.old all (S.told source.old)) (left_of all (S.told source.new))
+        parts.old.ended
         (during S.told K.written K.faults source.old source.new sink.old sink.new) result }
-    ensures little { (all : List ℕ) → MayGive parts.new.ended (S.told source.new) all → most_text < length (part_of (coming parts.old all (S.told source.old)))
+    ensures little { (all : List ℕ) → MayGive parts.new.ended (S.told source.new) all
+        → most_text < length (part_of (coming parts.old all (S.told source.old)))
         → length (S.told source.new).given ≤ length (S.told source.old).given + (most_text + 4 + buffer_bytes) }
     ensures went { Went parts.old.ended parts.new.ended (S.told source.old) (S.told source.new) }
 {
@@ -174,8 +184,10 @@ pub fn direct<S: Source, K: Sink>(
     source: &mut S,
     sink: &mut K,
 ) -> u8
-    ensures behaves { Does (direct_verb options.now) (during S.told K.written K.faults source.old source.new sink.old sink.new) result }
-    ensures begun { (given : List ℕ) → (S.told source.new).given ≡ (S.told source.old).given ++ given → HasBegun (K.written sink.old) (K.written sink.new) ⊎ (result ≡ 0) → FlyAsOne options.now given }
+    ensures behaves { Does (direct_verb options.now)
+        (during S.told K.written K.faults source.old source.new sink.old sink.new) result }
+    ensures begun { (given : List ℕ) → (S.told source.new).given ≡ (S.told source.old).given ++ given
+        → HasBegun (K.written sink.old) (K.written sink.new) ⊎ (result ≡ 0) → FlyAsOne options.now given }
 {
     show_law();
     direct_law();

@@ -35,7 +35,8 @@ fn make_steps(
     requires up { IsValidFitted up.now }
     requires show { IsValidFitted show.now }
     requires down { IsValidFitted down.now }
-    ensures made { (rise middle return : PlainShow) → IsFitted up.now rise → IsFitted show.now middle → IsFitted down.now return → StepsMade options.now rise middle return result }
+    ensures made { (rise middle return : PlainShow) → IsFitted up.now rise → IsFitted show.now middle
+        → IsFitted down.now return → StepsMade options.now rise middle return result }
     ensures sizes { IfOk result (λ steps. All (IsStepOf (length show.now.trajs)) steps) }
 {
     let crews = Crews {
@@ -81,7 +82,8 @@ pub fn make_flight(
     requires up { IsValidFitted shows.up }
     requires show { IsValidFitted shows.show }
     requires down { IsValidFitted down.now }
-    ensures made { (rise middle return : PlainShow) → IsFitted shows.up rise → IsFitted shows.show middle → IsFitted down.now return → FlightMade options.now rise middle return result }
+    ensures made { (rise middle return : PlainShow) → IsFitted shows.up rise → IsFitted shows.show middle
+        → IsFitted down.now return → FlightMade options.now rise middle return result }
     ensures held { IfOk result IsHeld }
 {
     join_law();

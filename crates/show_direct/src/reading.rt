@@ -70,7 +70,8 @@ pub fn read_show<S: Source>(
     requires lines { IsTrue parts.old.lines }
     requires at_end { IsTrue parts.old.ended → IsTrue (S.told source.old).ended }
     requires holds { length parts.old.waiting ≤ buffer_bytes }
-    ensures gives { (all : List ℕ) → MayGive parts.new.ended (S.told source.new) all → ReadGives depth parts.old parts.new (S.told source.old) (S.told source.new) all result }
+    ensures gives { (all : List ℕ) → MayGive parts.new.ended (S.told source.new) all
+        → ReadGives depth parts.old parts.new (S.told source.old) (S.told source.new) all result }
     ensures valid { IfOk result (λ a. IsValidFitted a.fitted) }
     ensures sound { IfOk result (λ _. IsTrue parts.new.sound) }
     ensures lines { parts.new.lines ≡ parts.old.lines }
@@ -90,7 +91,8 @@ pub fn read_show<S: Source>(
 
 // Writes the end frame with this status, and returns it, or 7 where the sink failed.
 fn write_end<K: Sink>(sink: &mut K, status: u8) -> u8
-    ensures { Wrote status (end_frame status) (K.written sink.old) (K.written sink.new) (K.faults sink.old) (K.faults sink.new) result }
+    ensures { Wrote status (end_frame status) (K.written sink.old) (K.written sink.new) (K.faults sink.old)
+        (K.faults sink.new) result }
 {
     finish(sink, &[END_BYTE, status], status)
 }

@@ -56,7 +56,8 @@ IsSaid (Refused r) = IsOfInput r
 -- a command refuses the show's text of an input that is cut so
 abbrev pub IsRefusedBy : Ways → Cut → Refusal → Type 0
 IsRefusedBy c cut r =
-    (text_refusal cut.show ≡ Some r) ⊎ ((s : PlainShow) × (length cut.show ≤ most_text) × StandsFor cut.show s × (show_refusal c cut s ≡ Some r))
+    (text_refusal cut.show ≡ Some r)
+    ⊎ ((s : PlainShow) × (length cut.show ≤ most_text) × StandsFor cut.show s × (show_refusal c cut s ≡ Some r))
 
 -- The show's text stands for a show that fits, as which it is given, and of which nothing is left to refuse but that
 -- two drones aren't kept apart.
@@ -112,21 +113,24 @@ EndsJudged c text (judged.Refused r) = Unit {0}
 -- for a show's text
 pub record AnswersText (c : Verb) (text : Text) (result : Result Answer AllocError) : Type 0 where
   pub gives : (cut : Cut) → IsShowText text cut → IfOk result (λ a. IsOutcomeOf c cut (outcome_of a))
-  pub safe : (cut : Cut) → IsShowText text cut → IfOk result (λ a. (outcome_of a).status ≡ 0 → IsSafe c cut (outcome_of a))
+  pub safe : (cut : Cut) → IsShowText text cut →
+      IfOk result (λ a. (outcome_of a).status ≡ 0 → IsSafe c cut (outcome_of a))
   pub whole : IfOk result (λ a. (outcome_of a).status ≡ 0 → IsUnmarked text)
   pub said : IfOk result IsSaid
 
 -- for a show's text and a second one of at most this many bytes
 pub record AnswersTwo (c : Verb) (limit : ℕ) (input : Input) (result : Result Answer AllocError) : Type 0 where
   pub gives : (cut : Cut) → AreTexts limit input cut → IfOk result (λ a. IsOutcomeOf c cut (outcome_of a))
-  pub safe : (cut : Cut) → AreTexts limit input cut → IfOk result (λ a. (outcome_of a).status ≡ 0 → IsSafe c cut (outcome_of a))
+  pub safe : (cut : Cut) → AreTexts limit input cut →
+      IfOk result (λ a. (outcome_of a).status ≡ 0 → IsSafe c cut (outcome_of a))
   pub whole : IfOk result (λ a. (outcome_of a).status ≡ 0 → IsWholeText input.show × IsUnmarked input.second)
   pub said : IfOk result IsSaid
 
 -- for the input of a source
 pub record AnswersInput (c : Verb) (left left_after : Option (List ℕ)) (result : Result Answer Failure) : Type 0 where
   pub gives : IfSome left (λ input. IfOk result (λ a. IsOutcomeOf c (cut_of input) (outcome_of a)))
-  pub safe : IfSome left (λ input. IfOk result (λ a. (outcome_of a).status ≡ 0 → IsSafe c (cut_of input) (outcome_of a)))
+  pub safe : IfSome left
+      (λ input. IfOk result (λ a. (outcome_of a).status ≡ 0 → IsSafe c (cut_of input) (outcome_of a)))
   pub whole : IfOk result (λ a. (outcome_of a).status ≡ 0 → IsReadWhole left left_after)
   pub said : IfOk result IsSaid
 
@@ -135,7 +139,8 @@ abbrev pub EndsRead : Option (List ℕ) → Option (List ℕ) → Judged → Typ
 EndsRead left left_after (judged.Accepted a) = IsReadWhole left left_after
 EndsRead left left_after (judged.Refused r) = Unit {0}
 
-pub record JudgesInput (c : Ways) (depth : ℕ) (left left_after : Option (List ℕ)) (result : Result Judged Failure) : Type 0 where
+pub record JudgesInput (c : Ways) (depth : ℕ) (left left_after : Option (List ℕ)) (result : Result Judged Failure) :
+    Type 0 where
   pub gives : IfSome left (λ input. IfOk result (JudgedGives c depth (cut_of input)))
   pub whole : IfOk result (EndsRead left left_after)
 
@@ -144,10 +149,12 @@ pub record JudgesInput (c : Ways) (depth : ℕ) (left left_after : Option (List 
 -- These bytes were written, and this is the status; or the sink failed after a prefix of them.
 abbrev pub Wrote : ℕ → List ℕ → Option (List ℕ) → Option (List ℕ) → ℕ → ℕ → ℕ → Type 0
 Wrote wanted bytes old new before after status =
-    ((status ≡ wanted) × Appends old new bytes × (before ≤ after)) ⊎ ((status ≡ 7) × Rose before after × AppendsFront old new bytes × (before ≤ after))
+    ((status ≡ wanted) × Appends old new bytes × (before ≤ after))
+    ⊎ ((status ≡ 7) × Rose before after × AppendsFront old new bytes × (before ≤ after))
 
 -- What was written for an answer, or for a failed read; nothing where the program is out of memory.
 abbrev pub Responds : Result Answer Failure → Option (List ℕ) → Option (List ℕ) → ℕ → ℕ → ℕ → Type 0
-Responds (Ok a) old new before after status = Wrote (outcome_of a).status (outcome_of a).output old new before after status
+Responds (Ok a) old new before after status =
+    Wrote (outcome_of a).status (outcome_of a).output old new before after status
 Responds (Err Read) old new before after status = Wrote 6 read_line old new before after status
 Responds (Err Memory) old new before after status = (status ≡ 1) × (new ≡ old) × (after ≡ before)

@@ -15,7 +15,8 @@ use Rattle.show_judge.specs.Shows.{Cut, cut_of}
 -- is too large where there are more.
 abbrev pub IsText : ℕ → Text → List ℕ → Bool → Type 0
 IsText limit TooLarge bytes is_marked = limit < length bytes
-IsText limit (Whole part) bytes is_marked = (part.bytes.items ≡ bytes) × (part.marker ≡ is_marked) × (length bytes ≤ limit)
+IsText limit (Whole part) bytes is_marked = (part.bytes.items ≡ bytes) × (part.marker ≡ is_marked)
+    × (length bytes ≤ limit)
 
 -- the text is the first one of these bytes to come, where they are known
 abbrev pub IsNextText : ℕ → Text → Option (List ℕ) → Type 0
@@ -50,7 +51,8 @@ IsReadWhole input left = IfSome input (λ _. left ≡ Some [])
 abbrev pub IsReadBoth : ℕ → Option (List ℕ) → Option (List ℕ) → Type 0
 IsReadBoth limit left left_after =
     IfSome left (λ all. length (part_of all) ≤ most_text → length (part_of (rest_of all)) ≤ limit →
-    (has_marker (between_feeds (rest_of all)) ≡ false → left_after ≡ Some []) × TakesFewAfter (Some (rest_of all)) left_after)
+    (has_marker (between_feeds (rest_of all)) ≡ false → left_after ≡ Some [])
+    × TakesFewAfter (Some (rest_of all)) left_after)
 
 -- The show's text is the first one of the input that is cut so.
 abbrev pub IsShowText : Text → Cut → Type 0

@@ -85,7 +85,8 @@ pub record IsVerb (v : Verb) : Type 0 where
   -- what the search shows is what is promised
   pub apart : (depth : ℕ) (s : PlainShow) (cut : Cut) → v.ways.depth ≡ Some depth → FliesApart s → v.promises s cut
   -- where a show is safe and what the command gives for it was written, the headline holds
-  pub headline : (input : List ℕ) (o : Outcome) (old new : Option (List ℕ)) → IsSafeOutcome v input o → Appends old new o.output → v.headline input old new
+  pub headline : (input : List ℕ) (o : Outcome) (old new : Option (List ℕ)) → IsSafeOutcome v input o →
+      Appends old new o.output → v.headline input old new
 
 -- ---- inputs that lack nothing
 
@@ -104,5 +105,6 @@ IsComplete v cut = (sound : IsSound v cut) × v.succeeds sound.s cut
 -- An input gives one outcome, and no other; an input that lacks nothing gives status 0.
 pub record OutcomeLaw (v : Verb) : Type 0 where
   pub one : (cut : Cut) (o p : Outcome) → IsOutcomeOf v cut o → IsOutcomeOf v cut p → o ≡ p
-  pub some : (cut : Cut) → ((s : PlainShow) → StandsFor cut.show s → show_refusal v.ways cut s ≡ None → v.known s cut) → (o : Outcome) × IsOutcomeOf v cut o
+  pub some : (cut : Cut) → ((s : PlainShow) → StandsFor cut.show s → show_refusal v.ways cut s ≡ None → v.known s cut)
+      → (o : Outcome) × IsOutcomeOf v cut o
   pub complete : (cut : Cut) (o : Outcome) → IsComplete v cut → IsOutcomeOf v cut o → o.status ≡ 0

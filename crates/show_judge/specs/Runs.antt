@@ -1,5 +1,6 @@
 -- What a run ends with, reads and writes.
-use Rattle.std.specs.Prelude.{◌≡◌, ◌⊎◌, ℕ, ◌<◌, ◌≤◌, Bool, true, false, ◌&&◌, not, List, [], ◌∷◌, ◌++◌, Contains, length, Option, Some, IfSome, if◌then◌else◌}
+use Rattle.std.specs.Prelude.{◌≡◌, ◌⊎◌, ℕ, ◌<◌, ◌≤◌, Bool, true, false, ◌&&◌, not, List, [], ◌∷◌, ◌++◌, Contains}
+use Rattle.std.specs.Prelude.{length, Option, Some, IfSome, if◌then◌else◌}
 use Rattle.std.specs.Io.KnownBytes.{Appends}
 use Rattle.text_lines.specs.Marker.{part_of}
 use Rattle.fleet_io.specs.Causes.{Rose}
@@ -39,7 +40,9 @@ pub record Carried (r : Run) (taken sent : List ℕ) : Type 0 where
 
 -- The output of a run whose read failed, where it is known what was taken.
 abbrev pub IsStopped : Verb → Run → List ℕ → Type 0
-IsStopped c r output = IfSome r.left (λ input. (taken later : List ℕ) × (input ≡ taken ++ later) × (r.left_after ≡ Some later) × c.stops taken output)
+IsStopped c r output =
+    IfSome r.left
+    (λ input. (taken later : List ℕ) × (input ≡ taken ++ later) × (r.left_after ≡ Some later) × c.stops taken output)
 
 -- ---- status 7
 
@@ -55,22 +58,28 @@ IsOutput c r output =
 pub record Runs (c : Verb) (r : Run) (status : ℕ) : Type 0 where
   -- Every status but 1, 6 and 7 is that of an outcome of the input, whose output was written whole, whether or not a
   -- fault was counted.
-  pub outcome : IsJudged status → IfSome (told c r) (λ input. (o : Outcome) × IsOutcome c input o × (status ≡ o.status) × Appends r.written r.written_after o.output)
+  pub outcome : IsJudged status → IfSome (told c r)
+      (λ input. (o : Outcome) × IsOutcome c input o × (status ≡ o.status) × Appends r.written r.written_after o.output)
   -- With no fault counted the outcome of the input, of which there is one alone, is what comes, whole; or 1, out of
   -- memory.
-  pub exact : IsQuiet r → IfSome (told c r) (λ input. (o : Outcome) → IsOutcome c input o → ((status ≡ o.status) × Appends r.written r.written_after o.output) ⊎ (status ≡ 1))
+  pub exact : IsQuiet r → IfSome (told c r) (λ input. (o : Outcome) →
+      IsOutcome c input o → ((status ≡ o.status) × Appends r.written r.written_after o.output) ⊎ (status ≡ 1))
   -- 0: the show is safe, and what the command gives for it was written; the input was read to its end.
-  pub safe : status ≡ 0 → IfSome (told c r) (λ input. (o : Outcome) × IsSafeOutcome c input o × Appends r.written r.written_after o.output)
+  pub safe : status ≡ 0 →
+      IfSome (told c r) (λ input. (o : Outcome) × IsSafeOutcome c input o × Appends r.written r.written_after o.output)
   pub whole : status ≡ 0 → reads_all c ≡ true → IfSome r.left (λ _. r.left_after ≡ Some [])
   -- 1: out of memory, and nothing was written.
   pub one : status ≡ 1 → (r.written_after ≡ r.written) × (r.writes_failed_after ≡ r.writes_failed)
   -- A command that judges nothing takes no memory: it ends with 0 and its lines, or with 7.
-  pub always : (output : List ℕ) → c.judges ≡ nothing output → (status ≡ 7) ⊎ ((status ≡ 0) × Appends r.written r.written_after output)
+  pub always : (output : List ℕ) →
+      c.judges ≡ nothing output → (status ≡ 7) ⊎ ((status ≡ 0) × Appends r.written r.written_after output)
   -- 6: the source failed, and what was written is that of a failed read.
   pub six : status ≡ 6 → Rose r.reads_failed r.reads_failed_after × (reads c ≡ true)
-  pub stopped : status ≡ 6 → IfSome r.left (λ _. (output : List ℕ) × IsStopped c r output × Appends r.written r.written_after output)
+  pub stopped : status ≡ 6 →
+      IfSome r.left (λ _. (output : List ℕ) × IsStopped c r output × Appends r.written r.written_after output)
   -- 7: the sink failed, and a prefix of the output went out.
-  pub seven : status ≡ 7 → Rose r.writes_failed r.writes_failed_after × ((output : List ℕ) × IsOutput c r output × AppendsFront r.written r.written_after output)
+  pub seven : status ≡ 7 → Rose r.writes_failed r.writes_failed_after
+      × ((output : List ℕ) × IsOutput c r output × AppendsFront r.written r.written_after output)
   pub prompt : status ≡ 7 → c.prompt r
   -- Some read nothing.
   pub unread : reads c ≡ false → (r.left_after ≡ r.left) × (r.reads_failed_after ≡ r.reads_failed)
@@ -85,11 +94,13 @@ pub record Runs (c : Verb) (r : Run) (status : ℕ) : Type 0 where
 -- A command that wants nothing after a marker line takes no more of its input; nor does one that wants a second text,
 -- where the show's is too long.
 abbrev pub TakesLittle : Verb → Run → Type 0
-TakesLittle c r = (c.ways.has_second ≡ false) ⊎ IfSome r.left (λ input. most_text < length (part_of input)) → TakesOneText r.left r.left_after
+TakesLittle c r = (c.ways.has_second ≡ false) ⊎ IfSome r.left (λ input. most_text < length (part_of input)) →
+    TakesOneText r.left r.left_after
 
 -- A command that wants nothing after a marker line takes at most 4,096 bytes after it, where it judges its input.
 abbrev pub StopsAtMarker : Verb → Run → ℕ → Type 0
-StopsAtMarker c r status = c.ways.has_second ≡ false → reads c ≡ true → IsJudged status → TakesFewAfter r.left r.left_after
+StopsAtMarker c r status =
+    c.ways.has_second ≡ false → reads c ≡ true → IsJudged status → TakesFewAfter r.left r.left_after
 
 -- ---- completeness
 
@@ -97,7 +108,8 @@ StopsAtMarker c r status = c.ways.has_second ≡ false → reads c ≡ true → 
 -- nothing needs none.
 abbrev pub Completes : Verb → Run → ℕ → Type 0
 Completes c r status =
-    IsQuiet r → IfSome (told c r) (λ input. IfSome (judged_text c.judges input) (λ text. IsComplete c (cut_of text)) → (status ≡ 0) ⊎ (status ≡ 1))
+    IsQuiet r → IfSome (told c r)
+    (λ input. IfSome (judged_text c.judges input) (λ text. IsComplete c (cut_of text)) → (status ≡ 0) ⊎ (status ≡ 1))
 
 -- ---- all of it
 

@@ -29,5 +29,6 @@ ShowPlanned c cut s (planned.Refused r) = show_refusal c cut s ≡ Some r
 -- A show that fits is kept apart at this depth, with the nodes of its certificate counted; or a part of it is blocked.
 abbrev pub Separated : ℕ → Fitted → Judged → Type 0
 Separated depth f (judged.Accepted a) =
-    (a.fitted ≡ f) × FlyApart f.settings f.sent × ((s : PlainShow) → IsFitted f s → (blocked_by (Some depth) s ≡ None) × (a.nodes ≡ nodes_of s depth))
+    (a.fitted ≡ f) × FlyApart f.settings f.sent
+    × ((s : PlainShow) → IsFitted f s → (blocked_by (Some depth) s ≡ None) × (a.nodes ≡ nodes_of s depth))
 Separated depth f (judged.Refused r) = (s : PlainShow) → IsFitted f s → blocked_by (Some depth) s ≡ Some r

@@ -66,11 +66,15 @@ during told written writes source source_after sink sink_after = record {
 
 -- the run, where `all` is every byte that the source ever gives
 abbrev pub run_on : Span → List ℕ → Run
-run_on m all = run_of (to_come all m.told) (to_come all m.tells) m.told.faults m.tells.faults m.written m.written_after m.writes_failed m.writes_failed_after
+run_on m all =
+    run_of (to_come all m.told) (to_come all m.tells) m.told.faults m.tells.faults m.written m.written_after
+    m.writes_failed m.writes_failed_after
 
 -- the run of a source that exposes the bytes still to come
 abbrev pub run_left : Span → Run
-run_left m = run_of m.told.left m.tells.left m.told.faults m.tells.faults m.written m.written_after m.writes_failed m.writes_failed_after
+run_left m =
+    run_of m.told.left m.tells.left m.told.faults m.tells.faults m.written m.written_after m.writes_failed
+    m.writes_failed_after
 
 -- the program wasn't out of memory, nor did a read or a write fail
 abbrev pub IsJudged : ℕ → Type 0
@@ -136,7 +140,8 @@ of_show depth text = record {
 }
 
 -- A command that reads a show, searches it to this depth or not at all, and writes lines at its end.
-abbrev pub of_any : Option ℕ → (PlainShow → Cut → Outcome → Type 0) → (PlainShow → Cut → Type 0) → (PlainShow → Cut → Type 0) → (PlainShow → Cut → Type 0) →
+abbrev pub of_any : Option ℕ → (PlainShow → Cut → Outcome → Type 0) → (PlainShow → Cut → Type 0)
+    → (PlainShow → Cut → Type 0) → (PlainShow → Cut → Type 0) →
     (List ℕ → Option (List ℕ) → Option (List ℕ) → Type 0) → Verb
 of_any depth gives known promises succeeds headline = record {
   ways = record { reads = true; has_second = false; by_frames = false; depth = depth };
@@ -166,7 +171,8 @@ abbrev pub two_ways : Option ℕ → Ways
 two_ways depth = record { reads = true; has_second = true; by_frames = false; depth = depth }
 
 -- A command that reads a show's text and a second one of at most this many bytes, and writes lines at its end.
-abbrev pub of_two : Option ℕ → ℕ → (PlainShow → Cut → Outcome → Type 0) → (PlainShow → Cut → Type 0) → (PlainShow → Cut → Type 0) → (PlainShow → Cut → Type 0) →
+abbrev pub of_two : Option ℕ → ℕ → (PlainShow → Cut → Outcome → Type 0) → (PlainShow → Cut → Type 0)
+    → (PlainShow → Cut → Type 0) → (PlainShow → Cut → Type 0) →
     (List ℕ → Option (List ℕ) → Option (List ℕ) → Type 0) → Verb
 of_two depth limit gives known promises succeeds headline = record {
   ways = two_ways depth;

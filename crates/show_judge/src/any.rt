@@ -37,8 +37,10 @@ pub trait AnyText {
     fn answer_fitted(&self, alloc: Global, fitted: &Fitted) -> Result<Answer, AllocError>
         requires valid { IsValidFitted fitted.now }
         ensures gives { (s : PlainShow) (cut : Cut) → IsFitted fitted.now s
-            → IfOk result (λ a. ShowGives (verb self.now) (blocked_by (verb self.now).ways.depth s) s cut (outcome_of a)) }
-        ensures promised { (s : PlainShow) (cut : Cut) → IsFitted fitted.now s → (FlyApart s.settings (sent_of s) → Uploads (grid_of s) s.settings (sent_of s))
+            → IfOk result
+            (λ a. ShowGives (verb self.now) (blocked_by (verb self.now).ways.depth s) s cut (outcome_of a)) }
+        ensures promised { (s : PlainShow) (cut : Cut) → IsFitted fitted.now s
+            → (FlyApart s.settings (sent_of s) → Uploads (grid_of s) s.settings (sent_of s))
             → IfOk result (λ a. (outcome_of a).status ≡ 0 → (verb self.now).promises s cut) }
         ensures said { IfOk result IsSaid };
 }
@@ -61,7 +63,8 @@ fn answer_input<V: AnyText, S: Source>(
     source: &mut S,
 ) -> Result<Answer, Failure>
     requires any { IsAny (V.verb verb.now) }
-    ensures reads { OneTextRead (λ left left_after. AnswersInput (V.verb verb.now) left left_after result) (S.told source.old) (S.told source.new) result }
+    ensures reads { OneTextRead (λ left left_after. AnswersInput (V.verb verb.now) left left_after result)
+        (S.told source.old) (S.told source.new) result }
     ensures said { IfOk result IsSaid }
 {
     let text = read_show_text(alloc, source)?;

@@ -35,7 +35,8 @@ pub trait OneText {
     fn answer_accepted(&self, alloc: Global, accepted: &Accepted) -> Result<Answer, AllocError>
         requires valid { IsValidFitted accepted.now.fitted }
         ensures said { IfOk result IsSaid }
-        ensures text { (s : PlainShow) → IsFitted accepted.now.fitted s → accepted.now.nodes ≡ nodes_of s (searched self.now)
+        ensures text { (s : PlainShow) → IsFitted accepted.now.fitted s
+            → accepted.now.nodes ≡ nodes_of s (searched self.now)
             → IfOk result (λ a. outcome_of a ≡ outcome 0 (text self.now s)) };
 }
 
@@ -61,7 +62,8 @@ fn answer_input<V: OneText, S: Source>(
     verb: &V,
     source: &mut S,
 ) -> Result<Answer, Failure>
-    ensures reads { OneTextRead (λ left left_after. AnswersInput (of_show (V.searched verb.now) (V.text verb.now)) left left_after result) (S.told source.old) (S.told source.new) result }
+    ensures reads { OneTextRead (λ left left_after. AnswersInput (of_show (V.searched verb.now) (V.text verb.now)) left
+        left_after result) (S.told source.old) (S.told source.new) result }
     ensures said { IfOk result IsSaid }
 {
     let text = read_show_text(alloc, source)?;
@@ -75,7 +77,8 @@ pub fn run_one<V: OneText, S: Source, K: Sink>(
     source: &mut S,
     sink: &mut K,
 ) -> u8
-    ensures { Does (of_show (V.searched verb.now) (V.text verb.now)) (during S.told K.written K.faults source.old source.new sink.old sink.new) result }
+    ensures { Does (of_show (V.searched verb.now) (V.text verb.now))
+        (during S.told K.written K.faults source.old source.new sink.old sink.new) result }
 {
     show_law();
     let answer = answer_input(alloc, verb, source);

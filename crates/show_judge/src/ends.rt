@@ -61,7 +61,8 @@ impl From<AllocError> for Failure {
 
 /// Writes all, and returns this status, or 7 where the sink failed.
 pub fn finish<K: Sink>(sink: &mut K, bytes: &[u8], status: u8) -> u8
-    ensures { Wrote status bytes.now (K.written sink.old) (K.written sink.new) (K.faults sink.old) (K.faults sink.new) result }
+    ensures { Wrote status bytes.now (K.written sink.old) (K.written sink.new) (K.faults sink.old) (K.faults sink.new)
+        result }
 {
     match write_whole(sink, bytes) {
         Ok(()) => status,
@@ -72,7 +73,8 @@ pub fn finish<K: Sink>(sink: &mut K, bytes: &[u8], status: u8) -> u8
 /// Writes a refusal's line, and returns its status.
 pub fn refuse<K: Sink>(sink: &mut K, refusal: &Refusal) -> u8
     requires { IsSayable refusal.now }
-    ensures { Wrote (status_of refusal.now) (line_of refusal.now) (K.written sink.old) (K.written sink.new) (K.faults sink.old) (K.faults sink.new) result }
+    ensures { Wrote (status_of refusal.now) (line_of refusal.now) (K.written sink.old) (K.written sink.new)
+        (K.faults sink.old) (K.faults sink.new) result }
 {
     let line = refusal.line();
     finish(sink, line.bytes(), refusal.status())
@@ -80,7 +82,8 @@ pub fn refuse<K: Sink>(sink: &mut K, refusal: &Refusal) -> u8
 
 /// Writes the line of a failed read, and returns the status. Out of memory writes nothing.
 pub fn fail<K: Sink>(sink: &mut K, failure: Failure) -> u8
-    ensures { Responds (Err failure) (K.written sink.old) (K.written sink.new) (K.faults sink.old) (K.faults sink.new) result }
+    ensures { Responds (Err failure) (K.written sink.old) (K.written sink.new) (K.faults sink.old) (K.faults sink.new)
+        result }
 {
     match failure {
         Failure::Read => refuse(sink, &Refusal::Read),
@@ -91,7 +94,8 @@ pub fn fail<K: Sink>(sink: &mut K, failure: Failure) -> u8
 /// Writes what is answered, or the line of a failed read, and returns the status. Out of memory writes nothing.
 pub fn respond<K: Sink>(sink: &mut K, answer: &Result<Answer, Failure>) -> u8
     requires { IfOk answer.now IsSaid }
-    ensures { Responds answer.now (K.written sink.old) (K.written sink.new) (K.faults sink.old) (K.faults sink.new) result }
+    ensures { Responds answer.now (K.written sink.old) (K.written sink.new) (K.faults sink.old) (K.faults sink.new)
+        result }
 {
     match answer {
         Ok(Answer::Done { output }) => finish(sink, output.bytes(), DONE),

@@ -42,16 +42,23 @@ pub fn next_text<S: Source>(
     requires lines { IsTrue parts.old.lines }
     requires limit { limit ≤ text_limit }
     requires at_end { IsTrue parts.old.ended → IsTrue (S.told source.old).ended }
-    ensures text { (all : List ℕ) → MayGive parts.new.ended (S.told source.new) all → IfOk result (λ text. IsNextText limit text (stream parts.old (to_come all (S.told source.old)))) }
+    ensures text { (all : List ℕ) → MayGive parts.new.ended (S.told source.new) all
+        → IfOk result (λ text. IsNextText limit text (stream parts.old (to_come all (S.told source.old)))) }
     ensures within { IfOk result (λ text. IsWithin limit text) }
-    ensures rest { (all : List ℕ) → MayGive parts.new.ended (S.told source.new) all → IfOk result (λ text. GoesOn text (stream parts.old (to_come all (S.told source.old))) (stream parts.new (to_come all (S.told source.new)))) }
+    ensures rest { (all : List ℕ) → MayGive parts.new.ended (S.told source.new) all
+        → IfOk result (λ text. GoesOn text (stream parts.old (to_come all (S.told source.old)))
+        (stream parts.new (to_come all (S.told source.new)))) }
     ensures sound { IfOk result (λ text. IsWholeText text → IsTrue parts.new.sound) }
     ensures lines { parts.new.lines ≡ parts.old.lines }
     ensures at_line { IfOk result (λ text. IsWholeText text → IsTrue parts.new.at_line) }
     ensures whole { IfOk result (λ text. IsUnmarked text → IsTrue parts.new.ended) }
     ensures few { length (S.told source.new).given ≤ length (S.told source.old).given + (limit + 4 + buffer_bytes) }
-    ensures after { (all : List ℕ) → MayGive parts.new.ended (S.told source.new) all → parts.old.waiting ≡ [] → limit ≡ most_text → IfOk result (λ _. TakesFewAfter (to_come all (S.told source.old)) (to_come all (S.told source.new))) }
-    ensures past { (all : List ℕ) → MayGive parts.new.ended (S.told source.new) all → IfOk result (λ text. IsWholeText text → TakesFewAfter (stream parts.old (to_come all (S.told source.old))) (to_come all (S.told source.new))) }
+    ensures after { (all : List ℕ) → MayGive parts.new.ended (S.told source.new) all → parts.old.waiting ≡ []
+        → limit ≡ most_text
+        → IfOk result (λ _. TakesFewAfter (to_come all (S.told source.old)) (to_come all (S.told source.new))) }
+    ensures past { (all : List ℕ) → MayGive parts.new.ended (S.told source.new) all
+        → IfOk result (λ text. IsWholeText text
+        → TakesFewAfter (stream parts.old (to_come all (S.told source.old))) (to_come all (S.told source.new))) }
     ensures failed { result ≡ Err Failure.Read → Rose (S.told source.old).faults (S.told source.new).faults }
     ensures went { Went parts.old.ended parts.new.ended (S.told source.old) (S.told source.new) }
 {
@@ -85,10 +92,13 @@ fn read_second<S: Source>(
     requires sound { IsWholeText show.now → IsTrue parts.old.sound }
     requires lines { IsTrue parts.old.lines }
     requires at_end { IsTrue parts.old.ended → IsTrue (S.told source.old).ended }
-    ensures text { (all : List ℕ) → MayGive parts.new.ended (S.told source.new) all → IsWholeText show.now → IfOk result (λ text. IsNextText limit text (stream parts.old (to_come all (S.told source.old)))) }
+    ensures text { (all : List ℕ) → MayGive parts.new.ended (S.told source.new) all → IsWholeText show.now
+        → IfOk result (λ text. IsNextText limit text (stream parts.old (to_come all (S.told source.old)))) }
     ensures within { IfOk result (λ text. IsWithin limit text) }
     ensures whole { IsWholeText show.now → IfOk result (λ text. IsUnmarked text → IsTrue parts.new.ended) }
-    ensures past { (all : List ℕ) → MayGive parts.new.ended (S.told source.new) all → IsWholeText show.now → IfOk result (λ text. IsWholeText text → TakesFewAfter (stream parts.old (to_come all (S.told source.old))) (to_come all (S.told source.new))) }
+    ensures past { (all : List ℕ) → MayGive parts.new.ended (S.told source.new) all → IsWholeText show.now
+        → IfOk result (λ text. IsWholeText text
+        → TakesFewAfter (stream parts.old (to_come all (S.told source.old))) (to_come all (S.told source.new))) }
     ensures stays { (IsWholeText show.now → ⊥) → S.told source.new ≡ S.told source.old }
     ensures failed { result ≡ Err Failure.Read → Rose (S.told source.old).faults (S.told source.new).faults }
     ensures went { Went parts.old.ended parts.new.ended (S.told source.old) (S.told source.new) }
@@ -101,7 +111,8 @@ fn read_second<S: Source>(
 
 /// Reads the show's text. A text that is too large ends the reading. `Read` where a read failed.
 pub fn read_show_text<S: Source>(alloc: Global, source: &mut S) -> Result<Text, Failure>
-    ensures reads { OneTextRead (λ left left_after. IfOk result (λ text. ReadsShow left left_after text)) (S.told source.old) (S.told source.new) result }
+    ensures reads { OneTextRead (λ left left_after. IfOk result (λ text. ReadsShow left left_after text))
+        (S.told source.old) (S.told source.new) result }
     ensures within { IfOk result (λ text. IsWithin most_text text) }
 {
     let mut parts = Parts::make();
@@ -112,7 +123,8 @@ pub fn read_show_text<S: Source>(alloc: Global, source: &mut S) -> Result<Text, 
 /// ends the reading. `Read` where a read failed.
 pub fn read_two<S: Source>(alloc: Global, source: &mut S, limit: usize) -> Result<Input, Failure>
     requires { limit ≤ text_limit }
-    ensures reads { TwoTextsRead (λ left left_after. IfOk result (λ input. ReadsTwo limit left left_after input)) IsPastTwo (S.told source.old) (S.told source.new) result }
+    ensures reads { TwoTextsRead (λ left left_after. IfOk result (λ input. ReadsTwo limit left left_after input))
+        IsPastTwo (S.told source.old) (S.told source.new) result }
     ensures show { IfOk result (λ input. IsWithin most_text input.show) }
     ensures second { IfOk result (λ input. IsWithin limit input.second) }
 {

@@ -43,7 +43,8 @@ pub enum Judged {
 fn fit_show(alloc: Global, ways: &Ways, show: &Show, part: &Part) -> Result<Planned, AllocError>
     requires valid { IsValid (plain show.now) }
     requires within { length part.now.bytes.items ≤ most_text }
-    ensures gives { (cut : Cut) → IsShowText (Text.Whole part.now) cut → IfOk result (ShowPlanned ways.now cut (plain show.now)) }
+    ensures gives { (cut : Cut) → IsShowText (Text.Whole part.now) cut
+        → IfOk result (ShowPlanned ways.now cut (plain show.now)) }
     ensures sound { IfOk result IsSoundPlan }
     ensures whole { IfOk result (EndsWell ways.now (Text.Whole part.now)) }
 {

@@ -55,7 +55,8 @@ pub trait TwoTexts {
         requires valid { IsValidFitted fitted.now }
         requires lands { (g : Grid) × Lands g fitted.now.settings fitted.now.sent }
         requires within { IsWithin (most self.now) second.now }
-        ensures gives { (s : PlainShow) (cut : Cut) → IsFitted fitted.now s → IsText (most self.now) second.now cut.second cut.is_second_marked
+        ensures gives { (s : PlainShow) (cut : Cut) → IsFitted fitted.now s
+            → IsText (most self.now) second.now cut.second cut.is_second_marked
             → IfOk result (λ a. (verb self.now).gives s cut (outcome_of a)) }
         ensures whole { IfOk result (λ a. (outcome_of a).status ≡ 0 → IsUnmarked second.now) }
         ensures said { IfOk result IsSaid };
@@ -88,7 +89,9 @@ fn answer_input<V: TwoTexts, S: Source>(
 ) -> Result<Answer, Failure>
     requires verb { IsVerb (V.verb verb.now) }
     requires two { IsTwo (Some (V.searched verb.now)) (V.most verb.now) (V.verb verb.now) }
-    ensures reads { TwoTextsRead (λ left left_after. AnswersInput (V.verb verb.now) left left_after result) (λ _ left left_after. IsReadBoth (V.most verb.now) left left_after) (S.told source.old) (S.told source.new) result }
+    ensures reads { TwoTextsRead (λ left left_after. AnswersInput (V.verb verb.now) left left_after result)
+        (λ _ left left_after. IsReadBoth (V.most verb.now) left left_after) (S.told source.old) (S.told source.new)
+        result }
     ensures said { IfOk result IsSaid }
 {
     let limit = verb.limit();

@@ -12,5 +12,6 @@ certify_text depth s = text_of (best_certificate s.settings depth (trajectories_
 
 abbrev pub certify_verb : ℕ → Verb
 certify_verb depth =
-    of_any (Some depth) (λ s cut o. o ≡ outcome 0 (certify_text depth s)) (λ s cut. Unit {0}) (λ s cut. FliesApart s) (λ s cut. Unit {0})
+    of_any (Some depth) (λ s cut o. o ≡ outcome 0 (certify_text depth s)) (λ s cut. Unit {0}) (λ s cut. FliesApart s)
+    (λ s cut. Unit {0})
     (λ input old new. SaysOf (certify_text depth) input old new)

@@ -16,14 +16,17 @@ plan_of s = plan_text s.settings (names_of s) (sent_of s)
 abbrev pub compile_verb : ℕ → Verb
 compile_verb depth = of_show depth plan_of
 
--- The input stands for a show, and what was written is the plan of some trajectories, one for each drone. Of these same trajectories it says
--- what an upload leaves and what is flown, with anything in the drones at the start:
---  1. Once all packets of an upload are acknowledged, over a link that may lose, repeat, delay or reorder, each drone carries its trajectory,
---     near to what the show says at every instant, and any two drones keep apart, however far they stray from their curves and however late they
---     are, by what the show's settings allow.
---  2. The same holds once the drones accepted the packets of the plan, from any sender, in any order, each any number of times.
---  3. No start is sent before each drone carries its own trajectory, and each carries it from then on; so that is what it flies.
---  4. With read-back each byte of each load was right when it was read, also where others alter bytes, and no start was sent before.
+-- The input stands for a show, and what was written is the plan of some trajectories, one for each drone. Of these same
+-- trajectories it says what an upload leaves and what is flown, with anything in the drones at the start:
+--  1. Once all packets of an upload are acknowledged, over a link that may lose, repeat, delay or reorder, each drone
+--     carries its trajectory, near to what the show says at every instant, and any two drones keep apart, however far
+--     they stray from their curves and however late they are, by what the show's settings allow.
+--  2. The same holds once the drones accepted the packets of the plan, from any sender, in any order, each any number
+--     of times.
+--  3. No start is sent before each drone carries its own trajectory, and each carries it from then on; so that is what
+--     it flies.
+--  4. With read-back each byte of each load was right when it was read, also where others alter bytes, and no start was
+--     sent before.
 -- Nobody else writes to a memory in 1 to 3. How the trajectories are computed is not said here: `compile_verb` says it.
 pub record Headline (input : List ℕ) (old new : Option (List ℕ)) : Type 0 where
   pub s : PlainShow

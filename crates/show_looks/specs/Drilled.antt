@@ -7,7 +7,9 @@ use Rattle.show_judge.specs.Verb.{Verb, of_own}
 use Rattle.show_looks.specs.Reports.{report_of}
 
 abbrev pub drill_of : Report → List ℕ
-drill_of r = drill_line (length r.drones) r.cues (length r.drones * (length r.drones - 1) / 2) (sum r.bytes) (sum r.packets) r.nodes
+drill_of r =
+    drill_line (length r.drones) r.cues (length r.drones * (length r.drones - 1) / 2) (sum r.bytes) (sum r.packets)
+    r.nodes
 
 abbrev pub drill_verb : ℕ → ℕ → Verb
 drill_verb drones depth = of_own depth (drill_text drones) (λ s. drill_of (report_of s depth))

@@ -17,7 +17,9 @@ duration_of s = sum (cue_times (grid_of s))
 
 -- what is said of a show that is accepted: how many drones and cues it has, and how many milliseconds it lasts
 unfoldable pub ok_line : ℕ → ℕ → ℕ → List ℕ
-ok_line drones cues ms = line (codes "ok") (codes "drones" ∷ decimal drones ∷ codes "cues" ∷ decimal cues ∷ codes "duration_ms" ∷ decimal ms ∷ [])
+ok_line drones cues ms =
+    line (codes "ok")
+    (codes "drones" ∷ decimal drones ∷ codes "cues" ∷ decimal cues ∷ codes "duration_ms" ∷ decimal ms ∷ [])
 
 -- the packets of a trajectory without its start: its writes and its define
 abbrev pub packets_for : Traj → ℕ

@@ -56,7 +56,8 @@ impl AnyText for CertifyVerb {
 
 /// Runs `certify` (docs/COMMANDS.md): the certificate of a show, or the first reason why it is refused.
 pub fn certify<S: Source, K: Sink>(alloc: Global, depth: Depth, source: &mut S, sink: &mut K) -> u8
-    ensures { Does (certify_verb depth) (during S.told K.written K.faults source.old source.new sink.old sink.new) result }
+    ensures { Does (certify_verb depth) (during S.told K.written K.faults source.old source.new sink.old sink.new)
+        result }
 {
     run_any(alloc, &CertifyVerb { depth }, source, sink)
 }

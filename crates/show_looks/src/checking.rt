@@ -43,7 +43,8 @@ impl OneText for CheckVerb {
 /// Runs `check` (docs/COMMANDS.md): the numbers of its drones and cues and its milliseconds, or the first reason why it
 /// is refused.
 pub fn check<S: Source, K: Sink>(alloc: Global, depth: Depth, source: &mut S, sink: &mut K) -> u8
-    ensures { Does (check_verb depth) (during S.told K.written K.faults source.old source.new sink.old sink.new) result }
+    ensures { Does (check_verb depth) (during S.told K.written K.faults source.old source.new sink.old sink.new)
+        result }
 {
     run_one(alloc, &CheckVerb { depth }, source, sink)
 }

@@ -39,7 +39,8 @@ impl OneText for CompileVerb {
 
 /// Runs `compile` (docs/COMMANDS.md): its plan, or the first reason why it is refused.
 pub fn compile<S: Source, K: Sink>(alloc: Global, depth: Depth, source: &mut S, sink: &mut K) -> u8
-    ensures { Does (compile_verb depth) (during S.told K.written K.faults source.old source.new sink.old sink.new) result }
+    ensures { Does (compile_verb depth) (during S.told K.written K.faults source.old source.new sink.old sink.new)
+        result }
 {
     run_one(alloc, &CompileVerb { depth }, source, sink)
 }

@@ -83,8 +83,10 @@ fn answer_text(alloc: Global, drones: u8, depth: Depth, text: &Text) -> Result<A
 fn answer_drill(alloc: Global, drones: u8, depth: Depth) -> Result<Answer, Failure>
     requires some { 1 ≤ drones }
     requires few { drones ≤ most_drones }
-    ensures gives { IfOk result (λ a. IsOutcomeOf (drill_verb drones depth) (cut_of (drill_text drones)) (outcome_of a)) }
-    ensures safe { IfOk result (λ a. (outcome_of a).status ≡ 0 → IsSafe (drill_verb drones depth) (cut_of (drill_text drones)) (outcome_of a)) }
+    ensures gives { IfOk result
+        (λ a. IsOutcomeOf (drill_verb drones depth) (cut_of (drill_text drones)) (outcome_of a)) }
+    ensures safe { IfOk result (λ a. (outcome_of a).status ≡ 0
+        → IsSafe (drill_verb drones depth) (cut_of (drill_text drones)) (outcome_of a)) }
     ensures said { IfOk result IsSaid }
     ensures read { result ≡ Err Failure.Read → ⊥ }
 {
@@ -104,7 +106,8 @@ pub fn drill<S: Source, K: Sink>(
 ) -> u8
     requires some { 1 ≤ drones }
     requires few { drones ≤ most_drones }
-    ensures { Does (drill_verb drones depth) (during S.told K.written K.faults source.old source.new sink.old sink.new) result }
+    ensures { Does (drill_verb drones depth) (during S.told K.written K.faults source.old source.new sink.old sink.new)
+        result }
 {
     show_law();
     let _ = &source;

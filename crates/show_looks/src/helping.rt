@@ -10,7 +10,8 @@ use fleet_io::{Sink, Source};
 use show_judge::finish;
 
 fn tell<S: Source, K: Sink>(bytes: &[u8], source: &mut S, sink: &mut K) -> u8
-    ensures { Does (of_nothing bytes.now) (during S.told K.written K.faults source.old source.new sink.old sink.new) result }
+    ensures { Does (of_nothing bytes.now) (during S.told K.written K.faults source.old source.new sink.old sink.new)
+        result }
 {
     show_law();
     let _ = &source;
@@ -19,7 +20,8 @@ fn tell<S: Source, K: Sink>(bytes: &[u8], source: &mut S, sink: &mut K) -> u8
 
 /// Runs `help` (docs/COMMANDS.md): these lines, the forms of the commands. It takes no memory and reads nothing.
 pub fn help<S: Source, K: Sink>(lines: &[u8], source: &mut S, sink: &mut K) -> u8
-    ensures { Does (help_verb lines.now) (during S.told K.written K.faults source.old source.new sink.old sink.new) result }
+    ensures { Does (help_verb lines.now) (during S.told K.written K.faults source.old source.new sink.old sink.new)
+        result }
 {
     tell(lines, source, sink)
 }

@@ -20,7 +20,8 @@ use std::alloc::Global;
 use traj_codec::join_law;
 
 fn judge_input<S: Source>(alloc: Global, depth: Depth, source: &mut S) -> Result<Judged, Failure>
-    ensures reads { OneTextRead (λ left left_after. JudgesInput (show_ways depth) depth left left_after result) (S.told source.old) (S.told source.new) result }
+    ensures reads { OneTextRead (λ left left_after. JudgesInput (show_ways depth) depth left left_after result)
+        (S.told source.old) (S.told source.new) result }
     ensures sound { IfOk result IsSoundJudged }
 {
     let text = read_show_text(alloc, source)?;
@@ -36,7 +37,8 @@ fn judge_input<S: Source>(alloc: Global, depth: Depth, source: &mut S) -> Result
 fn write_rows<K: Sink>(fitted: &Fitted, step: u16, sink: &mut K) -> u8
     requires valid { IsValidFitted fitted.now }
     requires step { 1 ≤ step }
-    ensures { Wrote 0 (play_text fitted.now.duration step (map (λ (name : Name). name.items) fitted.now.names) fitted.now.sent)
+    ensures { Wrote 0 (play_text fitted.now.duration step (map (λ (name : Name). name.items) fitted.now.names)
+        fitted.now.sent)
         (K.written sink.old) (K.written sink.new) (K.faults sink.old) (K.faults sink.new) result }
 {
     join_law();
@@ -58,9 +60,15 @@ fn carry<S: Source, K: Sink>(
 ) -> u8
     requires step { 1 ≤ step }
     ensures gives { Gives (S.told source.old) (S.told source.new) }
-    ensures runs { (all : List ℕ) → IsInput (S.told source.new) all → Runs (play_verb depth step) (run_on (during S.told K.written K.faults source.old source.new sink.old sink.new) all) result }
-    ensures few { (all : List ℕ) → IsInput (S.told source.new) all → TakesLittle (play_verb depth step) (run_on (during S.told K.written K.faults source.old source.new sink.old sink.new) all) }
-    ensures marker { (all : List ℕ) → IsInput (S.told source.new) all → StopsAtMarker (play_verb depth step) (run_on (during S.told K.written K.faults source.old source.new sink.old sink.new) all) result }
+    ensures runs { (all : List ℕ) → IsInput (S.told source.new) all
+        → Runs (play_verb depth step)
+        (run_on (during S.told K.written K.faults source.old source.new sink.old sink.new) all) result }
+    ensures few { (all : List ℕ) → IsInput (S.told source.new) all
+        → TakesLittle (play_verb depth step)
+        (run_on (during S.told K.written K.faults source.old source.new sink.old sink.new) all) }
+    ensures marker { (all : List ℕ) → IsInput (S.told source.new) all
+        → StopsAtMarker (play_verb depth step)
+        (run_on (during S.told K.written K.faults source.old source.new sink.old sink.new) all) result }
 {
     show_law();
     match judge_input(alloc, depth, source) {
@@ -80,7 +88,8 @@ pub fn play<S: Source, K: Sink>(
     sink: &mut K,
 ) -> u8
     requires step { 1 ≤ step }
-    ensures { Does (play_verb depth step) (during S.told K.written K.faults source.old source.new sink.old sink.new) result }
+    ensures { Does (play_verb depth step) (during S.told K.written K.faults source.old source.new sink.old sink.new)
+        result }
 {
     show_law();
     carry(alloc, depth, step, source, sink)

@@ -53,7 +53,8 @@ impl OneText for ReportVerb {
 
 /// Runs `report` (docs/COMMANDS.md): the numbers of a show as compact JSON, or the first reason why it is refused.
 pub fn report<S: Source, K: Sink>(alloc: Global, depth: Depth, source: &mut S, sink: &mut K) -> u8
-    ensures { Does (report_verb depth) (during S.told K.written K.faults source.old source.new sink.old sink.new) result }
+    ensures { Does (report_verb depth) (during S.told K.written K.faults source.old source.new sink.old sink.new)
+        result }
 {
     run_one(alloc, &ReportVerb { depth }, source, sink)
 }

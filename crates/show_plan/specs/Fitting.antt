@@ -1,5 +1,6 @@
 -- What becomes of a show: its trajectories, or the first reason why it has no plan.
-use Rattle.std.specs.Prelude.{false, true, ◌≡◌, ℕ, ◌+◌, ◌-◌, ◌≤◌, List, [], ◌∷◌, ◌++◌, map, length, nat_le, nat_lt, Option, Some, None, Result, Ok, Err, if◌then◌else◌}
+use Rattle.std.specs.Prelude.{false, true, ◌≡◌, ℕ, ◌+◌, ◌-◌, ◌≤◌, List, [], ◌∷◌, ◌++◌, map, length, nat_le, nat_lt}
+use Rattle.std.specs.Prelude.{Option, Some, None, Result, Ok, Err, if◌then◌else◌}
 use Rattle.std.specs.Option.{option_or}
 use Rattle.std.specs.List.{sum, All}
 use Rattle.fleet_math.specs.Limits.{most_segments, most_cues, most_drones}
@@ -51,7 +52,8 @@ room s = MEMORY_BYTES - s.settings.offset
 abbrev pub StandsAsWord : Name → Type 0
 StandsAsWord name = IsWord name.items
 
--- what keeps a drone's trajectory from being sent: too many segments, which are judged first; or more bytes than there is room for
+-- what keeps a drone's trajectory from being sent: too many segments, which are judged first; or more bytes than there
+-- is room for
 abbrev pub send_fault : ℕ → ℕ → Traj → Option PlanFault
 send_fault space d t =
     if nat_lt most_segments (length t.segments) then Some (fault.TooManySegments d (length t.segments))
@@ -77,8 +79,8 @@ in_order None None late = late
 abbrev pub plan_fault : PlainShow → Option PlanFault
 plan_fault s = in_order (grid_fault s) (range_fault (grid_of s)) (unsendable s)
 
--- It has the settings and the names of the show, counts its cues and their milliseconds, and has its trajectories, by cue and as they
--- are sent.
+-- It has the settings and the names of the show, counts its cues and their milliseconds, and has its trajectories, by
+-- cue and as they are sent.
 pub record IsFitted (f : Fitted) (s : PlainShow) : Type 0 where
   pub settings : f.settings ≡ s.settings
   pub names : f.names ≡ map (λ (d : DroneLine). d.name) s.drones
@@ -94,10 +96,11 @@ FitGives (Ok f) s = (plan_fault s ≡ None) × IsFitted f s
 FitGives (Err (error.Fault f)) s = plan_fault s ≡ Some f
 FitGives (Err error.Memory) s = Unit {0}
 
--- Valid: settings in range; 1 to 32 names of the language, each of which can stand as a word, no two of them equal; as many trajectories,
--- by cue; 1 to 1,000 cues, each of which lasts some time; these are the durations of the segments of each trajectory by cue, whose
--- numbers fit their bytes; what is sent are these trajectories with their holds joined, each of at most 255 segments that last some
--- time, and the bytes of each have room in a drone's memory from the offset on.
+-- Valid: settings in range; 1 to 32 names of the language, each of which can stand as a word, no two of them equal; as
+-- many trajectories, by cue; 1 to 1,000 cues, each of which lasts some time; these are the durations of the segments of
+-- each trajectory by cue, whose numbers fit their bytes; what is sent are these trajectories with their holds joined,
+-- each of at most 255 segments that last some time, and the bytes of each have room in a drone's memory from the offset
+-- on.
 pub record IsValidFitted (f : Fitted) : Type 0 where
   pub settings : FitsSettings f.settings
   pub some_drone : 1 ≤ length f.names

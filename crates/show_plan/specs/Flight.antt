@@ -23,19 +23,22 @@ cue_moment g p q = moment (cue_times g) p q
 abbrev pub written : Grid → ℕ → ℕ → ℕ → ℕ → ℤ
 written g d axis p q = written_at g d (cue_moment g p q).cue axis (cue_moment g p q).a (cue_moment g p q).c
 
--- on an axis the decoded position, by the trajectory's own segment, is within half a millimetre of the written position of the drone
+-- on an axis the decoded position, by the trajectory's own segment, is within half a millimetre of the written position
+-- of the drone
 abbrev pub FliesNearOn : Grid → ℕ → Traj → ℕ → ℕ → ℕ → Type 0
-FliesNearOn g d t axis p q = IsNearOver (written g d axis p q) (cue_moment g p q).c (decoded t axis (own t p q)) (own t p q).c
+FliesNearOn g d t axis p q =
+    IsNearOver (written g d axis p q) (cue_moment g p q).c (decoded t axis (own t p q)) (own t p q).c
 
--- The trajectory lasts as long as the show, and at each instant x, y and z are within half a millimetre of the position that the
--- show says for this drone, and the yaw is equal.
+-- The trajectory lasts as long as the show, and at each instant x, y and z are within half a millimetre of the position
+-- that the show says for this drone, and the yaw is equal.
 pub record FliesNear (g : Grid) (d : ℕ) (t : Traj) : Type 0 where
   pub lasts : sum (durations t.segments) ≡ sum (cue_times g)
   pub x : AtEachInstant g (FliesNearOn g d t 0)
   pub y : AtEachInstant g (FliesNearOn g d t 1)
   pub z : AtEachInstant g (FliesNearOn g d t 2)
   pub yaw : AtEachInstant g (λ p q.
-      (decoded t 3 (own t p q) *ℤ power (pos (cue_moment g p q).c) 7) ≡ (written g d 3 p q *ℤ power (pos (own t p q).c) 7))
+      (decoded t 3 (own t p q) *ℤ power (pos (cue_moment g p q).c) 7)
+      ≡ (written g d 3 p q *ℤ power (pos (own t p q).c) 7))
 
 -- what stands where no trajectory does
 abbrev pub no_trajectory : Traj

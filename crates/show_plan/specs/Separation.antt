@@ -1,5 +1,5 @@
--- What keeps the drones of a show apart: a certificate with the largest possible leaves, or the first part of a cue in which no
--- direction separates two drones.
+-- What keeps the drones of a show apart: a certificate with the largest possible leaves, or the first part of a cue in
+-- which no direction separates two drones.
 use Rattle.std.specs.Prelude.{◌≡◌, ℕ, ℤ, List, [], ◌∷◌, length, map, Option, Some, None, Result, Ok, Err}
 use Rattle.std.specs.List.{All, sum}
 use Rattle.halving.specs.declared.Place.{Place}
@@ -29,15 +29,16 @@ searched = table_of 2
 abbrev pub reach_depth : ℕ
 reach_depth = 6
 
--- What is kept clear around the drones of a show: what its settings say, and how far its trajectories move in the time by which a drone may be
--- late.
+-- What is kept clear around the drones of a show: what its settings say, and how far its trajectories move in the time
+-- by which a drone may be late.
 unfoldable pub clearance_of : Settings → List Traj → Clearance
 clearance_of e trajs = record {
   r = e.r;
   h = e.h;
   stray = e.stray;
   late = e.late;
-  reach = reach_of reach_depth e.late trajs 0 ∷ reach_of reach_depth e.late trajs 1 ∷ reach_of reach_depth e.late trajs 2 ∷ [];
+  reach = reach_of reach_depth e.late trajs 0 ∷ reach_of reach_depth e.late trajs 1
+      ∷ reach_of reach_depth e.late trajs 2 ∷ [];
 }
 
 unfoldable pub measure_of : Clearance → Measure
@@ -68,7 +69,12 @@ best_nodes c depth curves slot = fleet.best_nodes (measure_of c) depth curves sl
 
 -- the certificate with the largest possible leaves, for trajectories of which no part of the depth is blocked
 abbrev pub best_certificate : Settings → ℕ → List Traj → Certificate
-best_certificate e depth trajs = record { version = 2; depth = depth; trees = map (best_nodes (clearance_of e trajs) depth (raised_of trajs)) (slots_of trajs) }
+best_certificate e depth trajs =
+    record {
+      version = 2;
+      depth = depth;
+      trees = map (best_nodes (clearance_of e trajs) depth (raised_of trajs)) (slots_of trajs);
+    }
 
 abbrev pub node_count : Certificate → ℕ
 node_count cert = sum (map length cert.trees)
@@ -89,7 +95,8 @@ CertificateGives e depth trajs result = Finds (blocked_part e depth trajs) (best
 
 -- How many nodes that certificate has, where no part is blocked; else the first part that is.
 abbrev pub CountGives : Settings → ℕ → List Traj → Result ℕ SeparationFault → Type 0
-CountGives e depth trajs result = Finds (blocked_part e depth trajs) (node_count (best_certificate e depth trajs)) result
+CountGives e depth trajs result =
+    Finds (blocked_part e depth trajs) (node_count (best_certificate e depth trajs)) result
 
 -- each part of the depth of the pair's cue has a separating direction
 abbrev pub IsSlotClear : Clearance → ℕ → Raised → Slot → Type 0
@@ -99,7 +106,8 @@ IsSlotClear c depth curves slot = IsClear c (difference curves slot.a slot.b slo
 abbrev pub IsShowClear : Settings → ℕ → List Traj → Type 0
 IsShowClear e depth trajs = All (IsSlotClear (clearance_of e trajs) depth (raised_of trajs)) (slots_of trajs)
 
--- The ellipsoids around any two different drones share no point, wherever the drones stray to and however late they are against one another, by
--- what the settings allow: for all points where the two may be, at all instants of the show that are so near to one another.
+-- The ellipsoids around any two different drones share no point, wherever the drones stray to and however late they are
+-- against one another, by what the settings allow: for all points where the two may be, at all instants of the show
+-- that are so near to one another.
 abbrev pub FlyApart : Settings → List Traj → Type 0
 FlyApart e trajs = apart.FlyApart e.r e.h e.stray e.late trajs

@@ -35,11 +35,13 @@ blocked_slot c depth curves slot = option_map (blocked_at slot) (blocked_place (
 
 abbrev pub FindsTrees : Clearance → ℕ → Raised → Result (List (List Node)) SeparationFault → Type 0
 FindsTrees c depth curves result =
-    Finds (blocked_in c depth curves (slots curves.drones curves.cues)) (map (best_nodes c depth curves) (slots curves.drones curves.cues)) result
+    Finds (blocked_in c depth curves (slots curves.drones curves.cues))
+    (map (best_nodes c depth curves) (slots curves.drones curves.cues)) result
 
 abbrev pub FindsNodes : Clearance → ℕ → Raised → Result ℕ SeparationFault → Type 0
 FindsNodes c depth curves result =
-    Finds (blocked_in c depth curves (slots curves.drones curves.cues)) (nodes_in (measure_of c) depth curves (slots curves.drones curves.cues)) result
+    Finds (blocked_in c depth curves (slots curves.drones curves.cues))
+    (nodes_in (measure_of c) depth curves (slots curves.drones curves.cues)) result
 
 abbrev pub separation_fault : SearchFault → SeparationFault
 separation_fault (search.Blocked slot index) = fault.Blocked (blocked_at slot index)

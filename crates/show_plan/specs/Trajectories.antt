@@ -10,7 +10,8 @@ use Rattle.mm_rounding.specs.declared.piece.MicroPiece.{MicroPiece}
 use Rattle.mm_rounding.specs.Rounding.{millimetres, segment_of}
 use Rattle.figure_expand.specs.Expanded.{expanded}
 
--- where a trajectory starts that begins at this point: x, y and z in whole millimetres, yaw as it is, in tenths of a degree
+-- where a trajectory starts that begins at this point: x, y and z in whole millimetres, yaw as it is, in tenths of a
+-- degree
 abbrev pub start_at : Point → List ℤ
 start_at p = millimetres p.x ∷ millimetres p.y ∷ millimetres p.z ∷ p.yaw ∷ []
 

@@ -1,5 +1,6 @@
 -- What holds of each upload of a show's trajectories, while it goes on and when it is done.
-use Rattle.std.specs.Prelude.{◌≡◌, ℕ, ◌-◌, ◌<◌, ◌≤◌, Bool, true, List, ◌++◌, length, take, slice_get, slice_index, slice_index_or, Some, Contains}
+use Rattle.std.specs.Prelude.{◌≡◌, ℕ, ◌-◌, ◌<◌, ◌≤◌, Bool, true, List, ◌++◌, length, take, slice_get, slice_index}
+use Rattle.std.specs.Prelude.{slice_index_or, Some, Contains}
 use Rattle.crtp_packets.specs.Commands.{start_of}
 use Rattle.cue_grid.specs.declared.grid.Grid.{Grid}
 use Rattle.traj_codec.specs.declared.traj.Traj.{Traj}
@@ -22,23 +23,33 @@ use Rattle.show_plan.specs.Separation.{FlyApart}
 
 -- What is flown. A drone that takes a start flies what it carries.
 pub record FlyTheirOwn (e : Settings) (trajs : List Traj) : Type 0 where
-  -- In an upload where nobody else alters a byte: once a start was sent to any drone, each drone carries its own trajectory, then and at each
-  -- later moment. A drone takes only what was sent to it, so each start that it takes starts its own trajectory.
+  -- In an upload where nobody else alters a byte: once a start was sent to any drone, each drone carries its own
+  -- trajectory, then and at each later moment. A drone takes only what was sent to it, so each start that it takes
+  -- starts its own trajectory.
   pub once_sent : (readback start : Bool) (drones : ℕ → DroneState) (events later : List WorldEvent) (i d : ℕ) →
-      ((n : ℕ) → n < length trajs → IsDrone (drones n)) → IsUnaltered (events ++ later) → i < length trajs → d < length trajs →
+      ((n : ℕ) → n < length trajs → IsDrone (drones n)) → IsUnaltered (events ++ later) → i < length trajs →
+      d < length trajs →
       Contains ((world (session_for e trajs readback start) drones events).sent i) (start_of e.trajectory_id) →
-      Carries ((world (session_for e trajs readback start) drones (events ++ later)).drones d) e.trajectory_id (slice_index_or trajs d no_trajectory)
-  -- From any senders, in any order and any number of times: once a drone accepted its writes and its define it carries its own
-  -- trajectory, then and after all packets of the session that it takes later, starts among them. A start before that starts what the drone
-  -- carried before.
-  pub once_accepted : (readback start : Bool) (drone : DroneState) (order later : List ℕ) (d : ℕ) → IsDrone drone → d < length trajs →
-      AreOwn (session_for e trajs readback start) d (order ++ later) → AcceptsLoad (session_for e trajs readback start) d drone order →
-      Carries (taken (session_for e trajs readback start) d drone (order ++ later)) e.trajectory_id (slice_index_or trajs d no_trajectory)
-  -- And where no start came before that, it begins once for each start that it takes later: exactly once where it takes one.
-  pub begins_once : (readback start : Bool) (drone : DroneState) (order later : List ℕ) (d : ℕ) → IsDrone drone → d < length trajs →
-      AreOwn (session_for e trajs readback start) d (order ++ later) → AcceptsLoad (session_for e trajs readback start) d drone order →
+      Carries ((world (session_for e trajs readback start) drones (events ++ later)).drones d) e.trajectory_id
+      (slice_index_or trajs d no_trajectory)
+  -- From any senders, in any order and any number of times: once a drone accepted its writes and its define it carries
+  -- its own trajectory, then and after all packets of the session that it takes later, starts among them. A start
+  -- before that starts what the drone carried before.
+  pub once_accepted : (readback start : Bool) (drone : DroneState) (order later : List ℕ) (d : ℕ) → IsDrone drone →
+      d < length trajs →
+      AreOwn (session_for e trajs readback start) d (order ++ later) →
+      AcceptsLoad (session_for e trajs readback start) d drone order →
+      Carries (taken (session_for e trajs readback start) d drone (order ++ later)) e.trajectory_id
+      (slice_index_or trajs d no_trajectory)
+  -- And where no start came before that, it begins once for each start that it takes later: exactly once where it takes
+  -- one.
+  pub begins_once : (readback start : Bool) (drone : DroneState) (order later : List ℕ) (d : ℕ) → IsDrone drone →
+      d < length trajs →
+      AreOwn (session_for e trajs readback start) d (order ++ later) →
+      AcceptsLoad (session_for e trajs readback start) d drone order →
       starts_in (session_for e trajs readback start) d order ≡ 0 →
-      beginnings_in (session_for e trajs readback start) d drone (order ++ later) ≡ starts_in (session_for e trajs readback start) d later
+      beginnings_in (session_for e trajs readback start) d drone (order ++ later)
+      ≡ starts_in (session_for e trajs readback start) d later
 
 -- What holds of an upload of this session, to drones that are so at the start, after these events. Only the last field
 -- asks that nobody else alters a byte. A moment of an upload is the end of one of its beginnings, so what holds after
@@ -72,8 +83,9 @@ pub record GoesRight (s : Upload) (drones : ℕ → DroneState) (events : List W
 
 -- The drones may hold anything at the start, and the link may lose, repeat, delay and reorder. Once all packets of
 -- the session of these trajectories are acknowledged, where nobody else alters a byte, they are stored, near to the
--- show and apart. So they are with any senders of the packets, once all but the reads are accepted. What a drone flies is its own
--- trajectory. And each upload of this session goes right, with read-back or without and with starts or without.
+-- show and apart. So they are with any senders of the packets, once all but the reads are accepted. What a drone flies
+-- is its own trajectory. And each upload of this session goes right, with read-back or without and with starts or
+-- without.
 pub record Uploads (g : Grid) (e : Settings) (trajs : List Traj) : Type 0 where
   pub stored : Lands g e trajs
   pub in_any_order : LandsInAnyOrder g e trajs

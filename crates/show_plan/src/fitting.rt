@@ -226,11 +226,11 @@ fn fitted(alloc: Global, show: &Show, grid: Grid, trajs: Vec<Traj>) -> Result<Fi
 }
 
 /// The trajectories of a show's drones, or the first reason why the show has no plan: a fault of its names or
-/// cues, then a number that no trajectory can hold, then the first drone whose trajectory, its holds joined, has more than 255 segments
-/// or more bytes than 4,096 less the offset.
+/// cues, then a number that no trajectory can hold, then the first drone whose trajectory, its holds joined, has more
+/// than 255 segments or more bytes than 4,096 less the offset.
 ///
-/// At every instant of the show, also between whole milliseconds, what each drone is sent decodes to is within half a millimetre
-/// of what the show says, on x, y and z, and the yaw is equal (docs/TRAJECTORY.md).
+/// At every instant of the show, also between whole milliseconds, what each drone is sent decodes to is within half a
+/// millimetre of what the show says, on x, y and z, and the yaw is equal (docs/TRAJECTORY.md).
 pub fn fit(alloc: Global, show: &Show) -> Result<Fitted, FitError>
     requires { IsValid (plain show.now) }
     ensures gives { FitGives result (plain show.now) }

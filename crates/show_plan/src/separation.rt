@@ -8,7 +8,8 @@ ghost use Rattle.fleet_math.specs.Limits.{most_depth};
 ghost use Rattle.fleet_curves.specs.Raised.{raised_of};
 ghost use Rattle.sep_certificate.specs.Certificates.{IsWhole, IsValid};
 ghost use Rattle.show_plan.specs.Fitting.{IsValidFitted};
-ghost use Rattle.show_plan.specs.Separation.{CertificateGives, CountGives, IsShowClear, FlyApart, blocked_at, clearance_of, measure_of, searched};
+ghost use Rattle.show_plan.specs.Separation.{CertificateGives, CountGives, IsShowClear, FlyApart, blocked_at};
+ghost use Rattle.show_plan.specs.Separation.{clearance_of, measure_of, searched};
 ghost use Rattle.show_plan.specs.Laws.{IsFirstPart, SeparationLaw};
 ghost use Rattle.show_plan.specs.Steps.{FindsNodes, FindsTrees, separation_fault};
 
@@ -20,7 +21,8 @@ use sep_parts::{Clearance, Forest, Ruler, Slot, WIDE, apart_law, table_law};
 use speed_bound::{reach, reach_law};
 use std::alloc::{AllocError, Global};
 
-/// A part of a cue in which no direction separates two drones: part `index` of as many equal parts as the depth gives, counted from 0.
+/// A part of a cue in which no direction separates two drones: part `index` of as many equal parts as the depth gives,
+/// counted from 0.
 #[derive(Clone, Copy, PartialEq, Eq, Debug)]
 pub struct BlockedPart {
     /// The two drones and the cue.
@@ -52,8 +54,8 @@ impl From<AllocError> for SeparationFault {
 /// By parts of which depth speeds are bounded, for how far drones move while they are late.
 const REACH_DEPTH: u8 = 6;
 
-/// What is kept clear around the drones of a show that fits: what its settings say, and how far its trajectories move in the time by which a drone
-/// may be late.
+/// What is kept clear around the drones of a show that fits: what its settings say, and how far its trajectories move
+/// in the time by which a drone may be late.
 pub fn clearance_of(f: &Fitted) -> Clearance
     requires valid { IsValidFitted f.now }
     ensures exact { result ≡ clearance_of f.now.settings f.now.trajs }
@@ -127,24 +129,26 @@ fn nodes_of(
     }
 }
 
-/// A law. The blocked part that the contract of [`certificate`] cites is what its name says, for all trajectories: there is
-/// none exactly where each part of the depth has a separating direction, for each pair in each cue; else it is the first that has
-/// none, in the order pair, cue, part.
+/// A law. The blocked part that the contract of [`certificate`] cites is what its name says, for all trajectories:
+/// there is none exactly where each part of the depth has a separating direction, for each pair in each cue; else it is
+/// the first that has none, in the order pair, cue, part.
 pub fn separation_law()
     ensures { SeparationLaw }
 {}
 
-/// The certificate of a show that fits: for each pair of drones and each cue the tree with the largest possible leaves, each with
-/// the first direction in the order of the table that separates its part. `depth` is the greatest depth of a part, 0 to 8.
+/// The certificate of a show that fits: for each pair of drones and each cue the tree with the largest possible leaves,
+/// each with the first direction in the order of the table that separates its part. `depth` is the greatest depth of a
+/// part, 0 to 8.
 ///
-/// `Blocked` exactly where some part of that depth has no separating direction, for some pair and cue: the first, in the order
-/// pair, cue, part. Out of memory is the only other refusal. Where it is Ok, any two drones fly apart, by what the settings let them stray and be
-/// late (docs/SEPARATION.md).
+/// `Blocked` exactly where some part of that depth has no separating direction, for some pair and cue: the first, in
+/// the order pair, cue, part. Out of memory is the only other refusal. Where it is Ok, any two drones fly apart, by
+/// what the settings let them stray and be late (docs/SEPARATION.md).
 pub fn certificate(alloc: Global, f: &Fitted, depth: Depth) -> Result<Certificate, SeparationFault>
     requires valid { IsValidFitted f.now }
     ensures gives { CertificateGives f.now.settings depth f.now.trajs result }
     ensures whole { IfOk result (λ cert. IsWhole cert) }
-    ensures valid { IfOk result (λ cert. IsValid searched (raised_of f.now.trajs) (clearance_of f.now.settings f.now.trajs) cert) }
+    ensures valid { IfOk result
+        (λ cert. IsValid searched (raised_of f.now.trajs) (clearance_of f.now.settings f.now.trajs) cert) }
     ensures clear { IsOk result → IsShowClear f.now.settings depth f.now.trajs }
     ensures blocked { (slot : Slot) (index : ℕ) → result ≡ Err (SeparationFault.Blocked (blocked_at slot index))
         → IsFirstPart f.now.settings depth f.now.trajs slot index }
@@ -165,8 +169,9 @@ pub fn certificate(alloc: Global, f: &Fitted, depth: Depth) -> Result<Certificat
     })
 }
 
-/// How many nodes the certificate of a show that fits has: what [`certificate`] would return, counted and not kept. Conditions and
-/// refusals are those of [`certificate`], and so is its promise: where it is Ok, any two drones are apart at each instant of the show.
+/// How many nodes the certificate of a show that fits has: what [`certificate`] would return, counted and not kept.
+/// Conditions and refusals are those of [`certificate`], and so is its promise: where it is Ok, any two drones are
+/// apart at each instant of the show.
 pub fn count_nodes(alloc: Global, f: &Fitted, depth: Depth) -> Result<u32, SeparationFault>
     requires valid { IsValidFitted f.now }
     ensures gives { CountGives f.now.settings depth f.now.trajs result }

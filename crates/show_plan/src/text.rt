@@ -34,7 +34,8 @@ fn put_drone_line(
     text.line(b"drone ? bytes ? pieces ?", &[Bytes(name), count, pieces])
 }
 
-// The lines of a drone: its trajectory's bytes, and the packets that bring them, which are those of a session of this drone alone.
+// The lines of a drone: its trajectory's bytes, and the packets that bring them, which are those of a session of this
+// drone alone.
 fn put_part(
     alloc: Global,
     text: &mut Lines,
@@ -66,7 +67,8 @@ fn put_parts(
 ) -> Result<(), AllocError>
     requires count { length trajs.now ≡ length names.now }
     requires uploadable { AreUploadable settings trajs.now }
-    ensures { OnOk result (text.new ≡ text.old ++ drone_parts (session_for settings trajs.now false true) 0 names.now trajs.now) }
+    ensures { OnOk result
+        (text.new ≡ text.old ++ drone_parts (session_for settings trajs.now false true) 0 names.now trajs.now) }
 {
     for d in 0..names.len() {
         put_part(alloc, text, settings, names[d].as_slice(), &trajs[d])?;
@@ -87,17 +89,17 @@ fn total(trajs: &[Traj]) -> usize
     total
 }
 
-// How many bytes the plan text of a show takes at most. A byte of a trajectory stands in the line `data` and in a write, with three
-// characters each, and the head of its write takes one more for it.
+// How many bytes the plan text of a show takes at most. A byte of a trajectory stands in the line `data` and in a
+// write, with three characters each, and the head of its write takes one more for it.
 fn room_for(f: &Fitted) -> usize
     requires { IsValidFitted f.now }
 {
     100 + 250 * f.names.as_slice().len() + 7 * total(f.sent.as_slice())
 }
 
-/// The plan text of a show that fits: `plan 1`; for each drone a line with its name, the number of its bytes and of its segments, a line
-/// with its bytes in two hexadecimal digits each, and a line for each packet that writes them, defines the trajectory and starts it; and
-/// `end` (docs/COMMANDS.md). Out of memory is the only refusal.
+/// The plan text of a show that fits: `plan 1`; for each drone a line with its name, the number of its bytes and of its
+/// segments, a line with its bytes in two hexadecimal digits each, and a line for each packet that writes them, defines
+/// the trajectory and starts it; and `end` (docs/COMMANDS.md). Out of memory is the only refusal.
 pub fn plan_text(alloc: Global, f: &Fitted) -> Result<Lines, AllocError>
     requires { IsValidFitted f.now }
     ensures { IfOk result (λ text. text ≡ plan_text f.now.settings f.now.names f.now.sent) }
@@ -116,8 +118,8 @@ pub fn plan_text(alloc: Global, f: &Fitted) -> Result<Lines, AllocError>
     Ok(text)
 }
 
-/// A law. A plan's text says whose plan it is: two plans with one text, made with any settings, are of the same drones and the same
-/// trajectories.
+/// A law. A plan's text says whose plan it is: two plans with one text, made with any settings, are of the same drones
+/// and the same trajectories.
 pub fn plan_law()
     ensures { PlanLaw }
 {

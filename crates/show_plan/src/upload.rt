@@ -48,8 +48,9 @@ pub(crate) fn place_in(settings: choreo_show::Settings) -> Settings
     }
 }
 
-/// What is uploaded of a show that fits, with read-back or without and with starts or without: to the memory, the offset and under the trajectory id of its settings, one
-/// load for each drone (docs/RADIO.md, "The packets of a session"). Out of memory is the only refusal.
+/// What is uploaded of a show that fits, with read-back or without and with starts or without: to the memory, the
+/// offset and under the trajectory id of its settings, one load for each drone (docs/RADIO.md, "The packets of a
+/// session"). Out of memory is the only refusal.
 pub fn session(
     alloc: Global,
     f: &Fitted,
@@ -64,8 +65,8 @@ pub fn session(
     Ok(Session::of_loads(place_in(f.settings), loads, readback, start))
 }
 
-/// A law. Trajectories that can be uploaded, keep near to a show and keep apart are stored so in the drones' memories, over any
-/// link, where nobody else alters a byte.
+/// A law. Trajectories that can be uploaded, keep near to a show and keep apart are stored so in the drones' memories,
+/// over any link, where nobody else alters a byte.
 pub fn landing_law()
     ensures { LandingLaw }
 {

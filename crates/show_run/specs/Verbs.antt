@@ -1,9 +1,12 @@
 -- The commands of the program.
-use Rattle.std.specs.Prelude.{◌≡◌, ℕ, pos, Bool, List, [], ◌∷◌, map, string_bytes, codes, slice_get, Option, Some, String}
+use Rattle.std.specs.Prelude.{◌≡◌, ℕ, pos, Bool, List, [], ◌∷◌, map, string_bytes, codes, slice_get, Option, Some}
+use Rattle.std.specs.Prelude.{String}
 use Rattle.std.specs.declared.alloc.Global.{Global}
 use Rattle.command_words.specs.Commands.{command_of, help_text}
 use Rattle.command_words.specs.declared.command.Command.{Command}
-use Rattle.command_words.specs.declared.command.Command.TheVariants.{Help, Version, Check, Compile, Certify, Play, Report, Verify, Rehearse, Upload, Direct, Drill, Boxes, Speed, Explain, Dynamics}
+use Rattle.command_words.specs.declared.command.Command.TheVariants.{Help, Version, Check, Compile, Certify, Play}
+use Rattle.command_words.specs.declared.command.Command.TheVariants.{Report, Verify, Rehearse, Upload, Direct, Drill}
+use Rattle.command_words.specs.declared.command.Command.TheVariants.{Boxes, Speed, Explain, Dynamics}
 use Rattle.show_direct.specs.declared.options.Options.{Options}
 use Rattle.show_direct.specs.Direct.{direct_verb}
 use Rattle.show_judge.specs.Verb.{Verb}
@@ -51,7 +54,8 @@ verb_of (Report depth) = report_verb depth
 verb_of Verify = verify_verb
 verb_of (Rehearse depth start readback) = rehearse_verb depth start readback
 verb_of (Upload depth start readback) = upload_verb depth start readback
-verb_of (Direct depth near at_place silence floor descent then_land) = direct_verb (options_of depth near at_place silence floor descent then_land)
+verb_of (Direct depth near at_place silence floor descent then_land) =
+    direct_verb (options_of depth near at_place silence floor descent then_land)
 verb_of (Drill drones depth) = drill_verb drones depth
 verb_of (Boxes depth) = boxes_verb depth
 verb_of (Speed depth limit) = speed_verb depth limit
@@ -64,4 +68,6 @@ IsCalled words name = slice_get (map string_bytes words) 0 ≡ Some name
 
 -- The names of the commands that judge whether the drones of their input keep apart.
 abbrev pub judges_apart : List (List ℕ)
-judges_apart = codes "check" ∷ codes "compile" ∷ codes "certify" ∷ codes "play" ∷ codes "report" ∷ codes "verify" ∷ codes "rehearse" ∷ codes "upload" ∷ []
+judges_apart =
+    codes "check" ∷ codes "compile" ∷ codes "certify" ∷ codes "play" ∷ codes "report" ∷ codes "verify"
+    ∷ codes "rehearse" ∷ codes "upload" ∷ []

@@ -35,7 +35,8 @@ upwards_of e = e.h + e.stray
 -- how `boxes` ends, by how the drones are judged for this many regions
 abbrev pub regions_end : List Name → ℕ → ℕ → Judged → Outcome
 regions_end names depth regions Kept = outcome 0 (kept_line regions)
-regions_end names depth regions (Enters region drone cue index) = refused (refusal.Enters region (name_at names drone) cue index depth)
+regions_end names depth regions (Enters region drone cue index) =
+    refused (refusal.Enters region (name_at names drone) cue index depth)
 
 -- what a text of regions gives: its refusal, or how the drones are judged for its regions
 abbrev pub RegionsGive : Option Refusal → PlainShow → ℕ → Cut → Outcome → Type 0
@@ -50,7 +51,8 @@ BoxesGive depth s cut o = RegionsGive (second_refusal most_text (faulty_line (re
 
 -- the second text says regions, to each of which each drone keeps at every instant
 abbrev pub KeepsRegions : PlainShow → Cut → Type 0
-KeepsRegions s cut = (regions : List Region) × (regions_of cut.second ≡ Ok regions) × KeepClear (aside_of s.settings) (upwards_of s.settings) regions (sent_of s)
+KeepsRegions s cut = (regions : List Region) × (regions_of cut.second ≡ Ok regions)
+    × KeepClear (aside_of s.settings) (upwards_of s.settings) regions (sent_of s)
 
 -- the second text says regions, and each part of each drone's way is kept
 abbrev pub BoxesSucceed : ℕ → PlainShow → Cut → Type 0
@@ -71,7 +73,8 @@ pub record StaysInRegions (input : List ℕ) (old new : Option (List ℕ)) : Typ
 
 abbrev pub boxes_verb : ℕ → Verb
 boxes_verb depth =
-    of_two None most_text (λ s cut o. BoxesGive depth s cut o) (λ s cut. Unit {0}) (λ s cut. KeepsRegions s cut) (λ s cut. BoxesSucceed depth s cut)
+    of_two None most_text (λ s cut o. BoxesGive depth s cut o) (λ s cut. Unit {0}) (λ s cut. KeepsRegions s cut)
+    (λ s cut. BoxesSucceed depth s cut)
     (λ input old new. StaysInRegions input old new)
 
 -- the laws of the command

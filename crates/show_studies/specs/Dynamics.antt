@@ -36,7 +36,8 @@ limits_of accel jump = record { acceleration = in_micrometres accel; jump = in_m
 abbrev pub motion_lines : ℕ → List ℕ → List Traj → List Name → List ℕ
 motion_lines depth times [] names = []
 motion_lines depth times (t ∷ ts) [] = []
-motion_lines depth times (t ∷ ts) (name ∷ names) = motion_line name.items (motion depth times t) ++ motion_lines depth times ts names
+motion_lines depth times (t ∷ ts) (name ∷ names) =
+    motion_line name.items (motion depth times t) ++ motion_lines depth times ts names
 
 -- the lines of all drones, and the greatest of each axis
 abbrev pub dynamics_text : ℕ → List ℕ → List Traj → List Name → List ℕ
@@ -59,7 +60,8 @@ excess_by limits depth times t name = option_map (excess_refusal times t name) (
 abbrev pub first_excess_of : Limits → ℕ → List ℕ → List Traj → List Name → Option Refusal
 first_excess_of limits depth times [] names = None
 first_excess_of limits depth times (t ∷ ts) [] = None
-first_excess_of limits depth times (t ∷ ts) (name ∷ names) = option_or (excess_by limits depth times t name) (first_excess_of limits depth times ts names)
+first_excess_of limits depth times (t ∷ ts) (name ∷ names) =
+    option_or (excess_by limits depth times t name) (first_excess_of limits depth times ts names)
 
 -- ---- the command
 
@@ -84,6 +86,8 @@ pub record KeepsDynamics (depth : ℕ) (accel jump : Option ℕ) (input : List �
 
 abbrev pub dynamics_verb : ℕ → Option ℕ → Option ℕ → Verb
 dynamics_verb depth accel jump =
-    of_any None (λ s cut o. o ≡ refused_or (excess_in (limits_of accel jump) depth s) (dynamics_of depth s)) (λ s cut. Unit {0})
-    (λ s cut. All (KeepsMotion (limits_of accel jump) depth) (sent_of s)) (λ s cut. excess_in (limits_of accel jump) depth s ≡ None)
+    of_any None (λ s cut o. o ≡ refused_or (excess_in (limits_of accel jump) depth s) (dynamics_of depth s))
+    (λ s cut. Unit {0})
+    (λ s cut. All (KeepsMotion (limits_of accel jump) depth) (sent_of s))
+    (λ s cut. excess_in (limits_of accel jump) depth s ≡ None)
     (λ input old new. KeepsDynamics depth accel jump input old new)

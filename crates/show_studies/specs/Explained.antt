@@ -40,7 +40,8 @@ contact_if (Some part) line = line
 -- The lines of `explain`.
 abbrev pub explain_text : List Name → ℕ → ℕ → ℕ → Option BlockedPart → Option Closest → Option Touch → List ℕ
 explain_text names depth cues fine blocked closest touch =
-    separation_line names depth blocked ++ nearest_line names fine closest ++ contact_if blocked (contact_line names cues fine touch)
+    separation_line names depth blocked ++ nearest_line names fine closest
+    ++ contact_if blocked (contact_line names cues fine touch)
 
 -- the first part of the depth in which no direction separates two drones of the show
 abbrev pub blocked_of : ℕ → PlainShow → Option BlockedPart
@@ -53,8 +54,10 @@ blocked_of depth s = blocked_part s.settings depth (trajectories_of s)
 pub record Explains (depth fine : ℕ) (s : PlainShow) (text : List ℕ) : Type 0 where
   pub closest : Option Closest
   pub touch : Option Touch
-  pub is_closest : MatchOption closest (length (trajectories_of s) ≡ 1) (IsClosest (trajectories_of s) s.settings.r s.settings.h fine)
-  pub is_first : MatchOption touch (NoTouch (trajectories_of s) s.settings.r s.settings.h fine) (IsFirstTouch (trajectories_of s) s.settings.r s.settings.h fine)
+  pub is_closest : MatchOption closest (length (trajectories_of s) ≡ 1)
+      (IsClosest (trajectories_of s) s.settings.r s.settings.h fine)
+  pub is_first : MatchOption touch (NoTouch (trajectories_of s) s.settings.r s.settings.h fine)
+      (IsFirstTouch (trajectories_of s) s.settings.r s.settings.h fine)
   pub is : text ≡ explain_text (names_of s) depth (cues_in s) fine (blocked_of depth s) closest touch
 
 -- The input stands for a show, and this text was written, which explains it: a touch that it names is an instant at
@@ -76,4 +79,5 @@ ExplainGives depth fine s o = (o.status ≡ 0) × Explains depth fine s o.output
 abbrev pub explain_verb : ℕ → ℕ → Verb
 explain_verb depth fine =
     of_any None (λ s cut o. ExplainGives depth fine s o) (λ s cut. (o : Outcome) × ExplainGives depth fine s o)
-    (λ s cut. blocked_of depth s ≡ None → FlyApart s.settings (sent_of s)) (λ s cut. Unit {0}) (λ input old new. TellsTouches depth fine input old new)
+    (λ s cut. blocked_of depth s ≡ None → FlyApart s.settings (sent_of s)) (λ s cut. Unit {0})
+    (λ input old new. TellsTouches depth fine input old new)

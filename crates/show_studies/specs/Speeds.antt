@@ -22,7 +22,8 @@ above (Some limit) name axis v = if nat_lt limit v then Some (refusal.TooFast na
 
 -- the first axis on which one of a drone's bounds on x, y and z is above the limit
 abbrev pub too_fast_of : Option ℕ → Name → ℕ → ℕ → ℕ → Option Refusal
-too_fast_of limit name x y z = option_or (above limit name 0 x) (option_or (above limit name 1 y) (above limit name 2 z))
+too_fast_of limit name x y z =
+    option_or (above limit name 0 x) (option_or (above limit name 1 y) (above limit name 2 z))
 
 abbrev pub too_fast_by : Option ℕ → ℕ → Traj → Name → Option Refusal
 too_fast_by limit depth t name = too_fast_of limit name (speed depth t 0) (speed depth t 1) (speed depth t 2)
@@ -31,7 +32,8 @@ too_fast_by limit depth t name = too_fast_of limit name (speed depth t 0) (speed
 abbrev pub first_too_fast : Option ℕ → ℕ → List Traj → List Name → Option Refusal
 first_too_fast limit depth [] names = None
 first_too_fast limit depth (t ∷ ts) [] = None
-first_too_fast limit depth (t ∷ ts) (name ∷ names) = option_or (too_fast_by limit depth t name) (first_too_fast limit depth ts names)
+first_too_fast limit depth (t ∷ ts) (name ∷ names) =
+    option_or (too_fast_by limit depth t name) (first_too_fast limit depth ts names)
 
 abbrev pub too_fast : Option ℕ → ℕ → PlainShow → Option Refusal
 too_fast limit depth s = first_too_fast limit depth (sent_of s) (names_of s)
@@ -67,5 +69,7 @@ pub record KeepsSpeeds (limit : Option ℕ) (depth : ℕ) (input : List ℕ) (ol
 
 abbrev pub speed_verb : ℕ → Option ℕ → Verb
 speed_verb depth limit =
-    of_any None (λ s cut o. o ≡ refused_or (too_fast limit depth s) (speed_text depth (sent_of s) (names_of s))) (λ s cut. Unit {0})
-    (λ s cut. All (KeepsBounds limit depth) (sent_of s)) (λ s cut. too_fast limit depth s ≡ None) (λ input old new. KeepsSpeeds limit depth input old new)
+    of_any None (λ s cut o. o ≡ refused_or (too_fast limit depth s) (speed_text depth (sent_of s) (names_of s)))
+    (λ s cut. Unit {0})
+    (λ s cut. All (KeepsBounds limit depth) (sent_of s)) (λ s cut. too_fast limit depth s ≡ None)
+    (λ input old new. KeepsSpeeds limit depth input old new)

@@ -19,7 +19,8 @@ use Rattle.show_studies.specs.declared.findings.Findings.{Findings}
 -- what `boxes` ends with for the regions that were read
 pub record EndsRegions (s : PlainShow) (depth : ℕ) (regions : List Region) (o : Outcome) : Type 0 where
   pub judged : JudgedRegions
-  pub gives : JudgeGives (raised_of (trajectories_of s)) (aside_of s.settings) (upwards_of s.settings) depth regions judged
+  pub gives : JudgeGives (raised_of (trajectories_of s)) (aside_of s.settings) (upwards_of s.settings) depth regions
+      judged
   pub is : o ≡ regions_end (names_of s) depth (length regions) judged
 
 -- a part that is blocked names drones among this many
@@ -41,4 +42,5 @@ pub record IsFound (depth fine : ℕ) (f : Fitted) (found : Findings) : Type 0 w
   pub blocked : found.blocked ≡ blocked_part f.settings depth f.trajs
   pub apart : found.blocked ≡ None → FlyApart f.settings f.sent
   pub closest : MatchOption found.closest (length f.trajs ≡ 1) (IsClosest f.trajs f.settings.r f.settings.h fine)
-  pub touch : MatchOption found.touch (NoTouch f.trajs f.settings.r f.settings.h fine) (IsFirstTouch f.trajs f.settings.r f.settings.h fine)
+  pub touch : MatchOption found.touch (NoTouch f.trajs f.settings.r f.settings.h fine)
+      (IsFirstTouch f.trajs f.settings.r f.settings.h fine)

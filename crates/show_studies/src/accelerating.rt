@@ -12,7 +12,8 @@ ghost use Rattle.show_judge.specs.Refused.{IsOfInput};
 ghost use Rattle.show_judge.specs.Runs.{Does};
 ghost use Rattle.show_judge.specs.Shows.{Cut};
 ghost use Rattle.show_judge.specs.Verb.{during};
-ghost use Rattle.show_studies.specs.Dynamics.{dynamics_text, dynamics_verb, excess_by, first_excess_of, in_micrometres, limits_of, refusal_as, times_of};
+ghost use Rattle.show_studies.specs.Dynamics.{dynamics_text, dynamics_verb, excess_by, first_excess_of, in_micrometres};
+ghost use Rattle.show_studies.specs.Dynamics.{limits_of, refusal_as, times_of};
 ghost use Rattle.show_studies.specs.Speeds.{refused_or};
 
 use choreo_lines::copy_of;
@@ -83,7 +84,8 @@ fn answer_drones(
     requires sendable { All IsSendable sent.now }
     requires cues { length cues.now ≤ most_cues }
     ensures gives { IfOk result (λ a. outcome_of a ≡
-        refused_or (first_excess_of limits depth (durations cues.now) sent.now names.now) (dynamics_text depth (durations cues.now) sent.now names.now)) }
+        refused_or (first_excess_of limits depth (durations cues.now) sent.now names.now)
+        (dynamics_text depth (durations cues.now) sent.now names.now)) }
     ensures keeps { IfOk result (λ a. (outcome_of a).status ≡ 0 → All (KeepsMotion limits depth) sent.now) }
     ensures said { IfOk result IsSaid }
 {
@@ -174,7 +176,8 @@ pub fn dynamics<S: Source, K: Sink>(
     source: &mut S,
     sink: &mut K,
 ) -> u8
-    ensures { Does (dynamics_verb depth accel jump) (during S.told K.written K.faults source.old source.new sink.old sink.new) result }
+    ensures { Does (dynamics_verb depth accel jump)
+        (during S.told K.written K.faults source.old source.new sink.old sink.new) result }
 {
     run_any(alloc, &DynamicsVerb { depth, accel, jump }, source, sink)
 }

@@ -123,7 +123,8 @@ pub fn explain<S: Source, K: Sink>(
     source: &mut S,
     sink: &mut K,
 ) -> u8
-    ensures { Does (explain_verb depth fine) (during S.told K.written K.faults source.old source.new sink.old sink.new) result }
+    ensures { Does (explain_verb depth fine) (during S.told K.written K.faults source.old source.new sink.old sink.new)
+        result }
 {
     run_any(alloc, &ExplainVerb { depth, fine }, source, sink)
 }

@@ -102,7 +102,8 @@ fn put_last(
 ) -> Result<(), AllocError>
     requires words { All StandsAsWord names.now }
     requires among { IsTouchAmong (length names.now) found.now.touch }
-    ensures { OnOk result (text.new ≡ text.old ++ contact_if found.now.blocked (contact_line names.now cues fine found.now.touch)) }
+    ensures { OnOk result
+        (text.new ≡ text.old ++ contact_if found.now.blocked (contact_line names.now cues fine found.now.touch)) }
 {
     match found.blocked {
         None => Ok(()),

@@ -38,7 +38,8 @@ fn judge_regions(
     requires valid { IsValidFitted fitted.now }
     requires few { length regions.now.items ≤ most_regions }
     requires near { All IsNear regions.now.items }
-    ensures gives { (s : PlainShow) → IsFitted fitted.now s → IfOk result (λ a. EndsRegions s depth regions.now.items (outcome_of a)) }
+    ensures gives { (s : PlainShow) → IsFitted fitted.now s
+        → IfOk result (λ a. EndsRegions s depth regions.now.items (outcome_of a)) }
     ensures clear { IfOk result (λ a. (outcome_of a).status ≡ 0
         → KeepClear (aside_of fitted.now.settings) (upwards_of fitted.now.settings) regions.now.items fitted.now.sent) }
     ensures said { IfOk result IsSaid }
@@ -83,9 +84,12 @@ fn judge_second(
 ) -> Result<Answer, AllocError>
     requires valid { IsValidFitted fitted.now }
     requires within { IsWithin most_text second.now }
-    ensures gives { (s : PlainShow) (cut : Cut) → IsFitted fitted.now s → IsText most_text second.now cut.second cut.is_second_marked
-        → IfOk result (λ a. RegionsGive (second_refusal most_text (faulty_line (regions_of cut.second)) cut) s depth cut (outcome_of a)) }
-    ensures promised { (s : PlainShow) (cut : Cut) → IsFitted fitted.now s → IsText most_text second.now cut.second cut.is_second_marked
+    ensures gives { (s : PlainShow) (cut : Cut) → IsFitted fitted.now s
+        → IsText most_text second.now cut.second cut.is_second_marked
+        → IfOk result (λ a. RegionsGive (second_refusal most_text (faulty_line (regions_of cut.second)) cut) s depth cut
+        (outcome_of a)) }
+    ensures promised { (s : PlainShow) (cut : Cut) → IsFitted fitted.now s
+        → IsText most_text second.now cut.second cut.is_second_marked
         → IfOk result (λ a. (outcome_of a).status ≡ 0 → KeepsRegions s cut) }
     ensures whole { IfOk result (λ a. (outcome_of a).status ≡ 0 → IsUnmarked second.now) }
     ensures said { IfOk result IsSaid }
@@ -131,7 +135,8 @@ fn answer_two(alloc: Global, depth: Depth, input: &Input) -> Result<Answer, Allo
 }
 
 fn answer_input<S: Source>(alloc: Global, depth: Depth, source: &mut S) -> Result<Answer, Failure>
-    ensures reads { TwoTextsRead (λ left left_after. AnswersInput (boxes_verb depth) left left_after result) (λ _ left left_after. IsReadBoth most_text left left_after) (S.told source.old) (S.told source.new) result }
+    ensures reads { TwoTextsRead (λ left left_after. AnswersInput (boxes_verb depth) left left_after result)
+        (λ _ left left_after. IsReadBoth most_text left left_after) (S.told source.old) (S.told source.new) result }
     ensures said { IfOk result IsSaid }
 {
     let input = read_two(alloc, source, MOST_TEXT)?;
@@ -147,7 +152,8 @@ pub fn boxes_law()
 /// Runs `boxes` (docs/COMMANDS.md): the number of regions, where each drone keeps to each of them throughout the show;
 /// or the first thing that is wrong with either text, or the first part of a cue in which a drone isn't kept.
 pub fn boxes<S: Source, K: Sink>(alloc: Global, depth: Depth, source: &mut S, sink: &mut K) -> u8
-    ensures { Does (boxes_verb depth) (during S.told K.written K.faults source.old source.new sink.old sink.new) result }
+    ensures { Does (boxes_verb depth) (during S.told K.written K.faults source.old source.new sink.old sink.new)
+        result }
 {
     show_law();
     boxes_law();

@@ -11,7 +11,8 @@ ghost use Rattle.show_plan.specs.Separation.{FlyApart};
 ghost use Rattle.show_plan.specs.Uploading.{Uploads};
 ghost use Rattle.show_judge.specs.Answers.{IsSaid, outcome_of};
 ghost use Rattle.show_judge.specs.Outcome.{ShowGives};
-ghost use Rattle.show_studies.specs.Speeds.{KeepsBounds, above, first_too_fast, speed_of_drone, speed_text, speed_verb, refused_or, too_fast_by, too_fast_of};
+ghost use Rattle.show_studies.specs.Speeds.{KeepsBounds, above, first_too_fast, speed_of_drone, speed_text, speed_verb};
+ghost use Rattle.show_studies.specs.Speeds.{refused_or, too_fast_by, too_fast_of};
 ghost use Rattle.show_judge.specs.Refused.{IsOfInput, blocked_by};
 ghost use Rattle.show_judge.specs.Runs.{Does};
 ghost use Rattle.show_judge.specs.Shows.{Cut, sent_of};
@@ -95,7 +96,8 @@ fn answer_drones(
     requires words { All StandsAsWord names.now }
     requires some { All (λ (t : Traj). 1 ≤ length t.segments) sent.now }
     requires sendable { All IsSendable sent.now }
-    ensures gives { IfOk result (λ a. outcome_of a ≡ refused_or (first_too_fast limit depth sent.now names.now) (speed_text depth sent.now names.now)) }
+    ensures gives { IfOk result (λ a. outcome_of a
+        ≡ refused_or (first_too_fast limit depth sent.now names.now) (speed_text depth sent.now names.now)) }
     ensures keeps { IfOk result (λ a. (outcome_of a).status ≡ 0 → All (KeepsBounds limit depth) sent.now) }
     ensures said { IfOk result IsSaid }
 {
@@ -151,7 +153,8 @@ pub fn speed<S: Source, K: Sink>(
     source: &mut S,
     sink: &mut K,
 ) -> u8
-    ensures { Does (speed_verb depth limit) (during S.told K.written K.faults source.old source.new sink.old sink.new) result }
+    ensures { Does (speed_verb depth limit) (during S.told K.written K.faults source.old source.new sink.old sink.new)
+        result }
 {
     run_any(alloc, &SpeedVerb { depth, limit }, source, sink)
 }

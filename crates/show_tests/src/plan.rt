@@ -69,7 +69,8 @@ const BYTES_OF_SHOWS: [(&[u8], &[u8], Outcome); 14] = [
     // one move
     (
         b"choreo 1\ndrone solo 0 0 1000000 0\ncue 2000\nsolo move 1000000 0 1000000 0\nend\n",
-        b"\x00\x00\x00\x00\xE8\x03\x00\x00\x03\xD0\x07\x00\x00\x00\x00\x00\x00\xE8\x03\xE8\x03\xE8\x03\xE8\x03\x00\x00\x00",
+        b"\x00\x00\x00\x00\xE8\x03\x00\x00\x03\xD0\x07\x00\x00\x00\x00\x00\x00\xE8\x03\xE8\x03\xE8\x03\xE8\x03\x00\x00\
+        \x00",
         Outcome::Fits(1, 2000, 28, true),
     ),
     // the greatest start
@@ -104,7 +105,8 @@ const BYTES_OF_SHOWS: [(&[u8], &[u8], Outcome); 14] = [
     ),
     // 127 times there and back
     (
-        b"choreo 1\ndrone solo 0 0 1000000 0\nrepeat 127\ncue 1000\nsolo line 100000 0 1000000 0\nend\ncue 1000\nsolo line 0 0 1000000 0\nend\nend\n",
+        b"choreo 1\ndrone solo 0 0 1000000 0\nrepeat 127\ncue 1000\nsolo line 100000 0 1000000 0\nend\ncue 1000\n\
+        solo line 0 0 1000000 0\nend\nend\n",
         b"\x00\x00\x00\x00\xE8\x03\x00\x00\x01\xE8\x03\x64\x00",
         Outcome::Fits(254, 254_000, 1281, true),
     ),
@@ -135,18 +137,22 @@ const BYTES_OF_SHOWS: [(&[u8], &[u8], Outcome); 14] = [
     // a quarter circle from rest to rest
     (
         b"choreo 1\ndrone solo 1000000 0 1000000 0\ncue 1000\nsolo swing ccw 0 0 0\nend\n",
-        b"\xE8\x03\x00\x00\xE8\x03\x00\x00\x0F\xE8\x03\xE8\x03\xE8\x03\x27\x04\xB9\x02\x00\x00\x00\x00\x00\x00\x00\x00\x00\x00\xB9\x02\x27\x04\xE8\x03\xE8\x03\xE8\x03\x00\x00\x00",
+        b"\xE8\x03\x00\x00\xE8\x03\x00\x00\x0F\xE8\x03\xE8\x03\xE8\x03\x27\x04\xB9\x02\x00\x00\x00\x00\x00\x00\x00\x00\
+        \x00\x00\xB9\x02\x27\x04\xE8\x03\xE8\x03\xE8\x03\x00\x00\x00",
         Outcome::Fits(1, 1000, 42, true),
     ),
     // a quarter circle from an arc to rest, with yaw
     (
         b"choreo 1\ndrone solo 1000000 0 1000000 0\ncue 2000\nsolo arc_out ccw 0 0 900\nend\n",
-        b"\xE8\x03\x00\x00\xE8\x03\x00\x00\xCF\xD0\x07\xE8\x03\xE6\x02\xFC\x01\xBB\x00\x72\x00\x00\x00\x00\x00\xD9\x01\x11\x03\xCF\x03\xE2\x03\xE8\x03\xE8\x03\xE8\x03\x01\x01\xD7\x01\x83\x02\x03\x03\x59\x03\x84\x03\x84\x03\x00\x00\x00",
+        b"\xE8\x03\x00\x00\xE8\x03\x00\x00\xCF\xD0\x07\xE8\x03\xE6\x02\xFC\x01\xBB\x00\x72\x00\x00\x00\x00\x00\xD9\x01\
+        \x11\x03\xCF\x03\xE2\x03\xE8\x03\xE8\x03\xE8\x03\x01\x01\xD7\x01\x83\x02\x03\x03\x59\x03\x84\x03\x84\x03\x00\
+        \x00\x00",
         Outcome::Fits(1, 2000, 56, true),
     ),
     // a figure in a frame
     (
-        b"choreo 1\ndrone solo 0 0 1000000 0\nfigure go p\ncue 1000\np line 1000000 0 1000000 0\nend\nend\nperform go y 1 0 0 500000 solo\n",
+        b"choreo 1\ndrone solo 0 0 1000000 0\nfigure go p\ncue 1000\np line 1000000 0 1000000 0\nend\nend\n\
+        perform go y 1 0 0 500000 solo\n",
         b"\x00\x00\x00\x00\xE8\x03\x00\x00\x54\xE8\x03\xE8\x03\xDC\x05\x84\x03\x00\x00\x00",
         Outcome::Fits(1, 1000, 20, true),
     ),
@@ -201,7 +207,8 @@ const REFUSALS: [(&[u8], PlanFault); 8] = [
     ),
     // the second drone alone
     (
-        b"choreo 1\nmemory 2 4076\ndrone a 0 0 1000000 0\ndrone b 0 0 1000000 0\ncue 2000\nb move 1000000 0 1000000 0\nend\n",
+        b"choreo 1\nmemory 2 4076\ndrone a 0 0 1000000 0\ndrone b 0 0 1000000 0\ncue 2000\n\
+        b move 1000000 0 1000000 0\nend\n",
         PlanFault::TooLong {
             drone: 1,
             bytes: 28,
@@ -210,7 +217,8 @@ const REFUSALS: [(&[u8], PlanFault); 8] = [
     ),
     // both drones
     (
-        b"choreo 1\nmemory 2 4090\ndrone a 0 0 1000000 0\ndrone b 0 0 1000000 0\ncue 2000\nb move 1000000 0 1000000 0\nend\n",
+        b"choreo 1\nmemory 2 4090\ndrone a 0 0 1000000 0\ndrone b 0 0 1000000 0\ncue 2000\n\
+        b move 1000000 0 1000000 0\nend\n",
         PlanFault::TooLong {
             drone: 0,
             bytes: 14,
@@ -219,7 +227,8 @@ const REFUSALS: [(&[u8], PlanFault); 8] = [
     ),
     // one segment too many, judged before its bytes
     (
-        b"choreo 1\nmemory 2 4090\ndrone solo 0 0 1000000 0\nrepeat 128\ncue 1000\nsolo line 100000 0 1000000 0\nend\ncue 1000\nsolo line 0 0 1000000 0\nend\nend\n",
+        b"choreo 1\nmemory 2 4090\ndrone solo 0 0 1000000 0\nrepeat 128\ncue 1000\nsolo line 100000 0 1000000 0\nend\n\
+        cue 1000\nsolo line 0 0 1000000 0\nend\nend\n",
         PlanFault::TooManySegments {
             drone: 0,
             segments: 256,
@@ -253,27 +262,52 @@ const PLANS: [(&[u8], &[u8]); 5] = [
     // one drone
     (
         b"choreo 1\ndrone solo 0 0 1000000 0\ncue 2000\nsolo move 1000000 0 1000000 0\nend\n",
-        b"plan 1\ndrone solo bytes 28 pieces 1\ndata 00 00 00 00 E8 03 00 00 03 D0 07 00 00 00 00 00 00 E8 03 E8 03 E8 03 E8 03 00 00 00\nwrite 4E 02 00 00 00 00 00 00 00 00 E8 03 00 00 03 D0 07 00 00 00 00 00 00 E8 03 E8 03 E8 03 E8\nwrite 4E 02 18 00 00 00 03 00 00 00\ndefine 8C 06 00 01 01 00 00 00 00 01\nstart 8C 05 00 00 00 00 00 00 80 3F\nend\n",
+        b"plan 1\ndrone solo bytes 28 pieces 1\ndata 00 00 00 00 E8 03 00 00 03 D0 07 00 00 00 00 00 00 E8 03 E8 03 \
+        E8 03 E8 03 00 00 00\nwrite 4E 02 00 00 00 00 00 00 00 00 E8 03 00 00 03 D0 07 00 00 00 00 00 00 E8 03 E8 03 \
+        E8 03 E8\nwrite 4E 02 18 00 00 00 03 00 00 00\ndefine 8C 06 00 01 01 00 00 00 00 01\n\
+        start 8C 05 00 00 00 00 00 00 80 3F\nend\n",
     ),
     // two drones with different bytes
     (
         b"choreo 1\ndrone a 0 0 1000000 0\ndrone b 1000000 0 1000000 0\ncue 3000\nb move 1000000 0 2000000 0\nend\n",
-        b"plan 1\ndrone a bytes 14 pieces 1\ndata 00 00 00 00 E8 03 00 00 00 B8 0B 00 00 00\nwrite 4E 02 00 00 00 00 00 00 00 00 E8 03 00 00 00 B8 0B 00 00 00\ndefine 8C 06 00 01 01 00 00 00 00 01\nstart 8C 05 00 00 00 00 00 00 80 3F\ndrone b bytes 28 pieces 1\ndata E8 03 00 00 E8 03 00 00 30 B8 0B E8 03 E8 03 E8 03 D0 07 D0 07 D0 07 D0 07 00 00 00\nwrite 4E 02 00 00 00 00 E8 03 00 00 E8 03 00 00 30 B8 0B E8 03 E8 03 E8 03 D0 07 D0 07 D0 07 D0\nwrite 4E 02 18 00 00 00 07 00 00 00\ndefine 8C 06 00 01 01 00 00 00 00 01\nstart 8C 05 00 00 00 00 00 00 80 3F\nend\n",
+        b"plan 1\ndrone a bytes 14 pieces 1\ndata 00 00 00 00 E8 03 00 00 00 B8 0B 00 00 00\n\
+        write 4E 02 00 00 00 00 00 00 00 00 E8 03 00 00 00 B8 0B 00 00 00\ndefine 8C 06 00 01 01 00 00 00 00 01\n\
+        start 8C 05 00 00 00 00 00 00 80 3F\ndrone b bytes 28 pieces 1\n\
+        data E8 03 00 00 E8 03 00 00 30 B8 0B E8 03 E8 03 E8 03 D0 07 D0 07 D0 07 D0 07 00 00 00\n\
+        write 4E 02 00 00 00 00 E8 03 00 00 E8 03 00 00 30 B8 0B E8 03 E8 03 E8 03 D0 07 D0 07 D0 07 D0\n\
+        write 4E 02 18 00 00 00 07 00 00 00\ndefine 8C 06 00 01 01 00 00 00 00 01\n\
+        start 8C 05 00 00 00 00 00 00 80 3F\nend\n",
     ),
     // two holds in one piece
     (
         b"choreo 1\ndrone solo 0 0 1000000 0\ncue 1000\nend\ncue 2000\nend\n",
-        b"plan 1\ndrone solo bytes 14 pieces 1\ndata 00 00 00 00 E8 03 00 00 00 B8 0B 00 00 00\nwrite 4E 02 00 00 00 00 00 00 00 00 E8 03 00 00 00 B8 0B 00 00 00\ndefine 8C 06 00 01 01 00 00 00 00 01\nstart 8C 05 00 00 00 00 00 00 80 3F\nend\n",
+        b"plan 1\ndrone solo bytes 14 pieces 1\ndata 00 00 00 00 E8 03 00 00 00 B8 0B 00 00 00\n\
+        write 4E 02 00 00 00 00 00 00 00 00 E8 03 00 00 00 B8 0B 00 00 00\ndefine 8C 06 00 01 01 00 00 00 00 01\n\
+        start 8C 05 00 00 00 00 00 00 80 3F\nend\n",
     ),
     // a formation that names its drones in another order, and a figure of two roles that are played in another order
     (
-        b"choreo 1\ndrone a 0 0 1000000 0\ndrone b 2000000 0 1000000 0\nformation f\nat b 2000000 1000000 1000000 0\nat a 0 1000000 1000000 0\nend\nfigure g p q\ncue 1000\np line 0 0 1000000 0\nq line 1000000 0 1000000 0\nend\nend\ncue 1000\nform f line\nend\nperform g none 1 0 2000000 0 b a\n",
-        b"plan 1\ndrone a bytes 23 pieces 2\ndata 00 00 00 00 E8 03 00 00 04 E8 03 E8 03 44 E8 03 B8 0B 84 03 00 00 00\nwrite 4E 02 00 00 00 00 00 00 00 00 E8 03 00 00 04 E8 03 E8 03 44 E8 03 B8 0B 84 03 00 00 00\ndefine 8C 06 00 01 01 00 00 00 00 02\nstart 8C 05 00 00 00 00 00 00 80 3F\ndrone b bytes 25 pieces 2\ndata D0 07 00 00 E8 03 00 00 04 E8 03 E8 03 45 E8 03 00 00 D0 07 84 03 00 00 00\nwrite 4E 02 00 00 00 00 D0 07 00 00 E8 03 00 00 04 E8 03 E8 03 45 E8 03 00 00 D0 07 84 03 00 00\nwrite 4E 02 18 00 00 00 00\ndefine 8C 06 00 01 01 00 00 00 00 02\nstart 8C 05 00 00 00 00 00 00 80 3F\nend\n",
+        b"choreo 1\ndrone a 0 0 1000000 0\ndrone b 2000000 0 1000000 0\nformation f\nat b 2000000 1000000 1000000 0\n\
+        at a 0 1000000 1000000 0\nend\nfigure g p q\ncue 1000\np line 0 0 1000000 0\nq line 1000000 0 1000000 0\nend\n\
+        end\ncue 1000\nform f line\nend\nperform g none 1 0 2000000 0 b a\n",
+        b"plan 1\ndrone a bytes 23 pieces 2\ndata 00 00 00 00 E8 03 00 00 04 E8 03 E8 03 44 E8 03 B8 0B 84 03 00 00 \
+        00\nwrite 4E 02 00 00 00 00 00 00 00 00 E8 03 00 00 04 E8 03 E8 03 44 E8 03 B8 0B 84 03 00 00 00\n\
+        define 8C 06 00 01 01 00 00 00 00 02\nstart 8C 05 00 00 00 00 00 00 80 3F\ndrone b bytes 25 pieces 2\n\
+        data D0 07 00 00 E8 03 00 00 04 E8 03 E8 03 45 E8 03 00 00 D0 07 84 03 00 00 00\n\
+        write 4E 02 00 00 00 00 D0 07 00 00 E8 03 00 00 04 E8 03 E8 03 45 E8 03 00 00 D0 07 84 03 00 00\n\
+        write 4E 02 18 00 00 00 00\ndefine 8C 06 00 01 01 00 00 00 00 02\nstart 8C 05 00 00 00 00 00 00 80 3F\nend\n",
     ),
     // a repeat of a cue and a figure, in which one drone holds
     (
-        b"choreo 1\ndrone a 0 0 1000000 0\ndrone b 1000000 0 1000000 0\nfigure back p\ncue 2000\np line 0 0 1000000 0\nend\nend\nrepeat 2\ncue 1000\na line 0 1000000 1000000 0\nend\nperform back none 0 0 0 0 a\nend\n",
-        b"plan 1\ndrone a bytes 31 pieces 4\ndata 00 00 00 00 E8 03 00 00 04 E8 03 E8 03 04 D0 07 00 00 04 E8 03 E8 03 04 D0 07 00 00 00 00 00\nwrite 4E 02 00 00 00 00 00 00 00 00 E8 03 00 00 04 E8 03 E8 03 04 D0 07 00 00 04 E8 03 E8 03 04\nwrite 4E 02 18 00 00 00 D0 07 00 00 00 00 00\ndefine 8C 06 00 01 01 00 00 00 00 04\nstart 8C 05 00 00 00 00 00 00 80 3F\ndrone b bytes 14 pieces 1\ndata E8 03 00 00 E8 03 00 00 00 70 17 00 00 00\nwrite 4E 02 00 00 00 00 E8 03 00 00 E8 03 00 00 00 70 17 00 00 00\ndefine 8C 06 00 01 01 00 00 00 00 01\nstart 8C 05 00 00 00 00 00 00 80 3F\nend\n",
+        b"choreo 1\ndrone a 0 0 1000000 0\ndrone b 1000000 0 1000000 0\nfigure back p\ncue 2000\n\
+        p line 0 0 1000000 0\nend\nend\nrepeat 2\ncue 1000\na line 0 1000000 1000000 0\nend\n\
+        perform back none 0 0 0 0 a\nend\n",
+        b"plan 1\ndrone a bytes 31 pieces 4\ndata 00 00 00 00 E8 03 00 00 04 E8 03 E8 03 04 D0 07 00 00 04 E8 03 E8 \
+        03 04 D0 07 00 00 00 00 00\nwrite 4E 02 00 00 00 00 00 00 00 00 E8 03 00 00 04 E8 03 E8 03 04 D0 07 00 00 04 \
+        E8 03 E8 03 04\nwrite 4E 02 18 00 00 00 D0 07 00 00 00 00 00\ndefine 8C 06 00 01 01 00 00 00 00 04\n\
+        start 8C 05 00 00 00 00 00 00 80 3F\ndrone b bytes 14 pieces 1\n\
+        data E8 03 00 00 E8 03 00 00 00 70 17 00 00 00\nwrite 4E 02 00 00 00 00 E8 03 00 00 E8 03 00 00 00 70 17 00 \
+        00 00\ndefine 8C 06 00 01 01 00 00 00 00 01\nstart 8C 05 00 00 00 00 00 00 80 3F\nend\n",
     ),
 ];
 

@@ -42,7 +42,9 @@ fn nodes_of(alloc: Global, show: &[u8]) -> Option<u32> {
 
 // One drone steps aside and passes under the other.
 const ASIDE: &[u8] =
-    b"choreo 1\nellipsoid 120 300\ndrone a 0 0 1000000 0\ndrone b 1000000 0 1000000 0\ncue 3000\nb move 1000000 0 2000000 0\nend\ncue 3000\na move 1000000 0 1000000 0\nb move 0 0 2000000 0\nend\ncue 3000\nb move 0 0 1000000 0\nend\n";
+    b"choreo 1\nellipsoid 120 300\ndrone a 0 0 1000000 0\ndrone b 1000000 0 1000000 0\ncue 3000\n\
+    b move 1000000 0 2000000 0\nend\ncue 3000\na move 1000000 0 1000000 0\nb move 0 0 2000000 0\nend\ncue 3000\n\
+    b move 0 0 1000000 0\nend\n";
 
 const ALONE: &[u8] = b"choreo 1\ndrone a 0 0 1000000 0\ncue 1000\nend\n";
 
@@ -52,7 +54,8 @@ const STEEP: &[u8] =
 
 // Two drones that meet halfway.
 const ACROSS: &[u8] =
-    b"choreo 1\nellipsoid 120 300\ndrone a 0 0 1000000 0\ndrone b 1000000 0 1000000 0\ncue 3000\na move 1000000 0 1000000 0\nb move 0 0 1000000 0\nend\n";
+    b"choreo 1\nellipsoid 120 300\ndrone a 0 0 1000000 0\ndrone b 1000000 0 1000000 0\ncue 3000\n\
+    a move 1000000 0 1000000 0\nb move 0 0 1000000 0\nend\n";
 
 // Apart, but along none of the 98 directions.
 const NEAR: &[u8] =
@@ -60,7 +63,8 @@ const NEAR: &[u8] =
 
 // b meets c in the first cue, and a meets b in the second.
 const TWICE: &[u8] =
-    b"choreo 1\ndrone a 0 0 1000000 0\ndrone b 5000000 0 1000000 0\ndrone c 9000000 0 1000000 0\ncue 3000\nb move 9000000 0 1000000 0\nend\ncue 3000\nb move 0 0 1000000 0\nend\n";
+    b"choreo 1\ndrone a 0 0 1000000 0\ndrone b 5000000 0 1000000 0\ndrone c 9000000 0 1000000 0\ncue 3000\n\
+    b move 9000000 0 1000000 0\nend\ncue 3000\nb move 0 0 1000000 0\nend\n";
 
 #[test]
 fn drones_that_keep_apart(rt: HostRuntime) {

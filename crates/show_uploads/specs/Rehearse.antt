@@ -34,7 +34,8 @@ AllDecode drones id names = (d : ℕ) → d < length names → (t : Traj) × Dec
 
 -- What a rehearsal says that is done after these events: the text of what the drones of these names hold. Where nobody
 -- else alters a byte, all their memories decode; without read-back no schedule alters one (`ScheduleLaw`).
-pub record SaysHeld (events : List WorldEvent) (drones : ℕ → DroneState) (id : ℕ) (names : List (List ℕ)) (text : List ℕ) : Type 0 where
+pub record SaysHeld (events : List WorldEvent) (drones : ℕ → DroneState) (id : ℕ) (names : List (List ℕ))
+    (text : List ℕ) : Type 0 where
   pub held : IsRehearsalText drones id names text
   pub decoded : IsUnaltered events → AllDecode drones id names
 
@@ -42,25 +43,31 @@ pub record SaysHeld (events : List WorldEvent) (drones : ℕ → DroneState) (id
 abbrev pub RehearsalEnds : Progress → PlainShow → List WorldEvent → World → Outcome → Type 0
 RehearsalEnds Going s events w o = o ≡ refused refusal.Ended
 RehearsalEnds (GaveUp drone packet) s events w o = o ≡ refused (refusal.GaveUp (name_at (names_of s) drone) packet)
-RehearsalEnds (Refused drone packet status) s events w o = o ≡ refused (refusal.Refused (name_at (names_of s) drone) packet status)
-RehearsalEnds (Differs drone address wanted got) s events w o = o ≡ refused (refusal.Differs (name_at (names_of s) drone) address wanted got)
-RehearsalEnds Done s events w o = (o.status ≡ 0) × SaysHeld events w.drones s.settings.trajectory_id (words_of s) o.output
+RehearsalEnds (Refused drone packet status) s events w o =
+    o ≡ refused (refusal.Refused (name_at (names_of s) drone) packet status)
+RehearsalEnds (Differs drone address wanted got) s events w o =
+    o ≡ refused (refusal.Differs (name_at (names_of s) drone) address wanted got)
+RehearsalEnds Done s events w o = (o.status ≡ 0)
+    × SaysHeld events w.drones s.settings.trajectory_id (words_of s) o.output
 
 -- what the events of a schedule come to, over drones that are blank at the start
 abbrev pub Rehearses : PlainShow → Bool → Bool → List WorldEvent → Outcome → Type 0
 Rehearses s readback start events o =
-    RehearsalEnds (progress (session_of s readback start) (rehearsed (session_of s readback start) events).heard) s events
+    RehearsalEnds (progress (session_of s readback start) (rehearsed (session_of s readback start) events).heard) s
+    events
     (rehearsed (session_of s readback start) events) o
 
 -- a schedule's text gives its refusal, or what its events give
 abbrev pub ScheduleGives : Option Refusal → PlainShow → Bool → Bool → Cut → Outcome → Type 0
 ScheduleGives (Some r) s readback start cut o = o ≡ refused r
 ScheduleGives None s readback start cut o =
-    (events : List WorldEvent) × (schedule_of readback (words_of s) cut.second ≡ Ok events) × Rehearses s readback start events o
+    (events : List WorldEvent) × (schedule_of readback (words_of s) cut.second ≡ Ok events)
+    × Rehearses s readback start events o
 
 -- why a schedule's text is refused, if it is
 abbrev pub schedule_refusal : PlainShow → Bool → Cut → Option Refusal
-schedule_refusal s readback cut = second_refusal most_text (faulty_line (schedule_of readback (words_of s) cut.second)) cut
+schedule_refusal s readback cut =
+    second_refusal most_text (faulty_line (schedule_of readback (words_of s) cut.second)) cut
 
 -- what a schedule's text gives, with read-back (true) or without
 abbrev pub RehearseGives : PlainShow → Bool → Bool → Cut → Outcome → Type 0
@@ -71,7 +78,8 @@ RehearseGives s readback start cut o = ScheduleGives (schedule_refusal s readbac
 -- A schedule leads to the end of the upload, with read-back (true) or without.
 abbrev pub RehearseSucceeds : PlainShow → Bool → Bool → Cut → Type 0
 RehearseSucceeds s readback start cut =
-    (events : List WorldEvent) × (second_refusal most_text None cut ≡ None) × (schedule_of readback (words_of s) cut.second ≡ Ok events)
+    (events : List WorldEvent) × (second_refusal most_text None cut ≡ None)
+    × (schedule_of readback (words_of s) cut.second ≡ Ok events)
     × (progress (session_of s readback start) (rehearsed (session_of s readback start) events).heard ≡ Done)
 
 -- ---- the command
@@ -83,7 +91,8 @@ rehearse_known true start s cut = (o : Outcome) × RehearseGives s true start cu
 
 abbrev pub rehearse_verb : ℕ → Bool → Bool → Verb
 rehearse_verb depth start readback =
-    of_two (Some depth) most_text (λ s cut o. RehearseGives s readback start cut o) (rehearse_known readback start) (λ s cut. FliesApart s) (λ s cut. RehearseSucceeds s readback start cut)
+    of_two (Some depth) most_text (λ s cut o. RehearseGives s readback start cut o) (rehearse_known readback start)
+    (λ s cut. FliesApart s) (λ s cut. RehearseSucceeds s readback start cut)
     (λ input old new. FliesText (part_of input))
 
 -- the laws of the command

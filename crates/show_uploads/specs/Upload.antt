@@ -27,19 +27,24 @@ upload_ways depth = record { reads = true; has_second = true; by_frames = true; 
 abbrev pub UploadStops : Ways → Bool → Bool → Bool → List ℕ → List ℕ → Type 0
 UploadStops w start readback false taken output = output ≡ end_frame 6
 UploadStops w start readback true taken output =
-    (s : PlainShow) × StandsFor (part_of taken) s × (show_refusal w (cut_of taken) s ≡ None) × UploadFails (link_in s start readback) (rest_of taken) output
+    (s : PlainShow) × StandsFor (part_of taken) s × (show_refusal w (cut_of taken) s ≡ None)
+    × UploadFails (link_in s start readback) (rest_of taken) output
 
 -- No answer of `upload` waits for much further input, for a show that is accepted.
 abbrev pub UploadsPromptly : Ways → Bool → Bool → Run → Type 0
 UploadsPromptly w start readback r =
     (taken sent : List ℕ) → Carried r taken sent → has_whole_marker taken ≡ true →
-    (s : PlainShow) → StandsFor (part_of taken) s → show_refusal w (cut_of taken) s ≡ None → IsPrompt (link_in s start readback) (rest_of taken) sent
+    (s : PlainShow) → StandsFor (part_of taken) s → show_refusal w (cut_of taken) s ≡ None →
+    IsPrompt (link_in s start readback) (rest_of taken) sent
 
 -- What an upload reads of its input. Where the show is accepted, at most 4,096 bytes were taken of what stands after
 -- the frames with which the upload is over; else of what stands after the marker line.
-pub record UploadStopsReading (w : Ways) (start readback : Bool) (input : List ℕ) (left_after : Option (List ℕ)) : Type 0 where
-  pub accepted : (s : PlainShow) → StandsFor (part_of input) s → show_refusal w (cut_of input) s ≡ None → StopsAtEnd (link_in s start readback) (Some (rest_of input)) left_after
-  pub refused : ((s : PlainShow) → StandsFor (part_of input) s → show_refusal w (cut_of input) s ≡ None → ⊥) → TakesFewAfter (Some input) left_after
+pub record UploadStopsReading (w : Ways) (start readback : Bool) (input : List ℕ) (left_after : Option (List ℕ)) : Type
+    0 where
+  pub accepted : (s : PlainShow) → StandsFor (part_of input) s → show_refusal w (cut_of input) s ≡ None →
+      StopsAtEnd (link_in s start readback) (Some (rest_of input)) left_after
+  pub refused : ((s : PlainShow) → StandsFor (part_of input) s → show_refusal w (cut_of input) s ≡ None → ⊥) →
+      TakesFewAfter (Some input) left_after
 
 -- its frames lead to the end of the upload, and no more of them than are taken in one upload
 abbrev pub UploadSucceeds : Bool → Bool → PlainShow → Cut → Type 0
@@ -58,7 +63,8 @@ upload_verb depth start readback = record {
   stops = λ taken output. UploadStops (upload_ways depth) start readback (has_whole_marker taken) taken output;
   prompt = λ r. UploadsPromptly (upload_ways depth) start readback r;
   -- An upload reads no more once it is over, where its input is judged.
-  reading = λ r status. IsJudged status → IfSome r.left (λ input. UploadStopsReading (upload_ways depth) start readback input r.left_after);
+  reading = λ r status. IsJudged status →
+      IfSome r.left (λ input. UploadStopsReading (upload_ways depth) start readback input r.left_after);
   headline = λ input old new. FliesText (part_of input);
 }
 

@@ -152,7 +152,8 @@ pub fn rehearse<S: Source, K: Sink>(
     source: &mut S,
     sink: &mut K,
 ) -> u8
-    ensures { Does (rehearse_verb depth start readback) (during S.told K.written K.faults source.old source.new sink.old sink.new) result }
+    ensures { Does (rehearse_verb depth start readback)
+        (during S.told K.written K.faults source.old source.new sink.old sink.new) result }
 {
     rehearse_law();
     run_two(

@@ -47,7 +47,8 @@ fn make_host(
     readback: bool,
 ) -> Result<Host, AllocError>
     requires { IsValidFitted fitted.now }
-    ensures session { IfOk result (λ host. host.session ≡ session_for fitted.now.settings fitted.now.sent readback start) }
+    ensures session { IfOk result
+        (λ host. host.session ≡ session_for fitted.now.settings fitted.now.sent readback start) }
     ensures stands { IfOk result (λ host. HostStandsFor (view_of host) []) }
 {
     let session = session(alloc, fitted, readback, start)?;
@@ -62,7 +63,8 @@ fn make_ready(
     text: &Text,
 ) -> Result<Ready, AllocError>
     requires within { IsWithin most_text text.now }
-    ensures gives { (cut : Cut) → IsShowText text.now cut → IfOk result (ReadyGives (upload_ways depth) start readback cut) }
+    ensures gives { (cut : Cut) → IsShowText text.now cut
+        → IfOk result (ReadyGives (upload_ways depth) start readback cut) }
     ensures sound { IfOk result IsSoundReady }
 {
     let ways = Ways {
@@ -92,14 +94,23 @@ fn read_ready<S: Source>(
     requires sound { IsTrue parts.old.sound }
     requires lines { IsTrue parts.old.lines }
     requires at_end { IsTrue parts.old.ended → IsTrue (S.told source.old).ended }
-    ensures gives { (all : List ℕ) → MayGive parts.new.ended (S.told source.new) all → IfOk result (λ ready. IfSome (stream parts.old (to_come all (S.told source.old))) (λ comes. ReadyGives (upload_ways depth) start readback (cut_of comes) ready)) }
+    ensures gives { (all : List ℕ) → MayGive parts.new.ended (S.told source.new) all
+        → IfOk result (λ ready. IfSome (stream parts.old (to_come all (S.told source.old)))
+        (λ comes. ReadyGives (upload_ways depth) start readback (cut_of comes) ready)) }
     ensures sound { IfOk result IsSoundReady }
-    ensures goes_on { (all : List ℕ) → MayGive parts.new.ended (S.told source.new) all → IfOk result (λ ready. GoesOnReady ready parts.new (stream parts.old (to_come all (S.told source.old))) (stream parts.new (to_come all (S.told source.new)))) }
-    ensures few { (all : List ℕ) → MayGive parts.new.ended (S.told source.new) all → IfOk result (λ _. TakesFewAfter (stream parts.old (to_come all (S.told source.old))) (to_come all (S.told source.new))) }
-    ensures taken { (all : List ℕ) → MayGive parts.new.ended (S.told source.new) all → TakesOneText (to_come all (S.told source.old)) (to_come all (S.told source.new)) }
+    ensures goes_on { (all : List ℕ) → MayGive parts.new.ended (S.told source.new) all
+        → IfOk result (λ ready. GoesOnReady ready parts.new (stream parts.old (to_come all (S.told source.old)))
+        (stream parts.new (to_come all (S.told source.new)))) }
+    ensures few { (all : List ℕ) → MayGive parts.new.ended (S.told source.new) all
+        → IfOk result
+        (λ _. TakesFewAfter (stream parts.old (to_come all (S.told source.old))) (to_come all (S.told source.new))) }
+    ensures taken { (all : List ℕ) → MayGive parts.new.ended (S.told source.new) all
+        → TakesOneText (to_come all (S.told source.old)) (to_come all (S.told source.new)) }
     ensures most { length parts.new.waiting ≤ buffer_bytes }
     ensures failed { result ≡ Err Failure.Read → Rose (S.told source.old).faults (S.told source.new).faults }
-    ensures unmarked { result ≡ Err Failure.Read → (taken : List ℕ) × Took parts.old.waiting [] (S.told source.old) (S.told source.new) taken × (has_whole_marker taken ≡ false) }
+    ensures unmarked { result ≡ Err Failure.Read
+        → (taken : List ℕ) × Took parts.old.waiting [] (S.told source.old) (S.told source.new) taken
+        × (has_whole_marker taken ≡ false) }
     ensures went { Went parts.old.ended parts.new.ended (S.told source.old) (S.told source.new) }
 {
     match parts.text(alloc, source, MOST_TEXT) {
@@ -114,7 +125,8 @@ fn read_ready<S: Source>(
 
 // Writes the end frame with a refusal's status, and returns that status, or 7 where the sink failed.
 fn refuse_by_frame<K: Sink>(sink: &mut K, refusal: &Refusal) -> u8
-    ensures { Wrote (status_of refusal.now) (end_frame (status_of refusal.now)) (K.written sink.old) (K.written sink.new) (K.faults sink.old) (K.faults sink.new) result }
+    ensures { Wrote (status_of refusal.now) (end_frame (status_of refusal.now)) (K.written sink.old)
+        (K.written sink.new) (K.faults sink.old) (K.faults sink.new) result }
 {
     let status = refusal.status();
     finish(sink, &[END_BYTE, status], status)
@@ -130,10 +142,18 @@ fn carry<S: Source, K: Sink>(
     sink: &mut K,
 ) -> u8
     ensures gives { Gives (S.told source.old) (S.told source.new) }
-    ensures runs { (all : List ℕ) → IsInput (S.told source.new) all → Runs (upload_verb depth start readback) (run_on (during S.told K.written K.faults source.old source.new sink.old sink.new) all) result }
-    ensures few { (all : List ℕ) → IsInput (S.told source.new) all → TakesLittle (upload_verb depth start readback) (run_on (during S.told K.written K.faults source.old source.new sink.old sink.new) all) }
-    ensures stops { (all : List ℕ) → IsInput (S.told source.new) all → IsJudged result → IfSome (to_come all (S.told source.old)) (λ input. UploadStopsReading (upload_ways depth) start readback input (to_come all (S.told source.new))) }
-    ensures begun { (all : List ℕ) → IsInput (S.told source.new) all → HasBegun (K.written sink.old) (K.written sink.new) → IfSome (to_come all (S.told source.old)) (λ input. UploadsText (part_of input)) }
+    ensures runs { (all : List ℕ) → IsInput (S.told source.new) all
+        → Runs (upload_verb depth start readback)
+        (run_on (during S.told K.written K.faults source.old source.new sink.old sink.new) all) result }
+    ensures few { (all : List ℕ) → IsInput (S.told source.new) all
+        → TakesLittle (upload_verb depth start readback)
+        (run_on (during S.told K.written K.faults source.old source.new sink.old sink.new) all) }
+    ensures stops { (all : List ℕ) → IsInput (S.told source.new) all → IsJudged result
+        → IfSome (to_come all (S.told source.old))
+        (λ input. UploadStopsReading (upload_ways depth) start readback input (to_come all (S.told source.new))) }
+    ensures begun { (all : List ℕ) → IsInput (S.told source.new) all
+        → HasBegun (K.written sink.old) (K.written sink.new)
+        → IfSome (to_come all (S.told source.old)) (λ input. UploadsText (part_of input)) }
 {
     uploading_law();
     marker_law();
@@ -166,8 +186,10 @@ pub fn upload<S: Source, K: Sink>(
     source: &mut S,
     sink: &mut K,
 ) -> u8
-    ensures behaves { Does (upload_verb depth start readback) (during S.told K.written K.faults source.old source.new sink.old sink.new) result }
-    ensures begun { (given : List ℕ) → (S.told source.new).given ≡ (S.told source.old).given ++ given → HasBegun (K.written sink.old) (K.written sink.new) → UploadsText (part_of given) }
+    ensures behaves { Does (upload_verb depth start readback)
+        (during S.told K.written K.faults source.old source.new sink.old sink.new) result }
+    ensures begun { (given : List ℕ) → (S.told source.new).given ≡ (S.told source.old).given ++ given
+        → HasBegun (K.written sink.old) (K.written sink.new) → UploadsText (part_of given) }
 {
     show_law();
     uploading_law();

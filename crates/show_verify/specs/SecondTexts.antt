@@ -39,7 +39,8 @@ pub record IsFed (all : List ℕ) (at_line : Bool) (now : Option (List ℕ)) (fe
   pub after : rest_left at_line rest ≡ rest_of all
 
 -- A checker has read n bytes of the part, and the next line has this number.
-pub record Feeds (curves : Raised) (coming : Option (List ℕ)) (n : ℕ) (c : Seen) (at_line : Bool) (now : Option (List ℕ)) (number : ℕ) : Type 0 where
+pub record Feeds (curves : Raised) (coming : Option (List ℕ)) (n : ℕ) (c : Seen) (at_line : Bool)
+    (now : Option (List ℕ)) (number : ℕ) : Type 0 where
   pub fed : List ℕ
   pub count : length fed ≡ n
   pub has_read : HasRead c curves fed
@@ -63,7 +64,8 @@ pub record Skips (coming : Option (List ℕ)) (n : ℕ) (at_line : Bool) (now : 
 -- line, and where no marker line ends it, it was taken to the end of the input
 abbrev pub IsTakenWhole : Option (List ℕ) → Option (List ℕ) → Type 0
 IsTakenWhole coming left =
-    IfSome coming (λ all. length (part_of all) ≤ certificate_limit → (has_marker (between_feeds all) ≡ false → IsAtEnd left) × TakesFewAfter (Some all) left)
+    IfSome coming (λ all. length (part_of all)
+    ≤ certificate_limit → (has_marker (between_feeds all) ≡ false → IsAtEnd left) × TakesFewAfter (Some all) left)
 
 -- a part that no marker line ends was taken to the end of the input
 abbrev pub IsTakenToEnd : Option (List ℕ) → Taken → Type 0
@@ -84,10 +86,12 @@ unless_marked (Some number) o = refused (refusal.SecondLine number)
 abbrev pub verdict_outcome : List Name → Option ℕ → Verdict → Outcome
 verdict_outcome names marker (verdict.Line line) = refused (refusal.SecondLine line)
 verdict_outcome names marker (verdict.Valid depth trees) = unless_marked marker (outcome 0 (valid_line depth trees))
-verdict_outcome names marker (verdict.Refused version fault) = unless_marked marker (refused (not_valid names version fault))
+verdict_outcome names marker (verdict.Refused version fault) =
+    unless_marked marker (refused (not_valid names version fault))
 
 -- what is given for a show that fits, where these bytes are to come after its marker line
 abbrev pub GivesSecond : Fitted → List ℕ → Outcome → Type 0
 GivesSecond f all o =
-    (s : PlainShow) (cut : Cut) → IsFitted f s → cut.second ≡ part_of all → cut.is_second_marked ≡ has_marker (between_feeds all) →
+    (s : PlainShow) (cut : Cut) → IsFitted f s → cut.second ≡ part_of all →
+    cut.is_second_marked ≡ has_marker (between_feeds all) →
     CertificateGives (second_refusal certificate_limit (bad_line (lines cut.second)) cut) s cut o

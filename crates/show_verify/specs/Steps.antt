@@ -10,4 +10,5 @@ abbrev pub IsFaultAmong : ℕ → ℕ → CertFault → Type 0
 IsFaultAmong drones version (cert.Missing a b cue) = (a < drones) × (b < drones)
 IsFaultAmong drones version (cert.Extra tree) = tree < 2 ^ 31
 IsFaultAmong drones version (cert.TooDeep a b cue) = (a < drones) × (b < drones)
-IsFaultAmong drones version (cert.Fails a b cue place dir control) = (a < drones) × (b < drones) × (dir < known_in version)
+IsFaultAmong drones version (cert.Fails a b cue place dir control) = (a < drones) × (b < drones)
+    × (dir < known_in version)

@@ -35,7 +35,8 @@ abbrev pub not_valid : List Name → ℕ → CertFault → Refusal
 not_valid names version (cert.Missing a b cue) = refusal.Missing (pair_at names a b cue)
 not_valid names version (cert.Extra tree) = refusal.Extra version tree
 not_valid names version (cert.TooDeep a b cue) = refusal.TooDeep (pair_at names a b cue)
-not_valid names version (cert.Fails a b cue place dir control) = refusal.Fails (pair_at names a b cue) place version dir control
+not_valid names version (cert.Fails a b cue place dir control) =
+    refusal.Fails (pair_at names a b cue) place version dir control
 
 -- what a certificate gives that has this first fault, or none
 abbrev pub judged : List Name → Certificate → Option CertFault → Outcome
@@ -44,7 +45,9 @@ judged names c (Some fault) = refused (not_valid names c.version fault)
 
 -- what a certificate gives for the trajectories of a show
 abbrev pub judged_for : PlainShow → Certificate → Outcome
-judged_for s c = judged (names_of s) c (fault_of (table_of c.version) (raised_of (trajectories_of s)) (clearance_of s.settings (trajectories_of s)) c)
+judged_for s c =
+    judged (names_of s) c
+    (fault_of (table_of c.version) (raised_of (trajectories_of s)) (clearance_of s.settings (trajectories_of s)) c)
 
 -- a certificate's text gives its refusal, or what the certificate gives that it says
 abbrev pub CertificateGives : Option Refusal → PlainShow → Cut → Outcome → Type 0
@@ -62,7 +65,8 @@ VerifySucceeds s cut =
 
 abbrev pub verify_verb : Verb
 verify_verb =
-    of_two None certificate_limit (λ s cut o. VerifyGives s cut o) (λ s cut. Unit {0}) (λ s cut. FliesApart s) (λ s cut. VerifySucceeds s cut)
+    of_two None certificate_limit (λ s cut o. VerifyGives s cut o) (λ s cut. Unit {0}) (λ s cut. FliesApart s)
+    (λ s cut. VerifySucceeds s cut)
     (λ input old new. FliesText (part_of input))
 
 -- the laws of the command

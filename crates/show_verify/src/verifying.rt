@@ -16,7 +16,8 @@ ghost use Rattle.show_judge.specs.Runs.{Does};
 ghost use Rattle.show_judge.specs.Shows.{feeds};
 ghost use Rattle.show_judge.specs.Verb.{during};
 ghost use Rattle.show_verify.specs.Verify.{VerifyLaw, certificate_limit, verify_verb};
-ghost use Rattle.show_verify.specs.SecondTexts.{GivesSecond, IsFewTaken, IsTakenToEnd, IsTakenWhole, TakenGives, verdict_outcome};
+ghost use Rattle.show_verify.specs.SecondTexts.{GivesSecond, IsFewTaken, IsTakenToEnd, IsTakenWhole, TakenGives};
+ghost use Rattle.show_verify.specs.SecondTexts.{verdict_outcome};
 ghost use Rattle.show_judge.specs.TextsRead.{TwoTextsRead};
 
 use crate::faults::not_valid;
@@ -111,10 +112,14 @@ fn take_second<S: Source>(
     requires at_line { IsTrue parts.old.at_line }
     requires at_end { IsTrue parts.old.ended → IsTrue (S.told source.old).ended }
     requires unfed { HasRead checker.old curves.now [] }
-    ensures gives { (all : List ℕ) → MayGive parts.new.ended (S.told source.new) all → IfOk result (TakenGives curves.now (stream parts.old (to_come all (S.told source.old))) checker.new) }
+    ensures gives { (all : List ℕ) → MayGive parts.new.ended (S.told source.new) all
+        → IfOk result (TakenGives curves.now (stream parts.old (to_come all (S.told source.old))) checker.new) }
     ensures clearance { checker.new.clearance ≡ checker.old.clearance }
-    ensures whole { (all : List ℕ) → MayGive parts.new.ended (S.told source.new) all → IfOk result (IsTakenToEnd (to_come all (S.told source.new))) }
-    ensures few { (all : List ℕ) → MayGive parts.new.ended (S.told source.new) all → IfOk result (IsFewTaken (stream parts.old (to_come all (S.told source.old))) (to_come all (S.told source.new))) }
+    ensures whole { (all : List ℕ) → MayGive parts.new.ended (S.told source.new) all
+        → IfOk result (IsTakenToEnd (to_come all (S.told source.new))) }
+    ensures few { (all : List ℕ) → MayGive parts.new.ended (S.told source.new) all
+        → IfOk result
+        (IsFewTaken (stream parts.old (to_come all (S.told source.old))) (to_come all (S.told source.new))) }
     ensures failed { OnErr result (Rose (S.told source.old).faults (S.told source.new).faults) }
     ensures went { Went parts.old.ended parts.new.ended (S.told source.old) (S.told source.new) }
 {
@@ -152,10 +157,15 @@ fn judge_second<S: Source>(
     requires lines { IsTrue parts.old.lines }
     requires at_line { IsTrue parts.old.at_line }
     requires at_end { IsTrue parts.old.ended → IsTrue (S.told source.old).ended }
-    ensures gives { (all : List ℕ) → MayGive parts.new.ended (S.told source.new) all → IfSome (stream parts.old (to_come all (S.told source.old))) (λ comes. IfOk result (λ a. GivesSecond fitted.now comes (outcome_of a))) }
+    ensures gives { (all : List ℕ) → MayGive parts.new.ended (S.told source.new) all
+        → IfSome (stream parts.old (to_come all (S.told source.old)))
+        (λ comes. IfOk result (λ a. GivesSecond fitted.now comes (outcome_of a))) }
     ensures apart { IfOk result (λ a. (outcome_of a).status ≡ 0 → FlyApart fitted.now.settings fitted.now.sent) }
-    ensures whole { (all : List ℕ) → MayGive parts.new.ended (S.told source.new) all → IfOk result (λ a. (outcome_of a).status ≡ 0 → IsAtEnd (to_come all (S.told source.new))) }
-    ensures both { (all : List ℕ) → MayGive parts.new.ended (S.told source.new) all → IfOk result (λ _. IsTakenWhole (stream parts.old (to_come all (S.told source.old))) (to_come all (S.told source.new))) }
+    ensures whole { (all : List ℕ) → MayGive parts.new.ended (S.told source.new) all
+        → IfOk result (λ a. (outcome_of a).status ≡ 0 → IsAtEnd (to_come all (S.told source.new))) }
+    ensures both { (all : List ℕ) → MayGive parts.new.ended (S.told source.new) all
+        → IfOk result
+        (λ _. IsTakenWhole (stream parts.old (to_come all (S.told source.old))) (to_come all (S.told source.new))) }
     ensures said { IfOk result IsSaid }
     ensures failed { result ≡ Err Failure.Read → Rose (S.told source.old).faults (S.told source.new).faults }
     ensures went { Went parts.old.ended parts.new.ended (S.told source.old) (S.told source.new) }
@@ -183,7 +193,9 @@ fn skip_second<S: Source>(parts: &mut Parts, source: &mut S) -> Result<(), Faile
     requires lines { IsTrue parts.old.lines }
     requires at_line { IsTrue parts.old.at_line }
     requires at_end { IsTrue parts.old.ended → IsTrue (S.told source.old).ended }
-    ensures whole { (all : List ℕ) → MayGive parts.new.ended (S.told source.new) all → IfOk result (λ _. IsTakenWhole (stream parts.old (to_come all (S.told source.old))) (to_come all (S.told source.new))) }
+    ensures whole { (all : List ℕ) → MayGive parts.new.ended (S.told source.new) all
+        → IfOk result
+        (λ _. IsTakenWhole (stream parts.old (to_come all (S.told source.old))) (to_come all (S.told source.new))) }
     ensures failed { OnErr result (Rose (S.told source.old).faults (S.told source.new).faults) }
     ensures went { Went parts.old.ended parts.new.ended (S.told source.old) (S.told source.new) }
 {
@@ -215,7 +227,9 @@ fn refuse_show<S: Source>(
     requires at_line { IsWholeText show.now → IsTrue parts.old.at_line }
     requires at_end { IsTrue parts.old.ended → IsTrue (S.told source.old).ended }
     ensures refusal { IfOk result (λ a. a ≡ Answer.Refused refusal) }
-    ensures both { (all : List ℕ) → MayGive parts.new.ended (S.told source.new) all → IsWholeText show.now → IfOk result (λ _. IsTakenWhole (stream parts.old (to_come all (S.told source.old))) (to_come all (S.told source.new))) }
+    ensures both { (all : List ℕ) → MayGive parts.new.ended (S.told source.new) all → IsWholeText show.now
+        → IfOk result
+        (λ _. IsTakenWhole (stream parts.old (to_come all (S.told source.old))) (to_come all (S.told source.new))) }
     ensures stays { (IsWholeText show.now → ⊥) → S.told source.new ≡ S.told source.old }
     ensures failed { result ≡ Err Failure.Read → Rose (S.told source.old).faults (S.told source.new).faults }
     ensures went { Went parts.old.ended parts.new.ended (S.told source.old) (S.told source.new) }
@@ -231,7 +245,9 @@ fn refuse_show<S: Source>(
 
 // What `verify` ends with for what its source gives. A failed read comes before what is wrong with the show.
 fn answer_input<S: Source>(alloc: Global, source: &mut S) -> Result<Answer, Failure>
-    ensures reads { TwoTextsRead (λ left left_after. AnswersInput verify_verb left left_after result) (λ _ left left_after. IsReadBoth certificate_limit left left_after) (S.told source.old) (S.told source.new) result }
+    ensures reads { TwoTextsRead (λ left left_after. AnswersInput verify_verb left left_after result)
+        (λ _ left left_after. IsReadBoth certificate_limit left left_after) (S.told source.old) (S.told source.new)
+        result }
     ensures said { IfOk result IsSaid }
 {
     let mut parts = Parts::make();

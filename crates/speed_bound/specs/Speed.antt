@@ -1,6 +1,7 @@
 -- How fast a trajectory is at most: a number for each axis, computed from the control values of its parts, and what the
 -- number promises of the decoded positions.
-use Rattle.std.specs.Prelude.{ℕ, zero, suc, ◌*◌, ◌^◌, ◌≤◌, max, ℤ, pos, ◌-ℤ◌, ◌*ℤ◌, ◌≤ℤ◌, unsigned_abs, length, sum, slice_index_or}
+use Rattle.std.specs.Prelude.{ℕ, zero, suc, ◌*◌, ◌^◌, ◌≤◌, max, ℤ, pos, ◌-ℤ◌, ◌*ℤ◌, ◌≤ℤ◌, unsigned_abs, length, sum}
+use Rattle.std.specs.Prelude.{slice_index_or}
 use Rattle.std.specs.Int.{div_ceil}
 use Rattle.fleet_math.specs.Sums.{power}
 use Rattle.fleet_math.specs.Bernstein.{at}

@@ -9,7 +9,8 @@ use std::alloc::AllocError;
 /// Adds the line of a drone to a text: its name, and its bounds on x, y and z as [`bound`](crate::bound) gives them, in
 /// micrometres per second (docs/COMMANDS.md, `speed`).
 pub fn put_speeds(text: &mut Lines, name: &[u8], x: i64, y: i64, z: i64) -> Result<(), AllocError>
-    ensures { (a b c : ℕ) → x ≡ pos a → y ≡ pos b → z ≡ pos c → OnOk result (text.new ≡ text.old ++ speed_line name.now a b c) }
+    ensures { (a b c : ℕ) → x ≡ pos a → y ≡ pos b → z ≡ pos c
+        → OnOk result (text.new ≡ text.old ++ speed_line name.now a b c) }
 {
     text.line(
         b"speed ? ? ? ?",

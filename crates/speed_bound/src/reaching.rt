@@ -16,7 +16,8 @@ const FARTHEST: u64 = 65_536;
 pub fn reach(trajs: &[Traj], late: u16, depth: Depth) -> [u32; 3]
     requires moving { All IsMoving trajs.now }
     requires late { late ≤ 1000 }
-    ensures exact { result ≡ reach_of depth late trajs.now 0 ∷ reach_of depth late trajs.now 1 ∷ reach_of depth late trajs.now 2 ∷ [] }
+    ensures exact { result ≡ reach_of depth late trajs.now 0 ∷ reach_of depth late trajs.now 1
+        ∷ reach_of depth late trajs.now 2 ∷ [] }
 {
     if late == 0 {
         return [0, 0, 0];

@@ -1,6 +1,7 @@
 //! The bounds of a trajectory.
 
-ghost use Rattle.std.specs.Prelude.{◌≡◌, ℕ, ◌+◌, ◌*◌, ◌/◌, ◌^◌, ◌≤◌, ◌<◌, ◌∷◌, [], max, ℤ, pos, ◌≤ℤ◌, All, length, slice_index_or};
+ghost use Rattle.std.specs.Prelude.{◌≡◌, ℕ, ◌+◌, ◌*◌, ◌/◌, ◌^◌, ◌≤◌, ◌<◌, ◌∷◌, [], max, ℤ, pos, ◌≤ℤ◌, All, length};
+ghost use Rattle.std.specs.Prelude.{slice_index_or};
 ghost use Rattle.fleet_math.specs.Numbers.{IsBelow};
 ghost use Rattle.fleet_math.specs.Bernstein.{at};
 ghost use Rattle.fleet_math.specs.Limits.{most_depth};
@@ -38,7 +39,8 @@ pub fn bound(t: &Traj, depth: Depth) -> [i64; 3]
 pub fn faster(t: &Traj, depth: Depth, least: [u64; 3]) -> [u64; 3]
     requires durations { All HasDuration t.now.segments }
     requires least { (axis : ℕ) → axis ≤ 2 → slice_index_or least axis 0 < 2 ^ 50 }
-    ensures exact { result ≡ max (slice_index_or least 0 0) (speed depth t.now 0) ∷ max (slice_index_or least 1 0) (speed depth t.now 1)
+    ensures exact { result ≡ max (slice_index_or least 0 0) (speed depth t.now 0)
+        ∷ max (slice_index_or least 1 0) (speed depth t.now 1)
         ∷ max (slice_index_or least 2 0) (speed depth t.now 2) ∷ [] }
     ensures formed { All IsFormed t.now.segments }
     ensures small { (axis : ℕ) → axis ≤ 2 → slice_index_or result axis 0 < 2 ^ 50 }

@@ -6,7 +6,8 @@ use Rattle.std.specs.List.{slice_split}
 abbrev pub is_line_feed : ℕ → Bool
 is_line_feed b = b == 10
 
--- the pieces between the line feeds of a text: one more than it has line feeds, the last one empty where it ends with one
+-- the pieces between the line feeds of a text: one more than it has line feeds, the last one empty where it ends with
+-- one
 abbrev pub between_feeds : List ℕ → List (List ℕ)
 between_feeds text = slice_split is_line_feed text
 

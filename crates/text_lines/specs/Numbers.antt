@@ -1,5 +1,6 @@
 -- Decimal numbers.
-use Rattle.std.specs.Prelude.{ℕ, ◌+◌, ◌-◌, ◌*◌, Bool, true, false, ◌&&◌, List, [], ◌∷◌, drop, ◌==◌, nat_le, Option, Some, None, option_map, Result, Ok, Err, ℤ, pos, neg_ℤ, ◌≤ℤ◌, int_le, if◌then◌else◌, ◌≡◌}
+use Rattle.std.specs.Prelude.{ℕ, ◌+◌, ◌-◌, ◌*◌, Bool, true, false, ◌&&◌, List, [], ◌∷◌, drop, ◌==◌, nat_le, Option}
+use Rattle.std.specs.Prelude.{Some, None, option_map, Result, Ok, Err, ℤ, pos, neg_ℤ, ◌≤ℤ◌, int_le, if◌then◌else◌, ◌≡◌}
 use Rattle.text_lines.specs.declared.number.NumberFault.{NumberFault}
 use Rattle.text_lines.specs.declared.number.NumberFault.TheVariants.{NotANumber, OutOfRange}
 

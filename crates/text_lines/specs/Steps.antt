@@ -9,12 +9,14 @@ use Rattle.text_lines.specs.declared.token.Token.{Token}
 -- whether the four bytes from a place on are decimal digits
 abbrev pub are_digits_at : List ℕ → ℕ → Bool
 are_digits_at word k =
-    is_digit (slice_index word k) && (is_digit (slice_index word (k + 1)) && (is_digit (slice_index word (k + 2)) && is_digit (slice_index word (k + 3))))
+    is_digit (slice_index word k) && (is_digit (slice_index word (k + 1))
+    && (is_digit (slice_index word (k + 2)) && is_digit (slice_index word (k + 3))))
 
 -- the number that the four digits from a place on spell
 abbrev pub number_at : List ℕ → ℕ → ℕ
 number_at word k =
-    1000 * (slice_index word k - 48) + 100 * (slice_index word (k + 1) - 48) + 10 * (slice_index word (k + 2) - 48) + (slice_index word (k + 3) - 48)
+    1000 * (slice_index word k - 48) + 100 * (slice_index word (k + 1) - 48) + 10 * (slice_index word (k + 2) - 48)
+    + (slice_index word (k + 3) - 48)
 
 -- no byte from a place up to another is blank
 abbrev pub NoBlank : List ℕ → ℕ → ℕ → Type 0
@@ -25,8 +27,8 @@ abbrev pub IsPut : ℕ → ℕ → List ℕ → ℕ → ℕ → List Token → L
 IsPut line at bytes start next old new =
     new ++ line_tokens line (at + next) (drop next bytes) ≡ old ++ line_tokens line (at + start) (drop start bytes)
 
--- Of sixteen bytes from a place on, those from where a word begins: bit k is set where byte k is blank, and no bit stands
--- for a byte before the word or after the sixteen.
+-- Of sixteen bytes from a place on, those from where a word begins: bit k is set where byte k is blank, and no bit
+-- stands for a byte before the word or after the sixteen.
 pub record Marks (bytes : List ℕ) (base start marks : ℕ) : Type 0 where
   pub each : (k : ℕ) → k < 16 → start ≤ base + k → is_blank (slice_index bytes (base + k)) ≡ true → bit_at marks k ≡ 1
   pub within : (k : ℕ) → bit_at marks k ≡ 1 → (k < 16) × (start ≤ base + k)

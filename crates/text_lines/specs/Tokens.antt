@@ -1,5 +1,6 @@
 -- The words of a text as places in it.
-use Rattle.std.specs.Prelude.{ℕ, zero, suc, ◌+◌, ◌&&◌, List, [], ◌∷◌, ◌++◌, map, length, get_or, ◌==◌, nat_le, slice_range, if◌then◌else◌}
+use Rattle.std.specs.Prelude.{ℕ, zero, suc, ◌+◌, ◌&&◌, List, [], ◌∷◌, ◌++◌, map, length, get_or, ◌==◌, nat_le}
+use Rattle.std.specs.Prelude.{slice_range, if◌then◌else◌}
 use Rattle.std.specs.List.{slice_split}
 use Rattle.text_lines.specs.declared.token.Comments.{Comments}
 use Rattle.text_lines.specs.declared.token.Token.{Token}

@@ -1,8 +1,11 @@
 //! Decimal numbers.
 
-ghost use Rattle.std.specs.Prelude.{◌≡◌, ℕ, ◌+◌, ◌-◌, ◌*◌, true, ◌≤◌, ◌≤ℤ◌, ◌<ℤ◌, pos, neg_ℤ, min, drop, option_map, Option, Some, None, IsTrue, IfOk, IfSome, ◌<◌, length, if◌then◌else◌};
+ghost use Rattle.std.specs.Prelude.{◌≡◌, ℕ, ◌+◌, ◌-◌, ◌*◌, true, ◌≤◌, ◌≤ℤ◌, ◌<ℤ◌, pos, neg_ℤ, min, drop, option_map};
+ghost use Rattle.std.specs.Prelude.{Option, Some, None, IsTrue, IfOk, IfSome, ◌<◌, length, if◌then◌else◌};
 ghost use Rattle.text_lines.specs.Steps.{are_digits_at, number_at};
-ghost use Rattle.text_lines.specs.Numbers.{is_digit as is_digit_of, digits_after, natural_of, signed, begins_with_minus as begins_with_minus_of, in_range as in_range_of, number_in as number_in_of};
+ghost use Rattle.text_lines.specs.Numbers.{is_digit as is_digit_of, digits_after, natural_of, signed};
+ghost use Rattle.text_lines.specs.Numbers.{begins_with_minus as begins_with_minus_of, in_range as in_range_of};
+ghost use Rattle.text_lines.specs.Numbers.{number_in as number_in_of};
 
 /// Why a word isn't a number that is wanted.
 #[derive(Clone, Copy, Debug, PartialEq, Eq)]
@@ -120,8 +123,8 @@ fn long_natural(word: &[u8]) -> Option<u64>
     Some(n)
 }
 
-/// The number that a word of decimal digits spells, or [`LARGE`] where it is greater. There may be any number of digits,
-/// at least one; leading zeros are allowed.
+/// The number that a word of decimal digits spells, or [`LARGE`] where it is greater. There may be any number of
+/// digits, at least one; leading zeros are allowed.
 #[inline(always)]
 pub fn natural(word: &[u8]) -> Option<u64>
     ensures { result ≡ option_map (λ n. min n LARGE) (natural_of word.now) }

@@ -135,8 +135,8 @@ pub fn tokens(alloc: Global, text: &[u8], comments: Comments) -> Result<Vec<Toke
     Ok(tokens)
 }
 
-/// The words of a line on its own, in place of those that the list had. Its room is kept, so that a reader that goes from
-/// line to line takes memory once.
+/// The words of a line on its own, in place of those that the list had. Its room is kept, so that a reader that goes
+/// from line to line takes memory once.
 #[tactic(auto, using(crate::proofs::Alone::alone_tokens))]
 pub fn put_line(tokens: &mut Vec<Token>, line: &[u8], comments: Comments) -> Result<(), AllocError>
     requires short { length line.now < 2 ^ 31 }

@@ -1,4 +1,5 @@
-//! Shows by their texts: how many cues they have, or what is wrong with their names and cues; and where frames put a point.
+//! Shows by their texts: how many cues they have, or what is wrong with their names and cues; and where frames put a
+//! point.
 
 ghost use Rattle.std.specs.Prelude.{◌≡◌};
 
@@ -67,7 +68,9 @@ const FAULTY_LINES: [(&[u8], Outcome); 8] = [
     ),
     // a ninth repeat
     (
-        b"choreo 1\ndrone solo 0 0 1000000 0\nrepeat 1000000000\nrepeat 1000000000\nrepeat 1000000000\nrepeat 1000000000\nrepeat 1000000000\nrepeat 1000000000\nrepeat 1000000000\nrepeat 1000000000\nrepeat 1000000000\ncue 1000\nend\nend\nend\nend\nend\nend\nend\nend\nend\nend\n",
+        b"choreo 1\ndrone solo 0 0 1000000 0\nrepeat 1000000000\nrepeat 1000000000\nrepeat 1000000000\n\
+        repeat 1000000000\nrepeat 1000000000\nrepeat 1000000000\nrepeat 1000000000\nrepeat 1000000000\n\
+        repeat 1000000000\ncue 1000\nend\nend\nend\nend\nend\nend\nend\nend\nend\nend\n",
         Outcome::Line(11, LineKind::Nesting),
     ),
 ];
@@ -88,7 +91,12 @@ const FAULTS_OF_NAMES: [(&[u8], Outcome); 19] = [
     ),
     // a 33rd drone comes before a name that stands twice
     (
-        b"choreo 1\ndrone a 0 0 0 0\ndrone a 0 0 0 0\ndrone a 0 0 0 0\ndrone a 0 0 0 0\ndrone a 0 0 0 0\ndrone a 0 0 0 0\ndrone a 0 0 0 0\ndrone a 0 0 0 0\ndrone a 0 0 0 0\ndrone a 0 0 0 0\ndrone a 0 0 0 0\ndrone a 0 0 0 0\ndrone a 0 0 0 0\ndrone a 0 0 0 0\ndrone a 0 0 0 0\ndrone a 0 0 0 0\ndrone a 0 0 0 0\ndrone a 0 0 0 0\ndrone a 0 0 0 0\ndrone a 0 0 0 0\ndrone a 0 0 0 0\ndrone a 0 0 0 0\ndrone a 0 0 0 0\ndrone a 0 0 0 0\ndrone a 0 0 0 0\ndrone a 0 0 0 0\ndrone a 0 0 0 0\ndrone a 0 0 0 0\ndrone a 0 0 0 0\ndrone a 0 0 0 0\ndrone a 0 0 0 0\ndrone a 0 0 0 0\ndrone a 0 0 0 0\n",
+        b"choreo 1\ndrone a 0 0 0 0\ndrone a 0 0 0 0\ndrone a 0 0 0 0\ndrone a 0 0 0 0\ndrone a 0 0 0 0\n\
+        drone a 0 0 0 0\ndrone a 0 0 0 0\ndrone a 0 0 0 0\ndrone a 0 0 0 0\ndrone a 0 0 0 0\ndrone a 0 0 0 0\n\
+        drone a 0 0 0 0\ndrone a 0 0 0 0\ndrone a 0 0 0 0\ndrone a 0 0 0 0\ndrone a 0 0 0 0\ndrone a 0 0 0 0\n\
+        drone a 0 0 0 0\ndrone a 0 0 0 0\ndrone a 0 0 0 0\ndrone a 0 0 0 0\ndrone a 0 0 0 0\ndrone a 0 0 0 0\n\
+        drone a 0 0 0 0\ndrone a 0 0 0 0\ndrone a 0 0 0 0\ndrone a 0 0 0 0\ndrone a 0 0 0 0\ndrone a 0 0 0 0\n\
+        drone a 0 0 0 0\ndrone a 0 0 0 0\ndrone a 0 0 0 0\ndrone a 0 0 0 0\n",
         Outcome::Fault(GridFault::TooManyDrones { line: 34 }),
     ),
     // a drone twice
@@ -98,7 +106,8 @@ const FAULTS_OF_NAMES: [(&[u8], Outcome); 19] = [
     ),
     // an act twice
     (
-        b"choreo 1\ndrone solo 0 0 1000000 0\ncue 2000\nsolo move 1000000 0 1000000 0\nsolo move 1000000 0 1000000 0\nend\n",
+        b"choreo 1\ndrone solo 0 0 1000000 0\ncue 2000\nsolo move 1000000 0 1000000 0\nsolo move 1000000 0 1000000 0\n\
+        end\n",
         Outcome::Fault(GridFault::DoubleAct { line: 5 }),
     ),
     // an act of nobody
@@ -108,17 +117,20 @@ const FAULTS_OF_NAMES: [(&[u8], Outcome); 19] = [
     ),
     // a figure for nobody
     (
-        b"choreo 1\ndrone solo 0 0 1000000 0\nfigure go p\ncue 1000\np line 1000000 0 1000000 0\nend\nend\nperform go y 1 0 0 500000 other\n",
+        b"choreo 1\ndrone solo 0 0 1000000 0\nfigure go p\ncue 1000\np line 1000000 0 1000000 0\nend\nend\n\
+        perform go y 1 0 0 500000 other\n",
         Outcome::Fault(GridFault::UnknownName { line: 8 }),
     ),
     // a figure for too many
     (
-        b"choreo 1\ndrone solo 0 0 1000000 0\nfigure go p\ncue 1000\np line 1000000 0 1000000 0\nend\nend\nperform go y 1 0 0 500000 solo solo\n",
+        b"choreo 1\ndrone solo 0 0 1000000 0\nfigure go p\ncue 1000\np line 1000000 0 1000000 0\nend\nend\n\
+        perform go y 1 0 0 500000 solo solo\n",
         Outcome::Fault(GridFault::RoleCount { line: 8 }),
     ),
     // no such figure
     (
-        b"choreo 1\ndrone solo 0 0 1000000 0\nfigure go p\ncue 1000\np line 1000000 0 1000000 0\nend\nend\nperform come y 1 0 0 500000 solo\n",
+        b"choreo 1\ndrone solo 0 0 1000000 0\nfigure go p\ncue 1000\np line 1000000 0 1000000 0\nend\nend\n\
+        perform come y 1 0 0 500000 solo\n",
         Outcome::Fault(GridFault::UnknownName { line: 8 }),
     ),
     // two roles of one name
@@ -133,7 +145,8 @@ const FAULTS_OF_NAMES: [(&[u8], Outcome); 19] = [
     ),
     // a figure twice
     (
-        b"choreo 1\ndrone solo 0 0 1000000 0\nfigure go p\ncue 1000\np line 1000000 0 1000000 0\nend\nend\nfigure go p\ncue 1000\np line 1000000 0 1000000 0\nend\nend\n",
+        b"choreo 1\ndrone solo 0 0 1000000 0\nfigure go p\ncue 1000\np line 1000000 0 1000000 0\nend\nend\n\
+        figure go p\ncue 1000\np line 1000000 0 1000000 0\nend\nend\n",
         Outcome::Fault(GridFault::DoubleName { line: 8 }),
     ),
     // a formation twice
@@ -158,12 +171,14 @@ const FAULTS_OF_NAMES: [(&[u8], Outcome); 19] = [
     ),
     // two formations place a name that is no drone's
     (
-        b"choreo 1\ndrone a 0 0 0 0\ncue 1\nform f line\nform g line\nend\nformation f\nat z 0 0 0 0\nend\nformation g\nat z 0 0 0 0\nend\n",
+        b"choreo 1\ndrone a 0 0 0 0\ncue 1\nform f line\nform g line\nend\nformation f\nat z 0 0 0 0\nend\n\
+        formation g\nat z 0 0 0 0\nend\n",
         Outcome::Fault(GridFault::DoubleAct { line: 5 }),
     ),
     // a form after an act
     (
-        b"choreo 1\ndrone a 0 0 0 0\ndrone b 0 0 0 0\ncue 1\nb hold\nform f line\nend\nformation f\nat a 0 0 0 0\nat b 0 0 0 0\nend\n",
+        b"choreo 1\ndrone a 0 0 0 0\ndrone b 0 0 0 0\ncue 1\nb hold\nform f line\nend\nformation f\nat a 0 0 0 0\n\
+        at b 0 0 0 0\nend\n",
         Outcome::Fault(GridFault::DoubleAct { line: 6 }),
     ),
     // an act of a role twice
@@ -209,7 +224,9 @@ const NUMBERS_OF_CUES: [(&[u8], Outcome); 9] = [
     ),
     // eight repeats of a thousand million
     (
-        b"choreo 1\ndrone solo 0 0 1000000 0\nrepeat 1000000000\nrepeat 1000000000\nrepeat 1000000000\nrepeat 1000000000\nrepeat 1000000000\nrepeat 1000000000\nrepeat 1000000000\nrepeat 1000000000\ncue 1000\nend\nend\nend\nend\nend\nend\nend\nend\nend\n",
+        b"choreo 1\ndrone solo 0 0 1000000 0\nrepeat 1000000000\nrepeat 1000000000\nrepeat 1000000000\n\
+        repeat 1000000000\nrepeat 1000000000\nrepeat 1000000000\nrepeat 1000000000\nrepeat 1000000000\ncue 1000\nend\n\
+        end\nend\nend\nend\nend\nend\nend\nend\n",
         Outcome::Fault(GridFault::TooManyCues { line: 3 }),
     ),
     // one cue after 1,000
@@ -224,12 +241,14 @@ const NUMBERS_OF_CUES: [(&[u8], Outcome); 9] = [
     ),
     // two cues, each of a form and an act
     (
-        b"choreo 1\ndrone a 0 0 0 0\ndrone b 0 0 0 0\ncue 1\nform f line\nb hold\nend\ncue 1\na hold\nform g line\nend\nformation f\nat a 0 0 0 0\nend\nformation g\nat b 0 0 0 0\nend\n",
+        b"choreo 1\ndrone a 0 0 0 0\ndrone b 0 0 0 0\ncue 1\nform f line\nb hold\nend\ncue 1\na hold\nform g line\n\
+        end\nformation f\nat a 0 0 0 0\nend\nformation g\nat b 0 0 0 0\nend\n",
         Outcome::Cues(2),
     ),
     // a figure of two cues in a repeat
     (
-        b"choreo 1\ndrone a 0 0 0 0\nrepeat 3\nperform go x 0 0 0 0 a\nend\nfigure go p\nrepeat 2\ncue 1\nend\nend\nend\n",
+        b"choreo 1\ndrone a 0 0 0 0\nrepeat 3\nperform go x 0 0 0 0 a\nend\nfigure go p\nrepeat 2\ncue 1\nend\nend\n\
+        end\n",
         Outcome::Cues(6),
     ),
 ];
@@ -247,8 +266,8 @@ fn point(x: i64, y: i64, z: i64, yaw: i64) -> Point
     Point { x, y, z, yaw }
 }
 
-// The figure's place (1000000, 0, 1000000) with yaw 0, mirrored at y, turned once and lifted by half a metre, and the steps
-// at a point with four different numbers.
+// The figure's place (1000000, 0, 1000000) with yaw 0, mirrored at y, turned once and lifted by half a metre, and the
+// steps at a point with four different numbers.
 #[test]
 fn frames(rt: HostRuntime) {
     let lifted = Frame {

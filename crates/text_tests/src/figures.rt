@@ -69,7 +69,8 @@ const FIGURES: [(&[u8], [Axis; 4]); 11] = [
     ),
     // the same in a mirror goes round the other way
     (
-        b"choreo 1\ndrone solo 1000000 0 1000000 0\nfigure go p\ncue 1000\np arc ccw 0 0 0\nend\nend\nperform go y 0 0 0 0 solo\n",
+        b"choreo 1\ndrone solo 1000000 0 1000000 0\nfigure go p\ncue 1000\np arc ccw 0 0 0\nend\nend\n\
+        perform go y 0 0 0 0 solo\n",
         [
             Axis::Four {
                 v: [1_000_000, 1_000_000, 552_285, 0],
@@ -83,7 +84,8 @@ const FIGURES: [(&[u8], [Axis; 4]); 11] = [
     ),
     // a figure mirrored, turned and shifted
     (
-        b"choreo 1\ndrone solo 0 0 1000000 0\nfigure go p\ncue 1000\np line 1000000 0 1000000 0\nend\nend\nperform go y 1 0 0 500000 solo\n",
+        b"choreo 1\ndrone solo 0 0 1000000 0\nfigure go p\ncue 1000\np line 1000000 0 1000000 0\nend\nend\n\
+        perform go y 1 0 0 500000 solo\n",
         [
             Axis::Two { v: [0, 0] },
             Axis::Two { v: [0, 1_000_000] },
@@ -168,7 +170,8 @@ const FIGURES: [(&[u8], [Axis; 4]); 11] = [
     ),
     // in the mirror y, around the other way
     (
-        b"choreo 1\ndrone solo 1000000 0 1000000 0\nfigure go p\ncue 1000\np arc_in ccw 0 0 90\nend\nend\nperform go y 0 0 0 0 solo\n",
+        b"choreo 1\ndrone solo 1000000 0 1000000 0\nfigure go p\ncue 1000\np arc_in ccw 0 0 90\nend\nend\n\
+        perform go y 0 0 0 0 solo\n",
         [
             Axis::Eight {
                 v: [
@@ -188,7 +191,8 @@ const FIGURES: [(&[u8], [Axis; 4]); 11] = [
     ),
     // in a frame with all three steps
     (
-        b"choreo 1\ndrone solo 1000000 0 1000000 0\nfigure go p\ncue 1000\np arc_out ccw -500000 250000 100\nend\nend\nperform go x 1 1 -2 0 solo\n",
+        b"choreo 1\ndrone solo 1000000 0 1000000 0\nfigure go p\ncue 1000\np arc_out ccw -500000 250000 100\nend\n\
+        end\nperform go x 1 1 -2 0 solo\n",
         [
             Axis::Eight {
                 v: [

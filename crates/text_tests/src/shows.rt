@@ -65,7 +65,8 @@ fn has_words(
     Ok(true)
 }
 
-// Words are looked for among sixteen bytes at a time: a word, a line and a comment end before, at and after the sixteenth.
+// Words are looked for among sixteen bytes at a time: a word, a line and a comment end before, at and after the
+// sixteenth.
 #[test]
 fn words_end_on_either_side_of_sixteen_bytes(rt: HostRuntime) -> Result<(), Fail> {
     let alloc = rt.alloc();
@@ -109,11 +110,18 @@ fn is_one(it: &ActLine, at_line: u32, who: &[u8], does: Act) -> bool {
 }
 
 const FULL: &[u8] =
-    b"choreo 1\nmemory 3 4095\ntrajectory 9\nellipsoid 1 2000\ndrone a -100000000 100000000 0 -32768\ndrone cue 0 0 0 32767\nformation f\nat a 1 2 3 4\nend\nfigure g p\ncue 1\np hold\nend\nrepeat 1000000000\ncue 65535\np curve 1 2 3 4 5 6 7 8 9 10\nend\nend\nend\ncue 2\nform f line\na arc ccw 6 7 8\na turn 5\ncue line 1 2 3 4\nend\nrepeat 2\nperform g x 3 -1 -2 -3 a\nend\n";
+    b"choreo 1\nmemory 3 4095\ntrajectory 9\nellipsoid 1 2000\ndrone a -100000000 100000000 0 -32768\n\
+    drone cue 0 0 0 32767\nformation f\nat a 1 2 3 4\nend\nfigure g p\ncue 1\np hold\nend\nrepeat 1000000000\n\
+    cue 65535\np curve 1 2 3 4 5 6 7 8 9 10\nend\nend\nend\ncue 2\nform f line\na arc ccw 6 7 8\na turn 5\n\
+    cue line 1 2 3 4\nend\nrepeat 2\nperform g x 3 -1 -2 -3 a\nend\n";
 
 // The same show: its lengths, times and angles have units.
 const FULL_IN_UNITS: &[u8] =
-    b"choreo 2\nmemory 3 4095\ntrajectory 9\nellipsoid 1mm 2m\ndrone a -100m 100m 0 -3276.8deg\ndrone cue 0m 0um -0 3276.7deg\nformation f\nat a 1um 0.002mm 0.0003cm 0.4deg\nend\nfigure g p\ncue 1ms\np hold\nend\nrepeat 1000000000\ncue 65.535s\np curve 1um 2um 3um 0.000004m 0.0005cm 6um 7um 8um 9.0um 1deg\nend\nend\nend\ncue 0.002s\nform f line\na arc ccw 6um 0.007mm 0.8deg\na turn 0.50deg\ncue line 1um 2um 3um 00.4deg\nend\nrepeat 2\nperform g x 3 -1um -0.002mm -0.0003cm a\nend\n";
+    b"choreo 2\nmemory 3 4095\ntrajectory 9\nellipsoid 1mm 2m\ndrone a -100m 100m 0 -3276.8deg\n\
+    drone cue 0m 0um -0 3276.7deg\nformation f\nat a 1um 0.002mm 0.0003cm 0.4deg\nend\nfigure g p\ncue 1ms\np hold\n\
+    end\nrepeat 1000000000\ncue 65.535s\np curve 1um 2um 3um 0.000004m 0.0005cm 6um 7um 8um 9.0um 1deg\nend\nend\n\
+    end\ncue 0.002s\nform f line\na arc ccw 6um 0.007mm 0.8deg\na turn 0.50deg\ncue line 1um 2um 3um 00.4deg\nend\n\
+    repeat 2\nperform g x 3 -1um -0.002mm -0.0003cm a\nend\n";
 
 // Whether the cue of the full show is its cue.
 fn is_full_cue(acts: &[ActLine]) -> bool {

@@ -1,5 +1,6 @@
 -- The instants and pairs of drones at which touches are sought, their order, and what is found there.
-use Rattle.std.specs.Prelude.{◌≡◌, ◌⊎◌, ℕ, ◌+◌, ◌*◌, ◌^◌, ◌≤◌, ◌<◌, ℤ, pos, ◌+ℤ◌, ◌-ℤ◌, ◌*ℤ◌, ◌≤ℤ◌, ◌<ℤ◌, List, length, Some, slice_get, slice_index_or}
+use Rattle.std.specs.Prelude.{◌≡◌, ◌⊎◌, ℕ, ◌+◌, ◌*◌, ◌^◌, ◌≤◌, ◌<◌, ℤ, pos, ◌+ℤ◌, ◌-ℤ◌, ◌*ℤ◌, ◌≤ℤ◌, ◌<ℤ◌, List, length}
+use Rattle.std.specs.Prelude.{Some, slice_get, slice_index_or}
 use Rattle.fleet_math.specs.Sums.{power}
 use Rattle.fleet_math.specs.Moments.{Moment, time_before}
 use Rattle.traj_codec.specs.declared.traj.Traj.{Traj}
@@ -67,7 +68,8 @@ pub record SharePoint (t u : Traj) (r h p q : ℕ) : Type 0 where
 pub record AreDisjoint (t u : Traj) (r h p q : ℕ) : Type 0 where
   pub above :
       (pos (4 * (r * r) * (h * h)) *ℤ power (pos (own t p q).c *ℤ pos (own u p q).c) 14)
-      <ℤ (pos (h * h) *ℤ (gap t u p q 0 *ℤ gap t u p q 0 +ℤ gap t u p q 1 *ℤ gap t u p q 1) +ℤ pos (r * r) *ℤ (gap t u p q 2 *ℤ gap t u p q 2))
+      <ℤ (pos (h * h) *ℤ (gap t u p q 0 *ℤ gap t u p q 0 +ℤ gap t u p q 1 *ℤ gap t u p q 1)
+      +ℤ pos (r * r) *ℤ (gap t u p q 2 *ℤ gap t u p q 2))
 
 -- the two drones' closed ellipsoids share no point at the instant
 abbrev pub DisjointAt : List Traj → ℕ → ℕ → ℕ → Touch → Type 0

@@ -8,7 +8,8 @@ ghost use Rattle.bezier_core.specs.Steps.{IsWithin};
 ghost use Rattle.traj_codec.specs.Spelling.{IsNumber};
 ghost use Rattle.traj_codec.specs.Positions.{element_on, value_after};
 ghost use Rattle.fleet_math.specs.Limits.{most_drones, most_fine};
-ghost use Rattle.touch_witness.specs.Steps.{ArePlaces, AreStarts, HasCue, IsNear, IsPlace, IsShort, IsStart, position, reach};
+ghost use Rattle.touch_witness.specs.Steps.{ArePlaces, AreStarts, HasCue, IsNear, IsPlace, IsShort, IsStart, position};
+ghost use Rattle.touch_witness.specs.Steps.{reach};
 
 use bezier_core::Bez;
 use fleet_curves::{row_of_four, value_after};

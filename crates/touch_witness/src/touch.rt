@@ -5,7 +5,8 @@ ghost use Rattle.fleet_math.specs.Limits.{most_cues, most_drones};
 ghost use Rattle.sep_parts.specs.Apart.{FlyApartExactly};
 ghost use Rattle.fleet_curves.specs.Raised.{IsOneShow};
 ghost use Rattle.touch_witness.specs.Sites.{IsFirstTouch, NoTouch};
-ghost use Rattle.touch_witness.specs.Steps.{AllDisjoint, AllDisjointFrom, DisjointInCue, AreStarts, HasCue, IsFirstInCue, IsFirstPair, IsFirstSite, IsFirstWith, IsShort, NoneTouch};
+ghost use Rattle.touch_witness.specs.Steps.{AllDisjoint, AllDisjointFrom, DisjointInCue, AreStarts, HasCue};
+ghost use Rattle.touch_witness.specs.Steps.{IsFirstInCue, IsFirstPair, IsFirstSite, IsFirstWith, IsShort, NoneTouch};
 
 use crate::axes::Axes;
 use crate::distance::is_touching;

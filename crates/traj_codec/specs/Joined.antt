@@ -1,5 +1,6 @@
 -- Joined holds: what becomes of a trajectory whose whole holds that follow each other are joined from the left.
-use Rattle.std.specs.Prelude.{◌≡◌, ◌⊎◌, ℕ, zero, suc, ◌+◌, ◌≤◌, ◌<◌, Bool, true, false, nat_le, pos, ◌*ℤ◌, List, [], ◌∷◌, map, length, if◌then◌else◌}
+use Rattle.std.specs.Prelude.{◌≡◌, ◌⊎◌, ℕ, zero, suc, ◌+◌, ◌≤◌, ◌<◌, Bool, true, false, nat_le, pos, ◌*ℤ◌, List, []}
+use Rattle.std.specs.Prelude.{◌∷◌, map, length, if◌then◌else◌}
 use Rattle.std.specs.List.{list_all, flat_map, sum, All}
 use Rattle.fleet_math.specs.Sums.{power}
 use Rattle.fleet_math.specs.Moments.{Moment, moment}
@@ -47,12 +48,14 @@ abbrev pub first_ms : List Segment → ℕ
 first_ms [] = 0
 first_ms (s ∷ rest) = s.ms
 
--- From the left: where two groups of holds stand one after the other, the first of the later ones was too long for the earlier group.
+-- From the left: where two groups of holds stand one after the other, the first of the later ones was too long for the
+-- earlier group.
 abbrev pub FromTheLeft : List (List Segment) → Type 0
 FromTheLeft [] = Unit {0}
 FromTheLeft (g ∷ []) = Unit {0}
 FromTheLeft (g ∷ k ∷ rest) =
-    (All (λ s. is_hold s ≡ true) g → All (λ s. is_hold s ≡ true) k → most_ms < sum (durations g) + first_ms k) × FromTheLeft (k ∷ rest)
+    (All (λ s. is_hold s ≡ true) g → All (λ s. is_hold s ≡ true) k → most_ms < sum (durations g) + first_ms k)
+    × FromTheLeft (k ∷ rest)
 
 -- The segments with their holds joined from the left.
 pub record IsJoined (segments joined : List Segment) : Type 0 where
@@ -72,7 +75,8 @@ put_held (suc n) later = hold (suc n) ∷ later
 -- a segment after the holds in front, where what follows is joined already
 abbrev pub put_next : ℕ → Segment → List Segment → List Segment
 put_next held s later =
-    if is_hold s then (if nat_le (held + s.ms) most_ms then later else put_held held later) else put_held held (s ∷ later)
+    if is_hold s then (if nat_le (held + s.ms) most_ms then later else put_held held later)
+    else put_held held (s ∷ later)
 
 -- how long the holds last that stand in front of what follows
 abbrev pub next_held : ℕ → Segment → ℕ
@@ -95,7 +99,8 @@ own t p q = moment (durations t.segments) p q
 -- Two trajectories have the same position at each instant, on each axis, whatever the segments they are cut into.
 abbrev pub SameCurve : Traj → Traj → Type 0
 SameCurve t u = (axis p q : ℕ) →
-    (power (pos (own u p q).c) 7 *ℤ decoded t axis (own t p q)) ≡ (power (pos (own t p q).c) 7 *ℤ decoded u axis (own u p q))
+    (power (pos (own u p q).c) 7 *ℤ decoded t axis (own t p q))
+    ≡ (power (pos (own t p q).c) 7 *ℤ decoded u axis (own u p q))
 
 -- each segment lasts some time
 abbrev pub IsLasting : Traj → Type 0
@@ -112,5 +117,6 @@ pub record JoinLaw : Type 0 where
 -- The fold joins the groups from the left.
 abbrev pub GroupLaw : Type 0
 GroupLaw =
-    (segments : List Segment) → All (λ ms. 1 ≤ ms) (durations segments) → All (λ ms. ms ≤ most_ms) (durations segments) →
+    (segments : List Segment) → All (λ ms. 1 ≤ ms) (durations segments) →
+    All (λ ms. ms ≤ most_ms) (durations segments) →
     IsJoined segments (joined_from 0 segments)

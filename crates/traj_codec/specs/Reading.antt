@@ -1,5 +1,6 @@
 -- What reading gives: which trajectory bytes begin with, and the first field that is faulty.
-use Rattle.std.specs.Prelude.{◌≡◌, ℕ, zero, suc, ◌+◌, ◌*◌, ◌/◌, ◌%◌, ◌^◌, ◌<◌, ◌≤◌, ℤ, List, ◌++◌, length, drop, slice_index, nat_lt, ◌==◌, if◌then◌else◌, Option, Some, None, Result, Ok, Err}
+use Rattle.std.specs.Prelude.{◌≡◌, ℕ, zero, suc, ◌+◌, ◌*◌, ◌/◌, ◌%◌, ◌^◌, ◌<◌, ◌≤◌, ℤ, List, ◌++◌, length, drop}
+use Rattle.std.specs.Prelude.{slice_index, nat_lt, ◌==◌, if◌then◌else◌, Option, Some, None, Result, Ok, Err}
 use Rattle.std.specs.List.{flat_map, All}
 use Rattle.std.specs.Option.{option_or}
 use Rattle.byteorder.specs.Endian.{little_bytes, little_number}
@@ -8,7 +9,8 @@ use Rattle.traj_codec.specs.declared.reading.CodecFault.TheVariants.{Short, Zero
 use Rattle.traj_codec.specs.declared.traj.Element.{Element}
 use Rattle.traj_codec.specs.declared.traj.Segment.{Segment}
 use Rattle.traj_codec.specs.declared.traj.Traj.{Traj}
-use Rattle.traj_codec.specs.Spelling.{numbers, kind, stored, header, bodies, segment, HasDuration, Spells, IsNumber, IsElement, IsSegment, IsTrajectory}
+use Rattle.traj_codec.specs.Spelling.{numbers, kind, stored, header, bodies, segment, HasDuration, Spells, IsNumber}
+use Rattle.traj_codec.specs.Spelling.{IsElement, IsSegment, IsTrajectory}
 
 -- The bytes begin with a spelling of this trajectory, of this many segments, that takes this many bytes.
 pub record BeginsWith (bytes : List ℕ) (pieces : ℕ) (t : Traj) (used : ℕ) : Type 0 where
@@ -33,7 +35,8 @@ numbers_fault bytes (suc n) at = option_or (field_fault bytes 2 at) (numbers_fau
 
 -- a duration of two bytes at a place: it isn't whole, or it is 0
 abbrev pub duration_fault : List ℕ → ℕ → Option CodecFault
-duration_fault bytes at = option_or (field_fault bytes 2 at) (if little_number 2 (drop at bytes) == 0 then Some (ZeroDuration at) else None)
+duration_fault bytes at =
+    option_or (field_fault bytes 2 at) (if little_number 2 (drop at bytes) == 0 then Some (ZeroDuration at) else None)
 
 -- how many numbers an element has whose kind, in a header's two bits, is this
 abbrev pub count_of_kind : ℕ → ℕ
@@ -46,7 +49,8 @@ count_under h = count_of_kind (h % 4) + count_of_kind (h / 4 % 4) + count_of_kin
 -- a segment at a place: its header, of one byte, its duration and its numbers
 abbrev pub segment_fault : List ℕ → ℕ → Option CodecFault
 segment_fault bytes at =
-    option_or (field_fault bytes 1 at) (option_or (duration_fault bytes (at + 1)) (numbers_fault bytes (count_under (slice_index bytes at)) (at + 3)))
+    option_or (field_fault bytes 1 at)
+    (option_or (duration_fault bytes (at + 1)) (numbers_fault bytes (count_under (slice_index bytes at)) (at + 3)))
 
 -- how many bytes the segment at a place takes, by its header
 abbrev pub segment_length : List ℕ → ℕ → ℕ
@@ -55,7 +59,8 @@ segment_length bytes at = 3 + 2 * count_under (slice_index bytes at)
 -- this many segments from a place on
 abbrev pub segments_fault : List ℕ → ℕ → ℕ → Option CodecFault
 segments_fault bytes zero at = None
-segments_fault bytes (suc n) at = option_or (segment_fault bytes at) (segments_fault bytes n (at + segment_length bytes at))
+segments_fault bytes (suc n) at =
+    option_or (segment_fault bytes at) (segments_fault bytes n (at + segment_length bytes at))
 
 -- a trajectory of this many segments: the four numbers of its start, which take 8 bytes, and then the segments
 abbrev pub decode_fault : List ℕ → ℕ → Option CodecFault

@@ -1,5 +1,5 @@
--- The compressed trajectory: which bytes spell which trajectory. A relation between whole lists, to be read beside Bitcraze's
--- "compressed trajectory format" and docs/TRAJECTORY.md.
+-- The compressed trajectory: which bytes spell which trajectory. A relation between whole lists, to be read beside
+-- Bitcraze's "compressed trajectory format" and docs/TRAJECTORY.md.
 use Rattle.std.specs.Prelude.{◌≡◌, ℕ, ◌+◌, ◌*◌, ◌^◌, ◌<◌, ℤ, pos, neg_ℤ, List, [], ◌∷◌, ◌++◌, length}
 use Rattle.std.specs.List.{flat_map, All}
 use Rattle.std.specs.Int.{w16, cast_unsigned}
@@ -99,8 +99,8 @@ pub record IsTrajectory (t : Traj) : Type 0 where
   pub start : AreNumbers 4 t.start
   pub segments : All IsSegment t.segments
 
--- Two trajectories of as many segments that bytes begin with are one, and end at the same place: each has one spelling, which
--- spells nothing else, and none is a front of another.
+-- Two trajectories of as many segments that bytes begin with are one, and end at the same place: each has one spelling,
+-- which spells nothing else, and none is a front of another.
 abbrev pub SpellingLaw : Type 0
 SpellingLaw =
     (t u : Traj) → (rest other : List ℕ) → IsTrajectory t → IsTrajectory u → length t.segments ≡ length u.segments →

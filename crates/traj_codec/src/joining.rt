@@ -4,20 +4,22 @@ ghost use Rattle.std.specs.Prelude.{◌≡◌, ◌≤◌, ◌++◌, List, length
 ghost use Rattle.fleet_math.specs.Limits.{most_cues};
 ghost use Rattle.traj_codec.specs.declared.traj.Segment.{Segment};
 ghost use Rattle.traj_codec.specs.Spelling.{HasDuration};
-ghost use Rattle.traj_codec.specs.Joined.{GroupLaw, JoinLaw, SameCurve, hold, is_hold, joined, next_held, put_held, put_next, stays};
+ghost use Rattle.traj_codec.specs.Joined.{GroupLaw, JoinLaw, SameCurve, hold, is_hold, joined, next_held, put_held};
+ghost use Rattle.traj_codec.specs.Joined.{put_next, stays};
 
 use crate::{Element, Segment, Traj};
 use listed::Listed;
 use std::alloc::{AllocError, Global};
 
-/// A law: a trajectory with its holds joined is the same curve, as long, with no more segments; and the holds are joined from the left.
+/// A law: a trajectory with its holds joined is the same curve, as long, with no more segments; and the holds are
+/// joined from the left.
 pub fn join_law()
     ensures curve { JoinLaw }
     ensures groups { GroupLaw }
 {}
 
-/// The trajectory with whole holds that follow each other joined from the left, as long as they last at most 65,535 ms together. It is
-/// the same curve. Out of memory is the only refusal.
+/// The trajectory with whole holds that follow each other joined from the left, as long as they last at most 65,535 ms
+/// together. It is the same curve. Out of memory is the only refusal.
 pub fn join_holds(alloc: Global, t: &Traj) -> Result<Traj, AllocError>
     requires some { 1 ≤ length t.now.segments }
     requires few { length t.now.segments ≤ most_cues }
@@ -39,7 +41,8 @@ pub fn join_holds(alloc: Global, t: &Traj) -> Result<Traj, AllocError>
 
 // A segment after the holds in front; it returns how long those last that stand in front of what follows.
 fn put_next(segments: &mut Vec<Segment>, held: u16, s: &Segment) -> Result<u16, AllocError>
-    ensures put { OnOk result ((later : List Segment) → segments.new.items ++ later ≡ segments.old.items ++ put_next held s.now later) }
+    ensures put { OnOk result
+        ((later : List Segment) → segments.new.items ++ later ≡ segments.old.items ++ put_next held s.now later) }
     ensures held { IfOk result (λ n. n ≡ next_held held s.now) }
 {
     let together = u32::from(held) + u32::from(s.ms);
@@ -57,7 +60,8 @@ fn put_next(segments: &mut Vec<Segment>, held: u16, s: &Segment) -> Result<u16, 
 
 // The holds in front, as one segment.
 fn put_held(segments: &mut Vec<Segment>, held: u16) -> Result<(), AllocError>
-    ensures { OnOk result ((later : List Segment) → segments.new.items ++ later ≡ segments.old.items ++ put_held held later) }
+    ensures { OnOk result
+        ((later : List Segment) → segments.new.items ++ later ≡ segments.old.items ++ put_held held later) }
 {
     if held > 0 {
         segments.push(hold(held))?;

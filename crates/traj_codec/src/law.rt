@@ -9,8 +9,8 @@ pub fn spelling_law()
     ensures { SpellingLaw }
 {}
 
-/// A law. Each value of the type is a segment: its duration and its numbers fit two bytes, and an element has as many numbers as its
-/// kind says.
+/// A law. Each value of the type is a segment: its duration and its numbers fit two bytes, and an element has as many
+/// numbers as its kind says.
 pub fn segment_law(s: Segment)
     ensures { IsSegment s }
 {

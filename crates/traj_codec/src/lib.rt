@@ -1,10 +1,10 @@
 //! Trajectories in the compressed format (docs/TRAJECTORY.md): a start, then segments of elements of four kinds.
 //!
 //! What `encode` returns is the one spelling of the trajectory by `specs/Spelling.antt`, and then three zero bytes;
-//! `size_of` is its length. `decode` returns the one trajectory of this many segments whose spelling bytes begin with, or the
-//! first field that is faulty, by `specs/Reading.antt`. Where the trajectory puts a drone at an instant is said by
-//! `specs/Positions.antt`; `value_after` is the value with which an element ends. `join_holds` joins whole holds that
-//! follow each other; by `join_law` the curve is the same.
+//! `size_of` is its length. `decode` returns the one trajectory of this many segments whose spelling bytes begin with,
+//! or the first field that is faulty, by `specs/Reading.antt`. Where the trajectory puts a drone at an instant is said
+//! by `specs/Positions.antt`; `value_after` is the value with which an element ends. `join_holds` joins whole holds
+//! that follow each other; by `join_law` the curve is the same.
 #![tactic(auto)]
 
 mod ends;

@@ -1,10 +1,13 @@
 //! A trajectory read from its bytes.
 
-ghost use Rattle.std.specs.Prelude.{◌≡◌, ℕ, ◌+◌, ◌*◌, ◌/◌, ◌%◌, ◌<◌, ◌≤◌, ◌∷◌, [], length, drop, slice_index, Some, MatchResult};
+ghost use Rattle.std.specs.Prelude.{◌≡◌, ℕ, ◌+◌, ◌*◌, ◌/◌, ◌%◌, ◌<◌, ◌≤◌, ◌∷◌, [], length, drop, slice_index, Some};
+ghost use Rattle.std.specs.Prelude.{MatchResult};
 ghost use Rattle.byteorder.specs.Endian.{little_number};
-ghost use Rattle.traj_codec.specs.Reading.{BeginsWith, DecodeGives, IsDecoded, field_fault, numbers_fault, duration_fault};
+ghost use Rattle.traj_codec.specs.Reading.{BeginsWith, DecodeGives, IsDecoded, field_fault, numbers_fault};
+ghost use Rattle.traj_codec.specs.Reading.{duration_fault};
 ghost use Rattle.traj_codec.specs.Reading.{count_of_kind, count_under, segment_fault};
-ghost use Rattle.traj_codec.specs.Reading.{NumbersStand, DurationStands, ElementStands, ElementsStand, SegmentsStand, SegmentsGive};
+ghost use Rattle.traj_codec.specs.Reading.{NumbersStand, DurationStands, ElementStands, ElementsStand, SegmentsStand};
+ghost use Rattle.traj_codec.specs.Reading.{SegmentsGive};
 ghost use Rattle.traj_codec.specs.declared.traj.Traj.{Traj};
 
 use crate::traj::{Element, Segment, Traj};

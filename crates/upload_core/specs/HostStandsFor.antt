@@ -13,5 +13,7 @@ use Rattle.upload_core.specs.HostState.{HostView}
 pub record HostStandsFor (host : HostView) (h : List Event) : Type 0 where
   pub answer : host.progress ≡ progress host.session h
   pub marked : (host.progress ≡ Going) ⊎ (host.progress ≡ Done) →
-      (d k : ℕ) → d < drone_count host.session → k < packet_count host.session d → host.marked d k ≡ acked host.session h d k
-  pub counted : host.progress ≡ Going → (x : Sent) → x.drone < drone_count host.session → includes (flight host.session h) x ≡ true → host.counted x.drone x.packet ≡ ticks host.session h x
+      (d k : ℕ) → d < drone_count host.session → k < packet_count host.session d →
+      host.marked d k ≡ acked host.session h d k
+  pub counted : host.progress ≡ Going → (x : Sent) → x.drone < drone_count host.session →
+      includes (flight host.session h) x ≡ true → host.counted x.drone x.packet ≡ ticks host.session h x

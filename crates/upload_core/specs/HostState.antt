@@ -25,7 +25,8 @@ pub record HostView : Type 0 where
   pub progress : Progress
 
 abbrev pub view_of : HostState → HostView
-view_of host = record { session = host.session; marked = marked host.rows; counted = counted host.rows; progress = host.progress }
+view_of host =
+    record { session = host.session; marked = marked host.rows; counted = counted host.rows; progress = host.progress }
 
 -- A packet of the session.
 pub record IsPacketOf (s : Upload) (x : Sent) : Type 0 where

@@ -1,5 +1,6 @@
 -- What holds of each row, and the words of private functions. No public contract cites this file.
-use Rattle.std.specs.Prelude.{◌≡◌, ◌≢◌, ◌⊎◌, ℕ, ◌+◌, ◌<◌, ◌≤◌, true, false, not, ◌==◌, if◌then◌else◌, List, [], ◌∷◌, length, map, filter, find, Option, Some, None, Result, All}
+use Rattle.std.specs.Prelude.{◌≡◌, ◌≢◌, ◌⊎◌, ℕ, ◌+◌, ◌<◌, ◌≤◌, true, false, not, ◌==◌, if◌then◌else◌, List, [], ◌∷◌}
+use Rattle.std.specs.Prelude.{length, map, filter, find, Option, Some, None, Result, All}
 use Rattle.std.specs.List.{range_with_len, list_all, flat_map}
 use Rattle.crtp_packets.specs.declared.reading.PacketFault.{PacketFault}
 use Rattle.crtp_packets.specs.declared.reading.Up.{Up}
@@ -13,7 +14,8 @@ use Rattle.upload_model.specs.declared.limits.TheConstants.{TICKS_TO_GIVE_UP}
 use Rattle.upload_model.specs.declared.events.Sent.{Sent}
 use Rattle.upload_model.specs.Sessions.{Upload, drone_count, packet_count, first_of}
 use Rattle.upload_model.specs.Replies.{reply_in}
-use Rattle.upload_model.specs.Hosts.{Packets, all_settled, phase_of, allowed, flight_after, includes, acknowledges, joined, all_packets, sent_to, ended_for, ends_for, if_going}
+use Rattle.upload_model.specs.Hosts.{Packets, all_settled, phase_of, allowed, flight_after, includes, acknowledges}
+use Rattle.upload_model.specs.Hosts.{joined, all_packets, sent_to, ended_for, ends_for, if_going}
 use Rattle.upload_core.specs.declared.row.InFlight.{InFlight}
 use Rattle.upload_core.specs.declared.row.Row.{Row}
 use Rattle.upload_core.specs.Rows.{packets_in, is_marked, row_at, marked, window_at, count_in, counted}
@@ -91,15 +93,19 @@ IsFor s d m (Some k) = (k < packet_count s d) × ((j : ℕ) → j < packet_count
 
 -- What a host makes of an answer while the upload is going: the phase and the rows that it comes to, what
 -- it has marked and counted, how far the upload is, and what is sent.
-pub record Hears (s : Upload) (e : Event) (before : List Row) (p : Phase) (later : List Row) (answer : Progress) (out : List Sent) : Type 0 where
+pub record Hears (s : Upload) (e : Event) (before : List Row) (p : Phase) (later : List Row) (answer : Progress)
+    (out : List Sent) : Type 0 where
   pub rows : RowsStand s p later
   pub phase : p ≡ phase_of s (marked later)
-  pub marks : (d k : ℕ) → d < drone_count s → marked later d k ≡ joined (marked before) (acknowledges s (marked before) e) d k
+  pub marks : (d k : ℕ) → d < drone_count s →
+      marked later d k ≡ joined (marked before) (acknowledges s (marked before) e) d k
   pub counts : (x : Sent) → includes (flight_after s (marked later)) x ≡ true →
-      counted later x.drone x.packet ≡ (if includes (flight_after s (marked before)) x then counted before x.drone x.packet else 0)
+      counted later x.drone x.packet
+      ≡ (if includes (flight_after s (marked before)) x then counted before x.drone x.packet else 0)
   pub low : IsLow before → IsLow later
   pub len : length later ≡ length before
   pub finished : list_all (λ x. marked later x.drone x.packet) (all_packets s) ≡ true → answer ≡ Done
   pub unfinished : list_all (λ x. marked later x.drone x.packet) (all_packets s) ≡ false →
       answer ≡ ended_for s e (find (λ x. ends_for s (marked later) e x) (all_packets s))
-  pub sent : out ≡ if_going answer (filter (λ x. not (includes (flight_after s (marked before)) x)) (flight_after s (marked later)))
+  pub sent : out ≡ if_going answer
+      (filter (λ x. not (includes (flight_after s (marked before)) x)) (flight_after s (marked later)))

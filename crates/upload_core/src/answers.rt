@@ -1,14 +1,17 @@
 //! An answer that the host hears.
 
-ghost use Rattle.std.specs.Prelude.{◌≡◌, ◌≢◌, ℕ, ◌+◌, ◌*◌, ◌<◌, ◌≤◌, ◌==◌, ◌&&◌, ◌||◌, not, if◌then◌else◌, Bool, true, false, List, [], ◌∷◌, ◌++◌, length, filter, All, IfSome, IfNone, Ok, Some, None};
+ghost use Rattle.std.specs.Prelude.{◌≡◌, ◌≢◌, ℕ, ◌+◌, ◌*◌, ◌<◌, ◌≤◌, ◌==◌, ◌&&◌, ◌||◌, not, if◌then◌else◌, Bool, true};
+ghost use Rattle.std.specs.Prelude.{false, List, [], ◌∷◌, ◌++◌, length, filter, All, IfSome, IfNone, Ok, Some, None};
 ghost use Rattle.std.specs.List.{range_with_len, list_all, list_any};
 ghost use Rattle.upload_model.specs.declared.events.Event.{Event};
 ghost use Rattle.upload_model.specs.declared.events.Sent.{Sent};
-ghost use Rattle.upload_model.specs.Sessions.{drone_count, write_count, load_count, read_count, packet_count, is_read, read_address, wanted};
+ghost use Rattle.upload_model.specs.Sessions.{drone_count, write_count, load_count, read_count, packet_count, is_read};
+ghost use Rattle.upload_model.specs.Sessions.{read_address, wanted};
 ghost use Rattle.crtp_packets.specs.Chunks.{chunk_start};
 ghost use Rattle.upload_model.specs.Replies as replies;
 ghost use Rattle.upload_model.specs.Replies.{ReadBack, status_in, read_in, read_reply, reply_in};
-ghost use Rattle.upload_model.specs.Hosts.{Packets, phase_of, flight_after, sent_to, all_packets, counts as counts_for, includes as includes_sent, if_going};
+ghost use Rattle.upload_model.specs.Hosts.{Packets, phase_of, flight_after, sent_to, all_packets, counts as counts_for};
+ghost use Rattle.upload_model.specs.Hosts.{includes as includes_sent, if_going};
 ghost use Rattle.upload_core.specs.Rows.{among, window_at, is_marked, row_at, marked, counted};
 ghost use Rattle.upload_core.specs.Steps.{RowsStand, IsFor, IsLow, Hears};
 
@@ -22,8 +25,10 @@ use upload_model::{ACCEPTED, Phase, Progress, Reply};
 
 fn write_named(session: &Session, drone: usize, id: u8, address: u32) -> Option<usize>
     requires known { drone < drone_count session.now }
-    ensures some { IfSome result (λ k. (k < write_count session.now drone) × (id ≡ session.now.memory_id) × (address ≡ session.now.offset + chunk_start k)) }
-    ensures none { IfNone result ((k : ℕ) → k < write_count session.now drone → id ≡ session.now.memory_id → address ≢ session.now.offset + chunk_start k) }
+    ensures some { IfSome result (λ k. (k < write_count session.now drone) × (id ≡ session.now.memory_id)
+        × (address ≡ session.now.offset + chunk_start k)) }
+    ensures none { IfNone result ((k : ℕ) → k < write_count session.now drone → id ≡ session.now.memory_id
+        → address ≢ session.now.offset + chunk_start k) }
 {
     let settings = session.settings();
     let offset = settings.offset as usize;
@@ -40,8 +45,10 @@ fn write_named(session: &Session, drone: usize, id: u8, address: u32) -> Option<
 
 fn read_named(session: &Session, drone: usize, id: u8, address: u32) -> Option<usize>
     requires known { drone < drone_count session.now }
-    ensures some { IfSome result (λ k. (k < read_count session.now drone) × (id ≡ session.now.memory_id) × (address ≡ read_address session.now k)) }
-    ensures none { IfNone result ((k : ℕ) → k < read_count session.now drone → id ≡ session.now.memory_id → address ≢ read_address session.now k) }
+    ensures some { IfSome result (λ k. (k < read_count session.now drone) × (id ≡ session.now.memory_id)
+        × (address ≡ read_address session.now k)) }
+    ensures none { IfNone result ((k : ℕ) → k < read_count session.now drone → id ≡ session.now.memory_id
+        → address ≢ read_address session.now k) }
 {
     let settings = session.settings();
     let offset = settings.offset as usize;
@@ -328,10 +335,12 @@ fn acknowledge(
     ensures marks { (d j : ℕ) → marked rows.new d j ≡ (marked rows.old d j || (drone == d && k == j)) }
     ensures counts { (x : Sent) → includes_sent (flight_after session.now (marked rows.new)) x ≡ true →
         counted rows.new x.drone x.packet
-        ≡ (if includes_sent (flight_after session.now (marked rows.old)) x then counted rows.old x.drone x.packet else 0) }
+        ≡ (if includes_sent (flight_after session.now (marked rows.old)) x then counted rows.old x.drone x.packet
+        else 0) }
     ensures low { IsLow rows.old → IsLow rows.new }
     ensures len { length rows.new ≡ length rows.old }
-    ensures answer { result ≡ (if list_all (λ x. marked rows.new x.drone x.packet) (all_packets session.now) then Progress.Done else Progress.Going) }
+    ensures answer { result ≡ (if list_all (λ x. marked rows.new x.drone x.packet) (all_packets session.now)
+        then Progress.Done else Progress.Going) }
     ensures sent { out.new.items ≡ if_going result
         (filter (λ x. not (includes_sent (flight_after session.now (marked rows.old)) x))
         (flight_after session.now (marked rows.new))) }

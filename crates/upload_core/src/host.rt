@@ -1,6 +1,7 @@
 //! The host: it keeps its phase, of each drone the packets in flight, and its last answer.
 
-ghost use Rattle.std.specs.Prelude.{◌≡◌, ℕ, ◌+◌, ◌*◌, ◌<◌, ◌≤◌, ◌⊎◌, ◌&&◌, nat_lt, Bool, List, [], ◌∷◌, ◌++◌, length, take, map, IfOk, All};
+ghost use Rattle.std.specs.Prelude.{◌≡◌, ℕ, ◌+◌, ◌*◌, ◌<◌, ◌≤◌, ◌⊎◌, ◌&&◌, nat_lt, Bool, List, [], ◌∷◌, ◌++◌, length};
+ghost use Rattle.std.specs.Prelude.{take, map, IfOk, All};
 ghost use Rattle.upload_model.specs.declared.events.Event.{Event};
 ghost use Rattle.upload_model.specs.declared.events.Progress.{Progress};
 ghost use Rattle.upload_model.specs.Sessions.{drone_count, write_count, packet_count};

@@ -1,7 +1,8 @@
 //! What the host keeps of one drone: its packets in flight with their counts, and the first packet that
 //! never was in flight.
 
-ghost use Rattle.std.specs.Prelude.{◌≡◌, ◌≢◌, ◌⊎◌, ℕ, ◌+◌, ◌-◌, ◌*◌, ◌<◌, ◌≤◌, ◌==◌, ◌||◌, not, if◌then◌else◌, true, false, List, [], ◌∷◌, ◌++◌, length, map, filter, All};
+ghost use Rattle.std.specs.Prelude.{◌≡◌, ◌≢◌, ◌⊎◌, ℕ, ◌+◌, ◌-◌, ◌*◌, ◌<◌, ◌≤◌, ◌==◌, ◌||◌, not, if◌then◌else◌, true};
+ghost use Rattle.std.specs.Prelude.{false, List, [], ◌∷◌, ◌++◌, length, map, filter, All};
 ghost use Rattle.std.specs.List.{range_with_len, list_all, list_any};
 ghost use Rattle.upload_model.specs.declared.events.Phase.{Phase};
 ghost use Rattle.upload_model.specs.Sessions.{Upload, first_of, count_of};
@@ -133,7 +134,8 @@ impl Row {
             end ≡ first_of s p d + count_of s p d → RowStands s p d self.new }
         ensures marks { (j : ℕ) → is_marked self.new j ≡ (is_marked self.old j || j == k) }
         ensures counts { (j : ℕ) → j ≢ k → count_in self.new.window.items j ≡ count_in self.old.window.items j }
-        ensures low { All (λ e. e.ticks < TICKS_TO_GIVE_UP) self.old.window.items → All (λ e. e.ticks < TICKS_TO_GIVE_UP) self.new.window.items }
+        ensures low { All (λ e. e.ticks < TICKS_TO_GIVE_UP) self.old.window.items
+            → All (λ e. e.ticks < TICKS_TO_GIVE_UP) self.new.window.items }
         ensures later { self.old.next ≤ self.new.next }
         ensures news { filter (λ j. not (among (packets_in self.old.window.items) j)) (packets_in self.new.window.items)
             ≡ range_with_len self.old.next (self.new.next - self.old.next) }

@@ -1,6 +1,7 @@
 //! The rows of all drones: what is in flight, and the phase that they are in.
 
-ghost use Rattle.std.specs.Prelude.{◌≡◌, ◌≢◌, ℕ, ◌+◌, ◌-◌, ◌*◌, ◌<◌, ◌≤◌, ◌==◌, ◌||◌, if◌then◌else◌, true, false, List, [], ◌∷◌, ◌++◌, length, map, find, All, IfOk};
+ghost use Rattle.std.specs.Prelude.{◌≡◌, ◌≢◌, ℕ, ◌+◌, ◌-◌, ◌*◌, ◌<◌, ◌≤◌, ◌==◌, ◌||◌, if◌then◌else◌, true, false, List};
+ghost use Rattle.std.specs.Prelude.{[], ◌∷◌, ◌++◌, length, map, find, All, IfOk};
 ghost use Rattle.std.specs.List.{range_with_len, list_all};
 ghost use Rattle.upload_model.specs.Sessions.{drone_count, first_of, count_of};
 ghost use Rattle.upload_model.specs.Hosts.{phase_of, flight, sent_to, gave_up, if_going};
@@ -31,7 +32,8 @@ fn first_row(session: &Session, drone: usize) -> Row
 /// The rows of drones to which nothing has happened.
 pub fn first_rows(alloc: Global, session: &Session) -> Result<Vec<Row>, AllocError>
     ensures len { IfOk result (λ rows. length rows.items ≡ drone_count session.now) }
-    ensures each { IfOk result (λ rows. (d : ℕ) → d < drone_count session.now → IsStarting session.now d (row_at rows.items d)) }
+    ensures each { IfOk result
+        (λ rows. (d : ℕ) → d < drone_count session.now → IsStarting session.now d (row_at rows.items d)) }
 {
     let drones = session.drones();
     let mut rows = Vec::with_capacity(alloc, drones)?;
@@ -119,7 +121,8 @@ fn age(rows: &mut [Row])
 fn first_tired(rows: &[Row]) -> Option<Sent>
     requires few { length rows.now ≤ MOST_DRONES }
     requires rows { (d : ℕ) → d < length rows.now → IsRow 0 (row_at rows.now d) }
-    ensures { result ≡ find (λ x. counted rows.now x.drone x.packet == TICKS_TO_GIVE_UP) (in_windows rows.now (length rows.now)) }
+    ensures { result ≡ find (λ x. counted rows.now x.drone x.packet == TICKS_TO_GIVE_UP)
+        (in_windows rows.now (length rows.now)) }
 {
     for drone in 0..rows.len() {
         match rows[drone].tired() {
@@ -163,7 +166,8 @@ pub fn tick(rows: &mut [Row], out: &mut Out) -> Progress
 fn begin(session: &Session, rows: &mut [Row], before: Phase, phase: Phase)
     requires rows { RowsStand session.now before rows.old }
     requires settled { (d : ℕ) → d < drone_count session.now → (row_at rows.old d).window.items ≡ [] }
-    requires next { (d : ℕ) → first_of session.now phase d ≡ first_of session.now before d + count_of session.now before d }
+    requires next { (d : ℕ) → first_of session.now phase d
+        ≡ first_of session.now before d + count_of session.now before d }
     requires not_first { phase ≢ Phase.Loading }
     ensures rows { RowsStand session.now phase rows.new }
     ensures marks { (d k : ℕ) → marked rows.new d k ≡ marked rows.old d k }
@@ -184,7 +188,8 @@ pub fn advance(session: &Session, rows: &mut [Row], phase: Phase) -> Phase
     ensures phase { result ≡ phase_of session.now (marked rows.new) }
     ensures marks { (d k : ℕ) → marked rows.new d k ≡ marked rows.old d k }
     ensures stays { list_all (λ (row : Row). length row.window.items == 0) rows.old ≡ false → rows.new ≡ rows.old }
-    ensures counts { list_all (λ (row : Row). length row.window.items == 0) rows.old ≡ true → (d k : ℕ) → counted rows.new d k ≡ 0 }
+    ensures counts { list_all (λ (row : Row). length row.window.items == 0) rows.old ≡ true → (d k : ℕ)
+        → counted rows.new d k ≡ 0 }
     ensures len { length rows.new ≡ length rows.old }
 {
     if !is_settled(rows) {

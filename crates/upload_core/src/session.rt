@@ -1,8 +1,11 @@
 //! What is to be uploaded, and the packets that do it.
 
-ghost use Rattle.std.specs.Prelude.{◌≡◌, ℕ, ◌+◌, ◌*◌, ◌<◌, ◌≤◌, List, [], ◌∷◌, ◌++◌, length, take, map, IfOk, Bool, slice_index, slice_index_or};
+ghost use Rattle.std.specs.Prelude.{◌≡◌, ℕ, ◌+◌, ◌*◌, ◌<◌, ◌≤◌, List, [], ◌∷◌, ◌++◌, length, take, map, IfOk, Bool};
+ghost use Rattle.std.specs.Prelude.{slice_index, slice_index_or};
 ghost use Rattle.fleet_math.specs.Limits.{most_drones};
-ghost use Rattle.upload_model.specs.Sessions.{IsSession, drone_count, load_of, write_count, load_count, read_count, start_number, packet_count, packet_at, read_start, wanted, first_of, count_of};
+ghost use Rattle.upload_model.specs.Sessions.{IsSession, drone_count, load_of, write_count, load_count, read_count};
+ghost use Rattle.upload_model.specs.Sessions.{start_number, packet_count, packet_at, read_start, wanted, first_of};
+ghost use Rattle.upload_model.specs.Sessions.{count_of};
 ghost use Rattle.upload_core.specs.Uploads.{upload_of};
 
 use crtp_packets::{

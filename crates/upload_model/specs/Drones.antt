@@ -1,6 +1,7 @@
 -- One drone as it is modelled here: what it holds, and what each packet does to it
 -- (docs/RADIO.md, "A drone").
-use Rattle.std.specs.Prelude.{ℕ, ◌+◌, Bool, false, not, ◌||◌, nat_lt, nat_le, ◌==◌, if◌then◌else◌, List, [], ◌∷◌, ◌++◌, length, take, drop, slice_get, slice_set, is_some, Option, Some, None, Result, Ok, Err}
+use Rattle.std.specs.Prelude.{ℕ, ◌+◌, Bool, false, not, ◌||◌, nat_lt, nat_le, ◌==◌, if◌then◌else◌, List, [], ◌∷◌, ◌++◌}
+use Rattle.std.specs.Prelude.{length, take, drop, slice_get, slice_set, is_some, Option, Some, None, Result, Ok, Err}
 use Rattle.std.specs.Str.{bytes_eq}
 use Rattle.crtp_packets.specs.Packets.{write_answer_of, read_answer_of}
 use Rattle.crtp_packets.specs.Reading.{down_of}
@@ -62,7 +63,8 @@ write_taken d id address bytes =
 abbrev pub read_taken : DroneState → ℕ → ℕ → ℕ → Handled
 read_taken d id address len =
     if not (id == d.memory_id) then answers d (read_answer_of id address UNFIT [])
-    else (if len == 0 || nat_lt READ_BYTES len || nat_lt MEMORY_BYTES (address + len) then answers d (read_answer_of id address NO_ROOM [])
+    else (if len == 0 || nat_lt READ_BYTES len
+    || nat_lt MEMORY_BYTES (address + len) then answers d (read_answer_of id address NO_ROOM [])
     else answers d (read_answer_of id address ACCEPTED (take len (drop address d.memory))))
 
 -- A define: refused for an id past the table and for a location or a form that isn't a compressed
@@ -74,9 +76,11 @@ abbrev pub command_taken : DroneState → List ℕ → Result Command CommandFau
 command_taken d packet (Ok (Define id location form offset pieces)) =
     if nat_le TABLE_ENTRIES id || not (location == 1) || not (form == 1) then answers d (answer_of packet UNFIT)
     else (if nat_le MEMORY_BYTES offset then answers d (answer_of packet NO_ROOM)
-    else answers (record d { table = slice_set d.table id (Some (record { offset = offset; pieces = pieces })) }) (answer_of packet ACCEPTED))
+    else answers (record d { table = slice_set d.table id (Some (record { offset = offset; pieces = pieces })) })
+    (answer_of packet ACCEPTED))
 command_taken d packet (Ok (Start mask relative reversed id scale)) =
-    if not (mask == 0) || not (relative == 0) || not (reversed == 0) || not (bytes_eq scale (0 ∷ 0 ∷ 0x80 ∷ 0x3F ∷ [])) || nat_le TABLE_ENTRIES id || not (has_entry d.table id)
+    if not (mask == 0) || not (relative == 0) || not (reversed == 0) || not (bytes_eq scale (0 ∷ 0 ∷ 0x80 ∷ 0x3F ∷ []))
+    || nat_le TABLE_ENTRIES id || not (has_entry d.table id)
     then answers d (answer_of packet UNFIT)
     else answers (record d { started = Some id }) (answer_of packet ACCEPTED)
 command_taken d packet (Err fault) = silent d

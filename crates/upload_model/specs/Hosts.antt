@@ -1,6 +1,7 @@
 -- The host, as functions of the whole list h of what happened to it (docs/RADIO.md, "The upload").
 -- These are sets and counts over that list; they say nothing of how a host remembers it.
-use Rattle.std.specs.Prelude.{ℕ, zero, suc, ◌-◌, Bool, true, false, not, ◌&&◌, ◌||◌, nat_lt, ◌==◌, if◌then◌else◌, List, [], ◌∷◌, ◌++◌, length, take, map, filter, find, count_by, slice_get, Option, Some, None}
+use Rattle.std.specs.Prelude.{ℕ, zero, suc, ◌-◌, Bool, true, false, not, ◌&&◌, ◌||◌, nat_lt, ◌==◌, if◌then◌else◌, List}
+use Rattle.std.specs.Prelude.{[], ◌∷◌, ◌++◌, length, take, map, filter, find, count_by, slice_get, Option, Some, None}
 use Rattle.std.specs.List.{range_with_len, list_any, list_all, flat_map}
 use Rattle.upload_model.specs.declared.limits.TheConstants.{PACKETS_IN_FLIGHT, TICKS_TO_GIVE_UP}
 use Rattle.upload_model.specs.declared.events.Event.{Event}
@@ -22,7 +23,8 @@ Packets = ℕ → ℕ → Bool
 -- Whether all packets of all drones in this phase are acknowledged.
 unfoldable pub all_settled : Upload → Phase → Packets → Bool
 all_settled s p done =
-    list_all (λ d. list_all (done d) (range_with_len (first_of s p d) (count_of s p d))) (range_with_len 0 (drone_count s))
+    list_all (λ d. list_all (done d) (range_with_len (first_of s p d) (count_of s p d)))
+    (range_with_len 0 (drone_count s))
 
 -- The phase that the upload is in, where these packets are acknowledged: the first one in which some
 -- packet isn't; and the last one where all are.
@@ -34,7 +36,8 @@ phase_of s done =
 -- How many of a phase's packets may be in flight to drone d: all of them; but the define only once all
 -- writes of d are acknowledged.
 abbrev pub allowed : Upload → Phase → Packets → ℕ → ℕ
-allowed s Loading done d = if list_all (done d) (range_with_len 0 (write_count s d)) then load_count s d else write_count s d
+allowed s Loading done d =
+    if list_all (done d) (range_with_len 0 (write_count s d)) then load_count s d else write_count s d
 allowed s Reading done d = count_of s Reading d
 allowed s Starting done d = count_of s Starting d
 
@@ -124,7 +127,8 @@ ended_for s e (Some x) = end_of (reply_to s x.drone x.packet e)
 -- Whether an event ends the upload for this packet: it says so, it counts, and the packet isn't
 -- acknowledged.
 abbrev pub ends_for : Upload → Packets → Event → Sent → Bool
-ends_for s done e x = is_end (reply_to s x.drone x.packet e) && counts s done x.drone x.packet && not (done x.drone x.packet)
+ends_for s done e x =
+    is_end (reply_to s x.drone x.packet e) && counts s done x.drone x.packet && not (done x.drone x.packet)
 
 -- What the last event of g ends the upload with. A tick gives up for the first packet in flight that
 -- was so at 20 ticks. An answer that isn't good, to a packet that isn't acknowledged, ends it as it

@@ -19,8 +19,10 @@ IsInside offset len i = (offset ≤ i) × (i < offset + len)
 -- Each byte inside the load's range is the one from before or the load's; all else is as before.
 pub record OnlyLoads (s : Upload) (l : Load) (old new : DroneState) : Type 0 where
   pub inside : (i : ℕ) → i < length l.bytes →
-      (slice_index new.memory (s.offset + i) ≡ slice_index old.memory (s.offset + i)) ⊎ (slice_index new.memory (s.offset + i) ≡ slice_index l.bytes i)
-  pub outside : (i : ℕ) → (IsInside s.offset (length l.bytes) i → ⊥) → slice_index new.memory i ≡ slice_index old.memory i
+      (slice_index new.memory (s.offset + i) ≡ slice_index old.memory (s.offset + i))
+      ⊎ (slice_index new.memory (s.offset + i) ≡ slice_index l.bytes i)
+  pub outside : (i : ℕ) → (IsInside s.offset (length l.bytes) i → ⊥) →
+      slice_index new.memory i ≡ slice_index old.memory i
   pub length_kept : length new.memory ≡ length old.memory
   pub other_entries : (id : ℕ) → id ≢ s.trajectory_id → slice_get new.table id ≡ slice_get old.table id
   pub same_id : new.memory_id ≡ old.memory_id
@@ -28,7 +30,8 @@ pub record OnlyLoads (s : Upload) (l : Load) (old new : DroneState) : Type 0 whe
 -- Piece k of the load is in the memory.
 abbrev pub HasPiece : Upload → Load → ℕ → DroneState → Type 0
 HasPiece s l k d =
-    (i : ℕ) → i < length (chunk_of l.bytes k) → slice_index d.memory (s.offset + chunk_start k + i) ≡ slice_index (chunk_of l.bytes k) i
+    (i : ℕ) → i < length (chunk_of l.bytes k) →
+    slice_index d.memory (s.offset + chunk_start k + i) ≡ slice_index (chunk_of l.bytes k) i
 
 -- The table's entry of the session's id is the load's: the session's offset, and the load's segments.
 abbrev pub HasEntry : Upload → Load → DroneState → Type 0

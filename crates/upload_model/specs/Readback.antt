@@ -1,13 +1,15 @@
 -- What read-back says, whoever else alters a byte of a memory: for every session with read-back, all
 -- drones at the start and every list of events, whatever the link loses, repeats, delays or reorders.
-use Rattle.std.specs.Prelude.{◌≡◌, ℕ, ◌+◌, ◌-◌, ◌<◌, true, false, ◌++◌, [], ◌∷◌, Bool, List, length, take, slice_get, slice_index, Some, Contains}
+use Rattle.std.specs.Prelude.{◌≡◌, ℕ, ◌+◌, ◌-◌, ◌<◌, true, false, ◌++◌, [], ◌∷◌, Bool, List, length, take, slice_get}
+use Rattle.std.specs.Prelude.{slice_index, Some, Contains}
 use Rattle.crtp_packets.specs.Commands.{start_of}
 use Rattle.upload_model.specs.declared.events.Event.{Event}
 use Rattle.upload_model.specs.declared.events.Progress.TheVariants.{Done}
 use Rattle.upload_model.specs.declared.events.WorldEvent.{WorldEvent}
 use Rattle.upload_model.specs.declared.events.WorldEvent.TheVariants.{Take, Hear}
 use Rattle.upload_model.specs.Drones.{DroneState}
-use Rattle.upload_model.specs.Sessions.{Upload, drone_count, load_of, load_count, read_count, read_start, read_address, wanted}
+use Rattle.upload_model.specs.Sessions.{Upload, drone_count, load_of, load_count, read_count, read_start, read_address}
+use Rattle.upload_model.specs.Sessions.{wanted}
 use Rattle.upload_model.specs.Hosts.{acked, progress}
 use Rattle.upload_model.specs.Worlds.{world}
 use Rattle.upload_model.specs.Memories.{IsInside}
@@ -36,7 +38,8 @@ pub record WasRight (s : Upload) (drones : ℕ → DroneState) (events : List Wo
   pub m : ℕ
   pub takes : slice_get events given_at ≡ Some (Take d m)
   pub answer : List ℕ
-  pub gives : (world s drones (take (given_at + 1) events)).given d ≡ (world s drones (take given_at events)).given d ++ answer ∷ []
+  pub gives : (world s drones (take (given_at + 1) events)).given d
+      ≡ (world s drones (take given_at events)).given d ++ answer ∷ []
   pub numbered : length ((world s drones (take given_at events)).given d) ≡ n
   pub had : HasRange s d k ((world s drones (take given_at events)).drones d)
 
@@ -50,7 +53,8 @@ ReadsCover =
 -- At Done each read of each drone was right when it was answered.
 abbrev pub VerifiedLaw : Type 0
 VerifiedLaw =
-    (s : Upload) (drones : ℕ → DroneState) → IsCase s drones → (events : List WorldEvent) → progress s (world s drones events).heard ≡ Done →
+    (s : Upload) (drones : ℕ → DroneState) → IsCase s drones → (events : List WorldEvent) →
+    progress s (world s drones events).heard ≡ Done →
     (d k : ℕ) → d < drone_count s → k < read_count s d → WasRight s drones events d k
 
 -- No start was sent to any drone unless each read of each drone is right, and was so when it was

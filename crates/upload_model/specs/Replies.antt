@@ -1,5 +1,6 @@
 -- What an answer says of each packet of a session (docs/RADIO.md, "What an answer matches").
-use Rattle.std.specs.Prelude.{ℕ, ◌+◌, ◌-◌, Bool, true, false, not, ◌&&◌, ◌||◌, nat_lt, ◌==◌, if◌then◌else◌, List, length, take, drop, find, slice_index, Option, Some, None, Result, Ok, Err}
+use Rattle.std.specs.Prelude.{ℕ, ◌+◌, ◌-◌, Bool, true, false, not, ◌&&◌, ◌||◌, nat_lt, ◌==◌, if◌then◌else◌, List}
+use Rattle.std.specs.Prelude.{length, take, drop, find, slice_index, Option, Some, None, Result, Ok, Err}
 use Rattle.std.specs.List.{range_with_len}
 use Rattle.std.specs.Str.{bytes_eq}
 use Rattle.crtp_packets.specs.Reading.{up_of}
@@ -14,7 +15,8 @@ use Rattle.upload_model.specs.declared.events.Progress.{Progress}
 use Rattle.upload_model.specs.declared.events.Progress.TheVariants.{Going, Refused, Differs}
 use Rattle.upload_model.specs.declared.events.Reply.{Reply}
 use Rattle.upload_model.specs.declared.events.Reply.TheVariants.{Silent, Good, Ends}
-use Rattle.upload_model.specs.Sessions.{Upload, drone_count, write_count, load_count, packet_count, packet_at, is_read, read_address, wanted}
+use Rattle.upload_model.specs.Sessions.{Upload, drone_count, write_count, load_count, packet_count, packet_at, is_read}
+use Rattle.upload_model.specs.Sessions.{read_address, wanted}
 
 -- ---- which answers match which packets
 
@@ -39,7 +41,8 @@ pub record ReadBack : Type 0 where
 -- asks for.
 abbrev pub read_in : Upload → ℕ → ℕ → Result Up PacketFault → Option ReadBack
 read_in s d k (Ok (ReadAnswer id address status piece)) =
-    if id == s.memory_id && address == read_address s k && (not (status == ACCEPTED) || length piece.items == length (wanted s d k))
+    if id == s.memory_id && address == read_address s k
+    && (not (status == ACCEPTED) || length piece.items == length (wanted s d k))
     then Some (record { status = status; bytes = piece.items }) else None
 read_in s d k (Ok (WriteAnswer id address status)) = None
 read_in s d k (Ok (CommandAnswer first status)) = None
@@ -68,7 +71,8 @@ compared d address bytes got (Some i) = Ends (Differs d (address + i) (slice_ind
 abbrev pub read_reply : Upload → ℕ → ℕ → ℕ → Option ReadBack → Reply
 read_reply s d k j None = Silent
 read_reply s d k j (Some r) =
-    if r.status == ACCEPTED then compared d (read_address s j) (wanted s d j) r.bytes (first_other (wanted s d j) r.bytes)
+    if r.status == ACCEPTED
+    then compared d (read_address s j) (wanted s d j) r.bytes (first_other (wanted s d j) r.bytes)
     else Ends (Refused d k r.status)
 
 -- What a message says of packet k of drone d.
@@ -81,7 +85,8 @@ reply_in s d k m =
 unfoldable pub reply_to : Upload → ℕ → ℕ → Event → Reply
 reply_to s d k event.Tick = Silent
 reply_to s d k (event.Up from packet) =
-    if from == d && nat_lt d (drone_count s) && nat_lt k (packet_count s d) then reply_in s d k (up_of packet) else Silent
+    if from == d && nat_lt d (drone_count s) && nat_lt k (packet_count s d) then reply_in s d k (up_of packet)
+    else Silent
 
 -- Whether it says that the drone did what was wanted.
 abbrev pub is_good : Reply → Bool

@@ -1,6 +1,7 @@
 -- A session: what is to be uploaded to which place, and the packets that do it, phase by phase
 -- (docs/RADIO.md, "The packets of a session").
-use Rattle.std.specs.Prelude.{ℕ, ◌+◌, ◌-◌, ◌*◌, ◌/◌, ◌<◌, ◌≤◌, Bool, ◌&&◌, nat_lt, nat_le, ◌==◌, if◌then◌else◌, List, [], length, map, take, drop, slice_index_or}
+use Rattle.std.specs.Prelude.{ℕ, ◌+◌, ◌-◌, ◌*◌, ◌/◌, ◌<◌, ◌≤◌, Bool, ◌&&◌, nat_lt, nat_le, ◌==◌, if◌then◌else◌, List}
+use Rattle.std.specs.Prelude.{[], length, map, take, drop, slice_index_or}
 use Rattle.std.specs.List.{range_with_len}
 use Rattle.crtp_packets.specs.Chunks.{chunk_count_of, chunk_start, chunk_of}
 use Rattle.crtp_packets.specs.Packets.{write_request_of, read_request_of}
@@ -98,7 +99,8 @@ packet_count s d = start_number s d + (if s.start then 1 else 0)
 -- start. Only numbers below the count name a packet.
 unfoldable pub packet_at : Upload → ℕ → ℕ → List ℕ
 packet_at s d k =
-    if nat_lt k (write_count s d) then write_request_of s.memory_id (s.offset + chunk_start k) (chunk_of (load_of s d).bytes k)
+    if nat_lt k (write_count s d)
+    then write_request_of s.memory_id (s.offset + chunk_start k) (chunk_of (load_of s d).bytes k)
     else (if k == write_count s d then define_of s.trajectory_id s.offset (load_of s d).pieces
     else (if nat_lt k (start_number s d) then read_at s d (k - load_count s d)
     else start_of s.trajectory_id))

@@ -1,6 +1,7 @@
 -- Starts that drones take. A drone that accepts a start again begins its trajectory anew, as real firmware does: so how
 -- many it accepted says how often it began (docs/RADIO.md, "What the upload theorem says").
-use Rattle.std.specs.Prelude.{◌≡◌, ℕ, ◌+◌, ◌<◌, ◌≤◌, ◌==◌, ◌&&◌, if◌then◌else◌, Bool, true, false, List, [], ◌∷◌, ◌++◌, Option, Some, None, slice_get, take}
+use Rattle.std.specs.Prelude.{◌≡◌, ℕ, ◌+◌, ◌<◌, ◌≤◌, ◌==◌, ◌&&◌, if◌then◌else◌, Bool, true, false, List, [], ◌∷◌, ◌++◌}
+use Rattle.std.specs.Prelude.{Option, Some, None, slice_get, take}
 use Rattle.std.specs.Str.{bytes_eq}
 use Rattle.crtp_packets.specs.Commands.{start_of}
 use Rattle.upload_model.specs.declared.events.Progress.TheVariants.{Done}
@@ -14,8 +15,8 @@ use Rattle.upload_model.specs.Hosts.{progress}
 use Rattle.upload_model.specs.Worlds.{World, start_world, happens, world}
 use Rattle.upload_model.specs.Theorem.{IsCase, TakesStart}
 
--- Whether a drone begins by this packet, if there is one: it is the start of this id, and the drone has an entry of it. A drone refuses a start
--- without an entry, and accepts every other one.
+-- Whether a drone begins by this packet, if there is one: it is the start of this id, and the drone has an entry of it.
+-- A drone refuses a start without an entry, and accepts every other one.
 abbrev pub begins_by : ℕ → DroneState → Option (List ℕ) → Bool
 begins_by id x None = false
 begins_by id x (Some packet) = bytes_eq packet (start_of id) && has_entry x.table id
@@ -65,10 +66,14 @@ starts_in s d (k ∷ ks) = (if k == start_number s d then 1 else 0) + starts_in 
 abbrev pub beginnings_in : Upload → ℕ → DroneState → List ℕ → ℕ
 beginnings_in s d x [] = 0
 beginnings_in s d x (k ∷ ks) =
-    (if begins_by s.trajectory_id x (Some (packet_at s d k)) then 1 else 0) + beginnings_in s d (handled x (packet_at s d k)).drone ks
+    (if begins_by s.trajectory_id x (Some (packet_at s d k)) then 1 else 0)
+    + beginnings_in s d (handled x (packet_at s d k)).drone ks
 
--- Whoever sends a drone its packets: where it took no start before it accepted its define, it begins once for each start that it takes later.
+-- Whoever sends a drone its packets: where it took no start before it accepted its define, it begins once for each
+-- start that it takes later.
 abbrev pub EachLaw : Type 0
 EachLaw =
-    (s : Upload) (d : ℕ) (x : DroneState) (order later : List ℕ) → IsSession s → d < drone_count s → IsDrone x → AreOwn s d (order ++ later) →
-    IsAccepted s d x order (write_count s d) → starts_in s d order ≡ 0 → beginnings_in s d x (order ++ later) ≡ starts_in s d later
+    (s : Upload) (d : ℕ) (x : DroneState) (order later : List ℕ) → IsSession s → d < drone_count s → IsDrone x →
+    AreOwn s d (order ++ later) →
+    IsAccepted s d x order (write_count s d) → starts_in s d order ≡ 0 →
+    beginnings_in s d x (order ++ later) ≡ starts_in s d later

@@ -7,7 +7,8 @@ use Rattle.crtp_packets.specs.Packets.{write_answer_of}
 use Rattle.upload_model.specs.declared.limits.TheConstants.{ACCEPTED}
 use Rattle.upload_model.specs.Drones.{DroneState, handled}
 use Rattle.upload_model.specs.Memories.{IsDrone, OnlyLoads, HasEntry, HasLoad}
-use Rattle.upload_model.specs.Sessions.{Upload, IsSession, drone_count, load_count, load_of, write_count, start_number, packet_count, packet_at}
+use Rattle.upload_model.specs.Sessions.{Upload, IsSession, drone_count, load_count, load_of, write_count, start_number}
+use Rattle.upload_model.specs.Sessions.{packet_count, packet_at}
 
 -- These are numbers of packets of drone d.
 abbrev pub AreOwn : Upload → ℕ → List ℕ → Type 0
@@ -27,7 +28,8 @@ accepting s d k =
 -- At some place of these packets is packet k, and drone d answered it so.
 abbrev pub IsAccepted : Upload → ℕ → DroneState → List ℕ → ℕ → Type 0
 IsAccepted s d x ks k =
-    (i : ℕ) × (slice_get ks i ≡ Some k) × ((handled (taken s d x (take i ks)) (packet_at s d k)).answer ≡ Some (accepting s d k))
+    (i : ℕ) × (slice_get ks i ≡ Some k)
+    × ((handled (taken s d x (take i ks)) (packet_at s d k)).answer ≡ Some (accepting s d k))
 
 -- Among these packets drone d, which was x, accepted each of its writes and its define.
 abbrev pub AcceptsLoad : Upload → ℕ → DroneState → List ℕ → Type 0
@@ -42,8 +44,8 @@ pub record IsTaken (s : Upload) (d : ℕ) (x : DroneState) (ks : List ℕ) : Typ
   pub listed : IsAccepted s d x ks (write_count s d) → HasEntry s (load_of s d) (taken s d x ks)
   pub started : IsAccepted s d x ks (start_number s d) → (taken s d x ks).started ≡ Some s.trajectory_id
 
--- For every session, each drone of it, whatever that holds at the start, and every list of its packets: in any order, each of them
--- any number of times or never.
+-- For every session, each drone of it, whatever that holds at the start, and every list of its packets: in any order,
+-- each of them any number of times or never.
 abbrev pub TakingLaw : Type 0
 TakingLaw =
     (s : Upload) (d : ℕ) (x : DroneState) (ks : List ℕ) → IsSession s → d < drone_count s → IsDrone x → AreOwn s d ks →

@@ -16,16 +16,21 @@ pub record IsSafe (s : Upload) (start : ℕ → DroneState) (w : World) : Type 0
   -- Only loads are written, each to its own drone.
   pub only : (d : ℕ) → d < drone_count s → OnlyLoads s (load_of s d) (start d) (w.drones d)
   -- What is acknowledged is there.
-  pub writes_there : (d k : ℕ) → d < drone_count s → k < write_count s d → acked s w.heard d k ≡ true → HasPiece s (load_of s d) k (w.drones d)
-  pub defines_there : (d : ℕ) → d < drone_count s → acked s w.heard d (write_count s d) ≡ true → HasEntry s (load_of s d) (w.drones d)
+  pub writes_there : (d k : ℕ) → d < drone_count s → k < write_count s d → acked s w.heard d k ≡ true →
+      HasPiece s (load_of s d) k (w.drones d)
+  pub defines_there : (d : ℕ) → d < drone_count s → acked s w.heard d (write_count s d) ≡ true →
+      HasEntry s (load_of s d) (w.drones d)
   -- After Done each drone has its load and its entry, and where the session starts, it has started.
   pub loaded : (d : ℕ) → d < drone_count s → progress s w.heard ≡ Done → HasLoad s (load_of s d) (w.drones d)
   pub listed : (d : ℕ) → d < drone_count s → progress s w.heard ≡ Done → HasEntry s (load_of s d) (w.drones d)
-  pub started : (d : ℕ) → d < drone_count s → progress s w.heard ≡ Done → s.start ≡ true → (w.drones d).started ≡ Some s.trajectory_id
+  pub started : (d : ℕ) → d < drone_count s → progress s w.heard ≡ Done →
+      s.start ≡ true → (w.drones d).started ≡ Some s.trajectory_id
   -- No start was sent to any drone unless every drone has its load and its entry.
-  pub starts_last : (d i : ℕ) → d < drone_count s → i < drone_count s → Contains (w.sent d) (start_of s.trajectory_id) → HasLoad s (load_of s i) (w.drones i) × HasEntry s (load_of s i) (w.drones i)
+  pub starts_last : (d i : ℕ) → d < drone_count s → i < drone_count s → Contains (w.sent d) (start_of s.trajectory_id) →
+      HasLoad s (load_of s i) (w.drones i) × HasEntry s (load_of s i) (w.drones i)
   -- Where each drone has the session's memory id, no packet is refused.
-  pub not_refused : ((d : ℕ) → d < drone_count s → (start d).memory_id ≡ s.memory_id) → (d k status : ℕ) → progress s w.heard ≢ Refused d k status
+  pub not_refused : ((d : ℕ) → d < drone_count s → (start d).memory_id ≡ s.memory_id) → (d k status : ℕ) →
+      progress s w.heard ≢ Refused d k status
   -- No read differs.
   pub same : (d address byte got : ℕ) → progress s w.heard ≢ Differs d address byte got
 
@@ -53,7 +58,8 @@ TakesStart s w d e = (n : ℕ) × (e ≡ Take d n) × (slice_get (w.sent d) n �
 -- One event more: each drone's started id is as before, unless that drone takes a start.
 abbrev pub StartLaw : Type 0
 StartLaw =
-    (s : Upload) (drones : ℕ → DroneState) → IsCase s drones → (events : List WorldEvent) (e : WorldEvent) (d : ℕ) → d < drone_count s →
+    (s : Upload) (drones : ℕ → DroneState) → IsCase s drones → (events : List WorldEvent) (e : WorldEvent) (d : ℕ) →
+    d < drone_count s →
     (((world s drones (events ++ e ∷ [])).drones d).started ≡ ((world s drones events).drones d).started)
     ⊎ TakesStart s (world s drones events) d e
 
@@ -77,7 +83,8 @@ TakenLaw =
 abbrev pub LastingLaw : Type 0
 LastingLaw =
     (s : Upload) (drones : ℕ → DroneState) (events later : List WorldEvent) →
-    ((d k : ℕ) → acked s (world s drones events).heard d k ≡ true → acked s (world s drones (events ++ later)).heard d k ≡ true)
+    ((d k : ℕ) → acked s (world s drones events).heard d k ≡ true →
+    acked s (world s drones (events ++ later)).heard d k ≡ true)
     × (progress s (world s drones events).heard ≡ Done → progress s (world s drones (events ++ later)).heard ≡ Done)
 
 -- What was sent to a drone stays so.

@@ -1,7 +1,8 @@
 -- The world: a host, a link that loses, repeats, delays and reorders packets, the drones, and somebody
 -- else who may alter a byte of a memory. It is given by recursion on the list of what happens in it
 -- (docs/RADIO.md, "What the upload theorem says").
-use Rattle.std.specs.Prelude.{ℕ, ◌&&◌, nat_lt, ◌==◌, if◌then◌else◌, List, [], ◌∷◌, ◌++◌, map, filter, slice_get, slice_set, Option, Some, None}
+use Rattle.std.specs.Prelude.{ℕ, ◌&&◌, nat_lt, ◌==◌, if◌then◌else◌, List, [], ◌∷◌, ◌++◌, map, filter, slice_get}
+use Rattle.std.specs.Prelude.{slice_set, Option, Some, None}
 use Rattle.crtp_packets.specs.declared.chunks.TheConstants.{MEMORY_BYTES}
 use Rattle.upload_model.specs.declared.events.Event.{Event}
 use Rattle.upload_model.specs.declared.events.Event.TheVariants as event
@@ -43,7 +44,11 @@ option_list (Some packet) = packet ∷ []
 
 -- Drone d has taken a packet: it is as the packet left it, and its answer joins its answers.
 abbrev pub took : World → ℕ → Handled → World
-took w d after = record w { drones = changed w.drones d after.drone; given = changed w.given d (w.given d ++ option_list after.answer) }
+took w d after =
+    record w {
+      drones = changed w.drones d after.drone;
+      given = changed w.given d (w.given d ++ option_list after.answer);
+    }
 
 -- Drone d takes this packet, if there is one.
 abbrev pub take_named : World → ℕ → Option (List ℕ) → World

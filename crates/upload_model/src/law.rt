@@ -29,8 +29,9 @@ pub fn readback_law()
     ensures starts { StartsLastLaw }
 {}
 
-/// Whoever sends them, in whatever order and however often: once a drone's writes, its define and its start are accepted, it has its load
-/// and its entry and has started. Nothing but the load is written. Where no start came before its define, it begins once for each start.
+/// Whoever sends them, in whatever order and however often: once a drone's writes, its define and its start are
+/// accepted, it has its load and its entry and has started. Nothing but the load is written. Where no start came before
+/// its define, it begins once for each start.
 pub fn taking_law()
     ensures there { TakingLaw }
     ensures each { EachLaw }
