@@ -144,7 +144,6 @@ fn raise(row: &mut [i128; 8], degree: usize)
     row[0] = combine(0, degree + 1, row[0], row[0]);
 }
 
-// The sum of two multiples.
 fn combine(i: usize, j: usize, x: i128, y: i128) -> i128
     requires few { i + j ≤ 5040 }
     requires first { IsWithin (pos (2 ^ 113)) x }
@@ -169,7 +168,6 @@ pub fn along_at(xyz: &[Bez<8>; 3], w: [i128; 3], k: usize) -> i128
     x + y + z
 }
 
-// A value times a weight.
 fn weighted(weight: i128, value: i128) -> i128
     requires weight { IsBelow 4001 weight }
     requires value { IsBelow (2 ^ 100) value }

@@ -57,7 +57,7 @@ pub enum CommandFault {
     Unknown,
 }
 
-/// The packet of 1 to 31 bytes.
+// The packet of 1 to 31 bytes.
 fn packet_of(bytes: &[u8]) -> Packet
     requires not_empty { 1 ≤ length bytes.now }
     requires fits { length bytes.now ≤ PACKET_BYTES }
@@ -108,7 +108,7 @@ pub fn command_answer(request: &Packet, status: u8) -> Packet
     packet_of(&[COMMAND_HEADER, bytes[1], bytes[2], bytes[3], status])
 }
 
-/// The command of a payload as a function of its bytes.
+// The command of a payload as a function of its bytes.
 fn command_in(payload: &[u8]) -> Result<Command, CommandFault>
     ensures { result ≡ command_of payload.now }
 {

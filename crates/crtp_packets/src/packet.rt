@@ -37,10 +37,10 @@ pub const COMMAND_CHANNEL: u8 = 0;
 /// when a packet is read.
 pub const LINK_BITS: u8 = 3;
 
-/// The header of a read request and of its answer, as written.
+// The header of a read request and of its answer, as written.
 const READ_HEADER: u8 = 0x4D;
 
-/// The header of a write request and of its answer, as written.
+// The header of a write request and of its answer, as written.
 const WRITE_HEADER: u8 = 0x4E;
 
 /// The header of a command and of its answer, as written.
@@ -93,8 +93,8 @@ pub fn from_bytes(bytes: &[u8]) -> Result<Packet, PacketFault>
     Ok(Packet { bytes: copy })
 }
 
-/// A message of memory access: a header, a memory id, an address of four bytes, the lowest first,
-/// and what follows.
+// A message of memory access: a header, a memory id, an address of four bytes, the lowest first,
+// and what follows.
 fn message(header: u8, id: u8, address: u32, rest: &[u8]) -> Packet
     requires { length rest.now + 6 ≤ PACKET_BYTES }
     ensures { result ≡ memory_message header id address rest.now }

@@ -69,7 +69,7 @@ pub enum Up {
     },
 }
 
-/// A piece of at most 30 bytes.
+// A piece of at most 30 bytes.
 fn piece_of(bytes: &[u8]) -> Piece
     requires { length bytes.now ≤ PAYLOAD_BYTES }
     ensures { result.items ≡ bytes.now }
@@ -79,14 +79,14 @@ fn piece_of(bytes: &[u8]) -> Piece
     piece
 }
 
-/// The port and the channel in a header. The link bits between them are ignored.
+// The port and the channel in a header. The link bits between them are ignored.
 fn port_and_channel(header: u8) -> (u8, u8)
     ensures { result ≡ (port header, channel header) }
 {
     (header / 16, header % 4)
 }
 
-/// The memory id and the address with which each payload of memory access begins.
+// The memory id and the address with which each payload of memory access begins.
 fn place_in(payload: &[u8]) -> Result<(u8, u32), PacketFault>
     ensures { result ≡ if_long payload.now MEMORY_LEAST
         (slice_index payload.now 0, little_number 4 (drop 1 payload.now)) }
@@ -97,7 +97,7 @@ fn place_in(payload: &[u8]) -> Result<(u8, u32), PacketFault>
     Ok((payload[0], LittleEndian::read_u32(&payload[1..])))
 }
 
-/// What the bytes of a packet tell a drone.
+// What the bytes of a packet tell a drone.
 fn down_in(bytes: &[u8]) -> Result<Down, PacketFault>
     requires not_empty { 1 ≤ length bytes.now }
     requires fits { length bytes.now ≤ PACKET_BYTES }
@@ -126,7 +126,7 @@ fn down_in(bytes: &[u8]) -> Result<Down, PacketFault>
     }
 }
 
-/// The message towards a drone that the bytes of a packet are.
+// The message towards a drone that the bytes of a packet are.
 fn down_message(bytes: &[u8]) -> Result<Down, PacketFault>
     requires not_empty { 1 ≤ length bytes.now }
     requires fits { length bytes.now ≤ PACKET_BYTES }
@@ -151,7 +151,7 @@ pub fn parse_down(p: &Packet) -> Result<Down, PacketFault>
     down_message(p.bytes())
 }
 
-/// What the bytes of a packet tell the host.
+// What the bytes of a packet tell the host.
 fn up_in(bytes: &[u8]) -> Result<Up, PacketFault>
     requires not_empty { 1 ≤ length bytes.now }
     requires fits { length bytes.now ≤ PACKET_BYTES }
@@ -191,7 +191,7 @@ fn up_in(bytes: &[u8]) -> Result<Up, PacketFault>
     }
 }
 
-/// The message towards the host that the bytes of a packet are.
+// The message towards the host that the bytes of a packet are.
 fn up_message(bytes: &[u8]) -> Result<Up, PacketFault>
     requires not_empty { 1 ≤ length bytes.now }
     requires fits { length bytes.now ≤ PACKET_BYTES }

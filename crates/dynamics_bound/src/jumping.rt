@@ -115,7 +115,6 @@ fn or_greater(most: Jump, speed: u64, edge: usize) -> Jump
     most
 }
 
-// None of three jumps is above 0.
 fn are_none(speeds: [u64; 3]) -> bool
     ensures { (f : ℕ → ℕ) → speeds ≡ three f → result ≡ (nat_eq (f 0) 0 && nat_eq (f 1) 0 && nat_eq (f 2) 0) }
 {

@@ -129,7 +129,6 @@ impl Reached {
         jump_between(self.arrival, first_velocity(self.value, element, ms))
     }
 
-    // The jump to rest.
     fn stop(&self) -> u64
         requires arrived { 1 ≤ self.now.arrival.ms }
         ensures exact { result ≡ jump_between self.now.arrival rest }

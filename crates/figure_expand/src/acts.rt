@@ -20,7 +20,6 @@ fn framed(f: &Frame, p: Point) -> Point
     apply(f, p)
 }
 
-// A yaw in the show's frame.
 #[tactic(auto, using(crate::proofs::Reach::heading_fits))]
 fn framed_yaw(f: &Frame, yaw: i64) -> i64
     requires frame { FitsFrame f.now }
@@ -39,7 +38,6 @@ fn framed_yaw(f: &Frame, yaw: i64) -> i64
     .yaw
 }
 
-// The centre of an arc and the yaw at its end, in the show's frame.
 #[tactic(auto, using(crate::proofs::Reach::centre_fits))]
 fn framed_centre(f: &Frame, cx: i64, cy: i64, yaw: i64) -> Point
     requires frame { FitsFrame f.now }
@@ -59,7 +57,6 @@ fn framed_centre(f: &Frame, cx: i64, cy: i64, yaw: i64) -> Point
     )
 }
 
-// A control point in the show's frame.
 #[tactic(auto, using(crate::proofs::Reach::triple_fits))]
 fn framed_triple(f: &Frame, v: &[i64; 3]) -> [i64; 3]
     requires frame { FitsFrame f.now }
@@ -89,7 +86,6 @@ fn framed_sense(mirror: Mirror, ccw: bool) -> bool
     }
 }
 
-// An act in the show's frame.
 #[tactic(auto, using(crate::proofs::Reach::curve_fits))]
 fn framed_act(f: &Frame, act: &Act) -> Act
     requires frame { FitsFrame f.now }

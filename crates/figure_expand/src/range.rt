@@ -20,7 +20,6 @@ use cue_grid::{Cue, Grid, Job};
 use mm_rounding::Axis;
 use std::alloc::{AllocError, Global};
 
-// The number of the axis of yaw.
 const YAW: u8 = 3;
 
 // The least and the greatest position in micrometres that round to 16 bits of millimetres, a half up.
@@ -80,7 +79,6 @@ fn axes_fault(line: u32, curves: &[Axis; 4]) -> Option<AxisValue>
     None
 }
 
-// The first number of a start that does not fit.
 fn point_fault(line: u32, p: &Point) -> Option<AxisValue>
     ensures { result ≡ first_unfit (point_values line p.now) }
 {
@@ -93,7 +91,6 @@ fn point_fault(line: u32, p: &Point) -> Option<AxisValue>
     axes_fault(line, &curves)
 }
 
-// The first number of the starts that does not fit.
 fn starts_fault(starts: &[DroneLine]) -> Option<AxisValue>
     ensures { result ≡ first_unfit (start_values starts.now) }
 {
@@ -150,7 +147,6 @@ fn cues_fault(points: &mut [Point], cues: &[Cue]) -> Option<AxisValue>
     None
 }
 
-// Where the drones start.
 fn points_of(alloc: Global, starts: &[DroneLine]) -> Result<Vec<Point>, AllocError>
     ensures { IfOk result (λ points. points.items ≡ start_points starts.now) }
 {

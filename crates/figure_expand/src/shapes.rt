@@ -49,7 +49,6 @@ fn end_y(ccw: bool, vx: i64, vy: i64) -> i64
     if ccw { vx } else { -vx }
 }
 
-// The control points of a quarter arc on one axis.
 fn arc_points(present: i64, centre: i64, v: i64, w: i64) -> [i64; 4]
     requires present { IsUpTo (2 ^ 40) present }
     requires centre { IsUpTo (2 ^ 28) centre }
@@ -72,7 +71,6 @@ fn way(present: i64, centre: i64) -> i64
     present - centre
 }
 
-// The control points of a quarter arc on x.
 fn arc_x(p: &Point, ccw: bool, cx: i64, cy: i64) -> [i64; 4]
     requires point { IsPointUpTo (2 ^ 40) p.now }
     requires x { IsUpTo (2 ^ 28) cx }
@@ -85,7 +83,6 @@ fn arc_x(p: &Point, ccw: bool, cx: i64, cy: i64) -> [i64; 4]
     arc_points(p.x, cx, vx, wx)
 }
 
-// The control points of a quarter arc on y.
 fn arc_y(p: &Point, ccw: bool, cx: i64, cy: i64) -> [i64; 4]
     requires point { IsPointUpTo (2 ^ 40) p.now }
     requires x { IsUpTo (2 ^ 28) cx }
@@ -133,7 +130,6 @@ const ARC_OUT: [(u32, u32); 8] = [
     (0, 1_000_000),
 ];
 
-// The shares of an eased arc.
 #[tactic(auto, using(crate::proofs::Eased::shares_small))]
 fn shares(ease: Ease) -> &'static [(u32, u32); 8]
     ensures value { result.now ≡ shares ease }
@@ -157,7 +153,6 @@ fn millionths(share: u32, s: i64) -> i64
     (i64::from(share) * s + MILLION / 2).div_euclid(MILLION)
 }
 
-// A control point of an eased arc on one axis.
 fn eased_point(centre: i64, v: i64, w: i64, share: &(u32, u32)) -> i64
     requires centre { IsUpTo (2 ^ 28) centre }
     requires v { IsUpTo (2 ^ 41) v }
@@ -170,7 +165,6 @@ fn eased_point(centre: i64, v: i64, w: i64, share: &(u32, u32)) -> i64
     centre + first + second
 }
 
-// The control points of an eased arc on one axis.
 fn eased_points(ease: Ease, centre: i64, v: i64, w: i64) -> [i64; 8]
     requires centre { IsUpTo (2 ^ 28) centre }
     requires v { IsUpTo (2 ^ 41) v }
@@ -185,7 +179,6 @@ fn eased_points(ease: Ease, centre: i64, v: i64, w: i64) -> [i64; 8]
     points
 }
 
-// The control points of an eased arc on x.
 fn eased_x(p: &Point, ease: Ease, ccw: bool, cx: i64, cy: i64) -> [i64; 8]
     requires point { IsPointUpTo (2 ^ 40) p.now }
     requires x { IsUpTo (2 ^ 28) cx }
@@ -197,7 +190,6 @@ fn eased_x(p: &Point, ease: Ease, ccw: bool, cx: i64, cy: i64) -> [i64; 8]
     eased_points(ease, cx, vx, end_x(ccw, vx, vy))
 }
 
-// The control points of an eased arc on y.
 fn eased_y(p: &Point, ease: Ease, ccw: bool, cx: i64, cy: i64) -> [i64; 8]
     requires point { IsPointUpTo (2 ^ 40) p.now }
     requires x { IsUpTo (2 ^ 28) cx }
@@ -209,14 +201,12 @@ fn eased_y(p: &Point, ease: Ease, ccw: bool, cx: i64, cy: i64) -> [i64; 8]
     eased_points(ease, cy, vy, end_y(ccw, vx, vy))
 }
 
-// The value stays.
 fn still(v: i64) -> Axis
     ensures { result ≡ One v }
 {
     Axis::One { v }
 }
 
-// Straight, evenly.
 fn even(from: i64, to: i64) -> Axis
     ensures { result ≡ Two (from ∷ to ∷ []) }
 {
@@ -237,14 +227,12 @@ const SQUARES: [u16; 8] = [0, 0, 2, 6, 12, 20, 30, 42];
 
 const SQUARES_LEFT: [u16; 8] = [42, 30, 20, 12, 6, 2, 0, 0];
 
-// The control points of u^2.
 fn squares() -> &'static [u16; 8]
     ensures { result.now ≡ squares }
 {
     &SQUARES
 }
 
-// The control points of (1 - u)^2.
 fn squares_left() -> &'static [u16; 8]
     ensures { result.now ≡ squares_left }
 {
@@ -261,7 +249,6 @@ fn forty_seconds(n: u16, s: i64) -> i64
     (i64::from(n) * s + 21).div_euclid(42)
 }
 
-// The turn from one yaw to another.
 fn turn(d: i64, e: i64) -> i64
     requires d { IsUpTo (2 ^ 40) d }
     requires e { IsUpTo (2 ^ 28) e }
@@ -319,7 +306,6 @@ fn yaws_out(d: i64, e: i64) -> [i64; 8]
     points
 }
 
-// The yaw of an eased arc.
 fn eased_yaw(ease: Ease, d: i64, e: i64) -> Axis
     requires d { IsUpTo (2 ^ 40) d }
     requires e { IsUpTo (2 ^ 28) e }
@@ -332,7 +318,6 @@ fn eased_yaw(ease: Ease, d: i64, e: i64) -> Axis
     }
 }
 
-// A cubic.
 fn curve(from: i64, first: i64, second: i64, to: i64) -> Axis
     ensures { result ≡ Four (from ∷ first ∷ second ∷ to ∷ []) }
 {

@@ -37,7 +37,7 @@ pub fn make(memory_id: u8, memory: [u8; MEMORY_BYTES]) -> Drone
     }
 }
 
-/// Writes the bytes from a place on.
+// Writes the bytes from a place on.
 fn store(memory: &mut [u8], at: usize, bytes: &[u8])
     requires room { at + length bytes.now ≤ length memory.old }
     ensures { memory.new ≡ stored memory.old at bytes.now }
@@ -59,7 +59,6 @@ impl Drone {
         self.step(packet)
     }
 
-    /// One step of the drone.
     #[tactic(auto, unfolding(upload_model::specs::Drones::handled))]
     fn step(&mut self, packet: &Packet) -> Option<Packet>
         ensures state { shown self.new ≡ (handled (shown self.old) packet.now).drone }
@@ -77,7 +76,6 @@ impl Drone {
         }
     }
 
-    /// Takes a write.
     fn write(&mut self, id: u8, address: u32, bytes: &[u8]) -> Packet
         requires few { length bytes.now ≤ PAYLOAD_BYTES }
         ensures state { shown self.new ≡ (write_taken (shown self.old) id address bytes.now).drone }
@@ -94,7 +92,6 @@ impl Drone {
         write_answer(id, address, ACCEPTED)
     }
 
-    /// Takes a read.
     fn read(&self, id: u8, address: u32, len: u8) -> Packet
         ensures state { shown self.now ≡ (read_taken (shown self.now) id address len).drone }
         ensures answer { Some result ≡ (read_taken (shown self.now) id address len).answer }
@@ -110,7 +107,6 @@ impl Drone {
         read_answer(id, address, ACCEPTED, &self.memory[at..at + len])
     }
 
-    /// Takes a command.
     fn command(&mut self, packet: &Packet, payload: &[u8]) -> Option<Packet>
         requires long { length packet.now ≡ length payload.now + 1 }
         ensures state { shown self.new ≡ (command_taken (shown self.old) packet.now (command_of payload.now)).drone }

@@ -129,7 +129,6 @@ impl Curves {
     }
 }
 
-// The first three curves less the others.
 fn differences(second: &[[i32; 8]; 3], first: &[[i32; 8]; 3]) -> Difference
     requires second { AreSmallCurves (curves_of second.now) }
     requires first { AreSmallCurves (curves_of first.now) }
@@ -144,7 +143,6 @@ fn differences(second: &[[i32; 8]; 3], first: &[[i32; 8]; 3]) -> Difference
     ])
 }
 
-// One control value less another.
 fn value_less(second: i32, first: i32) -> i32
     requires second { IsBelow (2 ^ 28) second }
     requires first { IsBelow (2 ^ 28) first }
@@ -153,7 +151,6 @@ fn value_less(second: i32, first: i32) -> i32
     second - first
 }
 
-// One row of control values less another.
 fn row_less(second: &[i32; 8], first: &[i32; 8]) -> [i32; 8]
     requires second { All (IsBelow (2 ^ 28)) second.now }
     requires first { All (IsBelow (2 ^ 28)) first.now }
@@ -166,7 +163,6 @@ fn row_less(second: &[i32; 8], first: &[i32; 8]) -> [i32; 8]
     row
 }
 
-// One curve less another.
 fn one_less(second: &[[i32; 8]; 3], first: &[[i32; 8]; 3], axis: usize) -> [i32; 8]
     requires axis { axis < 3 }
     requires second { AreSmallCurves (curves_of second.now) }

@@ -36,7 +36,6 @@ pub(crate) fn narrowed(curve: &Bez<8>) -> [i32; 8]
     row
 }
 
-// A control value in 32 bits.
 fn narrow(value: i128) -> i32
     requires { IsBelow (2 ^ 30) value }
     ensures { result ≡ value }

@@ -22,7 +22,6 @@ fn put(out: &mut FrameBytes, byte: u8)
     out.push(byte);
 }
 
-// A signed number of two bytes.
 fn put_signed(out: &mut FrameBytes, v: i16)
     requires { length out.old.items ≤ 13 }
     ensures { out.new.items ≡ out.old.items ++ signed v }
@@ -33,7 +32,6 @@ fn put_signed(out: &mut FrameBytes, v: i16)
     put(out, bytes[1]);
 }
 
-// A time, in four bytes.
 fn put_time(out: &mut FrameBytes, ms: u32)
     requires { length out.old.items ≤ 11 }
     ensures { out.new.items ≡ out.old.items ++ little_bytes 4 ms }

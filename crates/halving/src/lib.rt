@@ -126,7 +126,6 @@ fn sums<const BITS: usize>(row: &mut [i128; 8], last: usize)
     }
 }
 
-// The sum of two numbers.
 fn sum<const BITS: usize>(x: i128, y: i128) -> i128
     requires word { IsWord BITS }
     requires x { IsWithin (pos (2 ^ (BITS - 3))) x }
@@ -156,7 +155,6 @@ fn doubled<const BITS: usize>(x: i128, times: usize) -> i128
     }
 }
 
-// 2 to a power of 0 to 7.
 fn power_of_two(times: usize) -> i64
     requires { times ≤ 7 }
     ensures { result ≡ pos (2 ^ times) }

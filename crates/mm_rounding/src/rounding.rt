@@ -71,7 +71,6 @@ fn shorts<const N: usize>(v: &[i64; N]) -> Option<[i16; N]>
     Some(row)
 }
 
-// Whether all control values equal the first one.
 fn are_equal(v: &[i16]) -> bool
     requires { 1 ≤ length v.now }
     ensures { result ≡ all_equal v.now }
@@ -80,7 +79,6 @@ fn are_equal(v: &[i16]) -> bool
     v.iter().all(|number| *number == first)
 }
 
-// The element with two control values.
 fn linear(v: &[i16; 2]) -> Element
     ensures { result ≡ element_of (Two v.now) }
 {
@@ -91,7 +89,6 @@ fn linear(v: &[i16; 2]) -> Element
     }
 }
 
-// The element with four control values.
 fn cubic(v: &[i16; 4]) -> Element
     ensures { result ≡ element_of (Four v.now) }
 {
@@ -104,7 +101,6 @@ fn cubic(v: &[i16; 4]) -> Element
     }
 }
 
-// The element with eight control values.
 fn seven(v: &[i16; 8]) -> Element
     ensures { result ≡ element_of (Eight v.now) }
 {

@@ -12,7 +12,6 @@ ghost use Rattle.quantities.specs.declared.unit.Shift.TheVariants as shift;
 use crate::unit::{Counts, Shift, shift_of};
 use text_lines::{LARGE, NumberFault, natural, number_in};
 
-// Whether a byte is a decimal digit.
 fn is_digit(byte: u8) -> bool
     ensures { result ≡ is_digit_of byte }
 {
@@ -98,7 +97,6 @@ fn moved_left(whole: &[u8], fraction: &[u8], places: usize) -> Option<u64>
     }
 }
 
-// The point goes to the right or to the left.
 fn moved(shift: Shift, whole: &[u8], fraction: &[u8]) -> Option<u64>
     requires whole { AreDigits whole.now }
     requires fraction { AreDigits fraction.now }

@@ -49,7 +49,6 @@ pub fn write_certificate(alloc: Global, cert: &Certificate) -> Result<Vec<u8>, A
     Ok(text)
 }
 
-// The lines in front of the trees.
 fn put_head(text: &mut Vec<u8>, version: u8, depth: Depth) -> Result<(), AllocError>
     requires version { IsVersion version }
     ensures { OnOk result (text.new.items ≡ text.old.items ++ flat_map fed (head_lines version depth)) }
@@ -76,7 +75,6 @@ fn put_tree(text: &mut Vec<u8>, version: u8, nodes: &[Node]) -> Result<(), Alloc
     Ok(())
 }
 
-// A node, after other text.
 fn put_node(text: &mut Vec<u8>, version: u8, node: Node) -> Result<(), AllocError>
     requires version { IsVersion version }
     requires known { IsKnown (known_in version) node }
@@ -94,7 +92,6 @@ fn put_node(text: &mut Vec<u8>, version: u8, node: Node) -> Result<(), AllocErro
     }
 }
 
-// A split.
 fn put_split(text: &mut Vec<u8>) -> Result<(), AllocError>
     ensures { OnOk result (text.new.items ≡ text.old.items ++ (46 ∷ [])) }
 {
@@ -134,7 +131,6 @@ pub fn depth_of(line: &[u8]) -> Option<Depth>
     None
 }
 
-// Whether a line says a depth.
 fn says_depth(line: &[u8], depth: Depth) -> bool
     ensures { IsTrue result ↔ (line.now ≡ depth_line depth) }
 {

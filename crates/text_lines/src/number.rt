@@ -19,14 +19,12 @@ pub enum NumberFault {
 /// The greatest number that is told from greater ones. The bounds of all numbers that are read lie below it.
 pub const LARGE: u64 = 1_000_000_000_000;
 
-// Whether a byte is a decimal digit.
 fn is_digit(byte: u8) -> bool
     ensures { result ≡ is_digit_of byte }
 {
     matches!(byte, b'0'..=b'9')
 }
 
-// Whether the four bytes from a place on are decimal digits.
 fn are_four_digits(word: &[u8], at: usize) -> bool
     requires { at + 4 ≤ length word.now }
     ensures { result ≡ are_digits_at word.now at }
@@ -34,7 +32,6 @@ fn are_four_digits(word: &[u8], at: usize) -> bool
     is_digit(word[at]) && is_digit(word[at + 1]) && is_digit(word[at + 2]) && is_digit(word[at + 3])
 }
 
-// The number that the four digits from a place on spell.
 fn four_digits(word: &[u8], at: usize) -> u64
     requires within { at + 4 ≤ length word.now }
     requires digits { are_digits_at word.now at ≡ true }

@@ -38,7 +38,6 @@ pub fn visible(line: &[u8], comments: Comments) -> &[u8]
     }
 }
 
-// Whether a byte separates words.
 fn is_blank(byte: u8) -> bool
     ensures { result ≡ is_blank_of byte }
 {

@@ -53,7 +53,6 @@ fn weighted(axis: u16, x: i128) -> i128
     square(axis) as i128 * x
 }
 
-// The square of a half axis.
 fn square(axis: u16) -> u64
     requires { IsAxis axis }
     ensures exact { result ≡ axis * axis }

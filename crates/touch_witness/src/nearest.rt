@@ -102,7 +102,6 @@ fn nearest_in_cue(
     best
 }
 
-// The closest pair at an instant.
 fn nearest_at(
     trajs: &[Traj],
     starts: &[Start; MOST_DRONES],

@@ -90,7 +90,6 @@ pub fn places(
     all
 }
 
-// Where a drone begins the first cue.
 fn first_start(t: &Traj) -> Start
     ensures { IsStart t.now 0 result }
 {
@@ -101,7 +100,6 @@ fn first_start(t: &Traj) -> Start
     }
 }
 
-// Where a drone begins the next cue.
 fn next_start(t: &Traj, start: Start, cue: usize) -> Start
     requires cue { HasCue cue t.now }
     requires start { IsStart t.now cue start }
@@ -127,7 +125,6 @@ fn place_of(t: &Traj, start: Start, cue: usize, at: u8, fine: Fine) -> Point
     place(start, &t.segments.as_slice()[cue], at, fine)
 }
 
-// The position at a fraction of a segment.
 fn place(start: Start, s: &Segment, at: u8, fine: Fine) -> Point
     requires at { at ≤ 2 ^ fine }
     ensures x { result.x ≡ position start.x (element_on s.now 0) (pos at) (pos (2 ^ fine)) }
@@ -143,7 +140,6 @@ fn place(start: Start, s: &Segment, at: u8, fine: Fine) -> Point
     }
 }
 
-// The position on one axis at a fraction of a segment.
 fn position(first: i16, element: Element, at: u8, fine: Fine) -> i128
     requires at { at ≤ 2 ^ fine }
     ensures exact { result ≡ position first element (pos at) (pos (2 ^ fine)) }
@@ -192,7 +188,6 @@ pub fn part_power(fine: Fine, times: u32) -> i128
     (fine.parts() as u128).pow(times) as i128
 }
 
-// The control values of a cubic.
 fn cubic(first: i16, v: [i16; 3]) -> Bez<4>
     ensures exact { result.b ≡ first ∷ v }
     ensures size { length result.b ≡ 4 }
@@ -203,7 +198,6 @@ fn cubic(first: i16, v: [i16; 3]) -> Bez<4>
     }
 }
 
-// The control values of a curve of degree seven.
 fn seven(first: i16, v: [i16; 7]) -> Bez<8>
     ensures exact { result.b ≡ first ∷ v }
     ensures size { length result.b ≡ 8 }

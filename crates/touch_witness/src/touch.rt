@@ -58,7 +58,6 @@ fn first_site(trajs: &[Traj], axes: Axes, fine: Fine) -> Option<Touch>
     None
 }
 
-// The first touch in a cue.
 fn touch_in_cue(
     trajs: &[Traj],
     starts: &[Start; MOST_DRONES],

@@ -58,7 +58,6 @@ fn put_next(segments: &mut Vec<Segment>, held: u16, s: &Segment) -> Result<u16, 
     Ok(s.ms)
 }
 
-// The holds in front, as one segment.
 fn put_held(segments: &mut Vec<Segment>, held: u16) -> Result<(), AllocError>
     ensures { OnOk result
         ((later : List Segment) → segments.new.items ++ later ≡ segments.old.items ++ put_held held later) }
@@ -76,14 +75,12 @@ fn is_hold(s: &Segment) -> bool
     s.elements.iter().all(|element| stays(*element))
 }
 
-// Whether the element's value stays.
 fn stays(element: Element) -> bool
     ensures { result ≡ stays element }
 {
     matches!(element, Element::Constant)
 }
 
-// The hold of this many milliseconds.
 fn hold(ms: u16) -> Segment
     ensures { result ≡ hold ms }
 {
