@@ -8,7 +8,7 @@ import unittest
 import common  # by which the package is found
 from hemtoghai.language import choreo
 from hemtoghai.seeing import studio_work
-from hemtoghai.seeing.studio_places import last_lines, places_at
+from hemtoghai.seeing.studio_places import places_at
 from hemtoghai.seeing.studio_words import words_of_language
 
 TEXT = """choreo 1
@@ -97,8 +97,8 @@ class Places(unittest.TestCase):
 
     def test_last_lines(self):
         """In a cue a drone may have the name of any word."""
-        text = b"cue 1\ncue hold\nend\nrepeat 2\ncue 1\nend\nend\n"
-        self.assertEqual(last_lines(text), {1: 3, 4: 7, 5: 6})
+        top = choreo.read(b"choreo 1\ncue 1\ncue hold\nend\nrepeat 2\ncue 1\nend\nend\n")
+        self.assertEqual({line.number: line.last for line in choreo.inside(top)}, {2: 4, 3: 3, 5: 8, 6: 7})
 
 
 class Words(unittest.TestCase):
@@ -127,7 +127,7 @@ class Marks(unittest.TestCase):
         studio_work.MARK_TIME, studio_work.MOST_MARKS, studio_work.MOST_MEASURED = 0, 4, 7
         try:
             with contextlib.redirect_stdout(out):
-                studio_work.put_marks(flown, studio_work.forms_of(flown), 6)
+                studio_work.put_marks(flown, 6)
         finally:
             studio_work.MARK_TIME, studio_work.MOST_MARKS, studio_work.MOST_MEASURED = before
         rows = [json.loads(line) for line in out.getvalue().splitlines()]

@@ -51,18 +51,16 @@ def report(made: Dealt, before: list[State]) -> None:
 
 # ---- the text
 
-def block(lines: list[bytes], written: choreo.Line, dealt: choreo.Line, name: str,
-          form: int) -> tuple[int, list[bytes]]:
-    """The lines of a formation's block as it is dealt, under this name and in this form, and its last line's index."""
-    last = next(k for k in range(written.body[-1].number, len(lines)) if lines[k].split(b"#")[0].split() == [b"end"])
-    out = lines[written.number - 1:last + 1]
+def block(lines: list[bytes], written: choreo.Line, dealt: choreo.Line, name: str, form: int) -> list[bytes]:
+    """The lines of a formation's block as it is dealt, under this name and in this form."""
+    out = lines[written.number - 1:written.last]
     if name != written.values[0]:
         out[0] = with_words(out[0], "formation " + name)
     for old, new in zip(written.body, dealt.body):
         if old.values != new.values:
             at = old.number - written.number
             out[at] = with_words(out[at], " ".join(choreo.words_of(new, form)))
-    return last, out
+    return out
 
 
 def with_names(line: bytes, names: list[str], kind: str) -> bytes:
@@ -91,19 +89,20 @@ def rewritten(text: bytes, made: Dealt) -> tuple[bytes, Callable[[int], int]]:
             called = name if not ways else free_name(name, names)
             names.add(called)
             ways.append((places, called))
-            last, own = block(lines, flown.show.formations[name], formation, called, flown.show.form)
+            written = flown.show.formations[name]
+            own = block(lines, written, formation, called, flown.show.form)
             if called == name:
-                new[formation.number - 1:last + 1] = own
+                new[written.number - 1:written.last] = own
             else:
-                after.setdefault(last, []).extend(own)
+                after.setdefault(written.last, []).extend(own)
         called = next(called for way, called in ways if way == places)
         if called != name:
             new[line.number - 1] = with_words(new[line.number - 1], "form %s %s" % (called, line.values[1]))
     for line in made.renamed():
         new[line.number - 1] = with_names(new[line.number - 1], names_of(line), line.kind)
     for last in sorted(after, reverse=True):
-        new[last + 1:last + 1] = after[last]
-    return b"\n".join(new), lambda number: number + sum(len(own) for last, own in after.items() if last < number - 1)
+        new[last:last] = after[last]
+    return b"\n".join(new), lambda number: number + sum(len(own) for last, own in after.items() if last < number)
 
 
 def judged(text: bytes, deep: int) -> int:

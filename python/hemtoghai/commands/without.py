@@ -19,7 +19,6 @@ from collections.abc import Collection
 from hemtoghai.companion import add_depth, ask_check, flown_of, missing, parser, stop
 from hemtoghai.language import choreo
 from hemtoghai.language.lines import free_name, line_in, with_words
-from hemtoghai.seeing.studio_places import last_lines
 
 IDLE = "nobody"  # the role of a figure in which nobody acts
 
@@ -28,7 +27,7 @@ class Editor:
     """The lines of a show: which of them go, what stands in the place of others, and what comes after some."""
 
     def __init__(self, text: bytes, show: choreo.Show, gone: Collection[str]) -> None:
-        self.lines, self.show, self.gone, self.ends = text.split(b"\n"), show, set(gone), last_lines(text)
+        self.lines, self.show, self.gone = text.split(b"\n"), show, set(gone)
         self.dropped: set[int] = set()
         self.changed: dict[int, bytes] = {}
         self.after: dict[int, list[tuple[str, list[bytes]]]] = {}
@@ -36,7 +35,7 @@ class Editor:
 
     def drop(self, line: choreo.Line) -> None:
         """A line goes, with the block that it opens."""
-        self.dropped.update(range(line.number, self.ends.get(line.number, line.number) + 1))
+        self.dropped.update(range(line.number, line.last + 1))
 
     def drop_drones(self) -> None:
         """Drops the drones, their places and their acts outside figures, and what is left empty."""
@@ -77,9 +76,9 @@ class Editor:
             self.changed[figure.number] = head
             self.dropped |= acts
         else:
-            rows = [self.lines[number - 1] for number in range(figure.number + 1, self.ends[figure.number] + 1)
+            rows = [line for number, line in enumerate(self.lines[figure.number:figure.last], figure.number + 1)
                     if number not in acts]
-            self.after.setdefault(self.ends[figure.number], []).append((name, [head, *rows]))
+            self.after.setdefault(figure.last, []).append((name, [head, *rows]))
 
     def cut_perform(self, line: choreo.Line, name: str) -> None:
         """A perform of a figure without the roles of drones that are gone."""

@@ -8,6 +8,7 @@ proves nothing; where it and the program differ, one of them is wrong.
 from __future__ import annotations
 
 import re
+import struct
 from collections.abc import Iterator, Sequence
 from typing import Any, Dict, List, NamedTuple, Tuple
 
@@ -84,11 +85,11 @@ def fault(number: int, word: str, outcome: str | None = None) -> Refused:
 
 
 class Line:
-    """A line: its number, its kind, the values of its words, and the lines of the block that it opens. The root of a
-    text, of the kind `top`, has the form of the language as its value."""
+    """A line: its number, its kind, the values of its words, the lines of the block that it opens, and the number of
+    the line that closes it. The root of a text, of the kind `top`, has the form of the language as its value."""
 
     def __init__(self, number: int, kind: str, values: list[Any]) -> None:
-        self.number, self.kind, self.values = number, kind, values
+        self.number, self.kind, self.values, self.last = number, kind, values, number
         self.body: list[Line] = []
 
 
@@ -183,7 +184,7 @@ def add_line(line: Line, blocks: list[Line]) -> None:
     if line.kind == "end":
         if blocks[-1].kind != "cue" and not blocks[-1].body:
             raise fault(line.number, "empty-block")
-        blocks.pop()
+        blocks.pop().last = line.number
         return
     blocks[-1].body.append(line)
     if line.kind in OPENING:
@@ -357,12 +358,14 @@ def goal(frame: Sequence[Any], act: str, numbers: Sequence[Any]) -> Any:
 
 
 class Cue:
-    """A cue written out: milliseconds, by drone the line, the act and its goal, its line, and what it stands in, from
-    outside in: ("repeat", line, turn, of) and ("perform", line, figure)."""
+    """A cue written out: its line, by drone the line, the act and its goal, by drone the line of its act or of its
+    place in a formation, and what it stands in, from outside in: ("repeat", line, turn, of), ("perform", line, figure).
+    """
 
-    def __init__(self, milliseconds: int, acts: dict[str, tuple[int, str, Any]], number: int, within: tuple[Any,
-                  ...]) -> None:
-        self.milliseconds, self.acts, self.number, self.within = milliseconds, acts, number, within
+    def __init__(self, line: Line, acts: dict[str, tuple[int, str, Any]], places: dict[str, int],
+                 within: tuple[Any, ...]) -> None:
+        self.line, self.acts, self.places, self.within = line, acts, places, within
+        self.number, self.milliseconds = line.number, int(line.values[0])
 
 
 def written_out(show: Show, lines: list[Line], frame: Sequence[Any] = ("none", 0, 0, 0, 0), players: dict[str,
@@ -378,16 +381,16 @@ def written_out(show: Show, lines: list[Line], frame: Sequence[Any] = ("none", 0
             yield from written_out(show, figure.body, line.values[1:6], dict(zip(figure.values[1:], line.values[6:])),
                                    (*within, ("perform", line.number, line.values[0])))
         else:
-            acts = {}
+            acts, places = {}, {}
             for inner in line.body:
-                if inner.kind == "form":
-                    formation, act = inner.values
-                    for place in show.formations[formation].body:
-                        acts[place.values[0]] = inner.number, act, goal(frame, act, place.values[1:])
-                else:
-                    name, act, *numbers = inner.values
-                    acts[players[name] if players else name] = inner.number, act, goal(frame, act, numbers)
-            yield Cue(line.values[0], acts, line.number, within)
+                formed = show.formations[inner.values[0]].body if inner.kind == "form" else [inner]
+                for place in formed:
+                    name, *numbers = place.values
+                    act = inner.values[1] if place is not inner else numbers.pop(0)
+                    name = players[name] if players else name
+                    acts[name] = inner.number, act, goal(frame, act, numbers)
+                    places[name] = place.number
+            yield Cue(line, acts, places, within)
 
 
 # ---- curves and bytes
@@ -485,20 +488,15 @@ def joined(flight: list[Segment]) -> list[Segment]:
     return out
 
 
-def two_bytes(v: int) -> bytes:
-    """A signed number, its lower byte first."""
-    return v.to_bytes(2, "little", signed=True)
-
-
 def segment_bytes(milliseconds: int, elements: list[Row]) -> bytes:
     header = sum(KINDS[len(e)] << (2 * k) for k, e in enumerate(elements))
-    numbers = b"".join(two_bytes(v) for e in elements for v in e[1:])
-    return bytes([header]) + milliseconds.to_bytes(2, "little") + numbers
+    numbers = [v for e in elements for v in e[1:]]
+    return struct.pack("<BH%dh" % len(numbers), header, milliseconds, *numbers)
 
 
 def bytes_of(start: Row, segments: list[Segment]) -> bytes:
     """A trajectory's bytes: its start in micrometres, its segments as (milliseconds, elements), and the ending."""
-    out = b"".join(two_bytes(rounded(v) if k < 3 else v) for k, v in enumerate(start))
+    out = struct.pack("<4h", *map(rounded, start[:3]), start[3])
     return out + b"".join(segment_bytes(*segment) for segment in segments) + bytes(3)
 
 
@@ -545,7 +543,7 @@ class Flown:
 
 def digits(data: bytes) -> str:
     """Bytes in two hexadecimal digits each."""
-    return " ".join("%02X" % b for b in data)
+    return data.hex(" ").upper()
 
 
 def packets(memory: int, offset: int, trajectory: int, data: bytes, pieces: int) -> Iterator[tuple[str, bytes]]:

@@ -39,11 +39,6 @@ def steps(lines: list[bytes]) -> Iterator[tuple[int, str, list[Block]]]:
             opened.append(Block(number, word))
 
 
-def last_lines(text: bytes) -> dict[int, int]:
-    """By the line that opens a block the line that closes it."""
-    return {opened[-1].number: number for number, word, opened in steps(text.split(b"\n")) if word == "end" and opened}
-
-
 def around(lines: list[bytes], line: int) -> list[Block]:
     """The blocks that are open before a line, those outside first."""
     for number, _, opened in steps([*lines, b""]):

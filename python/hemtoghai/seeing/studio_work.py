@@ -19,17 +19,16 @@ import re
 import sys
 import time
 from collections.abc import Iterator
-from typing import Any, Dict
+from typing import Any
 
 from hemtoghai.companion import ask_dynamics, begins, no_program
 from hemtoghai.geometry import separation
 from hemtoghai.language import choreo
 from hemtoghai.seeing.sampling import ask, boxes_said, flight_of, Mark, mark_of, regions_of, rows_of_play, step_of
-from hemtoghai.seeing.studio_places import last_lines, places_at
+from hemtoghai.seeing.studio_places import places_at
 from hemtoghai.writing.flyable import below, MOST as FASTEST, motion_if_known, small
 from hemtoghai.writing.margins import greatest, MOST, with_setting
 
-Forms = Dict[int, Dict[str, int]]  # by `form` line and drone the `at` line of its formation
 MOST_PLACES = 32000  # of all drones together: the page has to keep up with typing
 MOST_MARKS = 200  # that are listed; the others are counted
 MOST_MEASURED = 2000  # of which it is computed how near they are
@@ -64,59 +63,37 @@ def judged(text: bytes, deep: int) -> tuple[int, str]:
 
 # ---- lines of the text
 
-def forms_of(flown: choreo.Flown) -> Forms:
-    """For each `form` line by drone the `at` line of its formation."""
-    formations = flown.show.formations
-    return {line.number: {place.values[0]: place.number for place in formations[line.values[0]].body}
-            for line in choreo.inside(flown.show.top) if line.kind == "form" and line.values[0] in formations}
+def formed_lines(flown: choreo.Flown, cue: choreo.Cue) -> list[list[int]]:
+    """The lines that stand for a cue, its own and those of performs and formations, as (first, last)."""
+    forms = [flown.show.formations[line.values[0]] for line in cue.line.body if line.kind == "form"]
+    return [[line.number, line.last] for line in [cue.line, *forms]] + [
+        [number, number] for kind, number, *_ in cue.within if kind == "perform"]
 
 
-def lines_of_pair(flown: choreo.Flown, forms: Forms, pair: list[int], cue: choreo.Cue) -> list[int]:
-    """The lines by which two drones fly a cue: their acts, or the `form` line and their places."""
-    out: set[int] = set()
-    for k in pair:
-        name = flown.names[k]
-        if name in cue.acts:
-            number = cue.acts[name][0]
-            out |= {number, forms.get(number, {}).get(name, number)}
-    return sorted(out or {cue.number})
-
-
-def formed_lines(flown: choreo.Flown, text: bytes) -> list[list[list[int]]]:
-    """For each cue the lines that stand for it elsewhere: of performs, repeats and formations, as (first, last)."""
-    bodies: dict[int, list[list[int]]] = {}
-    closing = last_lines(text)
-    cues = {line.number: line for line in choreo.inside(flown.show.top) if line.kind == "cue"}
-    for number, line in cues.items():
-        forms = [flown.show.formations[inner.values[0]].number for inner in line.body if inner.kind == "form"]
-        bodies[number] = [[first, closing.get(first, first)] for first in forms]
-    return [[[cue.number, closing.get(cue.number, cue.number)], *bodies[cue.number],
-             *([line, line] for kind, line, *_ in cue.within if kind == "perform")] for cue in flown.cues]
-
-
-def drone_lines(flown: choreo.Flown, forms: Forms) -> dict[str, object]:
+def drone_lines(flown: choreo.Flown) -> dict[str, object]:
     """For each drone its `drone` line, and by cue the line of its act, or of its place in a formation; 0 for none."""
-    acts = [[forms.get(number, {}).get(name, number) for number in (
-        cue.acts[name][0] if name in cue.acts else 0 for cue in flown.cues)] for name in flown.names]
-    return {"drones": [line.number for line in flown.show.drones], "acts": acts}
+    return {"drones": [line.number for line in flown.show.drones],
+            "acts": [[cue.places.get(name, 0) for cue in flown.cues] for name in flown.names]}
 
 
 # ---- stages
 
-def first_mark(flown: choreo.Flown, forms: Forms, said: str, deep: int) -> Mark:
+def first_mark(flown: choreo.Flown, said: str, deep: int) -> Mark:
     """The place that `check` names."""
     words = said.split()
     i, j = flown.names.index(words[3]), flown.names.index(words[4])
     cue = int(words[6]) - 1
-    return with_lines(flown, forms, {**mark_of(flown, deep, i, j, cue, int(words[8])), "named": True})
+    return with_lines(flown, {**mark_of(flown, deep, i, j, cue, int(words[8])), "named": True})
 
 
-def with_lines(flown: choreo.Flown, forms: Forms, mark: Mark) -> Mark:
-    """A mark with the lines of both drones."""
-    return {**mark, "lines": lines_of_pair(flown, forms, mark["pair"], flown.cues[mark["cue"]])}
+def with_lines(flown: choreo.Flown, mark: Mark) -> Mark:
+    """A mark with the lines by which both drones fly: their acts, or the `form` line and their places."""
+    cue, names = flown.cues[mark["cue"]], [flown.names[k] for k in mark["pair"]]
+    lines = {number for name in names if name in cue.acts for number in (cue.acts[name][0], cue.places[name])}
+    return {**mark, "lines": sorted(lines or {cue.number})}
 
 
-def put_marks(flown: choreo.Flown, forms: Forms, deep: int) -> None:
+def put_marks(flown: choreo.Flown, deep: int) -> None:
     """Writes all blocked places, those first in which two come nearest; the list so far at times while it looks."""
     marks: list[Mark] = []
     many, told = 0, time.monotonic()
@@ -125,15 +102,15 @@ def put_marks(flown: choreo.Flown, forms: Forms, deep: int) -> None:
         if many <= MOST_MEASURED:
             marks.append({**mark_of(flown, deep, *found), "named": many == 1})
         if time.monotonic() - told > MARK_TIME:
-            put_marks_so_far(flown, forms, marks, many, False)
+            put_marks_so_far(flown, marks, many, False)
             told = time.monotonic()
-    put_marks_so_far(flown, forms, marks, many, True)
+    put_marks_so_far(flown, marks, many, True)
 
 
-def put_marks_so_far(flown: choreo.Flown, forms: Forms, marks: list[Mark], many: int, are_all: bool) -> None:
+def put_marks_so_far(flown: choreo.Flown, marks: list[Mark], many: int, are_all: bool) -> None:
     """Writes the blocked places that are known."""
     marks.sort(key=lambda mark: float(mark["share"]))
-    put("marks", marks=[with_lines(flown, forms, mark) for mark in marks[:MOST_MARKS]], many=many, all=are_all)
+    put("marks", marks=[with_lines(flown, mark) for mark in marks[:MOST_MARKS]], many=many, all=are_all)
 
 
 def explained(flown: choreo.Flown, text: bytes, program: str | None, deep: int) -> dict[str, object] | None:
@@ -199,21 +176,21 @@ def put_flight(text: bytes, deep: int, program: str | None, answer: list[Any] | 
     if status not in (0, 4, 5):
         return
     flown = choreo.flown_of(choreo.parts_of(text)[0])
-    forms = forms_of(flown)
-    first = first_mark(flown, forms, said, deep) if status == 5 else None
+    first = first_mark(flown, said, deep) if status == 5 else None
     step = step_of(flown, None, MOST_PLACES)
     rows = rows_of_play(text, program, deep, step) if status == 0 else None
     also = {round(first["nearest"])} if first else set()
     drawn, _ = flight_of(flown, step, rows, also, regions_of(path) if path else [])
-    put("flight", flight={**drawn, "lines": formed_lines(flown, text), "marks": [first] if first else []})
+    put("flight", flight={**drawn, "lines": [formed_lines(flown, cue) for cue in flown.cues],
+                          "marks": [first] if first else []})
     if status == 5:
         put("explained", touch=explained(flown, text, program, deep))
-    put("lines", **drone_lines(flown, forms))
+    put("lines", **drone_lines(flown))
     put("notes", **notes_of(flown, text, program))
     if path:
         put("regions", line=boxes_said(program, text, path, deep) if program else "")
     if status == 5:
-        put_marks(flown, forms, deep)
+        put_marks(flown, deep)
     if status == 0 and len(flown.names) > 1:
         time.sleep(QUIET)
         for name in ("stray", "late"):

@@ -14,17 +14,11 @@ State = Tuple[int, int, List[Words]]
 MOST_PASSES = 3  # over the lines of a repeat, whose first one begins where the last one ends
 
 
-def cue_lines(flown: choreo.Flown) -> dict[int, choreo.Line]:
-    """The show's cue lines by their number."""
-    return {line.number: line for line in choreo.inside(flown.show.top) if line.kind == "cue"}
-
-
 def form_lines(flown: choreo.Flown) -> list[tuple[choreo.Line, list[int]]]:
     """The show's `form` lines in the order of their first use, each with the cues in which it is played."""
-    cues = cue_lines(flown)
     found: dict[int, tuple[choreo.Line, list[int]]] = {}
     for k, cue in enumerate(flown.cues):
-        for line in cues[cue.number].body:
+        for line in cue.line.body:
             if line.kind == "form":
                 found.setdefault(line.number, (line, []))[1].append(k)
     return list(found.values())
@@ -97,10 +91,10 @@ def performers(flown: choreo.Flown, lost: set[int] | None = None) -> list[dict[s
     """For each cue, by the drone for which something is written, the drone that stands where that one would stand. A
     formation that is dealt anew changes it; until the next one the acts of each drone go with its place. `lost` gets
     the `form` lines after which that can't be followed, since a drone would fly for two: there each flies its own."""
-    plays, out, cues = {name: name for name in flown.names}, [], cue_lines(flown)
+    plays, out = {name: name for name in flown.names}, []
     for cue in flown.cues:
         out.append(plays)
-        for line in cues[cue.number].body:
+        for line in cue.line.body:
             if line.kind == "form":
                 plays = {**plays, **{place.owner: place.values[0] for place in places_of(flown, line)}}
                 if len(set(plays.values())) < len(plays):
@@ -112,7 +106,6 @@ def performers(flown: choreo.Flown, lost: set[int] | None = None) -> list[dict[s
 
 def carried_lines(flown: choreo.Flown) -> Iterator[tuple[list[choreo.Line], list[int]]]:
     """The cues with acts of drones, and the performs: the lines that name drones, and the cues of these lines."""
-    cues = cue_lines(flown)
     groups: dict[int, list[int]] = {}
     for k, cue in enumerate(flown.cues):
         performed = [number for kind, number, *_ in cue.within if kind == "perform"]
@@ -122,7 +115,7 @@ def carried_lines(flown: choreo.Flown) -> Iterator[tuple[list[choreo.Line], list
         if number in performs:
             yield [performs[number]], played
         else:
-            yield [line for line in cues[number].body if line.kind == "act"], played
+            yield [line for line in flown.cues[played[0]].line.body if line.kind == "act"], played
 
 
 def carry(flown: choreo.Flown, written: dict[int, list[str]]) -> list[int]:

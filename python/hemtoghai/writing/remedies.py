@@ -79,16 +79,10 @@ def remedies(flown: choreo.Flown, drone: int, cue: int) -> Iterator[Remedy]:
 
 # ---- the text
 
-def cue_line(flown: choreo.Flown, cue: int) -> choreo.Line:
-    """The line of a cue, with the lines in it."""
-    number = flown.cues[cue].number
-    return next(line for line in choreo.inside(flown.show.top) if line.kind == "cue" and line.number == number)
-
-
 def form_of(flown: choreo.Flown, name: str, cue: int) -> choreo.Line | None:
     """The `form` line that gives a drone its act in a cue, or None."""
     number = flown.cues[cue].acts.get(name, (0,))[0]
-    return next((line for line in cue_line(flown, cue).body if line.kind == "form" and line.number == number), None)
+    return next((line for line in flown.cues[cue].line.body if line.kind == "form" and line.number == number), None)
 
 
 def place_at(flown: choreo.Flown, drone: int, cue: int) -> choreo.Row:
@@ -114,7 +108,7 @@ def acts_of(flown: choreo.Flown, lines: list[bytes], cue: int,
     others: list[bytes] = []
     own: dict[str, list[str]] = {}
     numbers = {flown.cues[cue].acts[name][0]: name for name in names if name in flown.cues[cue].acts}
-    for line in cue_line(flown, cue).body:
+    for line in flown.cues[cue].line.body:
         if line.kind == "form" and line.number in numbers:
             for place in flown.show.formations[line.values[0]].body:
                 words = line_in(flown.show.form, "act", place.values[0], line.values[1], *place.values[1:])
@@ -141,7 +135,6 @@ def written(text: bytes, flown: choreo.Flown, cue: int, remedy: Remedy) -> bytes
     """The show's text with a remedy, or None where it can't be written: a way up or down inside a repeat or a figure,
     whose turns begin at different places, or an act that isn't there."""
     lines, start, form = text.split(b"\n"), flown.cues[cue].number - 1, flown.show.form
-    last = next(k for k in range(start, len(lines)) if lines[k].split(b"#")[0].split() == [b"end"])
     names = {flown.names[drone]: by for drone, by in sorted(remedy.lifts.items())}
     others, own = acts_of(flown, lines, cue, set(names))
     rest = [lines[start], *others]
@@ -158,4 +151,4 @@ def written(text: bytes, flown: choreo.Flown, cue: int, remedy: Remedy) -> bytes
         acts = [" ".join(words).encode() for words in own.values()]
         alone = [line_in(form, "cue", flown.cues[cue].milliseconds).encode(), *acts, b"end"]
         new = [*rest, b"end", *alone] if remedy.how == "wait" else [*alone, *rest, b"end"]
-    return b"\n".join([*lines[:start], *new, *lines[last + 1:]])
+    return b"\n".join([*lines[:start], *new, *lines[flown.cues[cue].line.last:]])
