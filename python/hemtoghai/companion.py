@@ -7,7 +7,7 @@ import re
 import sys
 from collections.abc import Sequence
 from fractions import Fraction
-from typing import List, NoReturn, Tuple, TypeVar
+from typing import Any, List, NoReturn, Tuple, TypeVar
 
 from hemtoghai import program as proved, texts
 from hemtoghai.language import choreo
@@ -100,33 +100,47 @@ def no_program(program: str | None = None) -> str | None:
     return proved.fault(program)
 
 
-def ask_check(text: bytes, deep: int = choreo.DEPTH) -> tuple[int, str] | None:
-    """The status and the line of the proved program's `check` on a show, or None where it can't be run."""
+def ask(words: list[str], text: bytes, program: str | None = None) -> tuple[int, str] | None:
+    """The status and the output of the program on a text, or None where it can't be run."""
     try:
-        status, output = proved.ask(["check", "--depth", str(deep)], text)
+        status, output = proved.ask(words, text, program)
     except proved.Unusable:
         return None
-    return status, output.decode(errors="replace").strip()
+    return status, output.decode(errors="replace")
 
 
-MOTION = re.compile(r"^dynamics (\S+) acceleration (\d+) (\d+) (\d+) "
-                    r"jump (\d+) cue (\d+) (\d+) cue (\d+) (\d+) cue (\d+) ", re.M)
+def ask_check(text: bytes, deep: int = choreo.DEPTH, program: str | None = None) -> tuple[int, str] | None:
+    """The status and the line of `check` on a show, or None where it can't be run."""
+    answer = ask(["check", "--depth", str(deep)], text, program)
+    return answer and (answer[0], answer[1].strip())
+
+
+MOTION = re.compile(r"dynamics (\S+) acceleration (\d+) (\d+) (\d+) jump (\d+) cue (\d+) (\d+) cue (\d+) (\d+) "
+                    r"cue (\d+) begins (\w+) ends (\w+)$", re.M)
+
+
+def motions_in(output: str) -> dict[str, dict[str, Any]]:
+    """By drone what `dynamics` writes."""
+    out = {}
+    for name, *numbers, begins, ends in MOTION.findall(output):
+        row = [int(number) for number in numbers]
+        out[name] = {"acceleration": tuple(row[:3]), "jump": tuple(row[3::2]), "jump_cues": tuple(row[4::2]),
+                     "begins_at_rest": begins == "rest", "ends_at_rest": ends == "rest"}
+    return out
 
 
 def ask_dynamics(text: bytes, program: str | None = None) -> dict[str, Motion] | None:
-    """What the proved program's `dynamics` says of a show's drones, by name: bounds on acceleration in m/s^2, jumps of
-    speed in m/s and their cues, each on x, y and z; or None where the program can't be run or refuses the show."""
-    try:
-        status, output = proved.ask(["dynamics"], text, program)
-    except proved.Unusable:
-        status, output = NO_ANSWER, b""
-    if status:
-        return None
-    found = {}
-    for name, *numbers in MOTION.findall(output.decode(errors="replace")):
-        numbers = [int(number) for number in numbers]
-        found[name] = ([v / 1e6 for v in numbers[:3]], [v / 1e6 for v in numbers[3::2]], numbers[4::2])
-    return found
+    """What `dynamics` says of a show's drones, by name: bounds on acceleration in m/s^2, jumps of speed in m/s and
+    their cues, each on x, y and z; or None where the program can't be run or refuses the show."""
+    answer = ask(["dynamics"], text, program)
+    return {name: ([v / 1e6 for v in row["acceleration"]], [v / 1e6 for v in row["jump"]], list(row["jump_cues"]))
+            for name, row in motions_in(answer[1]).items()} if answer and answer[0] == 0 else None
+
+
+def speeds_in(output: str) -> dict[str, tuple[int, int, int]]:
+    """By drone what `speed` writes."""
+    rows = (line.split(" ") for line in output.splitlines())
+    return {name: (int(x), int(y), int(z)) for _, name, x, y, z in rows}
 
 
 def missing(program: str | None = None) -> str:

@@ -14,9 +14,9 @@ from dataclasses import dataclass, field, replace
 from functools import cached_property
 from typing import Any, Optional, Union
 
-from hemtoghai import answering, companion, program
+from hemtoghai import answering, companion, program, texts
 from hemtoghai.geometry import separation
-from hemtoghai.geometry.causes import cause_of
+from hemtoghai.geometry.causes import Meeting
 from hemtoghai.language import choreo, cures
 from hemtoghai.writing import flyable
 
@@ -165,14 +165,11 @@ def place_of(flown: Any, drone: int, cue: int, u: float) -> Place:
 
 def blocked_in(flown: Any, deep: int, found: tuple[int, int, int, int], named: bool) -> Blocked:
     """What is known of two drones in a cue whose part of this number is blocked."""
-    i, j, cue, index = found
-    begin, lasts, parts = companion.begins(flown)[cue], flown.cues[cue].milliseconds, 2 ** deep
-    near = separation.nearest_in(flown, i, j, cue)
-    acts, names = flown.cues[cue].acts, (flown.names[i], flown.names[j])
-    lines = {flown.cues[cue].number, *(acts[name][0] for name in names if name in acts)}
-    return Blocked(*names, cue + 1, begin + lasts * index / parts, begin + lasts * (index + 1) / parts,
-                   begin + lasts * near.at, (place_of(flown, i, cue, near.at), place_of(flown, j, cue, near.at)),
-                   near.share, near.touch, None if near.touch else cause_of(flown, i, j, cue, deep),
+    it = Meeting(flown, deep, *found)
+    cue, names = flown.cues[it.cue], (flown.names[it.i], flown.names[it.j])
+    lines = {cue.number, *(cue.acts[name][0] for name in names if name in cue.acts)}
+    places = place_of(flown, it.i, it.cue, it.near.at), place_of(flown, it.j, it.cue, it.near.at)
+    return Blocked(*names, it.cue + 1, it.begin, it.end, it.nearest, places, it.near.share, it.near.touch, it.cause,
                    tuple(sorted(lines)), named)
 
 
@@ -211,8 +208,7 @@ def bytes_of(text: Text) -> bytes:
 
 def joined(first: Text, second: Text) -> bytes:
     """Two texts with a marker line between them."""
-    front = bytes_of(first)
-    return front + (b"" if front.endswith(b"\n") else b"\n") + b"%%\n" + bytes_of(second)
+    return texts.joined(bytes_of(first), bytes_of(second))
 
 
 def asked(words: list[str], text: Text, whole: Optional[bytes] = None, depth: int = DEPTH) -> Verdict:
@@ -245,30 +241,10 @@ def option(word: str, number: Optional[int]) -> list[str]:
 
 # ---- what the program writes
 
-MOTION = re.compile(r"dynamics (\S+) acceleration (\d+) (\d+) (\d+) jump (\d+) cue (\d+) (\d+) cue (\d+) (\d+) "
-                    r"cue (\d+) begins (\w+) ends (\w+)$", re.M)
-
-
 def counts_in(line: str) -> dict[str, int]:
     """The numbers of the line of an accepted show: drones, cues and duration_ms."""
     words = line.split(" ")[1:]
     return {word: int(number) for word, number in zip(words[::2], words[1::2])}
-
-
-def motions_in(output: str) -> dict[str, dict[str, Any]]:
-    """By drone what `dynamics` writes."""
-    out = {}
-    for name, *numbers, begins, ends in MOTION.findall(output):
-        row = [int(number) for number in numbers]
-        out[name] = {"acceleration": tuple(row[:3]), "jump": tuple(row[3::2]), "jump_cues": tuple(row[4::2]),
-                     "begins_at_rest": begins == "rest", "ends_at_rest": ends == "rest"}
-    return out
-
-
-def speeds_in(output: str) -> dict[str, tuple[int, int, int]]:
-    """By drone what `speed` writes."""
-    rows = (line.split(" ") for line in output.splitlines())
-    return {name: (int(x), int(y), int(z)) for _, name, x, y, z in rows}
 
 
 # ---- the calls
@@ -333,13 +309,13 @@ def dynamics(text: Text, accel: Optional[int] = None, jump: Optional[int] = None
     (micrometres per second) with the cues that begin with them, and whether it begins and ends at rest. Raises Refused,
     also where a limit in millimetres is passed."""
     words = ["dynamics", *depth_words(depth), *option("--accel", accel), *option("--jump", jump)]
-    return motions_in(accepted(asked(words, text, depth=depth)).output.decode())
+    return companion.motions_in(accepted(asked(words, text, depth=depth)).output.decode())
 
 
 def speed(text: Text, limit: Optional[int] = None, depth: int = DEPTH) -> dict[str, tuple[int, int, int]]:
     """By drone a bound on its speed on x, y and z, in micrometres per second. Raises Refused, also above a limit."""
     words = ["speed", *depth_words(depth), *option("--limit", limit)]
-    return speeds_in(accepted(asked(words, text, depth=depth)).output.decode())
+    return companion.speeds_in(accepted(asked(words, text, depth=depth)).output.decode())
 
 
 def boxes(text: Text, regions: Text, depth: int = DEPTH) -> Verdict:

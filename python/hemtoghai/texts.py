@@ -41,6 +41,11 @@ def front_of(path: str, most: int) -> bytes:
         return from_stream(file, most)
 
 
+def joined(first: bytes, second: bytes) -> bytes:
+    """Two texts with a marker line between them."""
+    return first + (b"" if first.endswith(b"\n") else b"\n") + b"%%\n" + second
+
+
 def is_plain(number: int) -> bool:
     """Whether an open file is one whose bytes stay: it can be read again."""
     return stat.S_ISREG(os.fstat(number).st_mode)

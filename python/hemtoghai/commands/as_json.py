@@ -22,6 +22,7 @@ from typing import Any
 
 from hemtoghai import companion, judging, texts
 from hemtoghai.commands import summary, why
+from hemtoghai.geometry import separation
 from hemtoghai.language import choreo
 from hemtoghai.launching import helping, launcher, words as commands
 from hemtoghai.program import Unusable
@@ -47,7 +48,7 @@ def numbers_of(command: str, verdict: judging.Verdict) -> dict[str, Any]:
     if command == "check":
         return {**(judging.counts_in(verdict.line) if verdict.ok else {}),
                 "cautions": [dict(vars(caution)) for caution in verdict.cautions]}
-    found = {"dynamics": judging.motions_in, "speed": judging.speeds_in}.get(command)
+    found = {"dynamics": companion.motions_in, "speed": companion.speeds_in}.get(command)
     return {"drones": found(verdict.output.decode())} if found and verdict.ok else {}
 
 
@@ -71,8 +72,8 @@ def verdict_of(text: bytes, depth: int) -> judging.Verdict:
     try:
         return judging.check(text, depth)
     except Unusable:
-        status, line = margins.judged(text, depth)
-        return judging.Verdict(status, line.encode() + b"\n", None, text, depth)
+        status, line = separation.judged(text, depth)
+        return judging.Verdict(status, line.encode() + b"\n" if status else b"ok\n", None, text, depth)
 
 
 def helped(flown: choreo.Flown, place: judging.Blocked, depth: int) -> dict[str, Any]:

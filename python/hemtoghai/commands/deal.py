@@ -112,9 +112,9 @@ def judged(text: bytes, deep: int) -> int:
         say("check: " + answer[1])
         return answer[0]
     say(missing())
-    refusal = separation.refusal_of(text, deep)
-    say("as this tool computes it%s" % (": %s" % refusal if refusal else ", nothing is refused"))
-    return refusal.status if refusal else 0
+    status, line = separation.judged(text, deep)
+    say("as this tool computes it" + (": " + line if status else ", nothing is refused"))
+    return status
 
 
 def say_carried(made: Dealt, new_line: Callable[[int], int]) -> None:

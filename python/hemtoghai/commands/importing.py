@@ -33,6 +33,7 @@ from hemtoghai.commands import why
 from hemtoghai.companion import add_depth, begins, many, parser, stop
 from hemtoghai.exchange import foreign
 from hemtoghai.geometry import fitting, separation
+from hemtoghai.geometry.causes import Meeting
 from hemtoghai.geometry.paths import Budget, Path, TooLong
 from hemtoghai.language import choreo
 from hemtoghai.language.lines import header, line_in, NEWEST
@@ -130,8 +131,7 @@ def print_why(fit: fitting.Fit, text: str, wanted: Axes, deep: int) -> None:
     if len(found) > 1:
         print("  and %s blocked, of this or other pairs" % many(len(found) - 1, "more place"))
     print("%s why, of the import: its cues and lines, and its larger ellipsoids" % program.COMMAND)
-    blocked = why.Place(separation.nearest_in(flown, i, j, cue), i, j, cue, index)
-    why.print_place(flown, text.encode().split(b"\n"), blocked, deep, [])
+    why.print_place(flown, text.encode().split(b"\n"), Meeting(flown, deep, i, j, cue, index), deep, [])
 
 
 # ---- limits

@@ -19,12 +19,12 @@ import sys
 from typing import Any
 
 from hemtoghai import program
-from hemtoghai.companion import add_depth, ask_dynamics, missing, parser, read_file, words_and_show
+from hemtoghai.companion import add_depth, ask_check, ask_dynamics, missing, parser, read_file, words_and_show
 from hemtoghai.geometry import separation
 from hemtoghai.language.choreo import Flown
 from hemtoghai.seeing import drawing
-from hemtoghai.seeing.sampling import (ask, blocked_marks, boxes_said, flight_of, regions_of, rows_of_play, shares,
-                                       step_of, worked_out)
+from hemtoghai.seeing.sampling import (blocked_marks, boxes_said, flight_of, regions_of, rows_of_play, shares, step_of,
+                                       worked_out)
 
 PAGE, VIEW = [os.path.join(program.PACKAGE, "seeing", name) for name in ("picture.html", "view.js")]
 
@@ -33,11 +33,11 @@ PAGE, VIEW = [os.path.join(program.PACKAGE, "seeing", name) for name in ("pictur
 
 def judged(text: bytes, options: argparse.Namespace) -> tuple[str, int, str]:
     """The line of `check`, its status, and who says so."""
-    answer = ask(options.program, ["check", "--depth", str(options.depth)], text)
-    if answer and answer[0] in (0, 4, 5):
-        return answer[1].strip(), answer[0], "check"
-    refusal = separation.refusal_of(text, options.depth)
-    return (str(refusal), refusal.status, "this tool") if refusal else ("nothing is refused", 0, "this tool")
+    status, line = ask_check(text, options.depth, options.program) or (None, "")
+    if status in (0, 4, 5):
+        return line, status, "check"
+    status, line = separation.judged(text, options.depth)
+    return line if status else "nothing is refused", status, "this tool"
 
 
 def motion_said(options: argparse.Namespace, text: bytes, flown: Flown) -> str:

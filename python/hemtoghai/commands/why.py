@@ -7,13 +7,12 @@ The status is that of the show: 0 if it is accepted, 5 or 4 if it is refused. 70
 from __future__ import annotations
 
 from collections.abc import Iterable, Iterator
-from dataclasses import dataclass
 from math import hypot
 
 from hemtoghai.companion import (add_depth, ask_check, begins, cue_words, many, missing, parser, place, seconds, stop,
                                  words_and_show, write_file)
 from hemtoghai.geometry import separation
-from hemtoghai.geometry.causes import cause_of, is_clear
+from hemtoghai.geometry.causes import is_clear, Meeting
 from hemtoghai.geometry.separation import ruler_of
 from hemtoghai.language import choreo
 from hemtoghai.language.choreo import Flown
@@ -23,16 +22,6 @@ from hemtoghai.writing.flyable import small
 from hemtoghai.writing.remedies import ENOUGH, first_of, last_of, lift_all, lifted, remedies, Remedy, written
 
 MOST_CURES = 40
-
-
-@dataclass(frozen=True)
-class Place:
-    """Two drones that are blocked in a cue, where they come nearest in it, and the first blocked one of its parts."""
-    near: separation.Nearest
-    i: int
-    j: int
-    cue: int
-    index: int
 
 
 def act_words(flown: Flown, lines: list[bytes], drone: int, cue: int) -> str:
@@ -133,7 +122,7 @@ def print_help(flown: Flown, i: int, j: int, cue: int, deep: int) -> None:
                                           seconds(remedy.takes)))
 
 
-def print_place(flown: Flown, lines: list[bytes], found: Place, deep: int, others: list[int]) -> None:
+def print_place(flown: Flown, lines: list[bytes], found: Meeting, deep: int, others: list[int]) -> None:
     """Prints what is known of one pair in one cue, and what helps; `others` are later cues with the same."""
     near, i, j, cue, index = found.near, found.i, found.j, found.cue, found.index
     begin, time, parts = begins(flown)[cue], flown.cues[cue].milliseconds, 2 ** deep
@@ -147,13 +136,12 @@ def print_place(flown: Flown, lines: list[bytes], found: Place, deep: int, other
     for u, word in ((index / parts, "begins"), ((index + 1) / parts, "ends")):
         print("    it %s at %s: %s" % (word, seconds(begin + time * u), both_words(flown, i, j, cue, u)[0]))
     words, side, up = both_words(flown, i, j, cue, near.at)
-    print("  nearest at %s: %s" % (seconds(begin + time * near.at), words))
+    print("  nearest at %s: %s" % (seconds(found.nearest), words))
     print("  there they have %.1f %% of the distance at which their ellipsoids touch" % (100 * near.share))
-    cause = None if near.touch else cause_of(flown, i, j, cue, deep)
     if near.touch:
         print("  TOO NEAR: no depth helps")
-    elif cause:
-        print("  APART WHILE THEY FLY EXACTLY: the cause is " + cause)
+    elif found.cause:
+        print("  APART WHILE THEY FLY EXACTLY: the cause is " + found.cause)
     else:
         print("  APART, BUT ALONG NO DIRECTION: none of the 98 directions shows it for a whole part%s"
               % ("; --depth 8 may do" if deep < 8 and not standing(flown, i, j, cue, deep) else ""))
@@ -162,16 +150,16 @@ def print_place(flown: Flown, lines: list[bytes], found: Place, deep: int, other
     print()
 
 
-def alike(flown: Flown, found: list[Place]) -> list[list[Place]]:
+def alike(flown: Flown, found: list[Meeting]) -> list[list[Meeting]]:
     """The blocked places in groups in which the same pair flies the same: in the turns of a repeat."""
-    groups: dict[object, list[Place]] = {}
+    groups: dict[object, list[Meeting]] = {}
     for it in found:
         flights = [tuple(tuple(row) for row in flown.by_cue[k][it.cue][1][:3]) for k in (it.i, it.j)]
         groups.setdefault((it.i, it.j, flown.cues[it.cue].number, *flights), []).append(it)
     return list(groups.values())
 
 
-def print_counts(flown: Flown, deep: int, found: list[Place]) -> None:
+def print_counts(deep: int, found: list[Meeting]) -> None:
     """Prints how many pairs, cues and places are blocked, and how near they are there."""
     touching = sum(it.near.touch for it in found)
     cues = sorted({it.cue + 1 for it in found})
@@ -179,7 +167,7 @@ def print_counts(flown: Flown, deep: int, found: list[Place]) -> None:
     listed = ", ".join(map(str, cues[:12])) + (" .." if len(cues) > 12 else "")
     print("At depth %d %s blocked in %s (%s)." % (
         deep, many(pairs, "pair") + (" is" if pairs == 1 else " are"), many(len(cues), "cue"), listed))
-    caused = sum(not it.near.touch and cause_of(flown, it.i, it.j, it.cue, deep) is not None for it in found)
+    caused = sum(it.cause is not None for it in found)
     print("Of %s, %d too near, %d apart but along no direction%s." % (
         many(len(found), "place"), touching, len(found) - touching - caused,
         ", %d apart but for `stray` or `late`" % caused if caused else ""))
@@ -188,11 +176,10 @@ def print_counts(flown: Flown, deep: int, found: list[Place]) -> None:
 
 def explain_separation(flown: Flown, lines: list[bytes], deep: int, most: int) -> int:
     """Prints each pair and cue that is blocked, in the order of time; the number of them."""
-    found = [Place(separation.nearest_in(flown, i, j, cue), i, j, cue, index)
-             for i, j, cue, index in separation.blocked_places(flown, deep)]
+    found = [Meeting(flown, deep, *place) for place in separation.blocked_places(flown, deep)]
     if not found:
         return 0
-    print_counts(flown, deep, found)
+    print_counts(deep, found)
     found.sort(key=lambda it: (it.cue, it.near.share))
     groups = alike(flown, found)
     for group in groups[:most]:
@@ -203,7 +190,7 @@ def explain_separation(flown: Flown, lines: list[bytes], deep: int, most: int) -
     return len(found)
 
 
-def print_together(flown: Flown, groups: list[list[Place]], deep: int) -> None:
+def print_together(flown: Flown, groups: list[list[Meeting]], deep: int) -> None:
     """Prints what helps all pairs of a cue at once, where there are several."""
     for cue in sorted({group[0].cue for group in groups}):
         together = [(it.i, it.j) for group in groups for it in group if it.cue == cue]

@@ -4,6 +4,7 @@ from __future__ import annotations
 
 from collections.abc import Callable
 
+from hemtoghai.companion import begins
 from hemtoghai.geometry import separation
 from hemtoghai.language import choreo
 from hemtoghai.language.lines import line_in
@@ -22,6 +23,19 @@ def most_borne(most: int, is_borne: Callable[[int], bool]) -> int:
         middle = (low + high) // 2
         low, high = (middle, high) if is_borne(middle) else (low, middle)
     return low
+
+
+class Meeting:
+    """Two drones that are blocked in a cue, numbered from 0, with the first of its parts in which they are: the
+    milliseconds of the show at which that part begins and ends and at which they come nearest, where that is, and the
+    cause in words where they are apart there by the show's `stray` or `late`."""
+
+    def __init__(self, flown: choreo.Flown, deep: int, i: int, j: int, cue: int, index: int) -> None:
+        self.i, self.j, self.cue, self.index, self.near = i, j, cue, index, separation.nearest_in(flown, i, j, cue)
+        begin, lasts, parts = begins(flown)[cue], flown.cues[cue].milliseconds, 2 ** deep
+        self.begin, self.end = begin + lasts * index / parts, begin + lasts * (index + 1) / parts
+        self.nearest = begin + lasts * self.near.at
+        self.cause = None if self.near.touch else cause_of(flown, i, j, cue, deep)
 
 
 def cause_of(flown: choreo.Flown, i: int, j: int, cue: int, deep: int) -> str | None:

@@ -172,15 +172,15 @@ def judge_separation(flown: Flown, depth: int, version: int = 2) -> None:
         raise Refused(5, "pair %s %s cue %d part %d of %d" % (*names, cue + 1, index, 2 ** depth), "too near")
 
 
-def refusal_of(text: bytes, depth: int) -> Refused | None:
-    """The refusal of a show's text, as the tools work it out, or None."""
+def judged(text: bytes, depth: int) -> tuple[int, str]:
+    """The status and the line of `check` on a show's text, as the tools work them out."""
     try:
         flown = flown_of(text)
         judge_room(flown)
         judge_separation(flown, depth)
     except Refused as refusal:
-        return refusal
-    return None
+        return refusal.status, str(refusal)
+    return 0, "ok drones %d cues %d duration_ms %d" % (len(flown.names), len(flown.cues), flown.milliseconds)
 
 
 # ---- certificates

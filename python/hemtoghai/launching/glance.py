@@ -7,11 +7,12 @@ from __future__ import annotations
 import os
 from math import hypot
 
+from hemtoghai import texts
 from hemtoghai.launching import running
 
 ACCEL, JUMP = 10000, 300  # as flyable.MOST
 SMALL = 40  # millimetres, as flyable.SMALL
-ABOVE = b"%%\nvolume -40000 -40000 0 40000 40000 40000\n"
+ABOVE = b"volume -40000 -40000 0 40000 40000 40000\n"
 
 
 def rounded(micrometres: int) -> int:
@@ -45,11 +46,10 @@ def begin_badly(text: bytes) -> bool:
 
 def may_be_unflyable(file: str, text: bytes) -> bool:
     """Whether something of an accepted show may be nothing that drones fly; also where the program doesn't say."""
-    ends = b"" if text.endswith(b"\n") else b"\n"
     null = os.open(os.devnull, os.O_WRONLY)
     try:
         return (begin_badly(text)
                 or running.fed(file, ["dynamics", "--accel", str(ACCEL), "--jump", str(JUMP)], [text], null) != 0
-                or running.fed(file, ["boxes"], [text + ends + ABOVE], null) != 0)
+                or running.fed(file, ["boxes"], [texts.joined(text, ABOVE)], null) != 0)
     finally:
         os.close(null)

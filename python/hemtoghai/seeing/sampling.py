@@ -2,16 +2,15 @@
 a page. For ./show picture and ./show studio. It looks at single instants and proves nothing."""
 from __future__ import annotations
 
-import os
-import subprocess
 from collections.abc import Iterable
 from itertools import combinations
 from typing import Any, Dict, List, Tuple
 
-from hemtoghai.companion import begins, cue_words, no_program, place, read_file, seconds, stop, value
+from hemtoghai.companion import ask, begins, cue_words, place, read_file, seconds, stop, value
 from hemtoghai.geometry import separation
-from hemtoghai.geometry.causes import cause_of
+from hemtoghai.geometry.causes import Meeting
 from hemtoghai.language import choreo
+from hemtoghai.texts import joined
 
 MOST_PLACES = 48000  # of all drones together, so that a page has about a megabyte
 MOST_PAIRS = 12
@@ -28,14 +27,6 @@ def step_of(flown: choreo.Flown, wanted: int | None, most_places: int = MOST_PLA
     least = -(-flown.milliseconds // most)
     few = [step for step in (10, 20, 25, 50, 100, 200, 250, 500) if step >= least]
     return min(60000, few[0] if few else -(-least // 1000) * 1000)
-
-
-def ask(program: str, words: list[str], text: bytes) -> tuple[int, str] | None:
-    """The status and output of the program, or None where it can't be run."""
-    if no_program(program):
-        return None
-    done = subprocess.run([os.path.abspath(program), *words], input=text, stdout=subprocess.PIPE)
-    return done.returncode, done.stdout.decode(errors="replace")
 
 
 # ---- positions
@@ -71,9 +62,9 @@ def worked_out(flown: choreo.Flown, step: int, also: Iterable[int] = ()) -> tupl
     return times, places
 
 
-def rows_of_play(text: bytes, program: str | None, deep: int, step: int) -> list[str] | None:
+def rows_of_play(text: bytes, program: str, deep: int, step: int) -> list[str] | None:
     """The rows of the program's `play`, or None where it isn't there."""
-    answer = ask(program, ["play", "--depth", str(deep), "--step", str(step)], text) if program else None
+    answer = ask(["play", "--depth", str(deep), "--step", str(step)], text, program)
     return answer[1].splitlines() if answer and answer[0] == 0 else None
 
 
@@ -117,16 +108,13 @@ def shares(flown: choreo.Flown, places: list[list[Sample]]) -> tuple[list[list[f
 def mark_of(flown: choreo.Flown, deep: int, i: int, j: int, cue: int, index: int) -> Mark:
     """A place in which two drones are blocked: from, to, both drones, cue, the nearest instant, all in milliseconds,
     how near they are there, whether they touch, the cause where it is the show's `stray` or `late`, and words."""
-    begin, lasts, parts = begins(flown)[cue], flown.cues[cue].milliseconds, 2 ** deep
-    near = separation.nearest_in(flown, i, j, cue)
-    cause = None if near.touch else cause_of(flown, i, j, cue, deep)
+    it = Meeting(flown, deep, i, j, cue, index)
     words = "%s and %s in cue %d, %s: nearest at %s with %.1f %% of what their ellipsoids need, %s" % (
-        flown.names[i], flown.names[j], cue + 1, cue_words(flown.cues[cue]), seconds(begin + lasts * near.at),
-        100 * near.share, "too near" if near.touch else "apart while they fly exactly: the cause is " + cause.replace(
-            "`", "") if cause else "apart, but along no direction")
-    return {"from": begin + lasts * index / parts, "to": begin + lasts * (index + 1) / parts, "pair": [i, j],
-            "cue": cue, "nearest": begin + lasts * near.at, "words": words, "share": round(100 * near.share, 1),
-            "touch": near.touch, "cause": cause, "named": False}
+        flown.names[i], flown.names[j], cue + 1, cue_words(flown.cues[cue]), seconds(it.nearest), 100 * it.near.share,
+        "too near" if it.near.touch else "apart while they fly exactly: the cause is " + it.cause.replace("`", "")
+        if it.cause else "apart, but along no direction")
+    return {"from": it.begin, "to": it.end, "pair": [i, j], "cue": cue, "nearest": it.nearest, "words": words,
+            "share": round(100 * it.near.share, 1), "touch": it.near.touch, "cause": it.cause, "named": False}
 
 
 def blocked_marks(flown: choreo.Flown, deep: int) -> list[Mark]:
@@ -158,7 +146,5 @@ def regions_of(path: str) -> list[Region]:
 
 def boxes_said(program: str, text: bytes, path: str, deep: int) -> str:
     """What the program's `boxes` says of the regions of a file, or nothing."""
-    end = b"" if text.endswith(b"\n") else b"\n"
-    whole = text + end + b"%%\n" + read_file(path)
-    answer = ask(program, ["boxes", "--depth", str(deep)], whole)
+    answer = ask(["boxes", "--depth", str(deep)], joined(text, read_file(path)), program)
     return answer[1].strip() if answer else ""

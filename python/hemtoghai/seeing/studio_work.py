@@ -19,12 +19,13 @@ import re
 import sys
 import time
 from collections.abc import Iterator
+from functools import partial
 from typing import Any
 
-from hemtoghai.companion import ask_dynamics, begins, no_program
+from hemtoghai.companion import ask, ask_dynamics, begins, speeds_in
 from hemtoghai.geometry import separation
 from hemtoghai.language import choreo
-from hemtoghai.seeing.sampling import ask, boxes_said, flight_of, Mark, mark_of, regions_of, rows_of_play, step_of
+from hemtoghai.seeing.sampling import boxes_said, flight_of, Mark, mark_of, regions_of, rows_of_play, step_of
 from hemtoghai.seeing.studio_places import places_at
 from hemtoghai.writing.flyable import below, MOST as FASTEST, motion_if_known, small
 from hemtoghai.writing.margins import greatest, MOST, with_setting
@@ -43,21 +44,10 @@ def put(stage: str, **more: object) -> None:
 
 # ---- the verdict, without the program
 
-def refusal_of(text: bytes, deep: int) -> tuple[int, str]:
-    """The status and the words by which the tools refuse a text, or those of an accepted one."""
-    try:
-        flown = choreo.flown_of(text)
-        choreo.judge_room(flown)
-        separation.judge_separation(flown, deep)
-    except choreo.Refused as refusal:
-        return refusal.status, refusal.output.strip()
-    return 0, "ok drones %d cues %d duration_ms %d" % (len(flown.names), len(flown.cues), flown.milliseconds)
-
-
 def judged(text: bytes, deep: int) -> tuple[int, str]:
-    """The same; a marker line is refused as the program does."""
+    """The status and the line of `check`, by the tools; a marker line is refused as the program does."""
     show, second, markers = choreo.parts_of(text)
-    answer = refusal_of(show, deep)
+    answer = separation.judged(show, deep)
     return answer if second is None or answer[0] == 3 else (11, "error 11 line %d" % markers[0])
 
 
@@ -113,11 +103,11 @@ def put_marks_so_far(flown: choreo.Flown, marks: list[Mark], many: int, are_all:
     put("marks", marks=[with_lines(flown, mark) for mark in marks[:MOST_MARKS]], many=many, all=are_all)
 
 
-def explained(flown: choreo.Flown, text: bytes, program: str | None, deep: int) -> dict[str, object] | None:
+def explained(flown: choreo.Flown, text: bytes, program: str, deep: int) -> dict[str, object] | None:
     """What the program's `explain` says of a show that is refused for nearness: the two whose ellipsoids share a point
     at an instant, with their cue and the instant in milliseconds, which is proved where the program is; or at how many
     instants none do. None where the program can't be asked."""
-    answer = ask(program, ["explain", "--depth", str(deep)], text) if program else None
+    answer = ask(["explain", "--depth", str(deep)], text, program)
     if not answer or answer[0]:
         return None
     touch = re.search(r"^touch pair (\S+) (\S+) cue (\d+) at (\d+) of (\d+)$", answer[1], re.M)
@@ -129,30 +119,23 @@ def explained(flown: choreo.Flown, text: bytes, program: str | None, deep: int) 
     return {"pair": None, "instants": int(looked[1])} if looked else None
 
 
-def speeds_of(text: bytes, program: str | None) -> dict[str, list[float]]:
-    """Bounds on speed by drone, in m/s, by the program's `speed`; none where it isn't there."""
-    answer = ask(program, ["speed"], text) if program else None
-    rows = [line.split() for line in answer[1].splitlines()] if answer and answer[0] == 0 else []
-    return {row[1]: [int(word) / 1e6 for word in row[2:5]] for row in rows if row[:1] == ["speed"]}
-
-
-def faults_of(flown: choreo.Flown, text: bytes, program: str | None) -> Iterator[dict[str, object]]:
+def faults_of(flown: choreo.Flown, text: bytes, program: str) -> Iterator[dict[str, object]]:
     """What no drone flies, as ./show says it: by line, cue and words, each None where there is none."""
-    found = [motion_if_known(program, flown, text) if program else None, below(flown), small(flown)]
+    found = [motion_if_known(program, flown, text), below(flown), small(flown)]
     for words in filter(None, found):
         where = re.fullmatch(r"line (\d+), (?:cue (\d+)|the end): (.*)", words)
         line, cue, rest = (where[1], where[2], where[3]) if where else (None, None, words)
         yield {"line": line and int(line), "cue": cue and int(cue) - 1, "words": rest.replace("m/s^2", "m/s²")}
 
 
-def notes_of(flown: choreo.Flown, text: bytes, program: str | None) -> dict[str, object]:
+def notes_of(flown: choreo.Flown, text: bytes, program: str) -> dict[str, object]:
     """Memory, speeds, accelerations, jumps, and what no drone flies."""
-    motions, speeds, room = ask_dynamics(text, program or os.devnull), speeds_of(text, program), flown.room()
-    drones = []
+    motions, answer, room, drones = ask_dynamics(text, program), ask(["speed"], text, program), flown.room(), []
+    speeds = speeds_in(answer[1]) if answer and answer[0] == 0 else {}
     for name, data, segments in zip(flown.names, flown.data(), flown.sent):
         forces, jumps, _ = motions[name] if motions else ([], [], [])
         drones.append({"name": name, "bytes": len(data), "left": room - len(data), "segments": len(segments),
-                       "speed": max(speeds[name]) if name in speeds else None,
+                       "speed": max(speeds[name]) / 1e6 if name in speeds else None,
                        "force": max(forces) if motions else None,
                        "jump": max(jumps) if motions else None})
     return {"drones": drones, "room": room, "asked": motions is not None,
@@ -160,15 +143,7 @@ def notes_of(flown: choreo.Flown, text: bytes, program: str | None) -> dict[str,
             "most": {"force": FASTEST["accel"] / 1000, "jump": FASTEST["jump"] / 1000}}
 
 
-def margin_of(text: bytes, program: str | None, deep: int, name: str) -> Any:
-    """The greatest number of a setting with which the show is accepted."""
-    def judge(changed: bytes, depth: int) -> tuple[int, str]:
-        answer = ask(program, ["check", "--depth", str(depth)], changed) if program else None
-        return (answer[0], answer[1].strip()) if answer else judged(changed, depth)
-    return greatest(deep, MOST + 1, lambda k: with_setting(text, name, k), judge)[0]
-
-
-def put_flight(text: bytes, deep: int, program: str | None, answer: list[Any] | None, path: str | None) -> None:
+def put_flight(text: bytes, deep: int, program: str, answer: list[Any] | None, path: str | None) -> None:
     """Writes all that is known of a text, given what `check` said of it, or null."""
     status, said = answer or judged(text, deep)
     if answer is None:
@@ -188,13 +163,14 @@ def put_flight(text: bytes, deep: int, program: str | None, answer: list[Any] | 
     put("lines", **drone_lines(flown))
     put("notes", **notes_of(flown, text, program))
     if path:
-        put("regions", line=boxes_said(program, text, path, deep) if program else "")
+        put("regions", line=boxes_said(program, text, path, deep))
     if status == 5:
         put_marks(flown, deep)
     if status == 0 and len(flown.names) > 1:
         time.sleep(QUIET)
         for name in ("stray", "late"):
-            put("margin", name=name, most=margin_of(text, program, deep, name))
+            most, _ = greatest(deep, MOST + 1, partial(with_setting, text, name), judged, program)
+            put("margin", name=name, most=most)
 
 
 def main(words: list[str]) -> int:
@@ -204,7 +180,7 @@ def main(words: list[str]) -> int:
     if not line:
         return 0  # the studio has ended
     asked = json.loads(line)
-    program = asked["program"] if asked["program"] and not no_program(asked["program"]) else None
+    program = asked["program"] or os.devnull  # which is no program
     if asked["want"] == "places":
         put("places", **places_at(text, asked["line"]))
     else:

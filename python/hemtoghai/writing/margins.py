@@ -21,23 +21,16 @@ def with_setting(text: bytes, word: str, *numbers: int) -> bytes:
     return new if found else text.rstrip(b"\n") + b"\n" + line + b"\n"
 
 
-def judged(text: bytes, deep: int) -> tuple[int, str]:
-    """The status and line of `check`, or what the tools work out where the program isn't built."""
-    answer = ask_check(text, deep)
-    if answer:
-        return answer
-    refusal = separation.refusal_of(text, deep)
-    return (refusal.status, str(refusal)) if refusal else (0, "ok")
-
-
 def greatest(deep: int, high: int, changed: Callable[[int], bytes],
-             judge: Callable[[bytes, int], tuple[int, str]] = judged) -> tuple[int | None, str]:
+             judge: Callable[[bytes, int], tuple[int, str]] = separation.judged,
+             program: str | None = None) -> tuple[int | None, str]:
     """The greatest number below `high` with which the show is accepted, by halving, and the refusal above it; None
-    where it isn't with the least, and what is said then."""
+    where it isn't with the least, and what is said then. Where the program can't be asked, `judge` is."""
     low, refusal = -1, ""
     while high - low > 1:
         k = (low + high) // 2
-        status, line = judge(changed(k), deep)
+        text = changed(k)
+        status, line = ask_check(text, deep, program) or judge(text, deep)
         if status not in (0, 5):
             return None, line
         low, high, refusal = (k, high, refusal) if status == 0 else (low, k, line)
