@@ -813,7 +813,7 @@ class Proved(Place):
     def test_later(self):
         # What is exchanged after the first look isn't run, nor by a process that is started for it.
         code = ("import sys; sys.path[:0] = ['python']\nfrom hemtoghai import program\n"
-                "from hemtoghai.launching import demand\nprint(demand.fault_of(['check']), program.words_of('why')[3:])\n"
+                "from hemtoghai.launching import launcher\nprint(launcher.fault_of_demand(['check']), program.words_of('why')[3:])\n"
                 "print(program.fault('program'))\nwith open(program.PROGRAM + program.RECORD, 'w') as file:\n"
                 "    file.write('{}')\nprint(program.fault())")
         done = subprocess.run([sys.executable, "-c", code], cwd=self.place, stdout=subprocess.PIPE,

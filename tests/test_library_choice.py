@@ -167,7 +167,7 @@ class Choice(Case):
 
     def test_another_machine(self):
         self.make()
-        with mock.patch("hemtoghai.machine.fault", return_value="this release needs another machine"):
+        with mock.patch("hemtoghai.program.fault_of_machine", return_value="this release needs another machine"):
             self.assertEqual([self.by(), self.by("library")], ["this release needs another machine"] * 2)
 
     def test_what_was_hashed_is_loaded(self):

@@ -20,7 +20,7 @@ import zipfile
 from unittest import mock
 
 from common import Folder, PROGRAM, TOP
-from hemtoghai import machine
+from hemtoghai import program
 from hemtoghai.language import choreo
 from hemtoghai.launching import manual, wheels, words as commands
 
@@ -614,13 +614,13 @@ class Machine(unittest.TestCase):
                 ("x86_64", ("glibc", "2.4"), "x86_64, glibc 2.4"), ("x86_64", ("", ""), "x86_64, no glibc "),
                 ("aarch64", ("glibc", "2.36"), "aarch64, glibc 2.36")):
             with mock.patch("os.path.exists", return_value=True), \
-                    mock.patch("hemtoghai.machine.library", return_value=library), \
+                    mock.patch("hemtoghai.program.c_library", return_value=library), \
                     mock.patch("os.uname", return_value=mock.Mock(machine=processor)):
                 line = "this release needs an x86-64 machine with glibc 2.34 or later; here: %s"
-                self.assertEqual(machine.fault(), wanted and line % wanted)
-        with mock.patch("hemtoghai.machine.library", return_value=("glibc", "2.31")):
-            self.assertIsNone(machine.fault())  # here is no release
-        self.assertEqual(machine.library(), platform.libc_ver())
+                self.assertEqual(program.fault_of_machine(), wanted and line % wanted)
+        with mock.patch("hemtoghai.program.c_library", return_value=("glibc", "2.31")):
+            self.assertIsNone(program.fault_of_machine())  # here is no release
+        self.assertEqual(program.c_library(), platform.libc_ver())
 
 
 class Manual(unittest.TestCase):

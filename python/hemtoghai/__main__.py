@@ -17,9 +17,10 @@ from hemtoghai import program, streams
 
 COMMANDS = {
     **{word: "hemtoghai.commands." + word for word in (
-        "bridge", "convert", "deal", "export", "flown", "fly", "judge", "legs", "library", "manual", "picture",
-        "release", "studio", "summary", "why", "without")},
+        "bridge", "convert", "deal", "export", "flown", "fly", "judge", "legs", "library", "picture", "release",
+        "studio", "summary", "why", "without")},
     "import": "hemtoghai.commands.importing",
+    "manual": "hemtoghai.launching.manual",
     "studio_work": "hemtoghai.seeing.studio_work",  # a process of the studio
 }
 WITH_JSON = "check", "dynamics", "speed", "boxes", "why", "summary"  # as values, in place of lines
@@ -41,9 +42,9 @@ def add_installed() -> None:
 def main(words: list[str]) -> int:
     """The status of a command, by its word and those after it."""
     if words[:1] == ["--proved"]:
-        from hemtoghai.launching import demand
+        from hemtoghai.launching import launcher
         words = words[1:]
-        fault = demand.fault_of(words)
+        fault = launcher.fault_of_demand(words)
         if fault:
             streams.tell(program.NAME, fault)
             return streams.NO_ANSWER

@@ -16,7 +16,7 @@ import os
 import threading
 from typing import Any, NamedTuple, Optional, Protocol
 
-from hemtoghai import machine, program
+from hemtoghai import program
 from hemtoghai.program import Unusable
 
 CHOICE = "HEMTOGHAI_BY"
@@ -129,7 +129,7 @@ def need_sources(record: dict[str, Any], digest: str) -> None:
 
 def library() -> Library:
     """The library that was built here or released; raises Unusable."""
-    fault = machine.fault()
+    fault = program.fault_of_machine()
     if fault:
         raise Unusable(fault)
     record = manifest()

@@ -24,6 +24,7 @@ PROGRAM = os.path.join(TOP, "crates", "show_cli", "out", "show_cli")
 UNPROVED = PROGRAM + ".unproved"  # the program as --unproved built it
 RECORD = ".built"  # stands after a program's name: what is known of its build, and the stamp of its sources
 MANIFEST = os.path.join(TOP, "MANIFEST.json")  # the same, where this is a release: then nothing is built
+OLDEST_LIBRARY = 2, 34  # the C library that the program of a release needs
 MOST_BYTES = 1 << 28  # of a program, 256 MiB
 SEALS, ADD_SEALS = 0x0F, 1033  # of a file in memory: neither these seals, nor its size, nor its bytes change
 NO_ANSWER = 70
@@ -101,6 +102,27 @@ def in_memory(data: bytes) -> str | None:
     return path if os.access(path, os.X_OK) else None
 
 
+def c_library() -> tuple[str, str]:
+    """The name and the number of the C library; both empty where it doesn't say."""
+    try:
+        name, _, number = (os.confstr("CS_GNU_LIBC_VERSION") or "").partition(" ")
+    except (AttributeError, ValueError, OSError):
+        return "", ""
+    return name, number
+
+
+def fault_of_machine() -> str | None:
+    """Why the program of a release can't run on this machine, or None. A program that was built here runs here."""
+    if not os.path.exists(MANIFEST):
+        return None
+    (name, number), processor = c_library(), os.uname().machine
+    parts = tuple(int(part) for part in number.split(".")[:2] if part.isdigit())
+    if processor == "x86_64" and name == "glibc" and parts >= OLDEST_LIBRARY:
+        return None
+    return "this release needs an x86-64 machine with glibc %d.%d or later; here: %s, %s %s" % (
+        *OLDEST_LIBRARY, processor, name or "no glibc", number)
+
+
 def fault(path: str | None = None) -> str | None:
     """Why a program can't be run, or None: it isn't built, not as recorded, or of a release for other machines."""
     try:
@@ -119,8 +141,7 @@ def runs(path: str | None = None) -> str:
         if demanded[0]:
             raise Unusable("%s isn't the proved program, and --proved runs no other" % path)
         return path
-    from hemtoghai import machine
-    fault = machine.fault()
+    fault = fault_of_machine()
     if fault:
         raise Unusable(fault)
     file, proved = copy_of(path)

@@ -8,19 +8,15 @@ this status. 70: a file can't be read or written, or isn't a plan.
 """
 from __future__ import annotations
 
+import importlib
+
 from hemtoghai.companion import parser, set_tool
 
 
 def main(words: list[str]) -> int:
-    """Hands the words after the format to what writes it."""
-    if words[:1] == ["csv"]:
-        from hemtoghai.exchange import export_csv
-        set_tool("export csv")
-        return export_csv.main(words[1:])
-    if words[:1] == ["skyc"]:
-        from hemtoghai.exchange import export_skyc
-        set_tool("export skyc")
-        return export_skyc.main(words[1:])
+    if words[:1] in (["csv"], ["skyc"]):
+        set_tool("export " + words[0])
+        return int(importlib.import_module("hemtoghai.exchange.export_" + words[0]).main(words[1:]))
     reader = parser(__doc__)
     reader.add_argument("format", choices=("csv", "skyc"), help="the program that reads the files")
     reader.parse_args(words)

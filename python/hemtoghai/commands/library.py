@@ -28,7 +28,7 @@ from typing import Any, Optional
 from hemtoghai import program
 from hemtoghai.companion import parser, stop
 from hemtoghai.launching import records
-from hemtoghai.launching.built import git
+from hemtoghai.launching.records import git
 
 TOP = program.TOP
 CRATE = "hemtoghai"

@@ -34,7 +34,7 @@ from typing import Any, Dict, List, Tuple
 from hemtoghai import program
 from hemtoghai.companion import parser, stop, write_file
 from hemtoghai.launching import manual, records, wheels
-from hemtoghai.launching.built import git
+from hemtoghai.launching.records import git
 
 Record = Dict[str, Any]  # of a build, as it is noted beside the program
 Contents = List[Tuple[str, bytes, int]]  # files as path, bytes and mode

@@ -6,20 +6,16 @@ from __future__ import annotations
 import os
 import re
 import sys
+from collections.abc import Iterable, Iterator
 from fractions import Fraction
+from typing import List, Tuple
 
+from hemtoghai.language.choreo import ACTS, form_of, LINES, Number, number_of, YAW
+from hemtoghai.language.quantities import Counts, FAR, in_unit, KINDS, value_of, written
 from hemtoghai.program import TOP
 
-TYPE_CHECKING = False  # of a reader of types; what it names is imported where it is needed: ./show has to begin fast
-if TYPE_CHECKING:
-    from collections.abc import Iterable, Iterator
-    from typing import List, Tuple
-
-    from hemtoghai.language.choreo import Number
-    from hemtoghai.language.quantities import Counts
-
-    Row = List[str]  # what a fault means, its commonest cause or nothing, and its cure
-    Meaning = Tuple[str, str, str, str]  # of a number: what it is, its unit, a cause of being out of range, the cure
+Row = List[str]  # what a fault means, its commonest cause or nothing, and its cure
+Meaning = Tuple[str, str, str, str]  # of a number: what it is, its unit, a cause of being out of range, the cure
 
 LANGUAGE = "docs/LANGUAGE.md"
 METRES = "a coordinate", "micrometres", "a number that was multiplied twice", \
@@ -84,7 +80,6 @@ def short(digits: str) -> str:
 
 def numbers_of(line: bytes) -> Iterator[tuple[str, Number, Meaning]]:
     """The numbers of a line of a text: for each its word, its slot, and its row as NUMBERS has it."""
-    from hemtoghai.language.choreo import ACTS, LINES, YAW, Number
     words = line.partition(b"#")[0].decode("ascii", "replace").split()
     is_act = len(words) > 1 and words[1] in ACTS
     slots = ["name", "act", *ACTS[words[1]]] if is_act else ["word", *LINES.get("".join(words[:1]), [])]
@@ -97,8 +92,6 @@ def numbers_of(line: bytes) -> Iterator[tuple[str, Number, Meaning]]:
 def range_row(line: bytes, form: int = 1) -> Row | None:
     """The row of the number of a line that is out of its range; None where none is found. `line` is a line of a text,
     in bytes, in a form of the language."""
-    from hemtoghai.language.choreo import number_of
-    from hemtoghai.language.quantities import FAR, written
     for word, slot, (name, unit, cause, cure) in numbers_of(line):
         value = number_of(slot, word, form)
         if value is None or slot.least <= value <= slot.most:
@@ -113,7 +106,6 @@ def range_row(line: bytes, form: int = 1) -> Row | None:
 
 def number_row(line: bytes, form: int) -> Row | None:
     """The row of the word of a line that stands in place of a number and is none; None if no more is known of it."""
-    from hemtoghai.language.choreo import number_of
     for word, slot, (name, *_) in numbers_of(line):
         if number_of(slot, word, form) is None:
             if len(word) > LONGEST_SHOWN:
@@ -127,13 +119,11 @@ def number_row(line: bytes, form: int) -> Row | None:
 
 def kind_of(unit: str) -> str:
     """The kind of quantities that have a unit, with its article; empty where there is no such unit."""
-    from hemtoghai.language.quantities import KINDS
     return {"length": "a length", "time": "a time", "angle": "an angle"}.get(KINDS.get(unit, ""), "")
 
 
 def whole_row(name: str, slot: Number, counts: Counts, word: str) -> Row | None:
     """The row of a word that is no whole number, in `choreo 1`."""
-    from hemtoghai.language.quantities import value_of
     found = re.fullmatch("-?[0-9]+([.][0-9]+)?([a-z]*)", word)
     if not found or found[2] and not kind_of(found[2]):
         return None
@@ -156,7 +146,6 @@ def listed(words: Iterable[str]) -> str:
 
 
 def fits(slot: Number, word: str) -> bool:
-    from hemtoghai.language.choreo import number_of
     value = number_of(slot, word, 2)
     return value is not None and slot.least <= value <= slot.most
 
@@ -183,7 +172,6 @@ def quantity_row(name: str, slot: Number, counts: Counts, word: str) -> Row:
 
 def finer_row(name: str, counts: Counts, word: str, unit: str) -> Row:
     """The row of a quantity that isn't whole in its place: it lies between two that are."""
-    from hemtoghai.language.quantities import in_unit
     size = Fraction(word[:-len(unit)]) * Fraction(10) ** counts.units[unit]
     below = size.numerator // size.denominator
     near = [in_unit(counts, value, unit) if value else "0" for value in (below, below + 1)]
@@ -193,7 +181,6 @@ def finer_row(name: str, counts: Counts, word: str, unit: str) -> Row:
 
 def bare_row(name: str, slot: Number, counts: Counts, word: str, is_whole: bool) -> Row:
     """The row of a number without a unit: with the units that may be meant, and what `choreo 1` reads."""
-    from hemtoghai.language.quantities import in_unit, value_of, written
     what, digits = f"{name} is {word}, without a unit", word.lstrip("+").replace(",", ".")
     if not digits.strip("-0."):
         return [what, "", "write 0: zero alone needs no unit"]
@@ -212,7 +199,6 @@ def bare_row(name: str, slot: Number, counts: Counts, word: str, is_whole: bool)
 
 def count_row(line: bytes) -> Row | None:
     """The row of a line that has a word too many, since a unit stands alone; None where none does."""
-    from hemtoghai.language.quantities import KINDS
     found = re.search(rb"(?<!\S)(-?[0-9.]+)\s+(" + "|".join(KINDS).encode() + rb")(?!\S)", line.partition(b"#")[0])
     row = row_of("bad-count")
     if not found or not row:
@@ -249,7 +235,6 @@ def shown(line: bytes) -> tuple[str, int | None]:
 
 def print_cure(who: str, number: int, word: str, text: bytes) -> None:
     """Writes the line of a text and what helps to standard error."""
-    from hemtoghai.language.choreo import form_of
     lines = text.split(b"\n")
     line, place = shown(lines[number - 1]) if number <= len(lines) else ("", None)
     print("%6d | %s" % (number, line[:200]), file=sys.stderr)

@@ -92,18 +92,6 @@ def in_order(below: Crates) -> list[str]:
     return sorted(below, key=work, reverse=True)
 
 
-def with_all_below(crate: str, below: Crates) -> set[str]:
-    """The crate and all that it stands on."""
-    found: set[str] = set()
-    wanted = [crate]
-    while wanted:
-        it = wanted.pop()
-        if it not in found:
-            found.add(it)
-            wanted += below[it]
-    return found
-
-
 def link(source: str, target: str) -> None:
     """A second name of a file, or a copy of it where it can have none."""
     try:
@@ -124,15 +112,15 @@ def no_sources(folder: str, names: list[str]) -> list[str]:
     return [name for name in names if name in LEFT_OUT or not os.path.exists(os.path.join(folder, name))]
 
 
-def begin_in(room: str, crate: str, below: Crates, jobs: int) -> subprocess.Popen[bytes]:
+def begin_in(room: str, crate: str, jobs: int) -> subprocess.Popen[bytes]:
     """Begins to prove a crate in a folder of its own: a copy of all sources, with the libraries below the crate and
     what was kept of the crate itself."""
     shutil.copy(os.path.join(TOP, "crates.txt"), room)
     copies = os.path.join(room, "crates")
     shutil.copytree(CRATES, copies, ignore=no_sources)
-    for it in with_all_below(crate, below) - {crate}:
+    for it in crates_below(crate):
         library = os.path.join(CRATES, it, LIBRARY)
-        if os.path.isdir(library):
+        if it != crate and os.path.isdir(library):
             shutil.copytree(library, os.path.join(copies, it, LIBRARY), copy_function=link)
     folder = os.path.join(copies, crate)
     move(os.path.join(CRATES, crate, "out"), os.path.join(folder, "out"))
@@ -162,7 +150,7 @@ def prove(below: Crates, most: int) -> None:
                     os.mkdir(room_of(crate))
                     # Few crates are ready at a time near the top, and then each gets more than one processor.
                     jobs = max(1, most // max(1, len(running) + len(ready)))
-                    running[crate] = begin_in(room_of(crate), crate, below, jobs)
+                    running[crate] = begin_in(room_of(crate), crate, jobs)
                 time.sleep(0.2)
                 end_if_told()
                 for crate in [crate for crate in running if running[crate].poll() is not None]:

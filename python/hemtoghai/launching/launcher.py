@@ -31,22 +31,6 @@ def stop(text: str) -> NoReturn:
 
 # ---- which program runs
 
-def file_of_release() -> str:
-    """The file that runs in a release: the program of its manifest, and no other."""
-    from hemtoghai import machine
-    try:
-        data, _ = program.read_program(program.PROGRAM)
-    except OSError:
-        data = b""
-    if not os.access(program.PROGRAM, os.X_OK) or (
-            program.digest_of(data) != program.record_of(program.MANIFEST).get("sha256")):
-        stop("the program isn't the one of MANIFEST.json: unpack the release anew")
-    fault = machine.fault()
-    if fault:
-        stop(fault)
-    return program.in_memory(data) or program.PROGRAM
-
-
 def file_if_current(path: str) -> str | None:
     """The file that runs for a program that was built from the sources as they are, or None where none is there. Its
     bytes are those that were looked at."""
@@ -62,15 +46,17 @@ def file_if_current(path: str) -> str | None:
 
 def file_for(unproved: bool) -> str | None:
     """The file that is to run, or None where there is only the sources' own try."""
-    if program.demanded[0]:
+    is_release = os.path.exists(program.MANIFEST)
+    if is_release and not program.demanded[0]:
+        if unproved:
+            stop("a release has no sources to run")
+        if not os.access(program.PROGRAM, os.R_OK | os.X_OK):
+            stop("the program isn't the one of MANIFEST.json: unpack the release anew")
+    if is_release or program.demanded[0]:
         try:
             return program.runs()
         except program.Unusable as why:
             stop(str(why))
-    if os.path.exists(program.MANIFEST):
-        if unproved:
-            stop("a release has no sources to run")
-        return file_of_release()
     if unproved:
         say("nothing is proved in this run")
         return file_if_current(program.UNPROVED)
@@ -80,6 +66,22 @@ def file_for(unproved: bool) -> str | None:
         building.build()
         found = file_if_current(program.PROGRAM) or stop("the program that was built isn't that of the sources")
     return found
+
+
+def fault_of_demand(words: list[str]) -> str | None:
+    """Has no program run from then on but the one whose record or manifest says that it was proved; in a checkout that
+    is the one of the sources as they are. Why the words after --proved aren't carried out, or None: nothing is built
+    for them, and what asks for help runs nothing."""
+    program.demanded[0] = True
+    options = [word.partition("=")[0] for word in words]  # a tool takes a short form of --program too
+    if words[:1] == ["--unproved"] or any(len(option) > 2 and "--program".startswith(option) for option in options):
+        return "--proved runs the proved program alone: it goes with neither --unproved nor --program"
+    if not words or words == ["--version"] or {"-h", "--help"} & set(words):
+        return None
+    fault = program.fault()
+    if fault is None and not os.path.exists(program.MANIFEST) and not seen.is_known_current(program.PROGRAM):
+        fault = "the program isn't the one of these sources: ./show check FILE builds it"
+    return fault
 
 
 # ---- words and files

@@ -1,8 +1,17 @@
-"""The manual page and the completion for Bash of ./show, made from the tables of docs/COMMANDS.md: for ./show manual
-and ./show release."""
-import re
+"""The manual page and the completion for Bash of ./show, made from the tables of docs/COMMANDS.md.
 
-from hemtoghai.launching import words as commands
+    ./show manual page > show.1; man ./show.1
+    ./show manual completion > show.bash; . ./show.bash
+
+./show release puts both into share/. Status 0: written. 2: wrong words.
+"""
+from __future__ import annotations
+
+import re
+import sys
+
+from hemtoghai.companion import parser
+from hemtoghai.launching import records, words as commands
 
 COMPLETION = """# Completion of ./show for Bash: . show.bash
 _show() {
@@ -31,20 +40,18 @@ complete -o filenames -F _show show ./show
 
 def completion() -> str:
     """The text of the completion: commands, then each one's options, numbers where few are possible, and files."""
-    options, numbers, few = [], {}, []
+    options, choices, numbers = [], [], {}
     for command in commands.FORMS:
         known = commands.options_of(command)
         options.append("  %s) options='%s' ;;" % (command, " ".join([*known, "--help"])))
         for option, number in known.items():
             if number and commands.choices_of(number):
-                few.append("  %s) mapfile -t COMPREPLY < <(compgen -W '%s' -- \"$word\"); return ;;" % (
-                    option, " ".join(commands.choices_of(number))))
+                choices.append((option, commands.choices_of(number)))
             elif number and commands.NUMBERS[number][1] < 10:
-                numbers[option] = number
-    for option, number in sorted(numbers.items()):
-        low, high = commands.NUMBERS[number]
-        few.append("  %s) mapfile -t COMPREPLY < <(compgen -W '%s' -- \"$word\"); return ;;" % (
-            option, " ".join(map(str, range(low, high + 1)))))
+                low, high = commands.NUMBERS[number]
+                numbers[option] = [str(k) for k in range(low, high + 1)]
+    few = ["  %s) mapfile -t COMPREPLY < <(compgen -W '%s' -- \"$word\"); return ;;" % (option, " ".join(words))
+           for option, words in [*choices, *sorted(numbers.items())]]
     return COMPLETION % (" ".join(commands.FORMS), "\n".join(options), "\n".join(few))
 
 
@@ -78,3 +85,11 @@ def page(version: str) -> str:
             out.append("What to do: %s." % roff(do))
     out += [".SH SEE ALSO", "docs/COMMANDS.md, docs/LANGUAGE.md and docs/TOOLS.md of the release."]
     return "\n".join(out) + "\n"
+
+
+def main(words: list[str]) -> int:
+    reader = parser(__doc__)
+    reader.add_argument("kind", choices=("page", "completion"), help="the manual page, or the completion")
+    options = reader.parse_args(words)
+    sys.stdout.write(page(records.version()) if options.kind == "page" else completion())
+    return 0

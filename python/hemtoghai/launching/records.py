@@ -103,6 +103,19 @@ def answer_of(*words: str) -> str:
     return done.stdout.decode(errors="replace").strip() if done.returncode == 0 else ""
 
 
+def git(*words: str) -> str:
+    """What git says; where it fails the tool ends."""
+    import subprocess
+    from hemtoghai.companion import stop
+    try:
+        done = subprocess.run(["git", *words], cwd=TOP, stdout=subprocess.PIPE, stderr=subprocess.PIPE)
+    except OSError as error:
+        return stop("git: %s" % error.strerror)
+    if done.returncode:
+        stop("git %s: %s" % (" ".join(words), done.stderr.decode(errors="replace").strip()))
+    return done.stdout.decode().strip()
+
+
 def write_record(said: str, stamped: str) -> None:
     """Notes what is known of a build of the program: what rt said last of its proof, and the stamp of its sources."""
     import json
