@@ -14,7 +14,7 @@ import contextlib
 import json
 import os
 import threading
-from typing import Any, NamedTuple, Optional, Protocol
+from typing import Any, NamedTuple, Optional, Union
 
 from hemtoghai import program
 from hemtoghai.program import Unusable
@@ -35,18 +35,11 @@ class Answer(NamedTuple):
     by: str  # "library" or "process"
 
 
-class Runner(Protocol):
-    """Runs the words of a command over the bytes of its input. Raises Unusable where there is no answer. Any number of
-    threads may call it at once."""
-
-    def run(self, words: list[str], text: bytes) -> Answer:
-        """The answer to a command."""
-
-
 # ---- in a process of its own
 
 class Process:
-    """The program, started for each question."""
+    """The program, started for each question: runs the words of a command over the bytes of its input. Raises Unusable
+    where there is no answer. Any number of threads may call it at once."""
 
     def run(self, words: list[str], text: bytes) -> Answer:
         status, output = program.ask(words, text)
@@ -61,8 +54,8 @@ def line_of(words: list[str]) -> bytes:
 
 
 class Library:
-    """The library, loaded from a file. It has no state; other threads of Python run during a call, and each has a room
-    of its own for answers."""
+    """The library, loaded from a file, which runs the same. It has no state; other threads of Python run during a call,
+    and each has a room of its own for answers."""
 
     def __init__(self, path: str, proof: Optional[str]) -> None:
         try:
@@ -100,7 +93,8 @@ def bytes_in(path: str) -> bytes:
 
 
 def manifest() -> dict[str, Any]:
-    """The library's manifest; raises Unusable where there is none that says how the library was made."""
+    """The library's manifest; raises Unusable where it isn't the released one, or doesn't say that the library is made
+    from the sources of the program that is there."""
     path = os.path.join(program.TOP, FOLDER, "MANIFEST.json")
     if not os.path.exists(path):
         raise Unusable("the library isn't built; ./show library builds it")
@@ -111,20 +105,14 @@ def manifest() -> dict[str, Any]:
         record = None
     if not isinstance(record, dict) or not isinstance(record.get("files"), dict):
         raise Unusable("the library's manifest can't be read")
-    need_sources(record, program.digest_of(data))
-    return record
-
-
-def need_sources(record: dict[str, Any], digest: str) -> None:
-    """Raises Unusable where the library isn't made from the sources of the program that is there: where its manifest
-    isn't the released one, or names other sources than the program's record."""
     beside = program.record_of(program.record_path(program.PROGRAM))
     if os.path.exists(program.MANIFEST):
         files = beside.get("files")
-        if not isinstance(files, dict) or files.get(FOLDER + "MANIFEST.json") != digest:
+        if not isinstance(files, dict) or files.get(FOLDER + "MANIFEST.json") != program.digest_of(data):
             raise Unusable("the library's manifest isn't as released: unpack the release anew")
     elif beside.get("stamp") not in (None, record.get("program_stamp")):
         raise Unusable("the library isn't of the program's sources; ./show library builds it")
+    return record
 
 
 def library() -> Library:
@@ -146,6 +134,7 @@ def library() -> Library:
 # ---- which of the two
 
 _lock = threading.Lock()
+Runner = Union[Library, Process]
 _chosen: Optional[Runner] = None
 
 

@@ -104,7 +104,7 @@ class Verdict:
     @cached_property
     def blocked(self) -> tuple[Blocked, ...]:
         """Each pair and cue that is blocked, the nearest first: of a show that is refused with status 5."""
-        return blocked_of(self.text, self.depth, self.line) if self.status == 5 else ()
+        return blocked_of(self.text, self.depth) if self.status == 5 else ()
 
     @cached_property
     def cautions(self) -> tuple[Caution, ...]:
@@ -173,7 +173,7 @@ def blocked_in(flown: Any, deep: int, found: tuple[int, int, int, int], named: b
                    tuple(sorted(lines)), named)
 
 
-def blocked_of(text: bytes, deep: int, line: str) -> tuple[Blocked, ...]:
+def blocked_of(text: bytes, deep: int) -> tuple[Blocked, ...]:
     """The places in which drones of a show are blocked, that first in which they come nearest."""
     flown = choreo.flown_of(text)
     places = [blocked_in(flown, deep, found, not number)
@@ -206,19 +206,23 @@ def bytes_of(text: Text) -> bytes:
     return text.encode("utf-8", "surrogateescape") if isinstance(text, str) else bytes(memoryview(text))
 
 
-def joined(first: Text, second: Text) -> bytes:
-    """Two texts with a marker line between them."""
-    return texts.joined(bytes_of(first), bytes_of(second))
-
-
-def asked(words: list[str], text: Text, whole: Optional[bytes] = None, depth: int = DEPTH) -> Verdict:
-    """What is answered to a text, or to a whole input of which it is the show; raises Unusable where neither the
-    library nor the program can be asked, and MemoryError where it is out of memory."""
-    show = bytes_of(text)
-    answer = answering.runner().run(words, show if whole is None else whole)
+def verdict_of(words: list[str], show: bytes, whole: bytes, depth: int = DEPTH) -> Verdict:
+    """What is answered to a whole input of which this is the show; raises Unusable where neither the library nor the
+    program can be asked, and MemoryError where it is out of memory."""
+    answer = answering.runner().run(words, whole)
     if answer.status == NO_MEMORY:
         raise MemoryError
     return Verdict(answer.status, answer.output, answer.proof, show, depth, answer.by)
+
+
+def asked(command: str, text: Text, depth: int, second: Text = b"", **options: Optional[int]) -> Verdict:
+    """The same of a command with a depth and the options that are given, over a show and maybe a second text."""
+    if not 0 <= operator.index(depth) <= 8:
+        raise ValueError("the depth is 0 to 8, not %r" % depth)
+    show, words = bytes_of(text), [command, "--depth", "%d" % depth]
+    for word, number in options.items():
+        words += [] if number is None else ["--" + word, "%d" % operator.index(number)]
+    return verdict_of(words, show, texts.joined(show, bytes_of(second)) if command == "boxes" else show, depth)
 
 
 def accepted(verdict: Verdict) -> Verdict:
@@ -226,17 +230,6 @@ def accepted(verdict: Verdict) -> Verdict:
     if not verdict.ok:
         raise Refused(verdict)
     return verdict
-
-
-def depth_words(depth: int) -> list[str]:
-    if not 0 <= operator.index(depth) <= 8:
-        raise ValueError("the depth is 0 to 8, not %r" % depth)
-    return ["--depth", "%d" % depth]
-
-
-def option(word: str, number: Optional[int]) -> list[str]:
-    """The words of an option, or none where it isn't given."""
-    return [] if number is None else [word, "%d" % operator.index(number)]
 
 
 # ---- what the program writes
@@ -254,17 +247,17 @@ def run(words: str, text: Text = b"") -> Verdict:
     show with a marker line and a second text (docs/COMMANDS.md). Its bytes are the verdict's `output`."""
     listed, whole = re.findall(r"[^\0- ]+", words), bytes_of(text)
     depth = re.search(r"--depth 0*([0-8])(?: |$)", " ".join(listed))
-    return asked(listed, choreo.parts_of(whole)[0], whole, int(depth[1]) if depth else DEPTH)
+    return verdict_of(listed, choreo.parts_of(whole)[0], whole, int(depth[1]) if depth else DEPTH)
 
 
 def check(text: Text, depth: int = DEPTH) -> Verdict:
     """Whether a show is well-formed, fits into its drones' memories, and no two drones ever come too near."""
-    return asked(["check", *depth_words(depth)], text, depth=depth)
+    return asked("check", text, depth)
 
 
 def compile(text: Text, depth: int = DEPTH) -> Plan:
     """The plan of a show: what each drone is sent. Raises Refused where there is none."""
-    verdict = accepted(asked(["compile", *depth_words(depth)], text, depth=depth))
+    verdict = accepted(asked("compile", text, depth))
     drones: list[DronePlan] = []
     for line in verdict.output.decode().split("\n"):
         kind, _, rest = line.partition(" ")
@@ -280,26 +273,26 @@ def compile(text: Text, depth: int = DEPTH) -> Plan:
 
 def certify(text: Text, depth: int = DEPTH) -> bytes:
     """A certificate that no two drones ever come too near, which `verify` and others judge. Raises Refused."""
-    return accepted(asked(["certify", *depth_words(depth)], text, depth=depth)).output
+    return accepted(asked("certify", text, depth)).output
 
 
 def verify(text: Text, certificate: Text) -> Verdict:
     """Whether a certificate is one of this show, whoever made it."""
-    return asked(["verify"], text, joined(text, certificate))
+    show = bytes_of(text)
+    return verdict_of(["verify"], show, texts.joined(show, bytes_of(certificate)))
 
 
 def play(text: Text, step_ms: int = 100, depth: int = DEPTH) -> list[tuple[int, str, int, int, int, int]]:
     """Where each drone is at each step and in the end: the instant in milliseconds, the drone's name, x, y and z in
     micrometres, and yaw in hundredths of a degree. Raises Refused."""
-    words = ["play", *depth_words(depth), *option("--step", step_ms)]
-    verdict = accepted(asked(words, text, depth=depth))
-    rows = (line.split(" ") for line in verdict.output.decode().splitlines())
+    output = accepted(asked("play", text, depth, step=step_ms)).output.decode()
+    rows = (line.split(" ") for line in output.splitlines())
     return [(int(at), name, int(x), int(y), int(z), int(yaw)) for at, name, x, y, z, yaw in rows]
 
 
 def report(text: Text, depth: int = DEPTH) -> dict[str, Any]:
     """A show's numbers: bytes, cues, drones, duration_ms, nodes and packets. Raises Refused."""
-    found: dict[str, Any] = json.loads(accepted(asked(["report", *depth_words(depth)], text, depth=depth)).output)
+    found: dict[str, Any] = json.loads(accepted(asked("report", text, depth)).output)
     return found
 
 
@@ -308,16 +301,14 @@ def dynamics(text: Text, accel: Optional[int] = None, jump: Optional[int] = None
     """By drone bounds on its acceleration (micrometres per second squared on x, y and z), its greatest jumps of speed
     (micrometres per second) with the cues that begin with them, and whether it begins and ends at rest. Raises Refused,
     also where a limit in millimetres is passed."""
-    words = ["dynamics", *depth_words(depth), *option("--accel", accel), *option("--jump", jump)]
-    return companion.motions_in(accepted(asked(words, text, depth=depth)).output.decode())
+    return companion.motions_in(accepted(asked("dynamics", text, depth, accel=accel, jump=jump)).output.decode())
 
 
 def speed(text: Text, limit: Optional[int] = None, depth: int = DEPTH) -> dict[str, tuple[int, int, int]]:
     """By drone a bound on its speed on x, y and z, in micrometres per second. Raises Refused, also above a limit."""
-    words = ["speed", *depth_words(depth), *option("--limit", limit)]
-    return companion.speeds_in(accepted(asked(words, text, depth=depth)).output.decode())
+    return companion.speeds_in(accepted(asked("speed", text, depth, limit=limit)).output.decode())
 
 
 def boxes(text: Text, regions: Text, depth: int = DEPTH) -> Verdict:
     """Whether all drones keep to regions, as docs/COMMANDS.md has their text."""
-    return asked(["boxes", *depth_words(depth)], text, joined(text, regions), depth)
+    return asked("boxes", text, depth, regions)

@@ -40,7 +40,7 @@ def put(command: str, verdict: judging.Verdict, **more: Any) -> int:
 def input_of(files: list[str]) -> bytes:
     """The program's input."""
     if len(files) == 2:
-        return judging.joined(*(texts.front_of(file, texts.SHOW + 1) for file in files))
+        return texts.joined(*(texts.front_of(file, texts.SHOW + 1) for file in files))
     return texts.front_of(files[0] if files else "-", 2 * texts.SHOW)
 
 
@@ -61,7 +61,7 @@ def by_program(words: list[str]) -> int:
     launcher.file_for(False)
     whole = input_of(files)
     depth = int(front[front.index("--depth") + 1]) if "--depth" in front else judging.DEPTH
-    verdict = judging.asked(front, choreo.parts_of(whole)[0], whole, depth)
+    verdict = judging.verdict_of(front, choreo.parts_of(whole)[0], whole, depth)
     return put(front[0], verdict, **numbers_of(front[0], verdict))
 
 

@@ -1,6 +1,7 @@
 """What the launcher says where words or files are wrong, or where the program refused them."""
 from __future__ import annotations
 
+import contextlib
 import os
 import sys
 
@@ -9,28 +10,15 @@ from hemtoghai.launching import running, words as commands
 from hemtoghai.launching.launcher import file_for, file_if_current, say
 
 
-def near_files(file: str) -> list[str]:
-    """The names of files in the folder of one that isn't there."""
-    folder = os.path.dirname(file)
-    try:
-        return [os.path.join(folder, name) for name in os.listdir(folder or ".")[:1000]]
-    except (OSError, ValueError):
-        return []
-
-
 def fault_of_file(file: str) -> str | None:
     if "\0" in file or os.path.isdir(file):
         return "%s is a directory" % file
     if not os.path.exists(file):
-        return "there is no file %s%s" % (file, commands.meant(file, near_files(file)))
+        near, folder = [], os.path.dirname(file)
+        with contextlib.suppress(OSError, ValueError):
+            near = [os.path.join(folder, name) for name in os.listdir(folder or ".")[:1000]]
+        return "there is no file %s%s" % (file, commands.meant(file, near))
     return None if os.access(file, os.R_OK) else "%s can't be read: no permission" % file
-
-
-def has_regions(file: str) -> bool:
-    """Whether a text has a marker line, as far as it may be long; also where it isn't a file whose bytes stay."""
-    if not os.path.isfile(file):
-        return True
-    return any(line in (b"%%", b"%%\r") for line in texts.front_of(file, 2 * texts.SHOW).split(b"\n"))
 
 
 def fault_of_files(words: list[str], files: list[str]) -> str | None:
@@ -49,7 +37,8 @@ def fault_of_files(words: list[str], files: list[str]) -> str | None:
         return "%s reads %s" % (command, "two files: a show and its " + second if second else "one file")
     if files.count("-") > 1:
         return "standard input is one of the two files, not both"
-    if command == "boxes" and len(files) == 1 and files[0] != "-" and not has_regions(files[0]):
+    if command == "boxes" and len(files) == 1 and files[0] != "-" and os.path.isfile(files[0]) and not {
+            b"%%", b"%%\r"} & set(texts.front_of(files[0], 2 * texts.SHOW).split(b"\n")):
         return "boxes reads regions too: %s boxes SHOW REGIONS" % program.COMMAND
     return None
 

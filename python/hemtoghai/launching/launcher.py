@@ -130,24 +130,17 @@ def answer(found: str | None, words: list[str], files: list[str]) -> int:
     if found and (status in REFUSALS or status == 0 and words[0] in ("check", "compile")):
         text = text_of(number, begin, files) if words[0] not in commands.NO_INPUT else None
         if text is not None:
-            if status == 0:
-                warn(found, text)
-            else:
+            if status:
                 from hemtoghai.launching import helping
                 helping.explain(found, text, status, files)
+                return status
+            from hemtoghai.launching import glance
+            if glance.may_be_unflyable(found, text):
+                from hemtoghai.writing.flyable import warning
+                said = warning(found, text)
+                if said:
+                    say(said)
     return status
-
-
-# ---- what helps
-
-def warn(found: str, text: bytes) -> None:
-    """Says what of an accepted show no drone flies."""
-    from hemtoghai.launching import glance
-    if glance.may_be_unflyable(found, text):
-        from hemtoghai.writing.flyable import warning
-        words = warning(found, text)
-        if words:
-            say(words)
 
 
 def main(words: list[str]) -> int:
