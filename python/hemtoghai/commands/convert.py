@@ -14,20 +14,18 @@ from __future__ import annotations
 import sys
 
 from hemtoghai.companion import flown_of, parser, stop
-from hemtoghai.language.converting import fitting, in_form
+from hemtoghai.language.converting import converted
 from hemtoghai.texts import TooLong
 
 
-def main(words: list[str] | None = None) -> int:
-    """Writes a show's file in the other form to standard output; returns the status."""
-    asked = parser(__doc__)
-    asked.add_argument("--to", type=int, choices=(1, 2), metavar="FORM", help="1 or 2; without it the other one")
-    asked.add_argument("show", metavar="SHOW", help="a show's file, or - for standard input")
-    options = asked.parse_args(words)
+def main(words: list[str]) -> int:
+    reader = parser(__doc__)
+    reader.add_argument("--to", type=int, choices=(1, 2), metavar="FORM", help="1 or 2; without it the other one")
+    reader.add_argument("show", metavar="SHOW", help="a show's file, or - for standard input")
+    options = reader.parse_args(words)
     text, flown = flown_of(options.show)
-    form = options.to or 3 - flown.show.form
     try:
-        sys.stdout.buffer.write(fitting(text if form == flown.show.form else in_form(text, form)))
+        sys.stdout.buffer.write(converted(text, options.to or 3 - flown.show.form))
     except TooLong as fault:
         stop(f"{options.show}: {fault}")
     return 0

@@ -12,14 +12,13 @@ that of `check`, or 71 if a `form` line stays since no drone would move. 70: no 
 """
 from __future__ import annotations
 
-import re
 import sys
 from collections.abc import Callable
 
 from hemtoghai.companion import add_depth, ask_check, missing, parser, stop, tool_name, words_and_show
 from hemtoghai.geometry import separation
 from hemtoghai.language import choreo
-from hemtoghai.language.lines import free_name, with_words
+from hemtoghai.language.lines import free_name, with_words, with_words_at
 from hemtoghai.writing.dealing import deal, Dealt, form_lines, names_of, on_their_own, State, state, Words, words_of
 
 NOBODY_MOVES = 71
@@ -63,16 +62,6 @@ def block(lines: list[bytes], written: choreo.Line, dealt: choreo.Line, name: st
     return out
 
 
-def with_names(line: bytes, names: list[str], kind: str) -> bytes:
-    """A line of an act or a perform with other drones; all else in it stays."""
-    code, hash_, comment = line.partition(b"#")
-    words = re.split(rb"(\s+)", code)
-    at = [k for k, word in enumerate(words) if word.strip()]
-    for k, name in zip(at[:1] if kind == "act" else at[7:], names):
-        words[k] = name.encode()
-    return b"".join(words) + hash_ + comment
-
-
 def rewritten(text: bytes, made: Dealt) -> tuple[bytes, Callable[[int], int]]:
     """The show's text with the places as they are dealt, a further block for each further way in which a formation is
     formed, and the acts that go with their places; and by the number of a line in the old text that in the new one."""
@@ -99,7 +88,8 @@ def rewritten(text: bytes, made: Dealt) -> tuple[bytes, Callable[[int], int]]:
         if called != name:
             new[line.number - 1] = with_words(new[line.number - 1], "form %s %s" % (called, line.values[1]))
     for line in made.renamed():
-        new[line.number - 1] = with_names(new[line.number - 1], names_of(line), line.kind)
+        names_at = dict(enumerate(names_of(line), 0 if line.kind == "act" else 7))
+        new[line.number - 1] = with_words_at(new[line.number - 1], names_at)
     for last in sorted(after, reverse=True):
         new[last:last] = after[last]
     return b"\n".join(new), lambda number: number + sum(len(own) for last, own in after.items() if last < number)

@@ -13,9 +13,9 @@ from __future__ import annotations
 
 import os
 from fractions import Fraction
-from math import comb
 
 from hemtoghai.companion import decoded, many, parser, plan_of, stop
+from hemtoghai.geometry.curves import powers
 from hemtoghai.geometry.paths import PI
 from hemtoghai.language.choreo import Row, Segment
 
@@ -27,11 +27,8 @@ HEAD = "Duration," + ",".join("%s^%d" % (axis, k) for axis in ("x", "y", "z", "y
 
 def polynomial(row: Row, scale: Fraction, duration: Fraction) -> list[Fraction]:
     """The eight coefficients of a curve by its control values, in the time that has passed."""
-    n, out = len(row) - 1, []
-    for k in range(n + 1):
-        power = comb(n, k) * sum((-1) ** (k - j) * comb(k, j) * row[j] for j in range(k + 1))
-        out.append(power * scale / duration ** k)
-    return out + [Fraction(0)] * (7 - n)
+    out = [power * scale / duration ** k for k, power in enumerate(reversed(powers(row)))]
+    return out + [Fraction(0)] * (8 - len(row))
 
 
 def lines_of(segments: list[Segment]) -> tuple[list[str], Fraction, Fraction]:

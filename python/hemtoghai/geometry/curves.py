@@ -18,7 +18,7 @@ class Curve:
 
     def __init__(self, segments: Sequence[Segment]) -> None:
         self.begins: list[int] = []
-        self.pieces: list[tuple[int, int, list[list[float]]]] = []
+        self.pieces: list[tuple[int, int, list[list[int]]]] = []
         t = 0
         for milliseconds, elements in segments:
             self.begins.append(t)
@@ -30,13 +30,7 @@ class Curve:
     def at(self, t: float) -> list[float]:
         t = min(max(t, 0), self.end)
         begin, length, rows = self.pieces[max(0, bisect.bisect_right(self.begins, t) - 1)]
-        u, out = (t - begin) / length, []
-        for row in rows:
-            v = 0.0
-            for c in row:
-                v = v * u + c
-            out.append(v)
-        return out
+        return [value_of(row, (t - begin) / length) for row in rows]
 
     def nearest(self, place: Sequence[float], low: float, high: float, enough: float = 0.0) -> tuple[float, float]:
         """The distance of a place from the curve between two times, as far as it is looked for, and its time; no finer
@@ -73,11 +67,18 @@ def halves(row: Sequence[int]) -> tuple[list[int], list[int]]:
     return left, right[::-1]
 
 
-def powers(row: Sequence[float]) -> list[float]:
+def powers(row: Sequence[int]) -> list[int]:
     """The coefficients of a curve by its control values, the highest power first."""
     n = len(row) - 1
-    return [float(comb(n, k) * sum((-1) ** (k - j) * comb(k, j) * row[j] for j in range(k + 1)))
-            for k in range(n, -1, -1)]
+    return [comb(n, k) * sum((-1) ** (k - j) * comb(k, j) * row[j] for j in range(k + 1)) for k in range(n, -1, -1)]
+
+
+def value_of(coefficients: Sequence[int], u: float) -> float:
+    """The place on an axis at a fraction of a curve, by its coefficients."""
+    v = 0.0
+    for c in coefficients:
+        v = v * u + c
+    return v
 
 
 def curves_of(flown: Flown) -> dict[str, Curve]:

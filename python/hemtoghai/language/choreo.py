@@ -38,6 +38,9 @@ class Number(NamedTuple):
     most: int
     counts: quantities.Counts | None = None
 
+    def has(self, value: int | None) -> bool:
+        return value is not None and self.least <= value <= self.most
+
 
 COORDINATE, YAW = Number(-100000000, 100000000, MICROMETRES), Number(-32768, 32767, TENTHS)
 HALF_AXIS = Number(1, 2000, MILLIMETRES)
@@ -127,7 +130,7 @@ def value_of(number: int, slot: Any, word: str, form: int = 1) -> Any:
     value = number_of(slot, word, form)
     if value is None:
         raise fault(number, "bad-number")
-    if not slot.least <= value <= slot.most:
+    if not slot.has(value):
         raise fault(number, "range")
     return value
 

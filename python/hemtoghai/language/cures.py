@@ -94,7 +94,7 @@ def range_row(line: bytes, form: int = 1) -> Row | None:
     in bytes, in a form of the language."""
     for word, slot, (name, unit, cause, cure) in numbers_of(line):
         value = number_of(slot, word, form)
-        if value is None or slot.least <= value <= slot.most:
+        if value is None or slot.has(value):
             continue
         if form == 1 or slot.counts is None:
             return ["%s is %s, and may be %d to %d (%s)" % (name, short(word), *slot[:2], unit), cause, cure]
@@ -131,7 +131,7 @@ def whole_row(name: str, slot: Number, counts: Counts, word: str) -> Row | None:
     value = value_of(counts, meant)
     what = f"{name} is {word}, which is {kind}" if kind else f"{name} is {word}, which isn't whole"
     cause = "a number with a unit, as in `choreo 2`: this text is in `choreo 1`" if kind else f"{meant} is meant"
-    if value is None or not slot.least <= value <= slot.most:
+    if not slot.has(value):
         return [what, cause, f"write whole numbers, here of {counts.name}"]
     return [what, cause, f"write whole numbers: {meant} is {value} {counts.name}. Or begin the text with "
                          f"`choreo 2`, and write {meant}: there each length, time and angle has a unit"]
@@ -143,11 +143,6 @@ def listed(words: Iterable[str]) -> str:
     """Words as a choice."""
     *others, last = words
     return ", ".join(others) + " or " * bool(others) + last
-
-
-def fits(slot: Number, word: str) -> bool:
-    value = number_of(slot, word, 2)
-    return value is not None and slot.least <= value <= slot.most
 
 
 def quantity_row(name: str, slot: Number, counts: Counts, word: str) -> Row:
@@ -184,10 +179,10 @@ def bare_row(name: str, slot: Number, counts: Counts, word: str, is_whole: bool)
     what, digits = f"{name} is {word}, without a unit", word.lstrip("+").replace(",", ".")
     if not digits.strip("-0."):
         return [what, "", "write 0: zero alone needs no unit"]
-    fitting = [digits + unit for unit in counts.units if fits(slot, digits + unit)]
+    fitting = [digits + unit for unit in counts.units if slot.has(number_of(slot, digits + unit, 2))]
     value = int(digits) if is_whole else slot.least - 1
     meant = ", whichever is meant" * (len(fitting) > 1)
-    if not slot.least <= value <= slot.most:
+    if not slot.has(value):
         cure = f"write {listed(fitting)}" if fitting else f"write {listed(counts.units)} right after the number"
         return [what, "", cure + meant]
     first = written(counts, value)

@@ -28,6 +28,14 @@ def with_words(line: bytes, words: str) -> bytes:
                   flags=re.S)
 
 
+def with_words_at(line: bytes, new: dict[int, str]) -> bytes:
+    """A line in which the words of these places, from 0, are others; every other byte stays."""
+    found = list(re.finditer(rb"[^ \t\r]+", line.partition(b"#")[0]))
+    for at in sorted(new, reverse=True):
+        line = line[:found[at].start()] + new[at].encode() + line[found[at].end():]
+    return line
+
+
 def free_name(name: str, taken: Collection[str]) -> str:
     """A name that none has, made from another one; it has at most 16 letters."""
     names = (name[:15 - len(str(number))] + "_%d" % number for number in itertools.count(2))

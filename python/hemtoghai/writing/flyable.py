@@ -3,11 +3,10 @@ those of the program's `dynamics`, places those of the tools' own reader."""
 from __future__ import annotations
 
 import re
-from collections.abc import Sequence
 from math import hypot
 
 from hemtoghai import program as proved
-from hemtoghai.geometry.curves import powers
+from hemtoghai.geometry.curves import powers, value_of
 from hemtoghai.language import choreo
 from hemtoghai.language.choreo import Flown
 
@@ -46,21 +45,12 @@ def motion(program: str, flown: Flown, text: bytes, most: dict[str, int] | None 
                                    said % (int(number) / 1e6, axis, most[what] / 1000))
 
 
-def lowest(row: Sequence[int]) -> float:
-    """The lowest of the places that are looked at."""
-    def height(u: float) -> float:
-        v = 0.0
-        for c in powers(row):
-            v = v * u + c
-        return v
-    return min(height(at / PLACES) for at in range(PLACES + 1))
-
-
 def below(flown: Flown) -> str | None:
     """The first drone, and its first cue, in which it goes below z 0, or None."""
     for name, flight in zip(flown.names, flown.by_cue):
         for cue, (_, elements) in enumerate(flight, 1):
-            if min(elements[2]) < 0 and lowest(elements[2]) < 0:
+            heights = powers(elements[2])
+            if min(elements[2]) < 0 and min(value_of(heights, at / PLACES) for at in range(PLACES + 1)) < 0:
                 return "line %d, cue %d: %s goes below z 0" % (line_of_cue(flown, cue), cue, name)
     return None
 
