@@ -24,7 +24,7 @@ import argparse
 import math
 import os
 import sys
-from collections.abc import Callable, Sequence
+from collections.abc import Callable
 from fractions import Fraction
 from typing import Any, List, NamedTuple, NoReturn, Tuple
 
@@ -56,22 +56,17 @@ def grown(wanted: Axes, bound: Fraction) -> tuple[Fraction, Axes]:
     return factor, (math.ceil(wanted[0] * factor), math.ceil(wanted[1] * factor))
 
 
-def ask(text: str, deep: int) -> tuple[int, str]:
-    try:
-        status, output = program.ask(["check", "--depth", str(deep)], text.encode())
-    except program.Unusable as fault:
-        return stop("`check` was not asked: %s" % fault)
-    return status, output.decode(errors="replace").strip()
-
-
 def judge(fit: fitting.Fit, head: list[str], form: int, wanted: Axes, bound: Fraction, deep: int) -> int:
     """Says of the file's own curves whether the wanted ellipsoids keep apart; the status of `check`. Stretches that fit
     into a drone's memory are judged one after the other, since a show that is only judged needs no room."""
     for first in range(0, len(fit.cues), STRETCH):
         chosen = slice(first, first + STRETCH)
-        status, line = ask(fit.text(head, form, chosen), deep)
+        try:
+            status, output = program.ask(["check", "--depth", str(deep)], fit.text(head, form, chosen).encode())
+        except program.Unusable as fault:
+            return stop("`check` was not asked: %s" % fault)
         begin = fit.cues[first].begin
-        print("check, from %.3f s on: %s" % (begin / 1000, line))
+        print("check, from %.3f s on: %s" % (begin / 1000, output.decode(errors="replace").strip()))
         if status == 5:
             print_why(fit, fit.text(head, form, chosen, begin), wanted, deep)
         elif status:
@@ -251,17 +246,11 @@ def options_of(words: list[str]) -> argparse.Namespace:
     return options
 
 
-def is_show(files: Sequence[str]) -> bool:
-    """Whether the one file is a zip with a show.json, whatever its name."""
-    if len(files) != 1 or files[0] == "-":
-        return False
-    data = foreign.limited(files[0])
-    return foreign.is_archive(data) and "show.json" in foreign.Archive(data).names()
-
-
 def paths_of(options: argparse.Namespace) -> Paths:
     try:
-        options.skyc = options.skyc or is_show(options.files)
+        if len(options.files) == 1 and options.files[0] != "-" and not options.skyc:
+            data = foreign.limited(options.files[0])  # which may be a zip with a show.json, whatever its name
+            options.skyc = foreign.is_archive(data) and "show.json" in foreign.Archive(data).names()
         if options.skyc:
             return foreign.read_skyc(options.files[0], options.left_out)
         return foreign.read_csv(options.files, options.waypoints or options.smooth, options.smooth, options.starts)
@@ -275,9 +264,8 @@ def fit_of(paths: Paths, options: argparse.Namespace, tolerance: float) -> fitti
                        MOST_JUDGED if options.judge else choreo.MOST_CUES, options.budget)
 
 
-def say(*words: object) -> None:
-    """A line for people, beside the show's text."""
-    print(*words, file=sys.stderr)
+def say(words: str) -> None:
+    print(words, file=sys.stderr)  # beside the show's text
 
 
 def say_cues(fit: fitting.Fit, bounds: list[tuple[Fraction, Fraction]]) -> None:

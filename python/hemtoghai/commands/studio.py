@@ -29,11 +29,10 @@ from hemtoghai import program
 from hemtoghai.companion import add_depth, parser, read_file, stop, tool_name
 from hemtoghai.language import choreo
 from hemtoghai.language.cures import cure_of, shown
-from hemtoghai.seeing.jobs import begin, end, Job
 from hemtoghai.seeing.sampling import regions_of
 from hemtoghai.seeing.showfile import MOST_TEXT, ShowFile, stamp_of, text_of
-from hemtoghai.seeing.studio_program import answer, Answer, Program
-from hemtoghai.seeing.studio_server import Handler, Server
+from hemtoghai.seeing.studio_program import answer, Answer, begin, end, Job, Program
+from hemtoghai.seeing.studio_server import Server
 from hemtoghai.seeing.studio_texts import digest_of, Texts
 from hemtoghai.seeing.studio_words import words_of_language
 
@@ -184,10 +183,10 @@ def usual_port(path: str) -> int:
 
 def server_of(options: argparse.Namespace) -> Server:
     """The server, on the port that is wanted, else on the usual one or one that is free."""
-    why = ""
+    why, studio = "", Studio(options)
     for wanted in [options.port] if options.port else [usual_port(options.show), 0]:
         try:
-            return Server(("127.0.0.1", wanted), Handler)
+            return Server(("127.0.0.1", wanted), studio)
         except OSError as error:
             why = "%s: %s" % ("port %d" % wanted if wanted else "no port is free", error.strerror)
     return stop(why)
@@ -228,9 +227,9 @@ def read_words(words: list[str]) -> argparse.Namespace:
     return options
 
 
-def serve(server: Server, studio: Studio, open_browser: bool) -> None:
+def serve(server: Server, open_browser: bool) -> None:
     """Answers requests until the studio is ended."""
-    url = "http://127.0.0.1:%d/%s/" % (server.server_port, studio.token)
+    studio, url = server.studio, "http://127.0.0.1:%d/%s/" % (server.server_port, server.studio.token)
     print("%s: %s\n%s: Ctrl-C ends it" % (tool_name(), url, tool_name()), flush=True)
     state = studio.program.state()
     if not state["proved"]:
@@ -252,8 +251,6 @@ def main(words: list[str]) -> int:
     signal.signal(signal.SIGPIPE, signal.SIG_IGN)  # a page that is closed ends its requests, not the studio
     for number in (signal.SIGTERM, signal.SIGHUP):
         signal.signal(number, ended)
-    server = server_of(options)
-    studio = server.studio = Studio(options)
-    serve(server, studio, not options.no_open)
+    serve(server_of(options), not options.no_open)
     print("%s: ended" % tool_name())
     return 0

@@ -15,7 +15,7 @@ import re
 import struct
 import zipfile
 import zlib
-from collections.abc import Iterator, Sequence
+from collections.abc import Iterable, Iterator, Sequence
 from fractions import Fraction
 from math import comb
 from typing import List, Tuple, Type, TypeVar
@@ -63,32 +63,29 @@ class Counter:
 
     def number(self, word: str, tens: int = 0) -> Fraction:
         """A number as it is written, times a power of ten; it counts the more the longer it is."""
-        found = number(word, tens)
-        self.take(1 + max(found.numerator.bit_length(), found.denominator.bit_length()) // BITS)
-        return found
+        found = NUMBER.fullmatch(word) if len(word) <= 60 else None
+        if not found:
+            raise Unreadable("%.20r is no number" % word)
+        exponent = int(found[3][1:]) if found[3] else 0
+        if abs(exponent) > LARGEST_EXPONENT:
+            raise Unreadable("%.20r is beyond what is read: an exponent has at most two digits" % word)
+        whole, _, rest = found[2].partition(".")
+        digits, places = int(found[1] + whole + rest), len(rest) - exponent - tens
+        value = Fraction(digits, TENS[places]) if places > 0 else Fraction(digits * TENS[-places])
+        self.take(1 + max(value.numerator.bit_length(), value.denominator.bit_length()) // BITS)
+        return value
+
+    def numbers(self, line: int, cells: list[str], tens: Sequence[int]) -> Row:
+        """The numbers of a row of a table, each times a power of ten."""
+        try:
+            return [self.number(cell, ten) for cell, ten in zip(cells, tens)]
+        except Unreadable as error:
+            raise Unreadable("line %d: %s" % (line, error))
 
 
-def number(word: str, tens: int = 0) -> Fraction:
-    """A number as it is written, times a power of ten."""
-    found = NUMBER.fullmatch(word) if len(word) <= 60 else None
-    if not found:
-        raise Unreadable("%.20r is no number" % word)
-    exponent = int(found[3][1:]) if found[3] else 0
-    if abs(exponent) > LARGEST_EXPONENT:
-        raise Unreadable("%.20r is beyond what is read: an exponent has at most two digits" % word)
-    whole, _, rest = found[2].partition(".")
-    digits, places = int(found[1] + whole + rest), len(rest) - exponent - tens
-    return Fraction(digits, TENS[places]) if places > 0 else Fraction(digits * TENS[-places])
-
-
-def is_beyond(v: Fraction, most: int) -> bool:
-    """Whether a number is farther from 0 than this."""
-    return abs(v.numerator) > most * v.denominator
-
-
-def shortest(row: Row) -> Row:
-    """The control values of a curve on an axis: one, where it stays."""
-    return row[:1] if row.count(row[0]) == len(row) else row
+def shortest(rows: Iterable[Row]) -> list[Row]:
+    """The control values of a curve on each axis: one, where it stays."""
+    return [row[:1] if row.count(row[0]) == len(row) else row for row in rows]
 
 
 def name_of(word: str, taken: set[str]) -> str:
@@ -109,9 +106,9 @@ def checked(name: str, pieces: list[Piece]) -> Path[Fraction]:
     for begin, end, rows in pieces:
         if end - begin < SHORTEST:
             raise Unreadable("%s has two instants less than a microsecond apart at %.6f s" % (name, begin / 1000))
-        if any(is_beyond(v, FARTHEST) for row in rows[:3] for v in row):
+        if any(abs(v.numerator) > FARTHEST * v.denominator for row in rows[:3] for v in row):
             raise Unreadable("%s is farther than 32.767 m from the origin on an axis, at %.3f s" % (name, begin / 1000))
-        if any(is_beyond(v, TURNED) for v in rows[3]):
+        if any(abs(v.numerator) > TURNED * v.denominator for v in rows[3]):
             raise Unreadable("%s is turned by more than 3276.7 degrees, at %.3f s" % (name, begin / 1000))
     path = Path(name, pieces)
     far, when = max(path.jumps(), default=(0, 0))
@@ -134,11 +131,16 @@ def field(node: object, key: str, kind: Type[Kind], where: str, default: Kind | 
     return found
 
 
+def numbers_of(node: object, count: int, where: str, words: str) -> Row:
+    """So many numbers in a list; these words say what it should be."""
+    if not (isinstance(node, list) and len(node) == count and all(isinstance(v, Fraction) for v in node)):
+        raise Unreadable("%s: %s" % (where, words))
+    return node
+
+
 def place_of(node: object, where: str) -> Row:
     """A place in micrometres, from three metres."""
-    if not (isinstance(node, list) and len(node) == 3 and all(isinstance(v, Fraction) for v in node)):
-        raise Unreadable("%s: a place isn't three numbers" % where)
-    return [v * 1000000 for v in node]
+    return [v * 1000000 for v in numbers_of(node, 3, where, "a place isn't three numbers")]
 
 
 class Archive:
@@ -208,6 +210,7 @@ def limit_drones(count: int) -> None:
 
 
 LEFT_OUT = {"lights": "lights", "pyro": "pyrotechnics"}  # what a drone's settings may have, and no show has
+AUTOMATIC = "automatic yaw"
 
 
 def read_skyc(path: str, left_out: dict[str, int]) -> list[Path[Fraction]]:
@@ -249,9 +252,6 @@ def left_out_of(archive: Archive, settings: object) -> Iterator[str]:
         yield AUTOMATIC
 
 
-AUTOMATIC = "automatic yaw"
-
-
 def skyc_path(archive: Archive, where: str, settings: object, name: str) -> Path[Fraction]:
     trajectory = archive.follow(field(settings, "trajectory", dict, where))
     version = field(trajectory, "version", Fraction, where, Fraction(1))
@@ -270,18 +270,17 @@ def skyc_path(archive: Archive, where: str, settings: object, name: str) -> Path
         if end > begin:
             pieces.append((late + begin, late + end, [list(row) for row in zip(before, *inner, after)]))
     if not pieces:
-        pieces = [stays(late + points[0][0], points[0][1])]
+        pieces = [(late + points[0][0], late + points[0][0] + 1, [[v] for v in points[0][1]])]
     yaw = archive.follow(field(settings, "yawControl", dict, where, {"setpoints": []}))
     archive.flown.take(2 * len(field(yaw, "setpoints", list, where)))
-    setpoints = [setpoint_of(it, late, where) for it in field(yaw, "setpoints", list, where)]
+    setpoints = []  # of yaw: milliseconds and tenths of a degree
+    for node in field(yaw, "setpoints", list, where):
+        t, degrees = numbers_of(node, 2, where, "a setpoint of yaw isn't a time and an angle")
+        setpoints.append((late + t * 1000, degrees * 10))
     for (a, p), (b, q) in zip(setpoints, setpoints[1:]):
         if b < a or (a == b and p != q):
             raise Unreadable("%s: the time of yaw goes back, or yaw jumps, at %.3f s" % (where, a / 1000))
     return checked(name, with_yaw(pieces, setpoints or [(Fraction(0), Fraction(0))]))
-
-
-def stays(begin: Fraction, place: Row) -> Piece:
-    return begin, begin + 1, [[v] for v in place]
 
 
 def point_of(point: object, where: str) -> tuple[Fraction, Row, list[Row]]:
@@ -292,13 +291,6 @@ def point_of(point: object, where: str) -> tuple[Fraction, Row, list[Row]]:
     if not isinstance(inner, list) or len(inner) not in (0, 2):
         raise Unreadable("%s: inner points at %.3f s, and none or two are known" % (where, point[0]))
     return point[0] * 1000, place_of(point[1], where), [place_of(it, where) for it in inner]
-
-
-def setpoint_of(node: object, late: Fraction, where: str) -> tuple[Fraction, Fraction]:
-    """A setpoint of yaw: milliseconds and tenths of a degree."""
-    if not (isinstance(node, list) and len(node) == 2 and all(isinstance(v, Fraction) for v in node)):
-        raise Unreadable("%s: a setpoint of yaw isn't a time and an angle" % where)
-    return late + node[0] * 1000, node[1] * 10
 
 
 def with_yaw(pieces: list[Piece], setpoints: list[tuple[Fraction, Fraction]]) -> list[Piece]:
@@ -383,14 +375,6 @@ class Table:
             raise Unreadable("no CSV: %s" % error)
 
 
-def numbers_of(line: int, cells: list[str], counter: Counter, tens: Sequence[int]) -> Row:
-    """The numbers of a row, each times a power of ten."""
-    try:
-        return [counter.number(cell, ten) for cell, ten in zip(cells, tens)]
-    except Unreadable as error:
-        raise Unreadable("line %d: %s" % (line, error))
-
-
 OVER = 105  # what the binomials of seven divide
 WEIGHTS = [[comb(j, k) * (OVER // comb(7, k)) for k in range(j + 1)] for j in range(8)]
 
@@ -414,9 +398,9 @@ def read_polynomials(table: Table, start: Row, counter: Counter) -> list[Piece]:
     pieces: list[Piece] = []
     for line, cells in table.rows:
         if len(cells) != 33:
-            numbers_of(line, cells, counter, [0] * len(cells))
+            counter.numbers(line, cells, [0] * len(cells))
             raise Unreadable("line %d: %d numbers, and 33 are wanted, a duration first" % (line, len(cells)))
-        row = numbers_of(line, cells, counter, POLYNOMIAL)
+        row = counter.numbers(line, cells, POLYNOMIAL)
         if row[0] <= 0:
             raise Unreadable("line %d: a duration of %s s" % (line, cells[0]))
         axes = [row[k:k + 8] for k in (1, 9, 17)]
@@ -424,7 +408,7 @@ def read_polynomials(table: Table, start: Row, counter: Counter) -> list[Piece]:
             axis[0] += place
         axes.append([c * 1800 / PI if c else c for c in row[25:]])
         begin, t = t, t + row[0] * 1000
-        pieces.append((begin, t, [shortest(control_values(axis, row[0])) for axis in axes]))
+        pieces.append((begin, t, shortest(control_values(axis, row[0]) for axis in axes)))
     return pieces
 
 
@@ -468,7 +452,7 @@ def read_waypoints(table: Table, stem: str, smooth: bool, counter: Counter) -> d
     for line, cells in table.rows:
         if len(cells) <= last or (not head and len(cells) > len(columns)):
             raise Unreadable("line %d: %d cells, and %d are wanted" % (line, len(cells), len(columns)))
-        row = numbers_of(line, [cells[place] for place in places], counter, tens)
+        row = counter.numbers(line, [cells[place] for place in places], tens)
         own = points.setdefault(cells[columns["drone"]] if "drone" in columns else stem, [])
         limit_drones(len(points))
         own.append((row[0], row[1:4] + (row[4:] or [Fraction(0)])))
@@ -485,7 +469,7 @@ def joined(points: list[Timed], smooth: bool) -> list[Piece]:
         (a, p), (b, q) = points[k - 1], points[k + 1]
         return [(y - x) / (b - a) for x, y in zip(p, q)]
     if len(points) == 1:
-        return [stays(*points[0])]
+        return [(points[0][0], points[0][0] + 1, [[v] for v in points[0][1]])]
     pieces: list[Piece] = []
     for k, ((begin, p), (end, q)) in enumerate(zip(points, points[1:])):
         if smooth:
@@ -493,7 +477,7 @@ def joined(points: list[Timed], smooth: bool) -> list[Piece]:
             rows = [[x, x + third * u, y - third * v, y] for x, y, u, v in zip(p, q, slope(k), slope(k + 1))]
         else:
             rows = [[x, y] for x, y in zip(p, q)]
-        pieces.append((begin, end, [shortest(row) for row in rows]))
+        pieces.append((begin, end, shortest(rows)))
     return pieces
 
 
@@ -504,7 +488,7 @@ def read_starts(path: str) -> dict[str, Row]:
     for line, cells in Table(limited(path)).rows:
         if len(cells) != 4 or cells[0] in out:
             raise Unreadable("line %d: name,x,y,z are wanted, once for each drone" % line)
-        out[cells[0]] = numbers_of(line, cells[1:], counter, [6] * 3)
+        out[cells[0]] = counter.numbers(line, cells[1:], [6] * 3)
     return out
 
 
@@ -529,18 +513,6 @@ def stem_of(path: str) -> str:
     return posixpath.splitext(posixpath.basename(path))[0]
 
 
-def one_csv(data: bytes, stem: str, waypoints: bool, smooth: bool, places: dict[str, Row] | None,
-            counter: Counter) -> dict[str, list[Piece]]:
-    """The paths in the bytes of a CSV file by the names of their drones, as lists of pieces."""
-    table = Table(data)
-    words = {COLUMNS.get(cell) for cell in table.head}
-    if waypoints or {"x", "y", "z"} <= words and {"t", "ms"} & words:
-        return read_waypoints(table, stem, smooth, counter)
-    if places is not None and stem not in places:
-        raise Unreadable("the file of --starts has no place for %.40s" % stem)
-    return {stem: read_polynomials(table, (places or {}).get(stem, [Fraction(0)] * 3), counter)}
-
-
 def read_csv(files: Sequence[str], waypoints: bool, smooth: bool = False,
              starts: str | None = None) -> list[Path[Fraction]]:
     """The paths of CSV files, or of zips of them: polynomials, a drone a file, or waypoints."""
@@ -548,10 +520,19 @@ def read_csv(files: Sequence[str], waypoints: bool, smooth: bool = False,
     found: dict[str, Path[Fraction]] = {}
     cells, counter = Counter(CELLS, "cells"), Counter(NUMBERS)
     places = read_starts(starts) if starts else None
+
+    def paths_in(data: bytes, stem: str) -> dict[str, list[Piece]]:
+        table = Table(data)
+        words = {COLUMNS.get(cell) for cell in table.head}
+        if waypoints or {"x", "y", "z"} <= words and {"t", "ms"} & words:
+            return read_waypoints(table, stem, smooth, counter)
+        if places is not None and stem not in places:
+            raise Unreadable("the file of --starts has no place for %.40s" % stem)
+        return {stem: read_polynomials(table, (places or {}).get(stem, [Fraction(0)] * 3), counter)}
     for where, stem, data in (member for path in files for member in members_of(path)):
         try:
             cells.take(data.count(b",") + data.count(b";") + data.count(b"\t"))
-            for word, pieces in one_csv(data, stem, waypoints, smooth, places, counter).items():
+            for word, pieces in paths_in(data, stem).items():
                 if word in found:
                     raise Unreadable("two drones have the name %.40r" % word)
                 found[word] = checked(name_of(word, taken), pieces)

@@ -1,19 +1,75 @@
-"""The program that ./show studio asks, as hemtoghai/program.py finds it: what is known of its proof, and its answers.
+"""The program that ./show studio asks, as hemtoghai/program.py finds it: what is known of its proof, and its answers,
+in processes that are ended when their answer isn't wanted any more.
 
 Every answer comes from here. A program that has a record or a manifest runs as the bytes that were hashed, and where
 these aren't the recorded ones it isn't run; one that `--program` names and that has no record runs as it is, and isn't
 called proved."""
 from __future__ import annotations
 
+import contextlib
 import os
+import signal
 import subprocess
 import tempfile
-from typing import Any, NamedTuple
+import threading
+from typing import Any, IO, NamedTuple
 
 from hemtoghai import program
-from hemtoghai.seeing.jobs import Cancelled, end, Job, LIMIT
 
 NO_RECORD = "there is no record of how the program was built"
+LIMIT = 120  # seconds for one process
+
+
+class Cancelled(Exception):
+    """A newer text came."""
+
+
+class Job:
+    """The processes that judge one text; all of them are ended where it is cancelled."""
+
+    def __init__(self) -> None:
+        self.lock, self.over = threading.Lock(), threading.Event()
+        self.running: set[subprocess.Popen[bytes]] = set()
+
+    @property
+    def cancelled(self) -> bool:
+        return self.over.is_set()
+
+    def adopt(self, process: subprocess.Popen[bytes]) -> subprocess.Popen[bytes]:
+        """Notes a process, or ends it where the job is cancelled already."""
+        with self.lock:
+            if not self.cancelled:
+                self.running.add(process)
+                return process
+        end(process)
+        raise Cancelled
+
+    def leave(self, process: subprocess.Popen[bytes]) -> None:
+        """Forgets a process, which is ended where it still runs."""
+        end(process)
+        with self.lock:
+            self.running.discard(process)
+
+    def cancel(self) -> None:
+        """Ends all that runs for it."""
+        with self.lock:
+            self.over.set()
+            running = list(self.running)
+        for process in running:
+            end(process)
+
+
+def begin(words: list[str], source: IO[bytes] | int = subprocess.PIPE) -> subprocess.Popen[bytes]:
+    """A process in a group of its own, with pipes."""
+    return subprocess.Popen(words, stdin=source, stdout=subprocess.PIPE, stderr=subprocess.PIPE, start_new_session=True)
+
+
+def end(process: subprocess.Popen[bytes]) -> None:
+    """Ends a process and all that it started."""
+    if process.poll() is None:
+        with contextlib.suppress(ProcessLookupError, PermissionError):
+            os.killpg(process.pid, signal.SIGKILL)
+    process.wait()
 
 
 class Answer(NamedTuple):
@@ -54,8 +110,7 @@ def answer(job: Job, words: list[str], text: bytes) -> Answer:
     with tempfile.TemporaryFile() as source:
         source.write(text)
         source.seek(0)
-        process = job.adopt(subprocess.Popen(words, stdin=source, stdout=subprocess.PIPE, stderr=subprocess.PIPE,
-                                             start_new_session=True))
+        process = job.adopt(begin(words, source))
     try:
         said, told = process.communicate(timeout=LIMIT)
     except subprocess.TimeoutExpired:

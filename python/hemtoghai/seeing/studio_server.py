@@ -24,9 +24,8 @@ from urllib.parse import urlsplit
 from hemtoghai import program
 from hemtoghai.companion import tool_name
 from hemtoghai.language import choreo
-from hemtoghai.seeing.jobs import Cancelled, end, Job, LIMIT
 from hemtoghai.seeing.showfile import bytes_of, difference, MOST_TEXT, stamp_of, text_of
-from hemtoghai.seeing.studio_program import answer, Answer
+from hemtoghai.seeing.studio_program import answer, Answer, Cancelled, end, Job, LIMIT
 from hemtoghai.seeing.studio_texts import TooLarge, Unknown
 
 if TYPE_CHECKING:
@@ -53,8 +52,6 @@ class Handler(BaseHTTPRequestHandler):
 
     @property
     def studio(self) -> Studio:
-        """What all requests share."""
-        assert self.server.studio is not None
         return self.server.studio
 
     # -- who asks
@@ -381,10 +378,9 @@ class Server(ThreadingHTTPServer):
     """The server; requests that still run don't keep it from ending."""
     daemon_threads, allow_reuse_address, request_queue_size = True, True, 128
 
-    def __init__(self, address: tuple[str, int], handler: type[Handler]) -> None:
-        super().__init__(address, handler)
-        self.listeners = threading.Semaphore(MOST_LISTENERS)
-        self.studio: Studio | None = None  # before it serves
+    def __init__(self, address: tuple[str, int], studio: Studio) -> None:
+        super().__init__(address, Handler)
+        self.listeners, self.studio = threading.Semaphore(MOST_LISTENERS), studio
 
     def handle_error(self, request: object, client_address: object) -> None:
         """Says in a line what went wrong with a request."""
