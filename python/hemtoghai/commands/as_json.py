@@ -37,21 +37,6 @@ def put(command: str, verdict: judging.Verdict, **more: Any) -> int:
 
 # ---- commands of the program
 
-def input_of(files: list[str]) -> bytes:
-    """The program's input."""
-    if len(files) == 2:
-        return texts.joined(*(texts.front_of(file, texts.SHOW + 1) for file in files))
-    return texts.front_of(files[0] if files else "-", 2 * texts.SHOW)
-
-
-def numbers_of(command: str, verdict: judging.Verdict) -> dict[str, Any]:
-    if command == "check":
-        return {**(judging.counts_in(verdict.line) if verdict.ok else {}),
-                "cautions": [dict(vars(caution)) for caution in verdict.cautions]}
-    found = {"dynamics": companion.motions_in, "speed": companion.speeds_in}.get(command)
-    return {"drones": found(verdict.output.decode())} if found and verdict.ok else {}
-
-
 def by_program(words: list[str]) -> int:
     """Asks the program, which is proved and built first where it isn't the one of these sources."""
     front, files, fault = commands.split(words)
@@ -59,10 +44,20 @@ def by_program(words: list[str]) -> int:
     if fault:
         return helping.refuse(front, fault)
     launcher.file_for(False)
-    whole = input_of(files)
+    if len(files) == 2:
+        whole = texts.joined(*(texts.front_of(file, texts.SHOW + 1) for file in files))
+    else:
+        whole = texts.front_of(files[0] if files else "-", 2 * texts.SHOW)
     depth = int(front[front.index("--depth") + 1]) if "--depth" in front else judging.DEPTH
     verdict = judging.verdict_of(front, choreo.parts_of(whole)[0], whole, depth)
-    return put(front[0], verdict, **numbers_of(front[0], verdict))
+    more: dict[str, Any] = {}
+    if front[0] == "check":
+        more = {**(judging.counts_in(verdict.line) if verdict.ok else {}),
+                "cautions": [dict(vars(caution)) for caution in verdict.cautions]}
+    elif front[0] != "boxes" and verdict.ok:
+        found = companion.motions_in if front[0] == "dynamics" else companion.speeds_in
+        more = {"drones": found(verdict.output.decode())}
+    return put(front[0], verdict, **more)
 
 
 # ---- why
@@ -154,12 +149,8 @@ def by_summary(words: list[str]) -> int:
     return put("summary", verdict, **more)
 
 
-WORDS = {"check": by_program, "dynamics": by_program, "speed": by_program, "boxes": by_program, "why": by_why,
-         "summary": by_summary}
-
-
 def main(words: list[str]) -> int:
     """Hands the words on without --json."""
     left = [word for word in words if word != "--json"]
-    call = WORDS[left[0]]
-    return call(left if call is by_program else left[1:])
+    call = {"why": by_why, "summary": by_summary}.get(left[0])
+    return call(left[1:]) if call else by_program(left)

@@ -116,14 +116,6 @@ def prove(room: str, only_kept: bool = False) -> tuple[str, str]:
     return archive, lines[-1]
 
 
-def heap() -> str:
-    """The toolchain's archive with what takes memory from malloc."""
-    archive = os.path.join(toolchain(), "c", "liblibc_c.a")
-    if not os.path.exists(archive):
-        stop("%s is not there" % archive)
-    return archive
-
-
 def names_of(file: str, *flags: str) -> set[str]:
     """The names that a file defines or takes, by the flags of nm."""
     lines = [line.split(" ")[0] for line in said("nm", "--format=posix", *flags, file).splitlines()]
@@ -183,7 +175,10 @@ def make(out: str, version: str, only_kept: bool = False) -> tuple[list[str], st
         need_stateless(archive)
         for folder in ("include", "lib/pkgconfig"):
             os.makedirs(os.path.join(out, folder), exist_ok=True)
-        made = ["lib/" + name for name in make_libraries(lib, version, [archive, heap()])]
+        heap = os.path.join(toolchain(), "c", "liblibc_c.a")  # which takes memory from malloc
+        if not os.path.exists(heap):
+            stop("%s is not there" % heap)
+        made = ["lib/" + name for name in make_libraries(lib, version, [archive, heap])]
     shutil.copyfile(os.path.join(SOURCES, "hemtoghai.h"), os.path.join(out, "include", "hemtoghai.h"))
     made += ["include/hemtoghai.h", "lib/pkgconfig/hemtoghai.pc"]
     with open(os.path.join(SOURCES, "hemtoghai.pc.in")) as file, open(os.path.join(out, made[-1]), "w") as copy:

@@ -101,12 +101,6 @@ def contents_of() -> Contents:
     return sorted(out)
 
 
-def links_of(contents: Contents) -> Links:
-    """The links of the library as (path, what it leads to)."""
-    shared, = (os.path.basename(path) for path, _, _ in contents if "/libhemtoghai.so." in path)
-    return [(os.path.join(LIBRARY, path), shared) for path in LINKS]
-
-
 def manifest_of(record: Record, contents: Contents, links: Links, changed: bool) -> str:
     """The text of the manifest. A link has the SHA-256 of the file that it leads to."""
     files = {path: program.digest_of(data) for path, data, _ in contents}
@@ -160,7 +154,8 @@ def main(words: list[str]) -> int:
     if not re.fullmatch(r"\d+\.\d+\.\d+", records.version()):
         stop("VERSION isn't a version: three numbers with points between them")
     contents = contents_of()
-    links = links_of(contents)
+    shared, = (os.path.basename(path) for path, _, _ in contents if "/libhemtoghai.so." in path)
+    links = [(os.path.join(LIBRARY, path), shared) for path in LINKS]
     contents.append(("MANIFEST.json", manifest_of(record, contents, links, changed).encode(), 0o644))
     name = "hemtoghai-%s%s-x86_64-linux" % (records.version(), "-changed" if changed else "")
     data = archive(name, contents, links, int(git("log", "-1", "--format=%ct")))

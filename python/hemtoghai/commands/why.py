@@ -45,15 +45,12 @@ def both_words(flown: Flown, i: int, j: int, cue: int, u: float) -> tuple[str, f
     return "%s, %s mm: %.0f mm to the side, %.0f mm up or down" % (places[0], places[1], side, up), side, up
 
 
-def axes_of(flown: Flown) -> tuple[float, float]:
-    """The half axes of what is kept clear around a drone, with the stray and half of its way while it is late."""
-    (r, h), (stray,) = [flown.show.settings[word] for word in ("ellipsoid", "stray")]
+def more_room(flown: Flown, side: float, up: float) -> str:
+    """How much farther apart, to the side alone or up and down alone, leaves room enough: by the half axes of what is
+    kept clear around a drone, with the stray and half of its way while it is late."""
+    (own, own_up), (stray,) = [flown.show.settings[word] for word in ("ellipsoid", "stray")]
     x, y, z = separation.reach_of(flown)
-    return r + stray + max(x, y) / 2, h + stray + z / 2
-
-
-def more_room(side: float, up: float, r: float, h: float) -> str:
-    """How much farther apart, to the side alone or up and down alone, leaves room enough."""
+    r, h = own + stray + max(x, y) / 2, own_up + stray + z / 2
     wide = r * max(0, 4 * ENOUGH ** 2 - (up / h) ** 2) ** 0.5
     high = h * max(0, 4 * ENOUGH ** 2 - (side / r) ** 2) ** 0.5
     return "%.0f mm to the side where they now have %.0f, or %.0f mm up and down where they now have %.0f" % (
@@ -105,7 +102,7 @@ def print_help(flown: Flown, i: int, j: int, cue: int, deep: int) -> None:
         print("  they are already blocked where the cue %s: %s" % (word, words))
         print("    no other way between the same places helps: give one of the two another %s; room enough there is" % (
             "start, or another end of the cue before" if word == "begins" else "end of this cue"))
-        print("    " + more_room(side, up, *axes_of(flown)))
+        print("    " + more_room(flown, side, up))
     if ends:
         return
     names = {flown.names[i], flown.names[j]}
@@ -145,7 +142,7 @@ def print_place(flown: Flown, lines: list[bytes], found: Meeting, deep: int, oth
     else:
         print("  APART, BUT ALONG NO DIRECTION: none of the 98 directions shows it for a whole part%s"
               % ("; --depth 8 may do" if deep < 8 and not standing(flown, i, j, cue, deep) else ""))
-    print("  room enough at this instant: " + more_room(side, up, *axes_of(flown)))
+    print("  room enough at this instant: " + more_room(flown, side, up))
     print_help(flown, i, j, cue, deep)
     print()
 

@@ -32,29 +32,18 @@ def table(document: str, head: str) -> list[list[str]]:
 
 def plain(cell: str) -> str:
     """A cell of a table without links and backquotes."""
-    if "](" not in cell:
-        return cell.replace("`", "").replace("**", "")
-    out, at, quoted = "", 0, False
-    while at < len(cell):
-        if cell[at] == "`":
-            quoted = not quoted
-        elif cell[at] == "]" and not quoted and cell[at + 1:at + 2] == "(" and ")" in cell[at:]:
-            front, _, label = out.rpartition("\0")
-            out, at = front + label, cell.index(")", at)
-        elif cell[at] == "[" and not quoted:
-            out += "\0"
-        else:
-            out += cell[at]
-        at += 1
-    return out.replace("\0", "[").replace("**", "")
+    while "](" in cell:  # the label of a link may have brackets between backquotes
+        front, _, rest = cell.partition("](")
+        before, _, label = front.rpartition("[`" if front.endswith("`") else "[")
+        cell = before + label + rest.partition(")")[2]
+    return cell.replace("`", "").replace("**", "")
 
 
 def limits_of(words: str) -> tuple[int, int] | None:
     """The least and the greatest value that the words of a number begin with, or None."""
-    first = words.replace(",", "").split()[:3]
-    if len(first) == 3 and first[1] == "to" and first[0].isdigit() and first[2].rstrip(":;").isdigit():
-        return int(first[0]), int(first[2].rstrip(":;"))
-    return None
+    low, to, high = [*words.replace(",", "").split(), "", "", ""][:3]
+    high = high.rstrip(":;")
+    return (int(low), int(high)) if to == "to" and low.isdigit() and high.isdigit() else None
 
 
 def read() -> dict[str, Any]:

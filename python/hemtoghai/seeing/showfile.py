@@ -13,7 +13,7 @@ from collections.abc import Iterator
 from typing import BinaryIO
 
 from hemtoghai.language import choreo
-from hemtoghai.program import digest_of
+from hemtoghai.program import digest_of, looks
 
 MOST_TEXT = choreo.LONGEST_TEXT + 4096  # a little more than a show may have, so that the program can say so
 MOST_DIFF = 30000  # lines that are compared
@@ -32,11 +32,7 @@ class ShowFile:
 
     def look(self) -> tuple[int, ...]:
         """What tells whether the file changed, without reading it."""
-        try:
-            found = os.stat(self.path)
-        except OSError:
-            return ()
-        return found.st_ino, found.st_size, found.st_mtime_ns
+        return looks(self.path)
 
     def read(self) -> bytes | None:
         """The file's bytes, or None where it isn't there."""

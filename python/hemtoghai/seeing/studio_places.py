@@ -2,8 +2,9 @@
 new drones, cues and acts with these numbers. Of a text that is half written what stands before the line is taken."""
 from __future__ import annotations
 
+import contextlib
 from collections.abc import Iterator
-from typing import Dict, List
+from typing import Dict, List, NamedTuple
 
 from hemtoghai.language import choreo
 from hemtoghai.language.lines import header, line_in
@@ -19,11 +20,10 @@ def word_of(line: bytes) -> str:
     return words[0].decode(errors="replace") if words else ""
 
 
-class Block:
+class Block(NamedTuple):
     """A block that is open at a line: the number of the line that opens it, and its kind."""
-
-    def __init__(self, number: int, kind: str) -> None:
-        self.number, self.kind = number, kind
+    number: int
+    kind: str
 
 
 def steps(lines: list[bytes]) -> Iterator[tuple[int, str, list[Block]]]:
@@ -62,13 +62,11 @@ def before(lines: list[bytes], line: int, opened: list[Block]) -> list[bytes]:
 
 def read(lines: list[bytes]) -> choreo.Flown | None:
     """What the drones of these lines fly, with a pause at the end so that there is a cue; None if they are faulty."""
-    pause_of_text = line_in(choreo.form_of(b"\n".join(lines)), "cue", 1).encode()
-    pauses: list[list[bytes]] = [[pause_of_text, b"end"], []]
-    for pause in pauses:
-        try:
-            return choreo.flown_of(b"\n".join([*lines, *pause, b""]))
-        except choreo.Refused:
-            pass
+    pause = line_in(choreo.form_of(b"\n".join(lines)), "cue", 1).encode()
+    pauses: list[list[bytes]] = [[pause, b"end"], []]
+    for more in pauses:
+        with contextlib.suppress(choreo.Refused):
+            return choreo.flown_of(b"\n".join([*lines, *more, b""]))
     return None
 
 

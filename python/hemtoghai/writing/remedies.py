@@ -61,10 +61,9 @@ def remedies(flown: choreo.Flown, drone: int, cue: int) -> Iterator[Remedy]:
     """What a drone could do else in a cue."""
     (time, own), (_, h) = flown.by_cue[drone][cue], flown.show.settings["ellipsoid"]
     name, high = flown.names[drone], -(-int(2 * h * ENOUGH) // 50) * 50
-    form = form_of(flown, name, cue)
-    out = "leave it out of this cue"
-    if form is not None:
-        out = "write the places of line %d as acts, and leave it out" % form.number
+    number, out = flown.cues[cue].acts.get(name, (0,))[0], "leave it out of this cue"
+    if any(line.kind == "form" and line.number == number for line in flown.cues[cue].line.body):
+        out = "write the places of line %d as acts, and leave it out" % number
     yield Remedy("wait", {drone: 0}, "let %s wait: %s, and let it fly alone in a cue after it" % (name, out),
                  [(first_of(own), list), (own, last_of)], time)
     yield Remedy("first", {drone: 0}, "let %s go first: %s here, and let it fly alone in a cue before this one" % (
@@ -78,12 +77,6 @@ def remedies(flown: choreo.Flown, drone: int, cue: int) -> Iterator[Remedy]:
 
 
 # ---- the text
-
-def form_of(flown: choreo.Flown, name: str, cue: int) -> choreo.Line | None:
-    """The `form` line that gives a drone its act in a cue, or None."""
-    number = flown.cues[cue].acts.get(name, (0,))[0]
-    return next((line for line in flown.cues[cue].line.body if line.kind == "form" and line.number == number), None)
-
 
 def place_at(flown: choreo.Flown, drone: int, cue: int) -> choreo.Row:
     """Where a drone is when a cue begins, in micrometres, with its yaw."""
