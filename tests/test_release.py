@@ -22,7 +22,8 @@ from unittest import mock
 from common import Folder, PROGRAM, TOP
 from hemtoghai import program
 from hemtoghai.language import choreo
-from hemtoghai.launching import manual, wheels, words as commands
+from hemtoghai.commands import release
+from hemtoghai.launching import manual, words as commands
 
 PROVED = "logic=proved functions=3 axioms=1"
 STAND_IN = """#!/bin/sh
@@ -510,7 +511,7 @@ class Release(unittest.TestCase):
                 file.write(whole)
 
 
-@unittest.skipIf(wheels.lacking(), "this Python has no setuptools, or no wheel")
+@unittest.skipIf(release.lacking(), "this Python has no setuptools, or no wheel")
 class Wheel(unittest.TestCase):
     """The wheel, unpacked as pip unpacks it, and installed by pip where that is there."""
 

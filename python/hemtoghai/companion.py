@@ -17,6 +17,7 @@ from hemtoghai.program import COMMAND
 from hemtoghai.streams import tell
 
 Number = TypeVar("Number", float, Fraction)  # in doubles or exact
+PartOfPlan = Tuple[str, bytes, int, List[Tuple[str, str]]]  # name, bytes, pieces, packets as words and digits
 Motion = Tuple[List[float], List[float], List[int]]  # accelerations, jumps of speed, and the cues of these
 NO_ANSWER = 70
 _running = ["hemtoghai"]  # the command, as its messages begin
@@ -186,15 +187,11 @@ def many(number: int, word: str) -> str:
     return "%d %s%s" % (number, word, "" if number == 1 else "s")
 
 
-def plan_of(path: str) -> list[tuple[str, bytes, int]]:
-    """The drones of a plan's file: name, bytes and number of pieces each; anything else ends the tool."""
-    return plan_in(read_file(path, texts.PLAN), path)
-
-
-def plan_in(text: bytes, path: str) -> list[tuple[str, bytes, int]]:
-    """The same of a plan's text, which comes from this file."""
+def plan_in(text: bytes, path: str) -> list[PartOfPlan]:
+    """The drones of a plan's text, which comes from this file; anything else ends the tool."""
     lines = text.decode(errors="replace").split("\n")
-    drones, name = [], None
+    drones: list[PartOfPlan] = []
+    name = None
     if lines[:1] != ["plan 1"]:
         stop("%s, line 1: a plan begins with `plan 1`; %s compile FILE writes one" % (path, COMMAND))
     for number, line in enumerate(lines[1:], 2):
@@ -208,12 +205,14 @@ def plan_in(text: bytes, path: str) -> list[tuple[str, bytes, int]]:
                 data = bytes(int(word, 16) for word in words[1:])
                 if len(data) != size:
                     raise ValueError
-                drones.append((name, data, pieces))
+                drones.append((name, data, pieces, []))
                 name = None
             elif words == ["end"]:
                 return drones
             elif words[0] not in ("write", "define", "start"):
                 raise ValueError
+            elif drones:
+                drones[-1][3].append((words[0], " ".join(words[1:])))
         except (ValueError, IndexError):
             stop("%s, line %d: this is no line of a plan: %s" % (path, number, line[:60]))
     return stop("%s: the plan has no last line `end`" % path)

@@ -10,7 +10,7 @@ import json
 import operator
 import re
 from collections.abc import Iterator, Mapping
-from dataclasses import dataclass, field, replace
+from dataclasses import dataclass, field
 from functools import cached_property
 from typing import Any, Optional, Union
 
@@ -258,17 +258,9 @@ def check(text: Text, depth: int = DEPTH) -> Verdict:
 def compile(text: Text, depth: int = DEPTH) -> Plan:
     """The plan of a show: what each drone is sent. Raises Refused where there is none."""
     verdict = accepted(asked("compile", text, depth))
-    drones: list[DronePlan] = []
-    for line in verdict.output.decode().split("\n"):
-        kind, _, rest = line.partition(" ")
-        if kind == "drone":
-            name, _, _, _, pieces = rest.split(" ")
-            drones.append(DronePlan(name, b"", int(pieces), ()))
-        elif kind == "data":
-            drones[-1] = replace(drones[-1], data=bytes.fromhex(rest))
-        elif kind in ("write", "define", "start"):
-            drones[-1] = replace(drones[-1], packets=(*drones[-1].packets, (kind, bytes.fromhex(rest))))
-    return Plan(verdict.output, tuple(drones), verdict)
+    return Plan(verdict.output, tuple(
+        DronePlan(name, data, pieces, tuple((word, bytes.fromhex(digits)) for word, digits in packets))
+        for name, data, pieces, packets in companion.plan_in(verdict.output, "the plan")), verdict)
 
 
 def certify(text: Text, depth: int = DEPTH) -> bytes:

@@ -27,13 +27,15 @@ import json
 import os
 import pathlib
 import re
+import subprocess
 import sys
 import tarfile
+import tempfile
 from typing import Any, Dict, List, Tuple
 
 from hemtoghai import program
 from hemtoghai.companion import parser, stop, write_file
-from hemtoghai.launching import manual, records, wheels
+from hemtoghai.launching import manual, records
 from hemtoghai.launching.records import git
 
 Record = Dict[str, Any]  # of a build, as it is noted beside the program
@@ -46,6 +48,12 @@ PROGRAM = os.path.relpath(program.PROGRAM, TOP)
 LIBRARY = os.path.join("library", "out")
 COPIES = ["include/hemtoghai.h"]  # of its files this is a copy of one of the repository
 LINKS = ["lib/libhemtoghai.so", "lib/libhemtoghai.so.0"]
+PACKAGE = "python/hemtoghai/"
+BESIDE = ("VERSION", "docs/COMMANDS.md", "docs/LANGUAGE.md")  # in a checkout beside the package, and in the wheel in it
+SHARED = "library/out/MANIFEST.json", "library/out/lib/libhemtoghai.so."  # as the names of its files begin
+WHEEL = "hemtoghai-%s-py3-none-manylinux_2_34_x86_64.whl"
+SETTINGS = "[bdist_wheel]\nplat-name = manylinux_2_34_x86_64\n"
+MAKE = "import sys; from setuptools import build_meta; build_meta.build_wheel(sys.argv[1])"
 
 
 def judged_record(changed: bool) -> Record:
@@ -131,17 +139,46 @@ def print_made(path: str, count: int, data: bytes) -> None:
     print("%s: %d files, %d bytes, sha256 %s" % (path, count, len(data), program.digest_of(data)))
 
 
-def make_wheel(record: Record, contents: Contents, changed: bool, out: str) -> None:
-    """Makes the wheel, or says what is missing for it."""
-    lacking = wheels.lacking()
-    if lacking:
+def lacking() -> list[str]:
+    """The packages that this Python lacks to make a wheel."""
+    return [name for name in ("setuptools", "wheel") if subprocess.run(
+        [sys.executable, "-c", "import " + name], stdout=subprocess.DEVNULL, stderr=subprocess.DEVNULL).returncode]
+
+
+def make_wheel(out: str, version: str, contents: Contents) -> str:
+    """Makes a wheel of the package's files in a folder; its path. Setuptools makes it, without a network, and the same
+    files make the same bytes."""
+    with tempfile.TemporaryDirectory() as room:
+        def write(path: str, data: bytes, mode: int = 0o644) -> None:
+            place = os.path.join(room, path)
+            os.makedirs(os.path.dirname(place), exist_ok=True)
+            with open(place, "wb") as file:
+                file.write(data)
+            os.chmod(place, mode)
+        for path, data, mode in contents:
+            write(PACKAGE + path, data, mode)
+        write("pyproject.toml", pathlib.Path(TOP, "pyproject.toml").read_bytes())
+        write("setup.cfg", SETTINGS.encode())
+        write("VERSION", version.encode() + b"\n")
+        done = subprocess.run([sys.executable, "-c", MAKE, os.path.abspath(out)], cwd=room, stdout=subprocess.PIPE,
+                              stderr=subprocess.STDOUT,
+                              env={**os.environ, "SOURCE_DATE_EPOCH": git("log", "-1", "--format=%ct")})
+    path = os.path.join(out, WHEEL % version)
+    if done.returncode or not os.path.exists(path):
+        stop("%s\nsetuptools made no wheel" % done.stdout.decode(errors="replace").strip())
+    return path
+
+
+def release_wheel(record: Record, contents: Contents, changed: bool, out: str) -> None:
+    """Makes the wheel of these files of a release, or says what is missing for it."""
+    missing = lacking()
+    if missing:
         return print("no wheel was made: %s has no %s (python3-setuptools and python3-wheel of Debian)" % (
-            sys.executable, " and no ".join(lacking)))
-    own = wheels.contents_of(contents, PROGRAM)
+            sys.executable, " and no ".join(missing)))
+    own = sorted([(path[len(PACKAGE):], data, mode) for path, data, mode in contents if path.startswith(PACKAGE)] + [
+        file for file in contents if file[0] in (*BESIDE, PROGRAM) or file[0].startswith(SHARED)])
     own.append(("MANIFEST.json", manifest_of(record, own, [], changed).encode(), 0o644))
-    project = pathlib.Path(TOP, "pyproject.toml").read_bytes()
-    path = wheels.make(out, records.version() + ("+changed" if changed else ""), own, project,
-                       int(git("log", "-1", "--format=%ct")))
+    path = make_wheel(out, records.version() + ("+changed" if changed else ""), own)
     return print_made(path, len(own), pathlib.Path(path).read_bytes())
 
 
@@ -166,6 +203,6 @@ def main(words: list[str]) -> int:
         stop("%s: %s" % (options.out, error.strerror))
     write_file(path, data)
     print_made(path, len(contents) + len(links), data)
-    make_wheel(record, contents, changed, options.out)
+    release_wheel(record, contents, changed, options.out)
     print("program sha256 %s\ntoolchain %s\nproof: %s" % (record["sha256"], record["toolchain"], record["rests_on"]))
     return 0

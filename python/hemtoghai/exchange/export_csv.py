@@ -14,7 +14,8 @@ from __future__ import annotations
 import os
 from fractions import Fraction
 
-from hemtoghai.companion import decoded, many, parser, plan_of, stop
+from hemtoghai import texts
+from hemtoghai.companion import decoded, many, parser, plan_in, read_file, stop
 from hemtoghai.geometry.curves import powers
 from hemtoghai.geometry.paths import PI
 from hemtoghai.language.choreo import Row, Segment
@@ -50,10 +51,10 @@ def main(words: list[str]) -> int:
     reader.add_argument("plan", metavar="PLAN", help="a file with what ./show compile wrote, or - for standard input")
     reader.add_argument("folder", metavar="FOLDER", help="where the files go; it is made where it isn't there")
     options = reader.parse_args(words)
-    drones = plan_of(options.plan)
+    drones = plan_in(read_file(options.plan, texts.PLAN), options.plan)
     try:
         os.makedirs(options.folder, exist_ok=True)
-        for name, data, pieces in drones:
+        for name, data, pieces, _ in drones:
             trajectory = decoded(data, pieces)
             if trajectory is None:
                 stop("%s: the bytes of %s are no trajectory of %s" % (options.plan, name, many(pieces, "segment")))
