@@ -23,7 +23,6 @@ __all__ = ["Blocked", "Caution", "DronePlan", "Plan", "Refused", "Unusable", "Ve
 
 
 def __getattr__(name: str) -> object:
-    """One of the names above."""
     if name not in __all__:
         raise AttributeError("module 'hemtoghai' has no attribute %r" % name)
     from hemtoghai import judging
@@ -32,5 +31,4 @@ def __getattr__(name: str) -> object:
 
 
 def __dir__() -> list[str]:
-    """The names above."""
     return __all__

@@ -40,7 +40,6 @@ def add_installed() -> None:
 
 
 def main(words: list[str]) -> int:
-    """The status of a command, by its word and those after it."""
     if words[:1] == ["--proved"]:
         from hemtoghai.launching import launcher
         words = words[1:]

@@ -35,8 +35,6 @@ class Answer(NamedTuple):
     by: str  # "library" or "process"
 
 
-# ---- in a process of its own
-
 class Process:
     """The program, started for each question: runs the words of a command over the bytes of its input. Raises Unusable
     where there is no answer. Any number of threads may call it at once."""
@@ -45,8 +43,6 @@ class Process:
         status, output = program.ask(words, text)
         return Answer(status, output, program.proof(), "process")
 
-
-# ---- in this process
 
 def line_of(words: list[str]) -> bytes:
     """Words as one line. A word that can't stand in a line is no word of any command, nor is the one in its place."""
@@ -130,8 +126,6 @@ def library() -> Library:
     proved = isinstance(line, str) and line.startswith("logic=proved ")
     return Library(program.in_memory(data) or path, line if proved else None)
 
-
-# ---- which of the two
 
 _lock = threading.Lock()
 Runner = Union[Library, Process]

@@ -38,7 +38,6 @@ def stop(text: str, status: int = NO_ANSWER) -> NoReturn:
 
 
 def parser(text: str | None) -> argparse.ArgumentParser:
-    """A parser of a tool's words."""
     return argparse.ArgumentParser(prog="%s %s" % (COMMAND, tool_name()),
                                    description=(text or "").replace("./show", COMMAND),
                                    formatter_class=argparse.RawDescriptionHelpFormatter)
@@ -167,7 +166,6 @@ def begins(flown: Flown) -> list[int]:
 
 
 def seconds(milliseconds: float) -> str:
-    """A time as it is printed."""
     return "%.3f s" % (milliseconds / 1000)
 
 

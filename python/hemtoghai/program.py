@@ -48,7 +48,6 @@ def looks(path: str) -> tuple[int, ...]:
 
 
 def looks_of(found: os.stat_result) -> tuple[int, ...]:
-    """The same of a file that was looked at."""
     return found.st_dev, found.st_ino, found.st_size, found.st_mtime_ns, found.st_ctime_ns, found.st_mode
 
 

@@ -43,7 +43,6 @@ def tell(who: str, text: str) -> None:
 
 
 def fault_of(error: BaseException) -> str:
-    """What went wrong, in one line."""
     if isinstance(error, OSError) and error.strerror:
         return "%s: %s" % (error.filename, error.strerror) if error.filename is not None else error.strerror
     if isinstance(error, MemoryError):

@@ -30,12 +30,9 @@ from hemtoghai.writing import margins
 
 
 def put(command: str, verdict: judging.Verdict, **more: Any) -> int:
-    """Writes an answer; its status."""
     sys.stdout.write(json.dumps({"command": command, **verdict.as_data(), **more}) + "\n")
     return verdict.status
 
-
-# ---- commands of the program
 
 def by_program(words: list[str]) -> int:
     """Asks the program, which is proved and built first where it isn't the one of these sources."""
@@ -59,8 +56,6 @@ def by_program(words: list[str]) -> int:
         more = {"drones": found(verdict.output.decode())}
     return put(front[0], verdict, **more)
 
-
-# ---- why
 
 def verdict_of(text: bytes, depth: int) -> judging.Verdict:
     """The verdict on a show, by the companions where the program can't be run: then nothing is proved."""
@@ -96,8 +91,6 @@ def by_why(words: list[str]) -> int:
     return put("why", verdict, **{"blocked": places, **({"room": room} if verdict.status == 4 else {})})
 
 
-# ---- summary
-
 def drone_data(flown: choreo.Flown, drone: int, motions: dict[str, dict[str, Any]]) -> dict[str, Any]:
     fastest, box = summary.look(flown, drone)
     return {"name": flown.names[drone], "bytes": len(flown.data()[drone]), "room": flown.room(),
@@ -107,7 +100,6 @@ def drone_data(flown: choreo.Flown, drone: int, motions: dict[str, dict[str, Any
 
 
 def pair_data(flown: choreo.Flown, i: int, j: int) -> dict[str, Any]:
-    """Where two drones come nearest."""
     share, _, _, cue, u = summary.nearest_of(flown, i, j)
     first, second = (companion.place(flown, k, cue, u) for k in (i, j))
     return {"first": flown.names[i], "second": flown.names[j], "share": share, "cue": cue + 1,
@@ -150,7 +142,6 @@ def by_summary(words: list[str]) -> int:
 
 
 def main(words: list[str]) -> int:
-    """Hands the words on without --json."""
     left = [word for word in words if word != "--json"]
     call = {"why": by_why, "summary": by_summary}.get(left[0])
     return call(left[1:]) if call else by_program(left)

@@ -29,7 +29,6 @@ def say(words: str) -> None:
 
 
 def listed(numbers: list[int]) -> str:
-    """Line numbers, the first eight of them."""
     return "line" + ("s " if len(numbers) > 1 else " ") + ", ".join(map(str, numbers[:8])) + (
         " .." if len(numbers) > 8 else "")
 
@@ -47,8 +46,6 @@ def report(made: Dealt, before: list[State]) -> None:
             say("%s, line %d: no drone would move: each place would go to the drone that already has it. The places "
                 "stay as they are written" % (formation.values[0], line.number))
 
-
-# ---- the text
 
 def block(lines: list[bytes], written: choreo.Line, dealt: choreo.Line, name: str, form: int) -> list[bytes]:
     """The lines of a formation's block as it is dealt, under this name and in this form."""

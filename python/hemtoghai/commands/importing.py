@@ -193,7 +193,6 @@ def stop_for(paths: Paths, options: argparse.Namespace, found: TooMuch, head: li
 # ---- words
 
 def numbers(*limits: tuple[int, int]) -> Callable[[str], Any]:
-    """A reader of whole numbers in one word."""
     def read(word: str) -> Any:
         found = [int(it) if it.isdigit() and len(it) < 9 else -1 for it in word.replace(",", " ").split()]
         if len(found) != len(limits) or not all(low <= it <= high for it, (low, high) in zip(found, limits)):

@@ -56,7 +56,6 @@ def said(*words: str, place: str = TOP) -> str:
 
 
 def toolchain() -> str:
-    """The folder of the toolchain."""
     return os.path.dirname(said("rt", "doc").strip())
 
 

@@ -29,8 +29,6 @@ from hemtoghai.seeing.sampling import (blocked_marks, boxes_said, flight_of, reg
 PAGE, VIEW = [os.path.join(program.PACKAGE, "seeing", name) for name in ("picture.html", "view.js")]
 
 
-# ---- what is refused
-
 def judged(text: bytes, options: argparse.Namespace) -> tuple[str, int, str]:
     """The line of `check`, its status, and who says so."""
     status, line = ask_check(text, options.depth, options.program) or (None, "")
@@ -57,7 +55,6 @@ def motion_said(options: argparse.Namespace, text: bytes, flown: Flown) -> str:
 
 
 def picture_of(options: argparse.Namespace, text: bytes, flown: Flown) -> dict[str, Any]:
-    """What the page shows, as data."""
     line, status, judge = judged(text, options)
     step, marks = step_of(flown, options.step), blocked_marks(flown, options.depth) if status == 5 else []
     rows = rows_of_play(text, options.program, options.depth, step) if status == 0 else None

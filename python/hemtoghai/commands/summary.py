@@ -26,7 +26,6 @@ LEAST = 0.03  # metres a second: what a jump is at most that comes of rounding
 
 
 def rates(row: Sequence[float], seconds_: float) -> list[float]:
-    """The control values of a curve's rate of change in a second."""
     return [(len(row) - 1) * (b - a) / seconds_ for a, b in zip(row, row[1:])] or [0.0]
 
 
@@ -45,7 +44,6 @@ def look(flown: Flown, drone: int) -> tuple[float, list[tuple[float, float]]]:
 
 
 def triple(numbers: Iterable[float]) -> str:
-    """Three numbers as they are printed."""
     return ", ".join("%.2f" % v for v in numbers)
 
 

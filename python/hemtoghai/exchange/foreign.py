@@ -333,7 +333,6 @@ def separator_of(text: str) -> str:
 
 
 def with_point(cell: str) -> str:
-    """A cell in which a decimal comma is a point."""
     whole, comma, rest = cell.partition(",")
     return whole + "." + rest if comma and NUMBER.fullmatch(whole + "." + rest) else cell
 
@@ -509,7 +508,6 @@ def members_of(path: str) -> list[tuple[str, str, bytes]]:
 
 
 def stem_of(path: str) -> str:
-    """A file's name without folders and ending."""
     return posixpath.splitext(posixpath.basename(path))[0]
 
 

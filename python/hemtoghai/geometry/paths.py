@@ -124,7 +124,6 @@ def raising(low: int, high: int) -> tuple[list[list[tuple[int, int]]], int]:
 
 
 def whole_raised(row: Whole, degree: int) -> Whole:
-    """The same curve by more control values."""
     whole, over = row
     if len(whole) > degree:
         return row
@@ -170,7 +169,6 @@ def farthest_of(rows: list[Whole], splits: int, enough: Fraction, least: Fractio
 
 
 def in_whole(rows: list[list[int]], splits: int, enough: int) -> int:
-    """The same of whole numbers."""
     squares: list[int] = [sum(v * v for v in point) for point in zip(*rows)]
     best, floor = max(squares), max(squares[0], squares[-1])
     if best <= enough or best == floor or not splits:
@@ -253,7 +251,6 @@ class Path(Generic[Number]):
         return [(a, b) for a, b in out if b - a >= least]
 
     def one_slope(self: Path[float], k: int, u: float) -> Row[float]:
-        """The velocity in a piece at a fraction of it."""
         begin, end, rows = self.pieces[k]
         rates = [[(b - a) * (len(row) - 1) / (end - begin) for a, b in zip(row, row[1:])] for row in rows]
         return [value(rate or [0.0], u) for rate in rates]

@@ -83,7 +83,6 @@ class Refused(Exception):
 
 
 def fault(number: int, word: str, outcome: str | None = None) -> Refused:
-    """The refusal of a line of a show."""
     return Refused(3, "line %d %s" % (number, word), outcome or word, number)
 
 
@@ -290,7 +289,6 @@ def faults_of_perform(show: Show, line: Line, drones: set[str]) -> Iterator[tupl
 
 
 def faults_of_names(show: Show) -> Iterator[tuple[int, str]]:
-    """All faults of names of a show, in any order."""
     drones = set(show.names)
     yield from faults_of_declarations(show, drones)
     for block in show.top.body:
@@ -373,7 +371,6 @@ class Cue:
 
 def written_out(show: Show, lines: list[Line], frame: Sequence[Any] = ("none", 0, 0, 0, 0), players: dict[str,
                   str] | None = None, within: tuple[Any, ...] = ()) -> Iterator[Cue]:
-    """The cues that some lines stand for."""
     for line in lines:
         if line.kind == "repeat":
             for turn in range(1, line.values[0] + 1):
@@ -416,7 +413,6 @@ TO_END = {"swing": [0, 0, 0, 696647, 1063179, 1000000, 1000000, 1000000],
 
 
 def millionths(share: int, s: int) -> int:
-    """Millionths of a number, rounded."""
     return (share * s + 500000) // 1000000
 
 
@@ -427,7 +423,6 @@ def ways(at: Row, to: Any) -> tuple[tuple[int, int], tuple[int, int]]:
 
 
 def yaws(act: str, begin: int, end: int) -> Row:
-    """The yaw's control values of an eased quarter circle."""
     turn = end - begin
     if act == "arc_in":
         return [begin + (turn * k * (k - 1) + 21) // 42 for k in range(8)]
@@ -545,7 +540,6 @@ class Flown:
 
 
 def digits(data: bytes) -> str:
-    """Bytes in two hexadecimal digits each."""
     return data.hex(" ").upper()
 
 

@@ -72,7 +72,6 @@ def row_of(word: str) -> Row | None:
 
 
 def short(digits: str) -> str:
-    """A number as it can be printed."""
     return digits if len(digits) <= 24 else "%s.. (%d digits)" % (digits[:12], len(digits.lstrip("-")))
 
 
@@ -140,7 +139,6 @@ def whole_row(name: str, slot: Number, counts: Counts, word: str) -> Row | None:
 # ---- numbers with units
 
 def listed(words: Iterable[str]) -> str:
-    """Words as a choice."""
     *others, last = words
     return ", ".join(others) + " or " * bool(others) + last
 

@@ -12,7 +12,6 @@ NEWEST = max(choreo.FORMS.values())  # the form of the language in which new tex
 
 
 def header(form: int) -> str:
-    """The first line with words of a text."""
     return f"choreo {form}"
 
 

@@ -31,8 +31,6 @@ TENTHS = Counts("tenths of a degree", "angle", "deg", {"deg": 1})
 KINDS = {unit: counts.kind for counts in (MICROMETRES, MILLISECONDS, TENTHS) for unit in counts.units}
 
 
-# ---- reading
-
 def number_of(digits: str) -> int:
     """The number of some digits, or FAR where it has more than twelve."""
     digits = digits.lstrip("0") or "0"
@@ -56,8 +54,6 @@ def value_of(counts: Counts, word: str) -> int | None:
     digits = moved(found[2] + fraction, counts.units[found[4]] - len(fraction))
     return None if digits is None else -number_of(digits) if found[1] else number_of(digits)
 
-
-# ---- writing
 
 def in_unit(counts: Counts, value: int, unit: str) -> str:
     """A value in a unit, exactly, with no digit more than it takes."""

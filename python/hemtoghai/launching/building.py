@@ -30,7 +30,6 @@ Crates = Dict[str, List[str]]  # each with the ones right below it
 
 
 def complain(text: str) -> None:
-    """Hands on what another program said of a failure."""
     with contextlib.suppress(OSError):
         sys.stderr.write(text)
         sys.stderr.flush()

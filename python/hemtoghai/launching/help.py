@@ -63,7 +63,6 @@ def help_text() -> str:
 
 
 def usage_of(command: str) -> str:
-    """How a command is used, in a few lines."""
     second = words.known("SECOND").get(command)
     files = "" if command in words.known("NO_INPUT") else " [SHOW]" if not second else " [SHOW [%s]]" % second.upper()
     lines = ["usage: %s %s%s" % (COMMAND, words.known("FORMS")[command], files), "", words.known("PURPOSES")[command]]

@@ -56,7 +56,6 @@ def completion() -> str:
 
 
 def roff(text: str) -> str:
-    """A cell of a table, or a line, as troff has it."""
     text = re.sub(r"\[([^]]*)\]\([^)]*\)", r"\1", text).replace("\\", "\\e").replace("-", "\\-")
     text = re.sub(r"`([^`]*)`", r"\\fB\1\\fR", text).replace("**", "")
     return re.sub(r"^([.'])", r"\\&\1", text)

@@ -61,7 +61,6 @@ def sources(crate: str) -> Iterator[str]:
 
 
 def sha256(path: str) -> str:
-    """A file's SHA-256 in hexadecimal digits."""
     import hashlib
     whole = hashlib.sha256()
     with open(path, "rb") as file:
@@ -76,8 +75,6 @@ def stamp(below: dict[str, list[str]]) -> str:
     lines = ["%s  %s\n" % (sha256(os.path.join(TOP, file)), file) for file in sorted(files)]
     return program.digest_of("".join(lines).encode("utf-8", "surrogateescape"))
 
-
-# ---- which build it is
 
 def is_current(below: dict[str, list[str]], path: str = PROGRAM) -> bool:
     """Whether a program is there that was built from the sources as they are now, whatever the times of files."""
@@ -127,8 +124,6 @@ def write_record(said: str, stamped: str) -> None:
     with open(PROGRAM + RECORD, "w", encoding="utf-8") as file:
         json.dump(record, file, indent=1)
 
-
-# ---- what a release has
 
 def differing(wanted: dict[str, str]) -> Iterator[str]:
     """The files of a release that are missing or others, and those that were added, each with words."""

@@ -76,7 +76,6 @@ def pieces_of(path: str, is_first: bool) -> Iterator[bytes]:
 
 
 def joined(files: list[str]) -> Iterator[bytes]:
-    """Two files with a marker line between them, piece by piece."""
     yield from pieces_of(files[0], True)
     yield b"%%\n"
     yield from pieces_of(files[1], False)

@@ -114,15 +114,6 @@ def fault_of_number(name: str, word: str | None) -> str | None:
     return "%s is %d to %d%s" % (name, low, high, "" if word is None else ", not %s" % word)
 
 
-def take_number(name: str, left: list[str], front: list[str]) -> str | None:
-    """Takes a number from the words that are left to the program's; what is wrong with it, or None."""
-    number = left.pop(0) if left else None
-    fault = fault_of_number(name, number)
-    if number is not None and not fault:
-        front.append(number)
-    return fault
-
-
 def split(words: list[str]) -> tuple[list[str], list[str], str | None]:
     """The program's words, the files, and what is wrong with the words or None. Options may stand anywhere, and as
     --depth=6; after -- all words are files."""
@@ -134,12 +125,15 @@ def split(words: list[str]) -> tuple[list[str], list[str], str | None]:
     front, its = [command], options_of(command)
     files: list[str] = []
     seen: set[str] = set()
-    name = number_of(command)
-    if name:
-        fault = take_number(name, left, front)
-        if fault:
-            return words, [], "%s N: %s" % (command, fault)
-    while left:
+    name, what = number_of(command), command + " N"  # of a number that comes next
+    while name or left:
+        if name:
+            fault = fault_of_number(name, left[0] if left else None)
+            if fault:
+                return words, [], "%s: %s" % (what, fault)
+            front.append(left.pop(0))
+            name = None
+            continue
         word = left.pop(0)
         option, equals, given = word.partition("=")
         if word == "--":
@@ -154,10 +148,6 @@ def split(words: list[str]) -> tuple[list[str], list[str], str | None]:
             return words, [], "%s stands twice" % option
         seen.add(option)
         front.append(option)
-        name = its[option]
-        if name:
-            left[:0] = [given] if equals else []
-            fault = take_number(name, left, front)
-            if fault:
-                return words, [], "%s %s: %s" % (option, name, fault)
+        name, what = its[option], "%s %s" % (option, its[option])
+        left[:0] = [given] if equals else []
     return front, files, None

@@ -17,7 +17,6 @@ FEW = ["#0072b2", "#d55e00", "#008a64", "#b8478f", "#7a5c00", "#5b3fb0", "#0092a
 
 
 def colour(k: int, count: int) -> str:
-    """A drone's colour, as on the page."""
     if count <= len(FEW):
         return FEW[k]
     hue = k * 137.5 % 360

@@ -29,8 +29,6 @@ def step_of(flown: choreo.Flown, wanted: int | None, most_places: int = MOST_PLA
     return min(60000, few[0] if few else -(-least // 1000) * 1000)
 
 
-# ---- positions
-
 def played(rows: list[str], names: list[str]) -> tuple[list[int], list[list[Sample]]]:
     """The instants and, for each, the drones' places in millimetres and yaws in degrees, by the rows of `play`."""
     times: list[int] = []
@@ -103,8 +101,6 @@ def shares(flown: choreo.Flown, places: list[list[Sample]]) -> tuple[list[list[f
     return nearest, [[round(100 * squared ** 0.5, 1), i, j, k] for squared, i, j, k in rows[:MOST_PAIRS]]
 
 
-# ---- what is refused
-
 def mark_of(flown: choreo.Flown, deep: int, i: int, j: int, cue: int, index: int) -> Mark:
     """A place in which two drones are blocked: from, to, both drones, cue, the nearest instant, all in milliseconds,
     how near they are there, whether they touch, the cause where it is the show's `stray` or `late`, and words."""
@@ -124,8 +120,6 @@ def blocked_marks(flown: choreo.Flown, deep: int) -> list[Mark]:
         mark["named"] = True
     return sorted(marks, key=lambda mark: float(mark["share"]))
 
-
-# ---- regions
 
 def regions_of(path: str) -> list[Region]:
     """The regions of a file as (kind, six numbers): docs/COMMANDS.md, boxes."""

@@ -35,7 +35,6 @@ class ShowFile:
         return looks(self.path)
 
     def read(self) -> bytes | None:
-        """The file's bytes, or None where it isn't there."""
         try:
             with open(self.path, "rb") as file:
                 return file.read(MOST_TEXT + 1)

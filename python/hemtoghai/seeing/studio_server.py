@@ -100,7 +100,6 @@ class Handler(BaseHTTPRequestHandler):
         self.end_headers()
 
     def send_words(self, status: int, words: str) -> None:
-        """A line of plain text."""
         self.head(status, "text/plain; charset=utf-8")
         self.wfile.write(words.encode() + b"\n")
 
@@ -324,7 +323,6 @@ class Handler(BaseHTTPRequestHandler):
                         "diff": difference(before, after) if changed else []})
 
     def cure(self, asked: Asked) -> None:
-        """What ./show why --cured writes."""
         with tempfile.TemporaryDirectory() as folder:
             out, new = os.path.join(folder, "cured"), b""
             status, said, told = self.made(["why", "--cured", out], asked["text"])
@@ -336,7 +334,6 @@ class Handler(BaseHTTPRequestHandler):
         self.offer(status, asked["text"], new, "\n".join(short), "\n".join(line for line in lines if line not in short))
 
     def deal(self, asked: Asked) -> None:
-        """What ./show deal writes."""
         status, new, told = self.made(["deal"], asked["text"])
         self.offer(status, asked["text"], new, told.decode(errors="replace").strip().replace("deal: ", ""))
 

@@ -73,19 +73,15 @@ def naming_lines(flown: choreo.Flown) -> list[choreo.Line]:
 
 
 def names_of(line: choreo.Line) -> list[str]:
-    """The drones that a line of an act or a perform names."""
     return line.values[:1] if line.kind == "act" else line.values[6:]
 
 
 def rename(line: choreo.Line, names: list[str]) -> None:
-    """Gives a line of an act or a perform other drones."""
     if line.kind == "act":
         line.values[:1] = names
     else:
         line.values[6:] = names
 
-
-# ---- who flies what was written for whom
 
 def performers(flown: choreo.Flown, lost: set[int] | None = None) -> list[dict[str, str]]:
     """For each cue, by the drone for which something is written, the drone that stands where that one would stand. A
@@ -151,8 +147,6 @@ def settle(places: list[Place]) -> None:
         name = place.written if place.written in held else others.pop(0)
         place.owner, place.values = held[name]
 
-
-# ---- dealing
 
 class Dealt:
     """What was dealt: the show as it is then flown, the `form` lines at which nobody would move, the lines whose acts

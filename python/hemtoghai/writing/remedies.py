@@ -19,12 +19,10 @@ LEAST_LIFT, EASY_LIFT = 2000, 700  # milliseconds for a way up or down of so man
 
 
 def first_of(elements: Elements) -> Elements:
-    """The elements of a drone that stays where a cue begins."""
     return [row[:1] for row in elements]
 
 
 def last_of(elements: Elements) -> Elements:
-    """The elements of a drone that stays where a cue ends."""
     return [row[-1:] for row in elements]
 
 
@@ -75,8 +73,6 @@ def remedies(flown: choreo.Flown, drone: int, cue: int) -> Iterator[Remedy]:
             yield Remedy("lift", {drone: by}, words, list(zip(lifted(own, by), (first_of, list, last_of))),
                          2 * lift_time(by))
 
-
-# ---- the text
 
 def place_at(flown: choreo.Flown, drone: int, cue: int) -> choreo.Row:
     """Where a drone is when a cue begins, in micrometres, with its yaw."""
