@@ -163,22 +163,17 @@ def place_of(flown: Any, drone: int, cue: int, u: float) -> Place:
     return x, y, z
 
 
-def blocked_in(flown: Any, deep: int, found: tuple[int, int, int, int], named: bool) -> Blocked:
-    """What is known of two drones in a cue whose part of this number is blocked."""
-    it = Meeting(flown, deep, *found)
-    cue, names = flown.cues[it.cue], (flown.names[it.i], flown.names[it.j])
-    lines = {cue.number, *(cue.acts[name][0] for name in names if name in cue.acts)}
-    places = place_of(flown, it.i, it.cue, it.near.at), place_of(flown, it.j, it.cue, it.near.at)
-    return Blocked(*names, it.cue + 1, it.begin, it.end, it.nearest, places, it.near.share, it.near.touch, it.cause,
-                   tuple(sorted(lines)), named)
-
-
 def blocked_of(text: bytes, deep: int) -> tuple[Blocked, ...]:
     """The places in which drones of a show are blocked, that first in which they come nearest."""
-    flown = choreo.flown_of(text)
-    places = [blocked_in(flown, deep, found, not number)
-              for number, found in enumerate(separation.blocked_places(flown, deep))]
-    return tuple(sorted(places, key=lambda place: place.share))
+    flown, out = choreo.flown_of(text), []
+    for number, found in enumerate(separation.blocked_places(flown, deep)):
+        it = Meeting(flown, deep, *found)
+        cue, names = flown.cues[it.cue], (flown.names[it.i], flown.names[it.j])
+        lines = {cue.number, *(cue.acts[name][0] for name in names if name in cue.acts)}
+        places = place_of(flown, it.i, it.cue, it.near.at), place_of(flown, it.j, it.cue, it.near.at)
+        out.append(Blocked(*names, it.cue + 1, it.begin, it.end, it.nearest, places, it.near.share, it.near.touch,
+                           it.cause, tuple(sorted(lines)), not number))
+    return tuple(sorted(out, key=lambda place: place.share))
 
 
 CAUTION = re.compile(r"line (\d+), (?:cue (\d+)|the end): (\S+) ")

@@ -118,15 +118,6 @@ def say_carried(made: Dealt, new_line: Callable[[int], int]) -> None:
             "one before, so from there on each drone flies its own acts" % new_line(number))
 
 
-def dealt_text(text: bytes, flown: choreo.Flown, keep: list[str]) -> tuple[bytes, Dealt]:
-    on_their_own(flown)
-    before, made = state(flown), deal(flown, keep)
-    new, new_line = rewritten(text, made)
-    report(made, before)
-    say_carried(made, new_line)
-    return new, made
-
-
 def main(words: list[str]) -> int:
     reader = parser(__doc__)
     add_depth(reader)
@@ -138,7 +129,11 @@ def main(words: list[str]) -> int:
             stop("--keep %s: the show has no formation of this name" % name)
     if not form_lines(flown):
         stop("%s: the show forms no formation, so there is nothing to deal" % options.show)
-    text, made = dealt_text(text, flown, options.keep)
+    on_their_own(flown)
+    before, made = state(flown), deal(flown, options.keep)
+    text, new_line = rewritten(text, made)
+    report(made, before)
+    say_carried(made, new_line)
     sys.stdout.buffer.write(text)
     sys.stdout.flush()
     status = judged(text, options.depth)

@@ -83,19 +83,14 @@ def is_library(record: Record) -> bool:
             and not any(differs(path, wanted) for path, wanted in copies.items()))
 
 
-def library_files() -> list[str]:
-    """The files of the library, where it is good enough for a release."""
+def contents_of() -> Contents:
+    """The files of a release as (path, bytes, mode): of the commit, the program, the library, page and completion."""
     record = program.record_of(os.path.join(TOP, LIBRARY, "MANIFEST.json"))
     if not is_library(record):
         stop("the library isn't the one of these sources: ./show library builds it")
     if not re.match("logic=proved ", record.get("rests_on", "")):
         stop("the library's manifest hasn't the last line of its proof: ./show library builds it")
-    return [os.path.join(LIBRARY, path) for path in (*record["files"], "MANIFEST.json")]
-
-
-def contents_of() -> Contents:
-    """The files of a release as (path, bytes, mode): of the commit, the program, the library, page and completion."""
-    found = [(PROGRAM, 0o755)] + [(path, 0o644) for path in library_files()]
+    found = [(PROGRAM, 0o755)] + [(os.path.join(LIBRARY, path), 0o644) for path in (*record["files"], "MANIFEST.json")]
     for line in git("ls-files", "-s", "-z", "--", *SHIPPED).split("\0"):
         parts = re.fullmatch(r"(100644|100755) [0-9a-f]+ 0\t([^\n]*)", line)
         if line and not parts:

@@ -175,16 +175,12 @@ def port(word: str) -> int:
     return int(word)
 
 
-def usual_port(path: str) -> int:
-    """The same port for the same file at each start, where it is free: by its port a browser knows which page may see
-    the text that wasn't saved the last time."""
-    return 20000 + int(stamp_of(os.path.realpath(path).encode("utf-8", "surrogateescape"))[:8], 16) % 12000
-
-
 def server_of(options: argparse.Namespace) -> Server:
-    """The server, on the port that is wanted, else on the usual one or one that is free."""
+    """The server, on the port that is wanted, else on the usual one of this file or one that is free: by its port a
+    browser knows which page may see the text that wasn't saved the last time."""
     why, studio = "", Studio(options)
-    for wanted in [options.port] if options.port else [usual_port(options.show), 0]:
+    usual = 20000 + int(stamp_of(studio.file.path.encode("utf-8", "surrogateescape"))[:8], 16) % 12000
+    for wanted in [options.port] if options.port else [usual, 0]:
         try:
             return Server(("127.0.0.1", wanted), studio)
         except OSError as error:

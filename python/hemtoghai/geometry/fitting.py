@@ -61,7 +61,11 @@ class Fit:
         self.crowded = len(self.edges) - 1 > most
         begin = 0
         while begin < self.end and len(self.cues) <= most and not self.crowded:
-            begin = self.add_cue(begin)
+            length, found = self.balanced(begin, *self.longest_from(begin))
+            self.known.clear()
+            self.cues.append(Cue(begin, length, found))
+            self.now = [[row[-1] for row in act.rows] for act in found]
+            begin += length
 
     def goal(self, place: Sequence[float]) -> choreo.Row:
         """Where a drone is flown for a place: whole millimetres and tenths of a degree."""
@@ -156,14 +160,6 @@ class Fit:
             if fit is not None:
                 return less, fit
         return length, found
-
-    def add_cue(self, begin: int) -> int:
-        """Finds the next cue; its end."""
-        length, found = self.balanced(begin, *self.longest_from(begin))
-        self.known.clear()
-        self.cues.append(Cue(begin, length, found))
-        self.now = [[row[-1] for row in act.rows] for act in found]
-        return begin + length
 
     def bounds(self) -> list[tuple[Fraction, Fraction]]:
         """For each drone how far what it flies leaves its path at most, at every instant: millimetres and degrees of

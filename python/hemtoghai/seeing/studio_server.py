@@ -164,30 +164,21 @@ class Handler(BaseHTTPRequestHandler):
         while not self.studio.ending.is_set():
             now = self.studio.file.look()
             if known is None or now != seen:
-                data, seen = self.read_quietly(), now
+                data, seen = None, now
+                with contextlib.suppress(OSError):  # it can't be read now
+                    data = self.studio.file.read()
                 if stamp_of(data) != known:
                     known, quiet = stamp_of(data), 0
-                    self.put_event(data)
+                    words: dict[str, object] = {"stamp": known, "there": data is not None}
+                    if self.studio.watch and data is not None:  # the page follows the file
+                        words["text"] = text_of(data)[0]
+                    self.wfile.write(b"data: %s\n\n" % json.dumps(words).encode())
             if quiet > QUIET:
                 self.wfile.write(b": still here\n\n")  # fails where nobody listens any more
                 quiet = 0
             self.wfile.flush()
             self.studio.ending.wait(LOOK)
             quiet += LOOK
-
-    def read_quietly(self) -> bytes | None:
-        """The file's bytes, or None where it can't be read now."""
-        try:
-            return self.studio.file.read()
-        except OSError:
-            return None
-
-    def put_event(self, data: bytes | None) -> None:
-        """Writes what is now in the file: its stamp, and where the page follows it, its text."""
-        words: dict[str, object] = {"stamp": stamp_of(data), "there": data is not None}
-        if self.studio.watch and data is not None:
-            words["text"] = text_of(data)[0]
-        self.wfile.write(b"data: %s\n\n" % json.dumps(words).encode())
 
     # -- judging
 
