@@ -64,9 +64,8 @@ def rewritten(text: bytes, made: Dealt) -> tuple[bytes, Callable[[int], int]]:
     formed, and the acts that go with their places; and by the number of a line in the old text that in the new one."""
     flown, lines = made.flown, text.split(b"\n")
     names = {line.values[0] for line in flown.show.top.body if line.kind == "formation"}
-    new = list(lines)
+    new = [[line] for line in lines]  # what stands in the place of each line
     known: dict[str, list[tuple[list[Words], str]]] = {}
-    after: dict[int, list[bytes]] = {}
     for line, _ in form_lines(flown):
         formation = flown.show.formations[line.values[0]]
         name, places = formation.values[0], words_of(formation)
@@ -78,18 +77,16 @@ def rewritten(text: bytes, made: Dealt) -> tuple[bytes, Callable[[int], int]]:
             written = flown.show.formations[name]
             own = block(lines, written, formation, called, flown.show.form)
             if called == name:
-                new[written.number - 1:written.last] = own
+                new[written.number - 1:written.last] = [[row] for row in own]
             else:
-                after.setdefault(written.last, []).extend(own)
+                new[written.last - 1] += own
         called = next(called for way, called in ways if way == places)
         if called != name:
-            new[line.number - 1] = with_words(new[line.number - 1], "form %s %s" % (called, line.values[1]))
+            new[line.number - 1] = [with_words(lines[line.number - 1], "form %s %s" % (called, line.values[1]))]
     for line in made.renamed():
         names_at = dict(enumerate(names_of(line), 0 if line.kind == "act" else 7))
-        new[line.number - 1] = with_words_at(new[line.number - 1], names_at)
-    for last in sorted(after, reverse=True):
-        new[last:last] = after[last]
-    return b"\n".join(new), lambda number: number + sum(len(own) for last, own in after.items() if last < number)
+        new[line.number - 1] = [with_words_at(lines[line.number - 1], names_at)]
+    return b"\n".join(it for row in new for it in row), lambda number: 1 + sum(map(len, new[:number - 1]))
 
 
 def judged(text: bytes, deep: int) -> int:

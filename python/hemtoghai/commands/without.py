@@ -24,18 +24,17 @@ IDLE = "nobody"  # the role of a figure in which nobody acts
 
 
 class Editor:
-    """The lines of a show: which of them go, what stands in the place of others, and what comes after some."""
+    """The lines of a show, and what stands in their places."""
 
     def __init__(self, text: bytes, show: choreo.Show, gone: Collection[str]) -> None:
         self.lines, self.show, self.gone = text.split(b"\n"), show, set(gone)
-        self.dropped: set[int] = set()
-        self.changed: dict[int, bytes] = {}
-        self.after: dict[int, list[tuple[str, list[bytes]]]] = {}
+        self.rows = [[line] for line in self.lines]  # what stands in the place of each line
+        self.figures = set(show.figures)
         self.left = [name for name in show.names if name not in self.gone]
 
     def drop(self, line: choreo.Line) -> None:
         """A line goes, with the block that it opens."""
-        self.dropped.update(range(line.number, line.last + 1))
+        self.rows[line.number - 1:line.last] = [[] for _ in range(line.number, line.last + 1)]
 
     def drop_drones(self) -> None:
         """Drops the drones, their places and their acts outside figures, and what is left empty."""
@@ -60,40 +59,29 @@ class Editor:
                     cast.setdefault(lost, []).append(line)
             for lost, lines in cast.items():
                 if lost:
-                    alone = len(cast) == 1
-                    taken = {*self.show.figures, *(new for rows in self.after.values() for new, _ in rows)}
-                    new = name if alone else free_name(name, taken)
-                    self.cut_figure(figure, new, set(lost), alone)
+                    new = name if len(cast) == 1 else free_name(name, self.figures)
+                    self.cut_figure(figure, new, set(lost))
                     for line in lines:
                         self.cut_perform(line, new)
 
-    def cut_figure(self, figure: choreo.Line, name: str, lost: set[str], in_place: bool) -> None:
-        """A figure without some roles: in its own place, or once more after itself."""
+    def cut_figure(self, figure: choreo.Line, name: str, lost: set[str]) -> None:
+        """A figure without some roles: in its own place, or under a new name once more after itself."""
         roles = [role for role in figure.values[1:] if role not in lost] or [IDLE]
         acts = {line.number for line in choreo.inside(figure) if line.kind == "act" and line.values[0] in lost}
         head = with_words(self.lines[figure.number - 1], " ".join(["figure", name, *roles]))
-        if in_place:
-            self.changed[figure.number] = head
-            self.dropped |= acts
+        rows = [[head]] + [[] if number in acts else [self.lines[number - 1]]
+                           for number in range(figure.number + 1, figure.last + 1)]
+        if name in self.figures:
+            self.rows[figure.number - 1:figure.last] = rows
         else:
-            rows = [line for number, line in enumerate(self.lines[figure.number:figure.last], figure.number + 1)
-                    if number not in acts]
-            self.after.setdefault(figure.last, []).append((name, [head, *rows]))
+            self.rows[figure.last - 1] += [line for row in rows for line in row]
+        self.figures.add(name)
 
     def cut_perform(self, line: choreo.Line, name: str) -> None:
         """A perform of a figure without the roles of drones that are gone."""
         players = [player for player in line.values[6:] if player not in self.gone] or self.left[:1]
         words = line_in(self.show.form, "perform", name, *line.values[1:6], *players)
-        self.changed[line.number] = with_words(self.lines[line.number - 1], words)
-
-    def text(self) -> bytes:
-        out = []
-        for number, line in enumerate(self.lines, 1):
-            if number not in self.dropped:
-                out.append(self.changed.get(number, line))
-            for _, rows in self.after.get(number, []):
-                out += rows
-        return b"\n".join(out)
+        self.rows[line.number - 1] = [with_words(self.lines[line.number - 1], words)]
 
 
 def main(words: list[str]) -> int:
@@ -111,7 +99,7 @@ def main(words: list[str]) -> int:
     editor = Editor(text, flown.show, options.names)
     editor.drop_drones()
     editor.change_performs()
-    new = editor.text()
+    new = b"\n".join(line for row in editor.rows for line in row)
     sys.stdout.buffer.write(new)
     sys.stdout.flush()
     answer = ask_check(new, options.depth)

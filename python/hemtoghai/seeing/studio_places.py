@@ -3,8 +3,8 @@ new drones, cues and acts with these numbers. Of a text that is half written wha
 from __future__ import annotations
 
 import contextlib
-from collections.abc import Iterator
-from typing import Dict, List, NamedTuple
+import itertools
+from typing import Dict, List
 
 from hemtoghai.language import choreo
 from hemtoghai.language.lines import header, line_in
@@ -14,46 +14,26 @@ START = [0, 0, 1000000, 0]  # of a role whose place in its figure isn't known: a
 DECLARED = ("drone", "formation", "figure", *choreo.SETTINGS)
 
 
-def word_of(line: bytes) -> str:
-    """The first word of a line, or nothing."""
-    words = line.partition(b"#")[0].split(None, 1)
-    return words[0].decode(errors="replace") if words else ""
-
-
-class Block(NamedTuple):
-    """A block that is open at a line: the number of the line that opens it, and its kind."""
-    number: int
-    kind: str
-
-
-def steps(lines: list[bytes]) -> Iterator[tuple[int, str, list[Block]]]:
-    """For each line its number, its first word, and the blocks that are open before it, in a list that changes with the
-    next line. In a cue and in a formation nothing opens a block: a drone may have any name."""
-    opened: list[Block] = []
+def tree(lines: list[bytes]) -> choreo.Line:
+    """The lines of a text as a tree, each with its further words as its values, right or not. In a cue and in a
+    formation nothing opens a block: a drone may have any name. A block that nothing closes goes on after the last line.
+    """
+    blocks = [choreo.Line(0, "top", [])]
     for number, line in enumerate(lines, 1):
-        word = word_of(line)
-        yield number, word, opened
-        if word == "end" and opened:
-            opened.pop()
-        elif word in choreo.OPENING and (not opened or opened[-1].kind in ("figure", "repeat")):
-            opened.append(Block(number, word))
+        words = line.partition(b"#")[0].decode(errors="replace").split()
+        if words[:1] == ["end"] and len(blocks) > 1:
+            blocks.pop().last = number
+        elif words:
+            place, new = blocks[-1], choreo.Line(number, words[0], words[1:])
+            place.body.append(new)
+            if new.kind in choreo.OPENING and place.kind in ("top", "figure", "repeat"):
+                blocks.append(new)
+    for block in blocks:
+        block.last = len(lines) + 1
+    return blocks[0]
 
 
-def around(lines: list[bytes], line: int) -> list[Block]:
-    """The blocks that are open before a line, those outside first."""
-    for number, _, opened in steps([*lines, b""]):
-        if number == min(line, len(lines) + 1):
-            return list(opened)
-    return []
-
-
-def later_declarations(lines: list[bytes], line: int) -> list[bytes]:
-    """The lines at top after a line that declare drones, formations, figures and settings, with what is in them."""
-    return [lines[number - 1] for number, word, opened in steps(lines)
-            if (opened[0].kind if opened else word) in DECLARED and (opened[0].number if opened else number) >= line]
-
-
-def before(lines: list[bytes], line: int, opened: list[Block]) -> list[bytes]:
+def before(lines: list[bytes], line: int, opened: list[choreo.Line]) -> list[bytes]:
     """The lines that are flown before a line: a repeat that is open there is flown once so far, an open cue not yet."""
     end = opened[-1].number if opened and opened[-1].kind in ("cue", "formation") else line
     repeats = {block.number for block in opened if block.kind == "repeat"}
@@ -93,12 +73,11 @@ def starts_of(lines: list[bytes], form: int) -> Places:
     return dict(list(found.items())[:choreo.MOST_DRONES])
 
 
-def in_figure(lines: list[bytes], line: int, opened: list[Block], form: int) -> Places:
+def in_figure(lines: list[bytes], line: int, opened: list[choreo.Line], form: int) -> Places:
     """By role where it is at a line of a figure, in the figure's own frame: the figure is flown by drones of its roles'
     names, each of which begins where its first line puts it, else a metre above the origin."""
     figure = opened[0]
-    roles = [word for word in lines[figure.number - 1].partition(b"#")[0].decode(errors="replace").split()[2:]
-             if choreo.is_name(word)][:choreo.MOST_DRONES]
+    roles = [word for word in figure.values[1:] if choreo.is_name(word)][:choreo.MOST_DRONES]
     inner = [b"" if number == figure.number else it
              for number, it in enumerate(before(lines, line, opened), 1) if number >= figure.number]
     begins = [line_in(form, "drone", role, *START).encode() for role in dict.fromkeys(roles)]
@@ -106,40 +85,17 @@ def in_figure(lines: list[bytes], line: int, opened: list[Block], form: int) -> 
     return ends_of(flown) if flown else {role: list(START) for role in roles}
 
 
-def words_in(lines: list[bytes], block: Block) -> Iterator[list[str]]:
-    """The words of each line of an open cue or formation, as far as such lines follow one another."""
-    for line in lines[block.number:]:
-        words = line.partition(b"#")[0].decode(errors="replace").split()
-        fits = words[:1] == ["at"] if block.kind == "formation" else (
-            words[:1] == ["form"] or len(words) > 1 and words[1] in choreo.ACTS)
-        if words and not fits:
-            return
-        if len(words) > 1:
-            yield words
+def acts_in(block: choreo.Line) -> list[choreo.Line]:
+    """The lines of an open cue or formation, as far as such lines follow one another."""
+    def fits(line: choreo.Line) -> bool:
+        if block.kind == "formation":
+            return line.kind == "at"
+        return line.kind == "form" or bool(line.values) and line.values[0] in choreo.ACTS
+    return [line for line in itertools.takewhile(fits, block.body) if line.values]
 
 
-def acted(lines: list[bytes], block: Block) -> list[str]:
-    """Who has a line in an open cue or formation."""
-    return [words[1] if block.kind == "formation" else words[0]
-            for words in words_in(lines, block) if words[0] != "form"]
-
-
-def names_declared(lines: list[bytes], kind: str) -> list[str]:
-    """The names after a word at top."""
-    rows = [lines[number - 1].split() for number, word, opened in steps(lines) if word == kind and not opened]
-    return [words[1].decode(errors="replace") for words in rows if len(words) > 1]
-
-
-def formed(lines: list[bytes], block: Block) -> list[str]:
-    """The drones that get their acts from the `form` lines of an open cue."""
-    out: list[str] = []
-    names = {words[1] for words in words_in(lines, block) if words[0] == "form"}
-    for number, word, opened in steps(lines):
-        words = lines[number - 1].decode(errors="replace").split()
-        if word == "at" and opened and opened[-1].kind == "formation" and len(words) > 1:
-            opener = lines[opened[-1].number - 1].decode(errors="replace").split()
-            out += [words[1]] if opener[1:2] and opener[1] in names else []
-    return out
+def names_declared(top: choreo.Line, kind: str) -> list[str]:
+    return [line.values[0] for line in top.body if line.kind == kind and line.values]
 
 
 def places_at(text: bytes, line: int) -> dict[str, object]:
@@ -147,17 +103,23 @@ def places_at(text: bytes, line: int) -> dict[str, object]:
     their places in micrometres and tenths of a degree, who has a line in that block, the names of formations and
     figures, and whether the places could be computed or are the starts."""
     lines = text.split(b"\n")
-    opened = around(lines, line)
+    top, at = tree(lines), min(line, len(lines) + 1)
+    opened = [block for block in choreo.inside(top) if block.number < at <= block.last]  # those outside first
     where, exact, form = opened[-1].kind if opened else "top", True, choreo.form_of(text)
     if opened and opened[0].kind == "figure":
         places = in_figure(lines, line, opened, form)
     else:
         flown_before = before(lines, line, opened)
-        flown = read([*flown_before, *later_declarations(lines, line)]) or read(flown_before)
+        later = [row for it in top.body if it.kind in DECLARED and it.number >= line
+                 for row in lines[it.number - 1:it.last]]
+        flown = read([*flown_before, *later]) or read(flown_before)
         places, exact = (ends_of(flown), True) if flown else (starts_of(lines, form), False)
-    has_lines = acted(lines, opened[-1]) if where in ("cue", "formation") else []
+    acts = acts_in(opened[-1]) if where in ("cue", "formation") else []
+    has_lines = [line.values[0] if where == "formation" else line.kind for line in acts if line.kind != "form"]
     if where == "cue" and opened[0].kind != "figure":
-        has_lines += formed(lines, opened[-1])
+        names = {line.values[0] for line in acts if line.kind == "form"}
+        has_lines += [place.values[0] for it in choreo.inside(top) if it.kind == "formation" and it.values
+                      and it.values[0] in names for place in it.body if place.kind == "at" and place.values]
     return {"where": where, "in_figure": bool(opened) and opened[0].kind == "figure", "exact": exact,
             "drones": [[name, *place] for name, place in places.items()], "acted": has_lines,
-            "formations": names_declared(lines, "formation"), "figures": names_declared(lines, "figure")}
+            "formations": names_declared(top, "formation"), "figures": names_declared(top, "figure")}
