@@ -15,7 +15,6 @@ from __future__ import annotations
 
 import json
 import sys
-from functools import partial
 from itertools import combinations
 from math import hypot
 from typing import Any
@@ -26,7 +25,7 @@ from hemtoghai.geometry import separation
 from hemtoghai.language import choreo
 from hemtoghai.launching import helping, launcher, words as commands
 from hemtoghai.program import Unusable
-from hemtoghai.writing import margins
+from hemtoghai.writing.margins import margins_of
 
 
 def put(command: str, verdict: judging.Verdict, **more: Any) -> int:
@@ -108,16 +107,6 @@ def pair_data(flown: choreo.Flown, i: int, j: int) -> dict[str, Any]:
             "up": round(1000 * abs(first[2] - second[2]))}
 
 
-def margin_data(flown: choreo.Flown, text: bytes, depth: int) -> dict[str, Any]:
-    """How far the ellipsoid, in percent, the stray and the lateness can grow, or None where the show is refused."""
-    r, h = flown.show.settings["ellipsoid"]
-    share, _ = margins.greatest(depth, 100 * 2000 // max(r, h) + 1, lambda k: margins.with_setting(
-        text, "ellipsoid", max(1, r * k // 100), max(1, h * k // 100)))
-    return {"ellipsoid_percent": share, **{
-        word: margins.greatest(depth, margins.MOST + 1, partial(margins.with_setting, text, word))[0]
-        for word in ("stray", "late")}}
-
-
 def by_summary(words: list[str]) -> int:
     reader = companion.parser(__doc__)
     companion.add_depth(reader)
@@ -137,7 +126,8 @@ def by_summary(words: list[str]) -> int:
             "pairs": sorted((pair_data(flown, i, j) for i, j in combinations(range(len(flown.names)), 2)),
                             key=lambda row: float(row["share"]))}
     if options.margin:
-        more["margin"] = margin_data(flown, text, options.depth)
+        more["margin"] = {"ellipsoid_percent" if word == "ellipsoid" else word: most
+                          for word, most, _ in margins_of(flown, text, options.depth)}
     return put("summary", verdict, **more)
 
 

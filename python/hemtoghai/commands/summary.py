@@ -19,7 +19,7 @@ from hemtoghai.geometry import separation
 from hemtoghai.language.choreo import Flown
 from hemtoghai.language.lines import line_in
 from hemtoghai.program import COMMAND
-from hemtoghai.writing.margins import greatest, MOST, with_setting
+from hemtoghai.writing.margins import margins_of
 
 PLACES = 32
 LEAST = 0.03  # metres a second: what a jump is at most that comes of rounding
@@ -114,30 +114,24 @@ def in_words(flown: Flown, word: str, *numbers: int) -> str:
 
 def print_margin(flown: Flown, text: bytes, deep: int) -> None:
     """Prints by how much the ellipsoid can grow, in percent, and stray and lateness, in whole mm and ms."""
-    (r, h), (stray,), (late,) = [flown.show.settings[word] for word in ("ellipsoid", "stray", "late")]
-    share, above = greatest(deep, 100 * 2000 // max(r, h) + 1, lambda k: with_setting(
-        text, "ellipsoid", max(1, r * k // 100), max(1, h * k // 100)))
-    if share is None:
-        return print("no margin: refused even with the least ellipsoid: " + above)
-    above = "; above that " + above if above else ""
-    print("accepted at depth %d with up to %d %% of the ellipsoid %s, which is %s%s" % (
-        deep, share, in_words(flown, "ellipsoid", r, h),
-        in_words(flown, "ellipsoid", max(1, r * share // 100), max(1, h * share // 100)), above))
-    print_strays(flown, text, deep)
-    if not ask_check(text, deep):
-        print("as the tool works it out: " + missing())
-
-
-def print_strays(flown: Flown, text: bytes, deep: int) -> None:
-    """Prints by how much the stray and the lateness can grow, each while the other is as it is."""
-    for word, other, unit in (("stray", "late", "mm"), ("late", "stray", "ms")):
+    r, h = flown.show.settings["ellipsoid"]
+    for word, most, above in margins_of(flown, text, deep):
+        other, unit = ("late", "mm") if word == "stray" else ("stray", "ms")
         others = "%s %s" % (other, in_words(flown, other, *flown.show.settings[other]))
-        most, above = greatest(deep, MOST + 1, lambda k: with_setting(text, word, k))
+        and_above = "; above that " + above if above else ""
+        if most is None and word == "ellipsoid":
+            return print("no margin: refused even with the least ellipsoid: " + above)
         if most is None:
             print("refused with %s, even with %s 0: %s" % (others, word, above))
+        elif word == "ellipsoid":
+            print("accepted at depth %d with up to %d %% of the ellipsoid %s, which is %s%s" % (
+                deep, most, in_words(flown, "ellipsoid", r, h), in_words(
+                    flown, "ellipsoid", max(1, r * most // 100), max(1, h * most // 100)), and_above))
         else:
             print("accepted with %s up to %d %s, and %s as it is%s" % (
-                word, most, unit, others, "; above that " + above if above else ", which is the most there is"))
+                word, most, unit, others, and_above or ", which is the most there is"))
+    if not ask_check(text, deep):
+        print("as the tool works it out: " + missing())
 
 
 def print_ways(flown: Flown) -> None:

@@ -3,7 +3,8 @@
 from __future__ import annotations
 
 import re
-from collections.abc import Callable
+from collections.abc import Callable, Iterator
+from functools import partial
 
 from hemtoghai.companion import ask_check
 from hemtoghai.geometry import separation
@@ -35,3 +36,13 @@ def greatest(deep: int, high: int, changed: Callable[[int], bytes],
             return None, line
         low, high, refusal = (k, high, refusal) if status == 0 else (low, k, line)
     return (None if low < 0 else low), refusal
+
+
+def margins_of(flown: choreo.Flown, text: bytes, deep: int) -> Iterator[tuple[str, int | None, str]]:
+    """How far the ellipsoid can grow, in percent, and stray and lateness, in mm and ms, each while the others are as
+    they are: the setting, the greatest number, or None, and the refusal above it."""
+    r, h = flown.show.settings["ellipsoid"]
+    yield ("ellipsoid", *greatest(deep, 100 * 2000 // max(r, h) + 1, lambda k: with_setting(
+        text, "ellipsoid", max(1, r * k // 100), max(1, h * k // 100))))
+    for word in ("stray", "late"):
+        yield (word, *greatest(deep, MOST + 1, partial(with_setting, text, word)))
