@@ -201,19 +201,16 @@ def main(words: list[str]) -> int:
     out = os.path.abspath(given.out)
     if os.path.exists(program.MANIFEST):
         stop("this is a release: its library is in library/out")
-    try:
-        before = stamps()
-        made, rests_on = make(out, records.version(), given.kept)
-        if stamps() != before:
-            stop("the sources were changed while they were proved: run it again")
-        sums = {path: records.sha256(os.path.join(out, path)) for path in made}
-        with open(os.path.join(out, "MANIFEST.json"), "w") as file:
-            json.dump({"version": records.version(), "commit": git("rev-parse", "HEAD"),
-                       "changed_since": git("status", "--porcelain") != "", "toolchain": said("rt", "version").strip(),
-                       "rests_on": rests_on, **before, "files": sums}, file, indent=1)
-            file.write("\n")
-    except OSError as error:
-        stop("%s: %s" % (error.filename, error.strerror))
+    before = stamps()
+    made, rests_on = make(out, records.version(), given.kept)
+    if stamps() != before:
+        stop("the sources were changed while they were proved: run it again")
+    sums = {path: records.sha256(os.path.join(out, path)) for path in made}
+    with open(os.path.join(out, "MANIFEST.json"), "w") as file:
+        json.dump({"version": records.version(), "commit": git("rev-parse", "HEAD"),
+                   "changed_since": git("status", "--porcelain") != "", "toolchain": said("rt", "version").strip(),
+                   "rests_on": rests_on, **before, "files": sums}, file, indent=1)
+        file.write("\n")
     for path, data in sums.items():
         print("%s  %s" % (data, path))
     print("proof: " + rests_on)

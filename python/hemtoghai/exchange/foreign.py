@@ -22,7 +22,7 @@ from typing import List, Tuple, Type, TypeVar
 
 from hemtoghai.companion import read_front
 from hemtoghai.geometry import paths
-from hemtoghai.geometry.paths import part, Path, PI
+from hemtoghai.geometry.paths import Budget, part, Path, PI
 from hemtoghai.language.choreo import MOST_DRONES
 from hemtoghai.language.lines import free_name
 
@@ -50,16 +50,11 @@ class Unreadable(Exception):
     """A file that can't be read as what it should be."""
 
 
-class Counter:
+class Counter(Budget):
     """Counts things, up to a limit."""
 
     def __init__(self, most: int, things: str = "numbers") -> None:
-        self.most, self.left, self.things = most, most, things
-
-    def take(self, count: int = 1) -> None:
-        self.left -= count
-        if self.left < 0:
-            raise Unreadable("more than %d %s" % (self.most, self.things))
+        super().__init__(most, Unreadable("more than %d %s" % (most, things)))
 
     def number(self, word: str, tens: int = 0) -> Fraction:
         """A number as it is written, times a power of ten; it counts the more the longer it is."""

@@ -30,15 +30,15 @@ class TooLong(Exception):
 
 
 class Budget:
-    """The comparisons of a piece with a curve that a search may take."""
+    """What may be taken, as the comparisons of a piece with a curve in a search, and what is raised after that."""
 
-    def __init__(self, most: int) -> None:
-        self.most = self.left = most
+    def __init__(self, most: int, fault: Exception | None = None) -> None:
+        self.left, self.fault = most, fault or TooLong()
 
     def take(self, count: int = 1) -> None:
         self.left -= count
         if self.left < 0:
-            raise TooLong
+            raise self.fault
 
 
 # ---- curves by control values
