@@ -227,14 +227,6 @@ def accepted(verdict: Verdict) -> Verdict:
     return verdict
 
 
-# ---- what the program writes
-
-def counts_in(line: str) -> dict[str, int]:
-    """The numbers of the line of an accepted show: drones, cues and duration_ms."""
-    words = line.split(" ")[1:]
-    return {word: int(number) for word, number in zip(words[::2], words[1::2])}
-
-
 # ---- the calls
 
 def run(words: str, text: Text = b"") -> Verdict:

@@ -48,7 +48,8 @@ def by_program(words: list[str]) -> int:
     verdict = judging.verdict_of(front, choreo.parts_of(whole)[0], whole, depth)
     more: dict[str, Any] = {}
     if front[0] == "check":
-        more = {**(judging.counts_in(verdict.line) if verdict.ok else {}),
+        row = verdict.line.split(" ")[1:] if verdict.ok else []  # drones, cues and duration_ms, each with its number
+        more = {**dict(zip(row[::2], map(int, row[1::2]))),
                 "cautions": [dict(vars(caution)) for caution in verdict.cautions]}
     elif front[0] != "boxes" and verdict.ok:
         found = companion.motions_in if front[0] == "dynamics" else companion.speeds_in

@@ -29,15 +29,6 @@ from hemtoghai.seeing.sampling import (blocked_marks, boxes_said, flight_of, reg
 PAGE, VIEW = [os.path.join(program.PACKAGE, "seeing", name) for name in ("picture.html", "view.js")]
 
 
-def judged(text: bytes, options: argparse.Namespace) -> tuple[str, int, str]:
-    """The line of `check`, its status, and who says so."""
-    status, line = ask_check(text, options.depth, options.program) or (None, "")
-    if status in (0, 4, 5):
-        return line, status, "check"
-    status, line = separation.judged(text, options.depth)
-    return line if status else "nothing is refused", status, "this tool"
-
-
 def motion_said(options: argparse.Namespace, text: bytes, flown: Flown) -> str:
     """What `dynamics` says of the show: for the drone with the greatest acceleration, and for that with the greatest
     jump of speed, a few words; that it wasn't asked where the program isn't there or refuses the show."""
@@ -55,7 +46,10 @@ def motion_said(options: argparse.Namespace, text: bytes, flown: Flown) -> str:
 
 
 def picture_of(options: argparse.Namespace, text: bytes, flown: Flown) -> dict[str, Any]:
-    line, status, judge = judged(text, options)
+    judge, (status, line) = "check", ask_check(text, options.depth, options.program) or (2, "")
+    if status not in (0, 4, 5):
+        judge, (status, line) = "this tool", separation.judged(text, options.depth)
+        line = line if status else "nothing is refused"
     step, marks = step_of(flown, options.step), blocked_marks(flown, options.depth) if status == 5 else []
     rows = rows_of_play(text, options.program, options.depth, step) if status == 0 else None
     regions = regions_of(options.regions) if options.regions else []

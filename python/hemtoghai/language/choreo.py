@@ -416,12 +416,6 @@ def millionths(share: int, s: int) -> int:
     return (share * s + 500000) // 1000000
 
 
-def ways(at: Row, to: Any) -> tuple[tuple[int, int], tuple[int, int]]:
-    """The ways from the centre of a quarter circle to its start and to its end, on x and y."""
-    vx, vy = at[0] - to[1], at[1] - to[2]
-    return (vx, vy), (-vy, vx) if to[0] == "ccw" else (vy, -vx)
-
-
 def yaws(act: str, begin: int, end: int) -> Row:
     turn = end - begin
     if act == "arc_in":
@@ -432,7 +426,8 @@ def yaws(act: str, begin: int, end: int) -> Row:
 
 
 def round_controls(act: str, at: Row, to: Any) -> list[Row]:
-    start, end = ways(at, to)
+    x, y = at[0] - to[1], at[1] - to[2]  # of the start from the centre
+    start, end = (x, y), (-y, x) if to[0] == "ccw" else (y, -x)
     if act == "arc":
         rows = [[a, a + millionths(552285, w), c + w + millionths(552285, v), c + w]
                 for a, c, v, w in zip(at, to[1:3], start, end)]

@@ -212,24 +212,18 @@ def need_rt() -> None:
 
 # ---- without a proof
 
-def spooled(files: list[str]) -> IO[bytes]:
-    """Two files with a marker line between them, as an open file."""
-    whole = tempfile.TemporaryFile()
-    for piece in joined(files):
-        whole.write(piece)
-        if whole.tell() > SPOOLED:
-            break
-    whole.seek(0)
-    return whole
-
-
 def try_sources(words: list[str], number: int | None, files: list[str]) -> int:
     """The status of the sources on an open file, or on two files, without a proof."""
     need_rt()
     if number is not None:
         return try_on(words, number, crates_below(LAST))
-    with spooled(files) as source:
-        return try_on(words, source, crates_below(LAST))
+    with tempfile.TemporaryFile() as whole:
+        for piece in joined(files):
+            whole.write(piece)
+            if whole.tell() > SPOOLED:
+                break
+        whole.seek(0)
+        return try_on(words, whole, crates_below(LAST))
 
 
 def try_on(words: list[str], source: int | IO[bytes], below: Crates) -> int:

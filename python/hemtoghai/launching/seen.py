@@ -52,13 +52,6 @@ def places_of(below: dict[str, list[str]], path: str) -> list[str]:
     return places
 
 
-def is_settled(marks: str) -> bool:
-    """Whether no file is so young that it may change again without a new time."""
-    import time
-    young = 10 ** 9 * (int(time.time()) - SETTLED)
-    return all(int(row.split(" ")[2]) < young for row in marks.split("\n") if row != "-")
-
-
 def is_known_current(path: str) -> bool:
     """Whether the program is that of the sources: by what was noted, or by reading them all, which is noted then."""
     if is_as_seen(path):
@@ -72,7 +65,10 @@ def is_known_current(path: str) -> bool:
     marks = marks_of(places)
     if not is_current(below, path):
         return False
-    if is_settled(marks) and places == places_of(below, path) and marks == marks_of(places):
+    import time
+    young = 10 ** 9 * (int(time.time()) - SETTLED)
+    if all(int(row.split(" ")[2]) < young for row in marks.split("\n") if row != "-") and (
+            places == places_of(below, path) and marks == marks_of(places)):
         note(path, "\0\0".join((repr(before), "\0".join(places), marks)))
     return True
 

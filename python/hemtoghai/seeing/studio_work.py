@@ -68,14 +68,6 @@ def drone_lines(flown: choreo.Flown) -> dict[str, object]:
 
 # ---- stages
 
-def first_mark(flown: choreo.Flown, said: str, deep: int) -> Mark:
-    """The place that `check` names."""
-    words = said.split()
-    i, j = flown.names.index(words[3]), flown.names.index(words[4])
-    cue = int(words[6]) - 1
-    return with_lines(flown, {**mark_of(flown, deep, i, j, cue, int(words[8])), "named": True})
-
-
 def with_lines(flown: choreo.Flown, mark: Mark) -> Mark:
     """A mark with the lines by which both drones fly: their acts, or the `form` line and their places."""
     cue, names = flown.cues[mark["cue"]], [flown.names[k] for k in mark["pair"]]
@@ -151,7 +143,11 @@ def put_flight(text: bytes, deep: int, program: str, answer: list[Any] | None, p
     if status not in (0, 4, 5):
         return
     flown = choreo.flown_of(choreo.parts_of(text)[0])
-    first = first_mark(flown, said, deep) if status == 5 else None
+    first = None
+    if status == 5:  # the place that `check` names
+        _, _, _, i, j, _, cue, _, part, *_ = said.split()
+        mark = mark_of(flown, deep, flown.names.index(i), flown.names.index(j), int(cue) - 1, int(part))
+        first = with_lines(flown, {**mark, "named": True})
     step = step_of(flown, None, MOST_PLACES)
     rows = rows_of_play(text, program, deep, step) if status == 0 else None
     also = {round(first["nearest"])} if first else set()

@@ -129,15 +129,6 @@ def carry(flown: choreo.Flown, written: dict[int, list[str]]) -> list[int]:
     return sorted(unsure)
 
 
-def join_players(places: list[Place], plays: list[dict[str, str]], cues: list[int]) -> None:
-    """Gives places to the drones that stand where the ones with places were to stand. Where these differ from turn to
-    turn of a repeat the names stay as they are."""
-    players = {tuple(plays[k][place.owner] for place in places) for k in cues}
-    if len(players) == 1:
-        for place, name in zip(places, players.pop()):
-            place.values[0] = name
-
-
 def settle(places: list[Place]) -> None:
     """Puts each drone into the line that was written for it, as far as there is one."""
     held = {place.values[0]: (place.owner, place.values) for place in places}
@@ -182,8 +173,12 @@ def deal_line(made: Dealt, line: choreo.Line, cues: list[int], keep: Collection[
     formation = made.flown.show.formations[line.values[0]]
     if formation.values[0] in keep:
         return False
-    places, before = places_of(made.flown, line), words_of(formation)
-    join_players(places, performers(made.flown), cues)
+    places, before, plays = places_of(made.flown, line), words_of(formation), performers(made.flown)
+    # The places are those of the drones that stand where the ones with places were to stand; where these differ from
+    # turn to turn of a repeat the names stay as they are.
+    players = {tuple(plays[k][place.owner] for place in places) for k in cues}
+    for place, name in zip(places, players.pop() if len(players) == 1 else ()):
+        place.values[0] = name
     cost = costs(made.flown, places, cues)
     ways = dealt(cost)
     if total(cost, ways) == 0 < total(cost):
