@@ -80,21 +80,13 @@ class Library:
         return answer
 
 
-def bytes_in(path: str) -> bytes:
-    """The bytes of a file of the library; raises Unusable."""
-    try:
-        return program.read_program(path)[0]
-    except OSError as error:
-        raise Unusable("%s: %s" % (path, error.strerror)) from None
-
-
 def manifest() -> dict[str, Any]:
     """The library's manifest; raises Unusable where it isn't the released one, or doesn't say that the library is made
     from the sources of the program that is there."""
     path = os.path.join(program.TOP, FOLDER, "MANIFEST.json")
     if not os.path.exists(path):
         raise Unusable("the library isn't built; ./show library builds it")
-    data = bytes_in(path)
+    data, _ = program.read_program(path)
     try:
         record = json.loads(data)
     except (ValueError, RecursionError):
@@ -119,8 +111,8 @@ def library() -> Library:
     record = manifest()
     name = FILE % record.get("version")
     path = os.path.join(program.TOP, FOLDER, name)
-    data, wanted = bytes_in(path), record["files"].get(name)
-    if wanted != program.digest_of(data):
+    data, _ = program.read_program(path)
+    if record["files"].get(name) != program.digest_of(data):
         raise Unusable("the library isn't the one of its manifest")
     line = record.get("rests_on")
     proved = isinstance(line, str) and line.startswith("logic=proved ")

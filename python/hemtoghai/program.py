@@ -73,13 +73,15 @@ def record_path(path: str = PROGRAM) -> str:
 
 
 def read_program(path: str) -> tuple[bytes, tuple[int, ...]]:
-    """A program's bytes and what its file looked like, before they were read and after."""
-    with open(path, "rb") as file:
-        before = looks_of(os.fstat(file.fileno()))
-        data = file.read(MOST_BYTES + 1)
-        if len(data) > MOST_BYTES or before != looks_of(os.fstat(file.fileno())):
-            raise Unusable("%s is written right now, or is no program" % path)
-    return data, before
+    """A program's bytes and what its file looked like, before they were read and after; raises Unusable."""
+    try:
+        with open(path, "rb") as file:
+            before, data, after = os.fstat(file.fileno()), file.read(MOST_BYTES + 1), os.fstat(file.fileno())
+    except OSError as error:
+        raise Unusable("%s: %s" % (path, error.strerror)) from None
+    if len(data) > MOST_BYTES or looks_of(before) != looks_of(after):
+        raise Unusable("%s is written right now, or is no program" % path)
+    return data, looks_of(before)
 
 
 def in_memory(data: bytes) -> str | None:
@@ -166,10 +168,7 @@ def copy_of(path: str) -> tuple[str, str | None]:
     if copy and seen == (looks(path), looks(record_path(path))) and os.path.exists(copy):
         return copy, proved
     noted = looks(record_path(path))
-    try:
-        data, read = read_program(path)
-    except OSError as error:
-        raise Unusable("%s: %s" % (path, error.strerror)) from None
+    data, read = read_program(path)
     record, digest = record_path(path), digest_of(data)
     known = record_of(record)
     wanted = known.get("sha256")

@@ -504,15 +504,15 @@ class Flown:
         for line in show.drones:
             fit(line.number, [[value] for value in line.values[1:]])
         self.cues = list(written_out(show, show.body))
-        at = list(self.starts)
+        self.places = [[start] for start in self.starts]  # where each drone is when a cue begins, and at the end
         self.by_cue: list[list[Segment]] = [[] for _ in self.starts]
         for cue in self.cues:
             for k, name in enumerate(self.names):
                 number, act, to = cue.acts.get(name, (0, "hold", None))
-                values = controls(act, at[k], to)
+                values = controls(act, self.places[k][-1], to)
                 fit(number, values)
                 self.by_cue[k].append((cue.milliseconds, [element(row, axis) for axis, row in enumerate(values)]))
-                at[k] = [row[-1] for row in values]
+                self.places[k].append([row[-1] for row in values])
         self.sent = [joined(flight) for flight in self.by_cue]
         self.milliseconds = sum(cue.milliseconds for cue in self.cues)
 

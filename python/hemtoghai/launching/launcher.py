@@ -37,7 +37,10 @@ def file_if_current(path: str) -> str | None:
     for _ in range(STARTS):
         if not seen.is_known_current(path):
             return None
-        data, looks = program.read_program(path)
+        try:
+            data, looks = program.read_program(path)
+        except program.Unusable as why:
+            stop(str(why))
         record = path + program.RECORD
         if seen.is_same(path, looks) or program.digest_of(data) == program.record_of(record).get("sha256"):
             return program.in_memory(data) or path

@@ -52,11 +52,7 @@ def read(lines: list[bytes]) -> choreo.Flown | None:
 
 def ends_of(flown: choreo.Flown) -> Places:
     """By drone where it is at the end of a show, in micrometres and tenths of a degree."""
-    places = {name: list(start) for name, start in zip(flown.names, flown.starts)}
-    for cue in flown.cues:
-        for name, (_, act, goal) in cue.acts.items():
-            places[name] = [row[-1] for row in choreo.controls(act, places[name], goal)]
-    return places
+    return {name: places[-1] for name, places in zip(flown.names, flown.places)}
 
 
 def starts_of(lines: list[bytes], form: int) -> Places:

@@ -74,15 +74,6 @@ def remedies(flown: choreo.Flown, drone: int, cue: int) -> Iterator[Remedy]:
                          2 * lift_time(by))
 
 
-def place_at(flown: choreo.Flown, drone: int, cue: int) -> choreo.Row:
-    """Where a drone is when a cue begins, in micrometres, with its yaw."""
-    at = list(flown.starts[drone])
-    for earlier in flown.cues[:cue]:
-        _, act, to = earlier.acts.get(flown.names[drone], (0, "hold", None))
-        at = [row[-1] for row in choreo.controls(act, at, to)]
-    return at
-
-
 def higher(words: list[str], by: int, form: int) -> str:
     """The words of an act, so many micrometres higher, in the form of the language that it is in."""
     numbers = {"line": [4], "move": [4], "curve": [4, 7, 10]}.get(words[1], [])
@@ -115,7 +106,7 @@ def acts_of(flown: choreo.Flown, lines: list[bytes], cue: int,
 def ways_of_lift(flown: choreo.Flown, cue: int, lifts: dict[int, int], up: bool) -> Iterator[bytes]:
     """The acts by which drones go to their heights where a cue begins, or come back where it ends."""
     for drone, by in sorted(lifts.items()):
-        x, y, z, yaw = place_at(flown, drone, cue if up else cue + 1)
+        x, y, z, yaw = flown.places[drone][cue if up else cue + 1]
         yield line_in(flown.show.form, "act", flown.names[drone], "move", x, y, z + (1000 * by if up else 0),
                       yaw).encode()
 
