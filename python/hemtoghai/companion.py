@@ -185,8 +185,13 @@ def many(number: int, word: str) -> str:
     return "%d %s%s" % (number, word, "" if number == 1 else "s")
 
 
-def plan_in(text: bytes, path: str) -> list[PartOfPlan]:
-    """The drones of a plan's text, which comes from this file; anything else ends the tool."""
+def plan_in(text: bytes, path: str) -> list[tuple[str, bytes, int]]:
+    """The drones of a plan's text, which comes from this file: name, bytes and number of pieces each."""
+    return [(name, data, pieces) for name, data, pieces, _ in parts_of_plan(text, path)]
+
+
+def parts_of_plan(text: bytes, path: str) -> list[PartOfPlan]:
+    """The same with each drone's packets; anything but a plan ends the tool."""
     lines = text.decode(errors="replace").split("\n")
     drones: list[PartOfPlan] = []
     name = None

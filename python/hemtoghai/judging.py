@@ -247,7 +247,7 @@ def compile(text: Text, depth: int = DEPTH) -> Plan:
     verdict = accepted(asked("compile", text, depth))
     return Plan(verdict.output, tuple(
         DronePlan(name, data, pieces, tuple((word, bytes.fromhex(digits)) for word, digits in packets))
-        for name, data, pieces, packets in companion.plan_in(verdict.output, "the plan")), verdict)
+        for name, data, pieces, packets in companion.parts_of_plan(verdict.output, "the plan")), verdict)
 
 
 def certify(text: Text, depth: int = DEPTH) -> bytes:

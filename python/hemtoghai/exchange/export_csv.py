@@ -54,7 +54,7 @@ def main(words: list[str]) -> int:
     drones = plan_in(read_file(options.plan, texts.PLAN), options.plan)
     try:
         os.makedirs(options.folder, exist_ok=True)
-        for name, data, pieces, _ in drones:
+        for name, data, pieces in drones:
             trajectory = decoded(data, pieces)
             if trajectory is None:
                 stop("%s: the bytes of %s are no trajectory of %s" % (options.plan, name, many(pieces, "segment")))

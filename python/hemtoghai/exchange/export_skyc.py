@@ -22,7 +22,7 @@ from fractions import Fraction
 from typing import Any, List
 
 from hemtoghai import program, texts
-from hemtoghai.companion import decoded, many, parser, PartOfPlan, plan_in, read_file, stop, value, write_file
+from hemtoghai.companion import decoded, many, parser, plan_in, read_file, stop, value, write_file
 from hemtoghai.geometry import paths
 from hemtoghai.language.choreo import Segment
 
@@ -101,8 +101,8 @@ def drone_of(name: str, start: Sequence[int], segments: list[Segment],
     return {"type": "generic", "settings": settings}, len(points) - 1, worst, turned
 
 
-def drones_of(path: str) -> list[PartOfPlan]:
-    """The drones of a plan, or of a show, which the program compiles."""
+def drones_of(path: str) -> list[tuple[str, bytes, int]]:
+    """The drones of a plan, or of a show, which the program compiles: names, bytes and numbers of segments."""
     text = read_file(path, texts.PLAN)
     if not text.startswith(b"plan 1"):
         try:
@@ -129,7 +129,7 @@ def main(words: list[str]) -> int:
     options = reader.parse_args(words)
     drones: list[dict[str, Any]] = []
     count, worst, turned = 0, Fraction(0), Fraction(0)
-    for name, data, pieces, _ in drones_of(options.plan):
+    for name, data, pieces in drones_of(options.plan):
         trajectory = decoded(data, pieces)
         if trajectory is None:
             stop("%s: the bytes of %s are no trajectory of %s" % (options.plan, name, many(pieces, "segment")))
