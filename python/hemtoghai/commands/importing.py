@@ -248,7 +248,7 @@ def options_of(words: list[str]) -> argparse.Namespace:
 def paths_of(options: argparse.Namespace) -> Paths:
     try:
         if len(options.files) == 1 and options.files[0] != "-" and not options.skyc:
-            data = foreign.limited(options.files[0])  # which may be a zip with a show.json, whatever its name
+            data = foreign.limited(options.files[0])  # maybe a zip with a show.json, under any name
             options.skyc = foreign.is_archive(data) and "show.json" in foreign.Archive(data).names()
         if options.skyc:
             return foreign.read_skyc(options.files[0], options.left_out)
