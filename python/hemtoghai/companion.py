@@ -2,7 +2,6 @@
 from __future__ import annotations
 
 import argparse
-import itertools
 import re
 import sys
 from collections.abc import Sequence
@@ -162,7 +161,7 @@ def place(flown: Flown, drone: int, cue: int, u: float) -> list[float]:
 
 def begins(flown: Flown) -> list[int]:
     """The milliseconds at which each cue begins, and the end of the show."""
-    return list(itertools.accumulate((cue.milliseconds for cue in flown.cues), initial=0))
+    return flown.begins
 
 
 def seconds(milliseconds: float) -> str:

@@ -16,7 +16,6 @@ from typing import Any, Optional, Union
 
 from hemtoghai import answering, companion, program, texts
 from hemtoghai.geometry import separation
-from hemtoghai.geometry.causes import Meeting
 from hemtoghai.language import choreo, cures
 from hemtoghai.writing import flyable
 
@@ -167,7 +166,7 @@ def blocked_of(text: bytes, deep: int) -> tuple[Blocked, ...]:
     """The places in which drones of a show are blocked, that first in which they come nearest."""
     flown, out = choreo.flown_of(text), []
     for number, found in enumerate(separation.blocked_places(flown, deep)):
-        it = Meeting(flown, deep, *found)
+        it = separation.Meeting(flown, deep, *found)
         cue, names = flown.cues[it.cue], (flown.names[it.i], flown.names[it.j])
         lines = {cue.number, *(cue.acts[name][0] for name in names if name in cue.acts)}
         places = place_of(flown, it.i, it.cue, it.near.at), place_of(flown, it.j, it.cue, it.near.at)

@@ -23,7 +23,7 @@ from hemtoghai import companion, judging, texts
 from hemtoghai.commands import summary, why
 from hemtoghai.geometry import separation
 from hemtoghai.language import choreo
-from hemtoghai.launching import helping, launcher, words as commands
+from hemtoghai.launching import help, launcher, words as commands
 from hemtoghai.program import Unusable
 from hemtoghai.writing.margins import margins_of
 
@@ -38,7 +38,7 @@ def by_program(words: list[str]) -> int:
     front, files, fault = commands.split(words)
     fault = fault or launcher.fault_of_files(front, files)
     if fault:
-        return helping.refuse(front, fault)
+        return help.refuse(front, fault)
     launcher.file_for(False)
     if len(files) == 2:
         whole = texts.joined(*(texts.front_of(file, texts.SHOW + 1) for file in files))

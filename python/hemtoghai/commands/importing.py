@@ -33,7 +33,6 @@ from hemtoghai.commands import why
 from hemtoghai.companion import add_depth, begins, many, parser, stop
 from hemtoghai.exchange import foreign
 from hemtoghai.geometry import fitting, separation
-from hemtoghai.geometry.causes import Meeting
 from hemtoghai.geometry.paths import Budget, Path, TooLong
 from hemtoghai.language import choreo
 from hemtoghai.language.lines import header, line_in, NEWEST
@@ -126,7 +125,7 @@ def print_why(fit: fitting.Fit, text: str, wanted: Axes, deep: int) -> None:
     if len(found) > 1:
         print("  and %s blocked, of this or other pairs" % many(len(found) - 1, "more place"))
     print("%s why, of the import: its cues and lines, and its larger ellipsoids" % program.COMMAND)
-    why.print_place(flown, text.encode().split(b"\n"), Meeting(flown, deep, i, j, cue, index), deep, [])
+    why.print_place(flown, text.encode().split(b"\n"), separation.Meeting(flown, deep, i, j, cue, index), deep, [])
 
 
 # ---- limits

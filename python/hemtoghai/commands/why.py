@@ -12,8 +12,7 @@ from math import hypot
 from hemtoghai.companion import (add_depth, ask_check, begins, cue_words, many, missing, parser, place, seconds, stop,
                                  words_and_show, write_file)
 from hemtoghai.geometry import separation
-from hemtoghai.geometry.causes import is_clear, Meeting
-from hemtoghai.geometry.separation import ruler_of
+from hemtoghai.geometry.separation import is_clear, Meeting, ruler_of
 from hemtoghai.language import choreo
 from hemtoghai.language.choreo import Flown
 from hemtoghai.program import COMMAND

@@ -1,5 +1,5 @@
-"""Whether drones are apart: directions, thresholds, parts of a cue, certificates of both versions, and how near two
-drones come.
+"""Whether drones are apart: directions, thresholds, parts of a cue, certificates of both versions, how near two drones
+come, and why they are blocked.
 
 It is written from docs/SEPARATION.md alone, in exact whole numbers, and shares nothing with the program. `choreo` has
 the reader of the language; flights come from there, as control values in millimetres. It proves nothing.
@@ -7,13 +7,14 @@ the reader of the language; flights come from there, as control values in millim
 from __future__ import annotations
 
 import heapq
-from collections.abc import Iterator
+from collections.abc import Callable, Iterator
 from itertools import combinations
 from math import comb, gcd, isqrt, lcm
 from typing import List, Optional, Tuple
 
 from hemtoghai.geometry.curves import halves
 from hemtoghai.language.choreo import Flown, flown_of, judge_room, LONGEST_CERTIFICATE, Refused, Row
+from hemtoghai.language.lines import line_in
 
 Direction = Tuple[int, int, int]
 Part = List[Row]  # on x, y and z eight control values
@@ -316,3 +317,56 @@ class Nearest:
         self.at = self.index / 2 ** self.depth
         self.share: float = (self.squared / self.needed) ** 0.5
         self.touch = self.squared <= self.needed
+
+
+# ---- why two are blocked
+
+def is_clear(first: list[Row], second: list[Row], ruler: Ruler, deep: int) -> bool:
+    """Whether two drones are shown to be apart in a cue."""
+    return are_far(first, second, ruler) or blocked(
+        difference(first, second), ruler, deep) is None
+
+
+def most_borne(most: int, is_borne: Callable[[int], bool]) -> int:
+    """The greatest number below `most` that is borne, where 0 is."""
+    low, high = 0, most
+    while high - low > 1:
+        middle = (low + high) // 2
+        low, high = (middle, high) if is_borne(middle) else (low, middle)
+    return low
+
+
+class Meeting:
+    """Two drones that are blocked in a cue, numbered from 0, with the first of its parts in which they are: the
+    milliseconds of the show at which that part begins and ends and at which they come nearest, where that is, and the
+    cause in words where they are apart there by the show's `stray` or `late`."""
+
+    def __init__(self, flown: Flown, deep: int, i: int, j: int, cue: int, index: int) -> None:
+        self.i, self.j, self.cue, self.index, self.near = i, j, cue, index, nearest_in(flown, i, j, cue)
+        begin, lasts, parts = flown.begins[cue], flown.cues[cue].milliseconds, 2 ** deep
+        self.begin, self.end = begin + lasts * index / parts, begin + lasts * (index + 1) / parts
+        self.nearest = begin + lasts * self.near.at
+        self.cause = None if self.near.touch else cause_of(flown, i, j, cue, deep)
+
+
+def cause_of(flown: Flown, i: int, j: int, cue: int, deep: int) -> str | None:
+    """In words, which of `stray` and `late` is the cause that two drones are blocked in a cue, and how much of it they
+    bear there; None where they are blocked with neither."""
+    (stray,), (late,) = flown.show.settings["stray"], flown.show.settings["late"]
+    first, second = flown.by_cue[i][cue][1], flown.by_cue[j][cue][1]
+
+    def are_apart(stray_: int, late_: int) -> bool:
+        return is_clear(first, second, ruler_of(flown, 2, stray_, late_), deep)
+
+    def line(word: str, number: int) -> str:
+        return "`%s`" % line_in(flown.show.form, word, number)
+    if not (stray or late) or not are_apart(0, 0):
+        return None
+    borne: list[tuple[str, int, str, int, Callable[[int], bool]]] = [
+        ("stray", stray, "late", late, lambda k: are_apart(k, late)),
+        ("late", late, "stray", stray, lambda k: are_apart(stray, k))]
+    words = ["%s: with%s they bear %s here" % (
+        line(word, number), " " + line(other, beside) if beside else "", line(word, most_borne(number, borne_with)))
+        for word, number, other, beside, borne_with in borne if number and borne_with(0)]
+    return ", or ".join(words).replace("with they", "they") or (
+        "%s and %s, and each of them alone is too much here" % (line("stray", stray), line("late", late)))

@@ -10,6 +10,7 @@ from __future__ import annotations
 import re
 import struct
 from collections.abc import Iterator, Sequence
+from itertools import accumulate
 from typing import Any, Dict, List, NamedTuple, Tuple
 
 from hemtoghai.language import quantities
@@ -514,7 +515,8 @@ class Flown:
                 self.by_cue[k].append((cue.milliseconds, [element(row, axis) for axis, row in enumerate(values)]))
                 self.places[k].append([row[-1] for row in values])
         self.sent = [joined(flight) for flight in self.by_cue]
-        self.milliseconds = sum(cue.milliseconds for cue in self.cues)
+        self.begins = list(accumulate((cue.milliseconds for cue in self.cues), initial=0))  # of cues, and the end
+        self.milliseconds = self.begins[-1]
 
     def data(self) -> list[bytes]:
         return [bytes_of(start, segments) for start, segments in zip(self.starts, self.sent)]

@@ -94,8 +94,8 @@ def fault_of_files(words: list[str], files: list[str]) -> str | None:
     if not (len(files) > 1 or words[0] in ("upload", "boxes") or words[0] in commands.known("NO_INPUT")) and all(
             file == "-" or os.path.isfile(file) and os.access(file, os.R_OK) for file in files):
         return None
-    from hemtoghai.launching import helping
-    return helping.fault_of_files(words, files)
+    from hemtoghai.launching import help
+    return help.fault_of_files(words, files)
 
 
 # ---- running
@@ -134,8 +134,8 @@ def answer(found: str | None, words: list[str], files: list[str]) -> int:
         text = text_of(number, begin, files) if words[0] not in commands.NO_INPUT else None
         if text is not None:
             if status:
-                from hemtoghai.launching import helping
-                helping.explain(found, text, status, files)
+                from hemtoghai.launching import help
+                help.explain(found, text, status, files)
                 return status
             from hemtoghai.launching import glance
             if glance.may_be_unflyable(found, text):
@@ -164,6 +164,6 @@ def main(words: list[str]) -> int:
     front, files, fault = commands.split(words)
     fault = fault or fault_of_files(front, files)
     if fault:
-        from hemtoghai.launching import helping
-        return helping.refuse(words, fault)
+        from hemtoghai.launching import help
+        return help.refuse(words, fault)
     return answer(file_for(unproved), front, files)

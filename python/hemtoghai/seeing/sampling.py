@@ -8,7 +8,6 @@ from typing import Any, Dict, List, Tuple
 
 from hemtoghai.companion import ask, begins, cue_words, place, read_file, seconds, stop, value
 from hemtoghai.geometry import separation
-from hemtoghai.geometry.causes import Meeting
 from hemtoghai.language import choreo
 from hemtoghai.texts import joined
 
@@ -104,7 +103,7 @@ def shares(flown: choreo.Flown, places: list[list[Sample]]) -> tuple[list[list[f
 def mark_of(flown: choreo.Flown, deep: int, i: int, j: int, cue: int, index: int) -> Mark:
     """A place in which two drones are blocked: from, to, both drones, cue, the nearest instant, all in milliseconds,
     how near they are there, whether they touch, the cause where it is the show's `stray` or `late`, and words."""
-    it = Meeting(flown, deep, i, j, cue, index)
+    it = separation.Meeting(flown, deep, i, j, cue, index)
     words = "%s and %s in cue %d, %s: nearest at %s with %.1f %% of what their ellipsoids need, %s" % (
         flown.names[i], flown.names[j], cue + 1, cue_words(flown.cues[cue]), seconds(it.nearest), 100 * it.near.share,
         "too near" if it.near.touch else "apart while they fly exactly: the cause is " + it.cause.replace("`", "")
