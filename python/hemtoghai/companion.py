@@ -13,12 +13,11 @@ from hemtoghai.language import choreo
 from hemtoghai.language.choreo import Flown, Refused
 from hemtoghai.language.cures import print_cure
 from hemtoghai.program import COMMAND
-from hemtoghai.streams import tell
+from hemtoghai.streams import NO_ANSWER, tell
 
 Number = TypeVar("Number", float, Fraction)  # in doubles or exact
 PartOfPlan = Tuple[str, bytes, int, List[Tuple[str, str]]]  # name, bytes, pieces, packets as words and digits
 Motion = Tuple[List[float], List[float], List[int]]  # accelerations, jumps of speed, and the cues of these
-NO_ANSWER = 70
 _running = ["hemtoghai"]  # the command, as its messages begin
 
 

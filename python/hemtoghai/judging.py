@@ -17,11 +17,11 @@ from typing import Any, Optional, Union
 from hemtoghai import answering, companion, program, texts
 from hemtoghai.geometry import separation
 from hemtoghai.language import choreo, cures
+from hemtoghai.language.choreo import DEPTH
 from hemtoghai.writing import flyable
 
 Text = Union[str, bytes]
 Place = tuple[int, int, int]
-DEPTH = 6
 NO_MEMORY = 1  # the status
 Unusable = program.Unusable  # why neither the library nor the program can be asked
 

@@ -27,7 +27,6 @@ MANIFEST = os.path.join(TOP, "MANIFEST.json")  # the same, where this is a relea
 OLDEST_LIBRARY = 2, 34  # the C library that the program of a release needs
 MOST_BYTES = 1 << 28  # of a program, 256 MiB
 SEALS, ADD_SEALS = 0x0F, 1033  # of a file in memory: neither these seals, nor its size, nor its bytes change
-NO_ANSWER = 70
 
 
 class Unusable(Exception):
@@ -186,7 +185,7 @@ def words_of(*words: str) -> list[str]:
     return [sys.executable, "-IS", os.path.join(PACKAGE, "__main__.py"), *["--proved"] * demanded[0], *words]
 
 
-def ask(words: list[str], text: bytes, path: str | None = None, seconds: float | None = None) -> tuple[int, bytes]:
+def ask(words: list[str], text: bytes, path: str | None = None) -> tuple[int, bytes]:
     """The status and output of a program on a text; raises Unusable where there is no answer."""
     import subprocess
     import tempfile
@@ -195,10 +194,7 @@ def ask(words: list[str], text: bytes, path: str | None = None, seconds: float |
         with tempfile.TemporaryFile() as source:  # and no pipe: a program that refuses early doesn't read on
             source.write(text)
             source.seek(0)
-            done = subprocess.run([file, *words], stdin=source, stdout=subprocess.PIPE, stderr=subprocess.DEVNULL,
-                                  timeout=seconds)
-    except subprocess.TimeoutExpired:
-        raise Unusable("the program has no answer within %g s" % (seconds or 0)) from None
+            done = subprocess.run([file, *words], stdin=source, stdout=subprocess.PIPE, stderr=subprocess.DEVNULL)
     except OSError as error:
         raise Unusable("the program can't be run: %s" % error.strerror) from None
     if done.returncode < 0:

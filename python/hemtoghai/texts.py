@@ -14,7 +14,6 @@ SHOW = 1048576  # bytes of a show, of a schedule and of regions: docs/COMMANDS.m
 CERTIFICATE = 400000000
 PLAN = 1 << 22  # 32 drones with 4,096 bytes each and all their packets take less than a million
 LOG = 1 << 28
-PAGE = 1 << 22  # of the tools' own files
 
 
 class TooLong(Exception):

@@ -44,7 +44,7 @@ def by_program(words: list[str]) -> int:
         whole = texts.joined(*(texts.front_of(file, texts.SHOW + 1) for file in files))
     else:
         whole = texts.front_of(files[0] if files else "-", 2 * texts.SHOW)
-    depth = int(front[front.index("--depth") + 1]) if "--depth" in front else judging.DEPTH
+    depth = int(front[front.index("--depth") + 1]) if "--depth" in front else choreo.DEPTH
     verdict = judging.verdict_of(front, choreo.parts_of(whole)[0], whole, depth)
     more: dict[str, Any] = {}
     if front[0] == "check":

@@ -13,6 +13,7 @@ if TYPE_CHECKING:
     from collections.abc import Iterator
 from hemtoghai import program
 from hemtoghai.program import MANIFEST, PROGRAM, RECORD, TOP
+from hemtoghai.streams import NO_ANSWER
 
 CRATES = os.path.join(TOP, "crates")
 LAST = "show_cli"
@@ -160,12 +161,12 @@ def print_version() -> int:
     if not os.access(PROGRAM, os.X_OK):
         sys.stdout.flush()
         print("show: the program isn't built", file=sys.stderr)
-        return program.NO_ANSWER
+        return NO_ANSWER
     found = sha256(PROGRAM)
     print("program sha256 " + found)
     if record.get("sha256") != found:
         print("no record of how this program was built: nothing is known of its proof")
-        return program.NO_ANSWER
+        return NO_ANSWER
     words = {name: record.get(name) if isinstance(record.get(name), str) else "" for name in (
         "commit", "stamp", "toolchain", "rests_on")}
     changed = ", with files changed that are in no commit" if record.get("changed_since") else ""
