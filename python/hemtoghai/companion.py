@@ -137,7 +137,7 @@ def ask_dynamics(text: bytes, program: str | None = None) -> dict[str, Motion] |
 
 def speeds_in(output: str) -> dict[str, tuple[int, int, int]]:
     """By drone what `speed` writes."""
-    rows = (line.split(" ") for line in output.splitlines())
+    rows = (line.split(" ") for line in output.splitlines() if line.startswith("speed "))
     return {name: (int(x), int(y), int(z)) for _, name, x, y, z in rows}
 
 
