@@ -43,8 +43,7 @@ def main(words: list[str]) -> int:
     if words[:1] == ["--proved"]:
         from hemtoghai.launching import launcher
         words = words[1:]
-        fault = launcher.fault_of_demand(words)
-        if fault:
+        if fault := launcher.fault_of_demand(words):
             streams.tell(program.NAME, fault)
             return streams.NO_ANSWER
     if words[:1] and words[0] in WITH_JSON and "--json" in words:

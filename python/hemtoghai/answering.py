@@ -105,8 +105,7 @@ def manifest() -> dict[str, Any]:
 
 def library() -> Library:
     """The library that was built here or released; raises Unusable."""
-    fault = program.fault_of_machine()
-    if fault:
+    if fault := program.fault_of_machine():
         raise Unusable(fault)
     record = manifest()
     name = FILE % record.get("version")

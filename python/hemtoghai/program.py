@@ -141,8 +141,7 @@ def runs(path: str | None = None) -> str:
         if demanded[0]:
             raise Unusable("%s isn't the proved program, and --proved runs no other" % path)
         return path
-    fault = fault_of_machine()
-    if fault:
+    if fault := fault_of_machine():
         raise Unusable(fault)
     file, proved = copy_of(path)
     if demanded[0] and proved is None:

@@ -91,8 +91,7 @@ def rewritten(text: bytes, made: Dealt) -> tuple[bytes, Callable[[int], int]]:
 
 def judged(text: bytes, deep: int) -> int:
     """Says what `check` finds, or this tool where the program isn't built; the status."""
-    answer = ask_check(text, deep)
-    if answer:
+    if answer := ask_check(text, deep):
         say("check: " + answer[1])
         return answer[0]
     say(missing())
@@ -103,8 +102,7 @@ def judged(text: bytes, deep: int) -> int:
 
 def say_carried(made: Dealt, new_line: Callable[[int], int]) -> None:
     """Says which acts go with their places, and which can't."""
-    carried = sorted(line.number for line in made.renamed())
-    if carried:
+    if carried := sorted(line.number for line in made.renamed()):
         say("%s of the new text: the acts go with their places, so other drones fly them" % listed(
             [new_line(number) for number in carried]))
     if made.unsure:

@@ -276,8 +276,7 @@ def say_cues(fit: fitting.Fit, bounds: list[tuple[Fraction, Fraction]]) -> None:
     if fit.forced:
         say("%s could not be fitted, the first at %.3f s: a corner at speed, or too small a tolerance" % (
             many(len(fit.forced), "cue"), fit.forced[0] / 1000))
-    corners = [(*corner, path.name) for path in fit.paths for corner in path.corners()]
-    if corners:
+    if corners := [(*corner, path.name) for path in fit.paths for corner in path.corners()]:
         jump, when, name = max(corners)
         say("the file has corners at speed: %s jumps by %.2f m/s at %.3f s; no drone flies that, nor the show" % (
             name, jump / 1000, when / 1000))

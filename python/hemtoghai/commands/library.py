@@ -62,8 +62,7 @@ def toolchain() -> str:
 def rt_as_module() -> Any:
     """rt as a module: no command of it makes a static library over what `rt ci` has proved and kept."""
     loader = importlib.machinery.SourceFileLoader("rt", os.path.join(toolchain(), "bin", "rt"))
-    spec = importlib.util.spec_from_loader("rt", loader)
-    if spec is None:
+    if (spec := importlib.util.spec_from_loader("rt", loader)) is None:
         stop("%s can't be read as a module" % loader.path)
     module = importlib.util.module_from_spec(spec)
     loader.exec_module(module)
@@ -134,8 +133,7 @@ def one_object(room: str, archives: list[str]) -> str:
     whole = os.path.join(room, "hemtoghai.o")
     said("ld", "-r", "--whole-archive", *archives, "-o", whole)
     said("objcopy", *("--keep-global-symbol=" + name for name in NAMES), whole)
-    extra = names_of(whole, "--undefined-only") - WANTED
-    if extra:
+    if extra := names_of(whole, "--undefined-only") - WANTED:
         stop("the objects need more from outside than is allowed: %s" % " ".join(sorted(extra)))
     return whole
 

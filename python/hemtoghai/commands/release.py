@@ -166,8 +166,7 @@ def make_wheel(out: str, version: str, contents: Contents) -> str:
 
 def release_wheel(record: Record, contents: Contents, changed: bool, out: str) -> None:
     """Makes the wheel of these files of a release, or says what is missing for it."""
-    missing = lacking()
-    if missing:
+    if missing := lacking():
         return print("no wheel was made: %s has no %s (python3-setuptools and python3-wheel of Debian)" % (
             sys.executable, " and no ".join(missing)))
     own = sorted([(path[len(PACKAGE):], data, mode) for path, data, mode in contents if path.startswith(PACKAGE)] + [

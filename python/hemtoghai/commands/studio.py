@@ -157,8 +157,7 @@ class Studio:
         """What the page shows of an answer of `check`, with the SHA-256 of the text that was judged."""
         found: dict[str, object] = {"stage": "verdict", "status": status, "line": said, "ms": lasted,
                                     "digest": digest_of(text)}
-        faulty = re.match(r"error (?:3|11) line (\d+)(?: ([a-z-]+))?", said)
-        if faulty:
+        if faulty := re.match(r"error (?:3|11) line (\d+)(?: ([a-z-]+))?", said):
             number, word = int(faulty[1]), faulty[2]
             lines = text.split(b"\n")
             line = lines[number - 1] if number <= len(lines) else b""

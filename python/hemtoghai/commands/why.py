@@ -254,8 +254,7 @@ def cured(text: bytes, deep: int) -> tuple[bytes, list[str], str | None]:
         cue = min(row[2] for row in found)
         pairs = [(i, j) for i, j, at, _ in found if at == cue]
         for remedy in cures_of(flown, cue, pairs, deep):
-            new = written(text, flown, cue, remedy)
-            if new is not None:
+            if (new := written(text, flown, cue, remedy)) is not None:
                 text = new
                 done.append("cue %d: %s (%s more)" % (cue + 1, remedy.words, seconds(remedy.takes)))
                 break
@@ -290,8 +289,7 @@ def main(words: list[str]) -> int:
     options, text, flown = words_and_show(reader, words)
     answer = ask_check(text, options.depth)
     print("check: " + answer[1] if answer else missing(), end="\n\n")
-    smallness = small(flown)
-    if smallness:
+    if smallness := small(flown):
         print(smallness + "\n")
     lines = text.split(b"\n")
     try:

@@ -91,8 +91,7 @@ def main(words: list[str]) -> int:
     reader.add_argument("names", nargs="+", metavar="NAME", help="a drone that stays on the ground")
     options = reader.parse_args(words)
     text, flown = flown_of(options.show)
-    strangers = [name for name in options.names if name not in flown.names]
-    if strangers:
+    if strangers := [name for name in options.names if name not in flown.names]:
         stop("no drone of the show: %s; it has %s" % (", ".join(strangers), ", ".join(flown.names)), 2)
     if set(options.names) == set(flown.names):
         stop("no drone would be left, and a show has at least one", 2)
@@ -102,8 +101,7 @@ def main(words: list[str]) -> int:
     new = b"\n".join(line for row in editor.rows for line in row)
     sys.stdout.buffer.write(new)
     sys.stdout.flush()
-    answer = ask_check(new, options.depth)
-    if answer is None:
+    if (answer := ask_check(new, options.depth)) is None:
         print("without: %s" % missing(), file=sys.stderr)
         return 0
     print("without: check: %s" % answer[1], file=sys.stderr)

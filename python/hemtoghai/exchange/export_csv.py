@@ -55,8 +55,7 @@ def main(words: list[str]) -> int:
     try:
         os.makedirs(options.folder, exist_ok=True)
         for name, data, pieces in drones:
-            trajectory = decoded(data, pieces)
-            if trajectory is None:
+            if (trajectory := decoded(data, pieces)) is None:
                 stop("%s: the bytes of %s are no trajectory of %s" % (options.plan, name, many(pieces, "segment")))
             segments = trajectory[1]
             lines, places, yaw = lines_of(segments)

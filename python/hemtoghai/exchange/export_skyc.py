@@ -130,8 +130,7 @@ def main(words: list[str]) -> int:
     drones: list[dict[str, Any]] = []
     count, worst, turned = 0, Fraction(0), Fraction(0)
     for name, data, pieces in drones_of(options.plan):
-        trajectory = decoded(data, pieces)
-        if trajectory is None:
+        if (trajectory := decoded(data, pieces)) is None:
             stop("%s: the bytes of %s are no trajectory of %s" % (options.plan, name, many(pieces, "segment")))
         drone, more, off, also = drone_of(name, *trajectory, options.tolerance ** 2)
         drones, count, worst, turned = drones + [drone], count + more, max(worst, off), max(turned, also)

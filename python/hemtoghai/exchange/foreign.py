@@ -532,8 +532,7 @@ def read_csv(files: Sequence[str], waypoints: bool, smooth: bool = False,
                 limit_drones(len(found))
         except Unreadable as error:
             raise Unreadable("%s: %s" % (where, error))
-    lost = [word for word in places or () if word not in found]
-    if lost:
+    if lost := [word for word in places or () if word not in found]:
         raise Unreadable("%s: no file is called %.40r" % (starts, lost[0]))
     return list(found.values())
 

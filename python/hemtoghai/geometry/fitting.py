@@ -135,8 +135,7 @@ class Fit:
         rest = self.rest_of(begin)
         most, low, found, length = min(LONGEST, rest), 0, None, min(self.least, rest)
         while found is None or low < length:
-            fit = self.fits(begin, begin + length)
-            if fit is None:
+            if (fit := self.fits(begin, begin + length)) is None:
                 break
             low, found, length = length, fit, min(2 * length, most)
         if found is None:
@@ -144,8 +143,7 @@ class Fit:
             return length, [self.act(k, begin, begin + length) for k in range(len(self.paths))]
         while length - low > max(1, low // 50):
             middle = (low + length) // 2
-            fit = self.fits(begin, begin + middle)
-            if fit is None:
+            if (fit := self.fits(begin, begin + middle)) is None:
                 length = middle
             else:
                 low, found = middle, fit

@@ -161,8 +161,7 @@ def blocked_places(flown: Flown, depth: int, version: int = 2) -> Iterator[tuple
     for i, j, cue in slots(flown):
         first, second = flown.by_cue[i][cue][1], flown.by_cue[j][cue][1]
         if not are_far(first, second, ruler):
-            index = blocked(difference(first, second), ruler, depth)
-            if index is not None:
+            if (index := blocked(difference(first, second), ruler, depth)) is not None:
                 yield i, j, cue, index
 
 
@@ -232,8 +231,7 @@ def read_certificate(text: bytes) -> tuple[int, int, list[Nodes]]:
         raise Refused(11, "line %d" % number, "faulty certificate", number)
     depth, trees = lines[number - 1][-1] - 48, []
     for number, line in enumerate(lines[number:], number + 1):
-        nodes = nodes_of(line, version)
-        if nodes is None:
+        if (nodes := nodes_of(line, version)) is None:
             raise Refused(11, "line %d" % number, "faulty certificate", number)
         trees.append(nodes)
     return version, depth, trees
@@ -250,8 +248,7 @@ def tree_fault(part: Part, nodes: Nodes, ruler: Ruler, most: int) -> tuple[str, 
             left, right = cut(part)
             stack += [(right, depth + 1, 2 * index + 1), (left, depth + 1, 2 * index)]
         else:
-            control = ruler.low_control(part, depth, node)
-            if control is not None:
+            if (control := ruler.low_control(part, depth, node)) is not None:
                 words = depth, index, word_of(ruler.version, node), control
                 return "fails", " part %d %d direction %s control %d" % words
     return None
@@ -266,8 +263,7 @@ def judge_certificate(flown: Flown, text: bytes) -> str:
             raise Refused(12, "extra line %d" % (k + 1 + version), "extra tree")
         i, j, cue = places[k]
         pair = "pair %s %s cue %d" % (flown.names[i], flown.names[j], cue + 1)
-        found = tree_fault(difference(flown.by_cue[i][cue][1], flown.by_cue[j][cue][1]), nodes, ruler, depth)
-        if found:
+        if found := tree_fault(difference(flown.by_cue[i][cue][1], flown.by_cue[j][cue][1]), nodes, ruler, depth):
             raise Refused(12, "%s %s%s" % (found[0], pair, found[1]), found[0])
     if len(trees) < len(places):
         i, j, cue = places[len(trees)]

@@ -127,8 +127,7 @@ def value_of(number: int, slot: Any, word: str, form: int = 1) -> Any:
         if word not in slot:
             raise fault(number, "bad-word")
         return word
-    value = number_of(slot, word, form)
-    if value is None:
+    if (value := number_of(slot, word, form)) is None:
         raise fault(number, "bad-number")
     if not slot.has(value):
         raise fault(number, "range")
@@ -316,8 +315,7 @@ def judge_names(show: Show) -> None:
         raise fault(1, "no-drone")
     if len(show.drones) > MOST_DRONES:
         raise fault(show.drones[MOST_DRONES].number, "too-many-drones")
-    faults = sorted((number, NAME_FAULTS.index(row)) for number, row in faults_of_names(show))
-    if faults:
+    if faults := sorted((number, NAME_FAULTS.index(row)) for number, row in faults_of_names(show)):
         number, row = faults[0]
         raise fault(number, NAME_FAULTS[row].split()[0], NAME_FAULTS[row])
     if not show.body:

@@ -233,8 +233,7 @@ def print_cure(who: str, number: int, word: str, text: bytes) -> None:
     print("%6d | %s" % (number, line[:200]), file=sys.stderr)
     if word == "bad-byte" and place is not None:
         print("%s: byte %d of the line is %02X" % (who, place + 1, lines[number - 1][place]), file=sys.stderr)
-    row = cure_of(word, lines[number - 1] if number <= len(lines) else b"", form_of(text))
-    if row:
+    if row := cure_of(word, lines[number - 1] if number <= len(lines) else b"", form_of(text)):
         for label, cell in zip((word, "most often", "cure"), row):
             if cell:
                 print("%s: %s: %s" % (who, label, cell), file=sys.stderr)

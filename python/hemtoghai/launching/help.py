@@ -131,8 +131,7 @@ def explain(found: str, text: bytes, status: int, files: list[str]) -> None:
             return print_cure(program.NAME, int(output[3]), output[4].decode(), text)
     if status in (4, 5):
         from hemtoghai.writing.flyable import small_text
-        small = small_text(text)
-        if small:
+        if small := small_text(text):
             say(small)
         return say("%s why %s explains the refusal and lists changes that help" % (
             COMMAND, files[0] if files else "SHOW"))

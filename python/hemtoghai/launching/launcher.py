@@ -63,8 +63,7 @@ def file_for(unproved: bool) -> str | None:
     if unproved:
         say("nothing is proved in this run")
         return file_if_current(program.UNPROVED)
-    found = file_if_current(program.PROGRAM)
-    if found is None:
+    if (found := file_if_current(program.PROGRAM)) is None:
         from hemtoghai.launching import building
         building.build()
         found = file_if_current(program.PROGRAM) or stop("the program that was built isn't that of the sources")
@@ -140,8 +139,7 @@ def answer(found: str | None, words: list[str], files: list[str]) -> int:
             from hemtoghai.launching import glance
             if glance.may_be_unflyable(found, text):
                 from hemtoghai.writing.flyable import warning
-                said = warning(found, text)
-                if said:
+                if said := warning(found, text):
                     say(said)
     return status
 

@@ -54,8 +54,7 @@ def read() -> dict[str, Any]:
     options = [[plain(cell) for cell in row] for row in table(document, "| Option | Number | Without it |")]
     numbers = {}  # the least and greatest value of a number, by its name: that of an option, or the first word of a row
     for option, range_of, _ in options:
-        limits = limits_of(range_of)
-        if limits:
+        if limits := limits_of(range_of):
             numbers[option.split()[1] if option.startswith("--") else option.split()[0]] = limits
     return {"page": document, "ROWS": rows, "OPTIONS": options, "NUMBERS": numbers,
             "COMMANDS": [(form, written) for form, _, written in rows],
@@ -128,8 +127,7 @@ def split(words: list[str]) -> tuple[list[str], list[str], str | None]:
     name, what = number_of(command), command + " N"  # of a number that comes next
     while name or left:
         if name:
-            fault = fault_of_number(name, left[0] if left else None)
-            if fault:
+            if fault := fault_of_number(name, left[0] if left else None):
                 return words, [], "%s: %s" % (what, fault)
             front.append(left.pop(0))
             name = None

@@ -195,8 +195,7 @@ class Handler(BaseHTTPRequestHandler):
             return self.send_words(413, "the text is too large")
         except (ValueError, TypeError):
             return self.send_words(400, "these are no lines of that text")
-        job = self.studio.newest(page, number)
-        if job is None:
+        if (job := self.studio.newest(page, number)) is None:
             return self.send_data({"stale": True}, 409)
         with self.studio.slots:
             try:

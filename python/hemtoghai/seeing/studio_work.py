@@ -102,8 +102,7 @@ def explained(flown: choreo.Flown, text: bytes, program: str, deep: int) -> dict
     answer = ask(["explain", "--depth", str(deep)], text, program)
     if not answer or answer[0]:
         return None
-    touch = re.search(r"^touch pair (\S+) (\S+) cue (\d+) at (\d+) of (\d+)$", answer[1], re.M)
-    if touch:
+    if touch := re.search(r"^touch pair (\S+) (\S+) cue (\d+) at (\d+) of (\d+)$", answer[1], re.M):
         cue, at, parts = int(touch[3]) - 1, int(touch[4]), int(touch[5])
         return {"pair": [flown.names.index(touch[k]) for k in (1, 2)], "cue": cue,
                 "at": begins(flown)[cue] + flown.cues[cue].milliseconds * at / parts}
