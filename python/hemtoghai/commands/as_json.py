@@ -70,8 +70,7 @@ def helped(flown: choreo.Flown, place: judging.Blocked, depth: int) -> dict[str,
     """What helps two drones in a cue: each remedy with the names of those that are still blocked then."""
     i, j = flown.names.index(place.first), flown.names.index(place.second)
     ends = why.standing(flown, i, j, place.cue - 1, depth)
-    rows = [] if ends else [row for row in why.helps(flown, (i, j), place.cue - 1, depth)
-                            if not {place.first, place.second} & set(row[1])]
+    rows = [] if ends else why.helps(flown, (i, j), place.cue - 1, depth)
     return {"blocked_where_the_cue": ends, "helps": [
         {"words": remedy.words, "takes_ms": remedy.takes, "still_blocked": left} for remedy, left in rows[:3]]}
 

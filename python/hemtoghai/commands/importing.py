@@ -290,7 +290,9 @@ def say_left_out(options: argparse.Namespace, paths: Paths) -> None:
     for what, count in options.left_out.items():
         say("LEFT OUT: %s, of %s%s" % (what, many(count, "drone"), (
             "; drones turn by the setpoints alone, which the file may not mean" if what == foreign.AUTOMATIC else "")))
-    if not (options.skyc or options.waypoints or options.smooth or options.starts) and foreign.is_one_place(paths):
+    firsts = [[row[0] for row in path.pieces[0][2][:3]] for path in paths]
+    if not (options.skyc or options.waypoints or options.smooth or options.starts) and len(paths) > 1 and all(
+            max(column) - min(column) <= 1000 for column in zip(*firsts)):  # within a millimetre
         say("all %d drones begin in one place: polynomials may count from each drone's start. --starts FILE adds it, "
             "by a row name,x,y,z in metres for each file" % len(paths))
 

@@ -77,14 +77,15 @@ def layers(flown: Flown, cue: int, pairs: list[tuple[int, int]], deep: int) -> d
 
 
 def helps(flown: Flown, drones: Iterable[int], cue: int, deep: int) -> list[tuple[Remedy, list[str]]]:
-    """What helps, tried against all other drones of the cue: each remedy with the names of those that are still
+    """What helps these drones, tried against all others of the cue: each remedy with the names of those that are still
     blocked. Those that help most come first, and of these the ones that make the show least longer."""
     ruler, found = ruler_of(flown), []
     for drone in drones:
         for remedy in remedies(flown, drone, cue):
             found.append((remedy, [name for other, name in enumerate(flown.names) if other != drone and not all(
                 is_clear(mine, become(flown.by_cue[other][cue][1]), ruler, deep) for mine, become in remedy.stages)]))
-    return sorted(found, key=lambda row: (len(row[1]), row[0].takes))
+    own = {flown.names[drone] for drone in drones}
+    return sorted((row for row in found if not own & set(row[1])), key=lambda row: (len(row[1]), row[0].takes))
 
 
 def standing(flown: Flown, i: int, j: int, cue: int, deep: int) -> list[str]:
@@ -104,8 +105,7 @@ def print_help(flown: Flown, i: int, j: int, cue: int, deep: int) -> None:
         print("    " + more_room(flown, side, up))
     if ends:
         return
-    names = {flown.names[i], flown.names[j]}
-    tried = [row for row in helps(flown, (i, j), cue, deep) if not names & set(row[1])]
+    tried = helps(flown, (i, j), cue, deep)
     if not tried:
         print("  nothing that was tried helps these two: waiting, going first, flying it higher or lower. Give one of "
               "them another way")

@@ -535,9 +535,3 @@ def read_csv(files: Sequence[str], waypoints: bool, smooth: bool = False,
     if lost := [word for word in places or () if word not in found]:
         raise Unreadable("%s: no file is called %.40r" % (starts, lost[0]))
     return list(found.values())
-
-
-def is_one_place(paths: list[Path[Fraction]]) -> bool:
-    """Whether several paths all begin in one place, within a millimetre."""
-    firsts = [[row[0] for row in path.pieces[0][2][:3]] for path in paths]
-    return len(firsts) > 1 and all(max(column) - min(column) <= 1000 for column in zip(*firsts))

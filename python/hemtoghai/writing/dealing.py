@@ -2,7 +2,7 @@
 change hands with them: for ./show deal and ./show why."""
 from __future__ import annotations
 
-from collections.abc import Collection, Iterator, Sequence
+from collections.abc import Collection, Sequence
 from typing import Any, List, Tuple
 
 from hemtoghai.language import choreo
@@ -100,25 +100,18 @@ def performers(flown: choreo.Flown, lost: set[int] | None = None) -> list[dict[s
     return out
 
 
-def carried_lines(flown: choreo.Flown) -> Iterator[tuple[list[choreo.Line], list[int]]]:
-    """The cues with acts of drones, and the performs: the lines that name drones, and the cues of these lines."""
-    groups: dict[int, list[int]] = {}
+def carry(flown: choreo.Flown, written: dict[int, list[str]]) -> list[int]:
+    """Renames the acts and performs after each formation, so that they go with the places, by the names written in
+    them; the lines that can't be renamed, since their turns of a repeat are flown by different drones."""
+    plays, unsure = performers(flown), []
+    groups: dict[int, list[int]] = {}  # by the line of a perform, or of a cue outside of figures, the cues that it is
     for k, cue in enumerate(flown.cues):
         performed = [number for kind, number, *_ in cue.within if kind == "perform"]
         groups.setdefault((performed or [cue.number])[0], []).append(k)
     performs = {line.number: line for line in choreo.inside(flown.show.top) if line.kind == "perform"}
     for number, played in groups.items():
-        if number in performs:
-            yield [performs[number]], played
-        else:
-            yield [line for line in flown.cues[played[0]].line.body if line.kind == "act"], played
-
-
-def carry(flown: choreo.Flown, written: dict[int, list[str]]) -> list[int]:
-    """Renames the acts and performs after each formation, so that they go with the places, by the names written in
-    them; the lines that can't be renamed, since their turns of a repeat are flown by different drones."""
-    plays, unsure = performers(flown), []
-    for lines, played in carried_lines(flown):
+        lines = [performs[number]] if number in performs else [
+            line for line in flown.cues[played[0]].line.body if line.kind == "act"]
         names = [name for line in lines for name in written[line.number]]
         alike = len({tuple(plays[k][name] for name in names) for k in played}) == 1
         for line in lines:
