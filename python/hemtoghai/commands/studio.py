@@ -22,7 +22,6 @@ import subprocess
 import sys
 import threading
 import webbrowser
-from types import FrameType
 from typing import Any
 
 from hemtoghai import program
@@ -59,13 +58,6 @@ b move 0 0 1m 0
 end
 """
 
-
-def ended(_number: int, _frame: FrameType | None) -> None:
-    """A signal ends the studio as Ctrl-C does."""
-    raise KeyboardInterrupt
-
-
-# ---- the studio
 
 class Studio:
     """What all requests share: the file, the program, the random word, and by page its newest text and its job."""
@@ -166,8 +158,6 @@ class Studio:
         return found
 
 
-# ---- the words
-
 def port(word: str) -> int:
     if not re.fullmatch("[0-9]{1,5}", word) or not 1 <= int(word) <= 65535:
         raise argparse.ArgumentTypeError("a port is 1 to 65535, not %s" % word)
@@ -244,8 +234,8 @@ def serve(server: Server, open_browser: bool) -> None:
 def main(words: list[str]) -> int:
     options = read_words(words)
     signal.signal(signal.SIGPIPE, signal.SIG_IGN)  # a page that is closed ends its requests, not the studio
-    for number in (signal.SIGTERM, signal.SIGHUP):
-        signal.signal(number, ended)
+    for number in (signal.SIGTERM, signal.SIGHUP):  # they end the studio as Ctrl-C does
+        signal.signal(number, signal.default_int_handler)
     serve(server_of(options), not options.no_open)
     print("%s: ended" % tool_name())
     return 0

@@ -8,7 +8,7 @@ two as they are set. The status is 0, or that of a faulty show. 70: no answer.
 """
 from __future__ import annotations
 
-from collections.abc import Iterable, Sequence
+from collections.abc import Iterable
 from itertools import combinations
 from math import hypot, inf
 
@@ -25,16 +25,13 @@ PLACES = 32
 LEAST = 0.03  # metres a second: what a jump is at most that comes of rounding
 
 
-def rates(row: Sequence[float], seconds_: float) -> list[float]:
-    return [(len(row) - 1) * (b - a) / seconds_ for a, b in zip(row, row[1:])] or [0.0]
-
-
 def look(flown: Flown, drone: int) -> tuple[float, list[tuple[float, float]]]:
     """A drone's top speed in metres a second, and its box in mm."""
     speed = 0.0
     box: list[list[float]] = [[], [], []]
     for milliseconds, elements in flown.by_cue[drone]:
-        first = [rates(row, milliseconds / 1000) for row in elements[:3]]
+        first = [[(len(row) - 1) * (b - a) / (milliseconds / 1000) for a, b in zip(row, row[1:])] or [0.0]
+                 for row in elements[:3]]  # the control values of the rate of change in a second
         for at in range(PLACES + 1):
             u = at / PLACES
             speed = max(speed, hypot(*(value(row, u) / 1000 for row in first)))

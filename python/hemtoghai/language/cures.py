@@ -75,8 +75,6 @@ def short(digits: str) -> str:
     return digits if len(digits) <= 24 else "%s.. (%d digits)" % (digits[:12], len(digits.lstrip("-")))
 
 
-# ---- numbers
-
 def numbers_of(line: bytes) -> Iterator[tuple[str, Number, Meaning]]:
     """The numbers of a line of a text: for each its word, its slot, and its row as NUMBERS has it."""
     words = line.partition(b"#")[0].decode("ascii", "replace").split()
@@ -135,8 +133,6 @@ def whole_row(name: str, slot: Number, counts: Counts, word: str) -> Row | None:
     return [what, cause, f"write whole numbers: {meant} is {value} {counts.name}. Or begin the text with "
                          f"`choreo 2`, and write {meant}: there each length, time and angle has a unit"]
 
-
-# ---- numbers with units
 
 def listed(words: Iterable[str]) -> str:
     *others, last = words

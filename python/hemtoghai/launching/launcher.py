@@ -29,8 +29,6 @@ def stop(text: str) -> NoReturn:
     sys.exit(streams.NO_ANSWER)
 
 
-# ---- which program runs
-
 def file_if_current(path: str) -> str | None:
     """The file that runs for a program that was built from the sources as they are, or None where none is there. Its
     bytes are those that were looked at."""
@@ -86,8 +84,6 @@ def fault_of_demand(words: list[str]) -> str | None:
     return fault
 
 
-# ---- words and files
-
 def fault_of_files(words: list[str], files: list[str]) -> str | None:
     """What is wrong with the files, or None; by a short look where a command reads a show alone, and all is usual."""
     if not (len(files) > 1 or words[0] in ("upload", "boxes") or words[0] in commands.known("NO_INPUT")) and all(
@@ -96,8 +92,6 @@ def fault_of_files(words: list[str], files: list[str]) -> str | None:
     from hemtoghai.launching import help
     return help.fault_of_files(words, files)
 
-
-# ---- running
 
 def input_number(words: list[str], files: list[str]) -> int:
     """The open file that is the input of a command with one part."""

@@ -42,16 +42,12 @@ def put(stage: str, **more: object) -> None:
     sys.stdout.flush()
 
 
-# ---- the verdict, without the program
-
 def judged(text: bytes, deep: int) -> tuple[int, str]:
     """The status and the line of `check`, by the tools; a marker line is refused as the program does."""
     show, second, markers = choreo.parts_of(text)
     answer = separation.judged(show, deep)
     return answer if second is None or answer[0] == 3 else (11, "error 11 line %d" % markers[0])
 
-
-# ---- lines of the text
 
 def formed_lines(flown: choreo.Flown, cue: choreo.Cue) -> list[list[int]]:
     """The lines that stand for a cue, its own and those of performs and formations, as (first, last)."""
@@ -65,8 +61,6 @@ def drone_lines(flown: choreo.Flown) -> dict[str, object]:
     return {"drones": [line.number for line in flown.show.drones],
             "acts": [[cue.places.get(name, 0) for cue in flown.cues] for name in flown.names]}
 
-
-# ---- stages
 
 def with_lines(flown: choreo.Flown, mark: Mark) -> Mark:
     """A mark with the lines by which both drones fly: their acts, or the `form` line and their places."""
