@@ -297,8 +297,7 @@ def say_left_out(options: argparse.Namespace, paths: Paths) -> None:
             "by a row name,x,y,z in metres for each file" % len(paths))
 
 
-def head_of(options: argparse.Namespace, bound: Fraction, turned: Fraction, factor: Fraction,
-            large: Axes) -> list[str]:
+def head_of(options: argparse.Namespace, bound: Fraction, turned: Fraction, factor: Fraction, large: Axes) -> list[str]:
     """The first lines of the show: source, bound and factor, and the settings."""
     names = [os.path.basename(path) for path in options.files]
     source = "".join(it if 32 <= ord(it) < 127 else "?" for it in ", ".join(names[:3]))

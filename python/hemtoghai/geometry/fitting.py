@@ -110,8 +110,7 @@ class Fit:
         goal, first, last = self.goal(place), self.velocities(k, begin)[1], self.velocities(k, end)[0]
         if path.rests(begin, end) and goal[3] == now[3] and all(abs(a - b) <= 501 for a, b in zip(now[:3], place)):
             return Act(["hold"], [[a] for a in now])
-        rows = [[a, whole(a + s * third), whole(b - e * third), b]
-                for a, b, s, e in zip(now[:3], goal, first, last)]
+        rows = [[a, whole(a + s * third), whole(b - e * third), b] for a, b, s, e in zip(now[:3], goal, first, last)]
         turn = [now[3], goal[3]] if goal[3] != now[3] else [now[3]]
         if all(len(set(row)) == 1 for row in [*rows, turn]):
             return Act(["hold"], [[a] for a in now])

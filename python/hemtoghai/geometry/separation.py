@@ -319,8 +319,7 @@ class Nearest:
 
 def is_clear(first: list[Row], second: list[Row], ruler: Ruler, deep: int) -> bool:
     """Whether two drones are shown to be apart in a cue."""
-    return are_far(first, second, ruler) or blocked(
-        difference(first, second), ruler, deep) is None
+    return are_far(first, second, ruler) or blocked(difference(first, second), ruler, deep) is None
 
 
 def most_borne(most: int, is_borne: Callable[[int], bool]) -> int:

@@ -51,8 +51,7 @@ def end(process: subprocess.Popen[bytes]) -> None:
             process.wait(seconds)
 
 
-def finished(process: subprocess.Popen[bytes], meanwhile: Callable[[], None] = lambda: None) -> tuple[int, bytes,
-               str]:
+def finished(process: subprocess.Popen[bytes], meanwhile: Callable[[], None] = lambda: None) -> tuple[int, bytes, str]:
     """A command's status and output, once it has ended by itself; it is ended where a signal comes."""
     try:
         while True:
