@@ -92,12 +92,10 @@ class Verdict:
     @cached_property
     def cure(self) -> Optional[str]:
         """In words, what a faulty line needs, or None."""
-        found = re.match(r"error 3 line (\d+) ([a-z-]+)", self.line)
-        if not found:
+        if self.fault is None:
             return None
-        lines = self.text.split(b"\n")
-        line = lines[int(found[1]) - 1] if int(found[1]) <= len(lines) else b""
-        row = cures.cure_of(found[2], line, choreo.form_of(self.text))
+        line = b"".join(self.text.split(b"\n")[self.fault - 1:self.fault])
+        row = cures.cure_of(self.line.split(" ")[4], line, choreo.form_of(self.text))
         return str(row[-1]) if row else None
 
     @cached_property

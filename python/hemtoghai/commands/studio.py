@@ -151,8 +151,7 @@ class Studio:
                                     "digest": digest_of(text)}
         if faulty := re.match(r"error (?:3|11) line (\d+)(?: ([a-z-]+))?", said):
             number, word = int(faulty[1]), faulty[2]
-            lines = text.split(b"\n")
-            line = lines[number - 1] if number <= len(lines) else b""
+            line = b"".join(text.split(b"\n")[number - 1:number])
             found["fault"] = {"line": number, "word": word or "marker", "text": shown(line)[0],
                               "row": cure_of(word, line, choreo.form_of(text)) if word else MARKER}
         return found

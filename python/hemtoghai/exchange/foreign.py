@@ -220,19 +220,17 @@ def read_skyc(path: str, left_out: dict[str, int]) -> list[Path[Fraction]]:
     if not drones:
         raise Unreadable("show.json has no drone")
     limit_drones(len(drones))
-    words: set[str] = set()
     taken: set[str] = set()
-    out = []
+    found: dict[str, Path[Fraction]] = {}
     for k, drone in enumerate(drones, 1):
         settings = archive.follow(field(archive.follow(drone), "settings", dict, "drone %d" % k))
         word = field(settings, "name", str, "drone %d" % k, "drone %d" % k)
-        if word in words:
+        if word in found:
             raise Unreadable("two drones have the name %.40r" % word)
-        words.add(word)
-        out.append(skyc_path(archive, "drone %d, %.40r" % (k, word), settings, name_of(word, taken)))
+        found[word] = skyc_path(archive, "drone %d, %.40r" % (k, word), settings, name_of(word, taken))
         for what in left_out_of(archive, settings):
             left_out[what] = left_out.get(what, 0) + 1
-    return out
+    return list(found.values())
 
 
 def left_out_of(archive: Archive, settings: object) -> Iterator[str]:

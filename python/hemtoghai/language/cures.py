@@ -224,12 +224,12 @@ def shown(line: bytes) -> tuple[str, int | None]:
 
 def print_cure(who: str, number: int, word: str, text: bytes) -> None:
     """Writes the line of a text and what helps to standard error."""
-    lines = text.split(b"\n")
-    line, place = shown(lines[number - 1]) if number <= len(lines) else ("", None)
-    print("%6d | %s" % (number, line[:200]), file=sys.stderr)
+    line = b"".join(text.split(b"\n")[number - 1:number])
+    words, place = shown(line)
+    print("%6d | %s" % (number, words[:200]), file=sys.stderr)
     if word == "bad-byte" and place is not None:
-        print("%s: byte %d of the line is %02X" % (who, place + 1, lines[number - 1][place]), file=sys.stderr)
-    if row := cure_of(word, lines[number - 1] if number <= len(lines) else b"", form_of(text)):
+        print("%s: byte %d of the line is %02X" % (who, place + 1, line[place]), file=sys.stderr)
+    if row := cure_of(word, line, form_of(text)):
         for label, cell in zip((word, "most often", "cure"), row):
             if cell:
                 print("%s: %s: %s" % (who, label, cell), file=sys.stderr)

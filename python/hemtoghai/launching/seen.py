@@ -21,24 +21,25 @@ def marks_of(paths: list[str]) -> str:
     return "\n".join(out)
 
 
-def is_as_seen(path: str) -> bool:
-    """Whether all files are, by what stat says, those of which it was found that they are the program's."""
+def noted(path: str, most: int = -1) -> list[str]:
+    """What was noted of a program, as far as it is read: how it looked, all paths, and their marks."""
     try:
         with open(path + SEEN, encoding="utf-8", errors="surrogateescape") as file:
-            _, places, marks = file.read().split("\0\0")
-    except (OSError, ValueError):
-        return False
-    paths = places.split("\0")
-    return paths[0] == path and marks_of(paths) == marks
+            return file.read(most).split("\0\0")
+    except OSError:
+        return []
+
+
+def is_as_seen(path: str) -> bool:
+    """Whether all files are, by what stat says, those of which it was found that they are the program's."""
+    found = noted(path)
+    paths = found[1].split("\0") if len(found) == 3 else []
+    return paths[:1] == [path] and marks_of(paths) == found[2]
 
 
 def is_same(path: str, looks: tuple[int, ...]) -> bool:
     """Whether a program that was read looked as it did when it was found to be that of its sources."""
-    try:
-        with open(path + SEEN, encoding="utf-8", errors="surrogateescape") as file:
-            return file.read(500).partition("\0\0")[0] == repr(looks)
-    except OSError:
-        return False
+    return noted(path, 500)[:1] == [repr(looks)]
 
 
 def places_of(below: dict[str, list[str]], path: str) -> list[str]:
