@@ -67,12 +67,10 @@ class Library:
     def run(self, words: list[str], text: bytes) -> Answer:
         import ctypes
         line, size = line_of(words), ctypes.c_size_t()
+        given = line, len(line), text, len(text)
         # Taken away for the call: a handler of signals that asks meanwhile finds none, and makes its own.
         output = vars(self.rooms).pop("output", None) or ctypes.create_string_buffer(ROOM)
-        while True:
-            status = self.call(line, len(line), text, len(text), output, len(output), ctypes.byref(size))
-            if status != NO_ROOM:
-                break
+        while (status := self.call(*given, output, len(output), ctypes.byref(size))) == NO_ROOM:
             output = ctypes.create_string_buffer(size.value)  # the same question has the same answer
         answer = Answer(status, ctypes.string_at(output, size.value), self.proof, "library")
         if len(output) <= MOST_ROOM:

@@ -23,10 +23,7 @@ class TooLong(Exception):
 def from_stream(stream: IO[bytes], most: int) -> bytes:
     """At most so many bytes of a stream: no more are taken from it than that, and what the stream keeps ahead."""
     parts, left = [], most
-    while left > 0:
-        part = stream.read(min(CHUNK, left))
-        if not part:
-            break
+    while left > 0 and (part := stream.read(min(CHUNK, left))):
         parts.append(part)
         left -= len(part)
     return b"".join(parts)

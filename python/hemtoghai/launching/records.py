@@ -10,7 +10,7 @@ import sys
 
 TYPE_CHECKING = False  # of a reader of types, for which `typing` needn't be imported
 if TYPE_CHECKING:
-    from collections.abc import Iterator
+    from collections.abc import Callable, Iterator
 from hemtoghai import program
 from hemtoghai.program import MANIFEST, PROGRAM, RECORD, TOP
 from hemtoghai.streams import NO_ANSWER
@@ -90,28 +90,22 @@ def version() -> str:
         return file.read().strip()
 
 
-def answer_of(*words: str) -> str:
-    """What a command says, or nothing where it can't be run."""
+def answer_of(*words: str, without: Callable[[str], str] = lambda why: "") -> str:
+    """What a command says; where it can't be run or fails, what is made of the words that say why."""
     import subprocess
     try:
-        done = subprocess.run(words, cwd=TOP, stdin=subprocess.DEVNULL, stdout=subprocess.PIPE,
-                              stderr=subprocess.DEVNULL)
-    except OSError:
-        return ""
-    return done.stdout.decode(errors="replace").strip() if done.returncode == 0 else ""
+        done = subprocess.run(words, cwd=TOP, stdin=subprocess.DEVNULL, stdout=subprocess.PIPE, stderr=subprocess.PIPE)
+    except OSError as error:
+        return without("%s: %s" % (words[0], error.strerror))
+    if done.returncode:
+        return without("%s: %s" % (" ".join(words), done.stderr.decode(errors="replace").strip()))
+    return done.stdout.decode(errors="replace").strip()
 
 
 def git(*words: str) -> str:
     """What git says; where it fails the tool ends."""
-    import subprocess
     from hemtoghai.companion import stop
-    try:
-        done = subprocess.run(["git", *words], cwd=TOP, stdout=subprocess.PIPE, stderr=subprocess.PIPE)
-    except OSError as error:
-        return stop("git: %s" % error.strerror)
-    if done.returncode:
-        stop("git %s: %s" % (" ".join(words), done.stderr.decode(errors="replace").strip()))
-    return done.stdout.decode().strip()
+    return answer_of("git", *words, without=stop)
 
 
 def write_record(said: str, stamped: str) -> None:

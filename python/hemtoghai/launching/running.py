@@ -62,10 +62,7 @@ def pieces_of(path: str, is_first: bool) -> Iterator[bytes]:
     """The bytes of a file, piece by piece; the first of two texts ends with a line feed."""
     last, number = b"\n", 0 if path == "-" else os.open(path, os.O_RDONLY)
     try:
-        while True:
-            piece = os.read(number, CHUNK)
-            if not piece:
-                break
+        while piece := os.read(number, CHUNK):
             last = piece[-1:]
             yield piece
     finally:
