@@ -20,7 +20,9 @@ use Rattle.sep_certificate.specs.Texts.{is_depth_line, is_digit, is_letter, is_w
 use Rattle.certificate_checker.specs.declared.verdict.Verdict.{Verdict}
 use Rattle.certificate_checker.specs.declared.verdict.Verdict.TheVariants.{Valid, Line, Refused}
 
--- ---- what is judged of the trees The pair and cue whose tree comes next, the places of that tree that are still to be
+-- ---- what is judged of the trees
+
+-- The pair and cue whose tree comes next, the places of that tree that are still to be
 -- judged, the next one first, and the number of whole trees; or the first fault.
 pub data Judged : Type 0 where
   Clear : Slot → List Place → ℕ → Judged
@@ -56,7 +58,9 @@ with_tree curves (Clear slot places n) =
     if nat_lt slot.b curves.drones then before_tree (following curves.drones curves.cues slot) (suc n)
     else Wrong (Extra n)
 
--- ---- what is kept of a line In the line of a tree: the version and depth that the lines before the trees say, the
+-- ---- what is kept of a line
+
+-- In the line of a tree: the version and depth that the lines before the trees say, the
 -- number of the line, how many trees are still to come in it, the first digit of a leaf whose second has not come, and
 -- what is judged. A line begins with one tree to come; a split puts two in the place of one.
 pub record TreesRead : Type 0 where
@@ -141,7 +145,9 @@ line_read curves (TreeLine t) =
     else Faulty t.line
 line_read curves (Faulty n) = Faulty n
 
--- ---- what is kept of a text A carriage return is part of its line if no line feed follows, so it waits for the next
+-- ---- what is kept of a text
+
+-- A carriage return is part of its line if no line feed follows, so it waits for the next
 -- byte (`is_returned`). `is_begun`: the line has a byte.
 pub record Checking : Type 0 where
   pub reading : Reading

@@ -1,13 +1,18 @@
 -- What is kept of the trees of a certificate: what is judged of them, and the curves of the pair and cue whose tree
 -- comes next.
-use Rattle.std.specs.Prelude.{◌≡◌, ℕ, ◌+◌, ◌*◌, ◌≤◌, ◌<◌, List, Option, Some, None}
+use Rattle.std.specs.Prelude.{◌≡◌, ℕ, ◌+◌, ◌*◌, ◌≤◌, ◌<◌, Bool, true, false, ℤ, List, [], ◌∷◌, Option, Some, None}
 use Rattle.bezier_core.specs.declared.Bez.{Bez}
 use Rattle.halving.specs.declared.Place.{Place}
+use Rattle.sep_parts.specs.declared.clearance.Clearance.{Clearance}
+use Rattle.sep_parts.specs.declared.node.Node.{Node}
 use Rattle.sep_parts.specs.declared.slot.Slot.{Slot}
+use Rattle.sep_parts.specs.declared.stack.Level.{Level}
+use Rattle.sep_parts.specs.Levels.{IsStack, places_of, root}
 use Rattle.sep_parts.specs.Slots.{IsSlot}
 use Rattle.fleet_curves.specs.Raised.{Raised, difference}
 use Rattle.sep_certificate.specs.declared.certificate.CertFault.{CertFault}
 use Rattle.certificate_checker.specs.Checking.{Clear, DepthLine, Faulty, FirstLine, Judged, Reading, TreeLine, Wrong}
+use Rattle.certificate_checker.specs.Checking.{at_places}
 
 -- What is judged of the trees, and the difference of the curves of the pair in the cue whose tree comes next.
 pub record Judgment : Type 0 where
@@ -17,6 +22,24 @@ pub record Judgment : Type 0 where
 abbrev pub judged_by : Slot → List Place → ℕ → Option CertFault → Judged
 judged_by slot places n None = Clear slot places n
 judged_by slot places n (Some fault) = Wrong fault
+
+-- The places of a tree that are still to be judged: before its first node the whole cue, which is not among the parts
+-- that wait; after it those of the parts that wait.
+abbrev pub places_left : Bool → List Level → List Place
+places_left true parts = root ∷ []
+places_left false parts = places_of parts
+
+-- before the first node no part waits; after it the parts are those of their places
+abbrev pub AreParts : List (Bez 8) → Bool → List Level → Type 0
+AreParts diff true parts = parts ≡ []
+AreParts diff false parts = IsStack diff parts
+
+-- A node at the first of the places before leaves the places after it and no fault, for any slot, depth and number of
+-- trees.
+abbrev pub IsPassed : Clearance → List (List ℤ) → List (Bez 8) → List Place → Node → List Place → Type 0
+IsPassed clearance dirs diff before node after =
+    (depth : ℕ) (slot : Slot) (n : ℕ) →
+    at_places (record { clearance = clearance; depth = depth }) dirs diff slot before n node ≡ Clear slot after n
 
 -- the difference of the pair of a slot in its cue, where it is one of the show
 abbrev pub IsDifference : Raised → Slot → List (Bez 8) → Type 0

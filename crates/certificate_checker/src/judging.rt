@@ -1,21 +1,22 @@
 //! The trees of a certificate, judged node by node.
 
-ghost use Rattle.std.specs.Prelude.{◌≡◌, ◌+◌, ◌^◌, ◌≤◌, ◌<◌};
+ghost use Rattle.std.specs.Prelude.{◌≡◌, ◌+◌, ◌^◌, ◌≤◌, ◌<◌, IsTrue, false};
+ghost use Rattle.sep_parts.specs.Levels.{IsStack, places_of};
 ghost use Rattle.sep_parts.specs.Slots.{slot_at};
 ghost use Rattle.sep_parts.specs.Trees.{IsKnown};
 ghost use Rattle.sep_parts.specs.Versions.{IsVersion, known_in, table_of};
 ghost use Rattle.certificate_checker.specs.Bytes.{most_bytes};
 ghost use Rattle.certificate_checker.specs.Checking.{before_tree, judged_verdict, with_node, with_tree};
-ghost use Rattle.certificate_checker.specs.Judgments.{HasAtMost, IsDifference, IsNext, IsSlotOrPast};
+ghost use Rattle.certificate_checker.specs.Judgments.{AreParts, HasAtMost, IsDifference, IsNext, IsPassed};
+ghost use Rattle.certificate_checker.specs.Judgments.{IsSlotOrPast, places_left};
 
 use crate::tables::Tables;
 use crate::verdict::Verdict;
 use bezier_core::Bez;
 use fleet_curves::{Curves, Difference};
 use fleet_math::Depth;
-use halving::Place;
 use sep_certificate::CertFault;
-use sep_parts::{Level, Node, Slot, Waiting};
+use sep_parts::{Node, Slot, Waiting};
 use std::marker::Model;
 
 /// The pair and cue whose tree comes next, the places of that tree that are still to be judged, with the parts of the
@@ -28,18 +29,20 @@ pub struct Judging {
     fault: Option<CertFault>,
     diff: Difference,
     waiting: Waiting,
+    // No node of the tree is judged yet. Then no part waits, not even the whole cue.
+    whole: bool,
 }
 
 impl Model for Judging {
     ghost use Rattle.std.specs.Prelude.{◌≡◌};
-    ghost use Rattle.sep_parts.specs.Levels.{IsStack, places_of};
-    ghost use Rattle.certificate_checker.specs.Judgments.{Judgment, judged_by};
+    ghost use Rattle.certificate_checker.specs.Judgments.{AreParts, Judgment, judged_by, places_left};
 
     ghost Value = { Judgment };
 
-    ghost view = { λ j. record { judged = judged_by j.slot (places_of j.waiting) j.trees j.fault; diff = j.diff } };
+    ghost view = { λ j.
+        record { judged = judged_by j.slot (places_left j.whole j.waiting) j.trees j.fault; diff = j.diff } };
 
-    ghost invariant = { λ j. IsStack j.diff j.waiting };
+    ghost invariant = { λ j. AreParts j.diff j.whole j.waiting };
 }
 
 // Zeros, where no pair and cue comes next. Nobody reads them.
@@ -59,23 +62,50 @@ fn difference(curves: &Curves, slot: Slot) -> Difference
     }
 }
 
+// Whether the node is the first of its tree and a leaf that separates the whole cue. Most trees are such a leaf, and it
+// is judged on the rows of 32 bits as they are kept. At any other first node the whole cue waits, its curves widened.
+fn passes_whole(
+    whole: bool,
+    waiting: &mut Waiting,
+    diff: &Difference,
+    tables: &Tables,
+    version: u8,
+    node: Node,
+) -> bool
+    requires parts { AreParts diff.now whole waiting.old }
+    requires version { IsVersion version }
+    requires known { IsKnown (known_in version) node }
+    ensures passed { IsTrue result
+        → IsPassed tables.now (table_of version) diff.now (places_left whole waiting.old) node (places_of waiting.new) }
+    ensures waits { result ≡ false → places_of waiting.new ≡ places_left whole waiting.old }
+    ensures stack { IsStack diff.now waiting.new }
+{
+    if !whole {
+        return false;
+    }
+    if let Node::Leaf { dir } = node {
+        if tables.separates_whole(version, diff, dir) {
+            return true;
+        }
+    }
+    diff.raised_law();
+    waiting.begin(diff);
+    false
+}
+
 impl Judging {
     // Before the tree of a pair and cue with this difference, after `trees` trees.
     fn over(diff: Difference, slot: Slot, trees: u32) -> Judging
         ensures judged { result.judged ≡ before_tree slot trees }
         ensures diff { result.diff ≡ diff }
     {
-        diff.raised_law();
-        let whole = Level {
-            place: Place { depth: 0, index: 0 },
-            part: diff.curves(),
-        };
         Judging {
             slot,
             trees,
             fault: None,
             diff,
-            waiting: Waiting::of(&whole),
+            waiting: Waiting::none(),
+            whole: true,
         }
     }
 
@@ -112,9 +142,8 @@ impl Judging {
         ensures next { IsNext curves.now self.new.judged self.new.diff }
     {
         self.diff = difference(curves, slot);
-        self.diff.raised_law();
         self.waiting.clear();
-        self.waiting.begin(&self.diff);
+        self.whole = true;
         self.slot = slot;
         self.trees = trees;
         self.fault = None;
@@ -131,6 +160,11 @@ impl Judging {
         ensures next { IsNext curves.now self.new.judged self.new.diff }
     {
         if self.fault.is_some() || usize::from(self.slot.b) >= curves.drones() {
+            return;
+        }
+        let whole = self.whole;
+        self.whole = false;
+        if passes_whole(whole, &mut self.waiting, &self.diff, tables, version, node) {
             return;
         }
         let Some(level) = self.waiting.next() else {

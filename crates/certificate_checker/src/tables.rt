@@ -1,8 +1,9 @@
 //! The directions of both versions of certificates, with their thresholds.
 
-ghost use Rattle.std.specs.Prelude.{◌≡◌, None};
-ghost use Rattle.sep_parts.specs.Directions.{IsClearance};
-ghost use Rattle.sep_parts.specs.Levels.{IsLevel};
+ghost use Rattle.std.specs.Prelude.{◌≡◌, ◌<◌, None, is_none};
+ghost use Rattle.sep_parts.specs.Directions.{IsClearance, direction_of};
+ghost use Rattle.sep_parts.specs.Levels.{IsLevel, root};
+ghost use Rattle.sep_parts.specs.Separates.{low_value};
 ghost use Rattle.sep_parts.specs.Trees.{IsKnown, IsShallow};
 ghost use Rattle.sep_parts.specs.Versions.{IsVersion, known_in, table_of};
 ghost use Rattle.sep_certificate.specs.Certificates.{node_fault};
@@ -65,6 +66,19 @@ impl Tables {
             node_fault(diff, level, slot, &self.old, depth, node)
         } else {
             node_fault(diff, level, slot, &self.wide, depth, node)
+        }
+    }
+
+    // Whether the direction of a version with this number separates the whole cue.
+    pub fn separates_whole(&self, version: u8, diff: &Difference, dir: u8) -> bool
+        requires version { IsVersion version }
+        requires dir { dir < known_in version }
+        ensures { result ≡ is_none (low_value self.now diff.now root (direction_of (table_of version) dir)) }
+    {
+        if version == 1 {
+            self.old.separates_whole(diff, dir as usize)
+        } else {
+            self.wide.separates_whole(diff, dir as usize)
         }
     }
 }

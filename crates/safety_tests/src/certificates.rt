@@ -90,7 +90,7 @@ fn fault_of(fault: CertFault) -> Outcome {
     }
 }
 
-const FOR_TWO: [(&[u8], Outcome); 14] = [
+const FOR_TWO: [(&[u8], Outcome); 18] = [
     (b"certificate 6\nr\nl\na\n", Outcome::Valid(6, 3)),
     (b"certificate 6\r\nr\r\nl\r\na", Outcome::Valid(6, 3)),
     (b"certificate 1\n.rr\n.ll\n.aa\n", Outcome::Valid(1, 3)),
@@ -99,6 +99,16 @@ const FOR_TWO: [(&[u8], Outcome); 14] = [
     (
         b"certificate 6\nr\na\n",
         Outcome::Fails((0, 1, 1), (0, 0), 0, 0),
+    ),
+    // a cue that is split at once, after a leaf of a whole cue and after another split one
+    (b"certificate 1\nr\n.ll\na\n", Outcome::Valid(1, 3)),
+    (
+        b"certificate 1\nr\n.la\na\n",
+        Outcome::Fails((0, 1, 1), (1, 1), 0, 0),
+    ),
+    (
+        b"certificate 1\n.rr\n.al\na\n",
+        Outcome::Fails((0, 1, 1), (1, 0), 0, 0),
     ),
     (b"certificate 6\nr\nl\na\nr\n", Outcome::Extra(3)),
     (b"certificate 0\n.rr\nl\na\n", Outcome::TooDeep(0, 1, 0)),
@@ -120,6 +130,10 @@ const FOR_TWO: [(&[u8], Outcome); 14] = [
     (
         b"version 2\ncertificate 6\n58\n45\n00\n",
         Outcome::Fails((0, 1, 1), (0, 0), 45, 0),
+    ),
+    (
+        b"version 2\ncertificate 6\n58\n.4645\n00\n",
+        Outcome::Fails((0, 1, 1), (1, 1), 45, 0),
     ),
     (
         b"version 2\ncertificate 6\n58\n46\n00\n58\n",
