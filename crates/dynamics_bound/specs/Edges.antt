@@ -30,7 +30,9 @@ last_velocity t axis cue = record { step = last_step (points t cue axis); ms = d
 abbrev pub rest : Velocity
 rest = record { step = pos 0; ms = 1 }
 
--- ---- edges Edge k is the beginning of segment k, from 0, and the last edge is the end of the last segment. A
+-- ---- edges
+
+-- Edge k is the beginning of segment k, from 0, and the last edge is the end of the last segment. A
 -- trajectory arrives at its first edge from rest, and departs from its last one to rest.
 abbrev pub arrival : Traj → ℕ → ℕ → Velocity
 arrival t axis zero = rest
@@ -76,7 +78,9 @@ pub record IsGreatestJump (t : Traj) (axis : ℕ) (j : Jump) : Type 0 where
 abbrev pub is_rest_at : Traj → ℕ → Bool
 is_rest_at t edge = nat_eq (jump t 0 edge) 0 && nat_eq (jump t 1 edge) 0 && nat_eq (jump t 2 edge) 0
 
--- ---- what the velocities promise They are the velocities: x / q milliseconds after a segment began, or before it
+-- ---- what the velocities promise
+
+-- They are the velocities: x / q milliseconds after a segment began, or before it
 -- ends, the position departs from the line with that velocity by at most half the acceleration times the square of the
 -- time. Both sides are multiplied by 2 10^9 q^2 (q ms)^7.
 pub record KeepsTangents (t : Traj) (axis a cue q x : ℕ) : Type 0 where

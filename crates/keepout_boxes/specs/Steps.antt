@@ -73,7 +73,9 @@ abbrev pub RegionsKept : Raised → ℕ → ℕ → ℕ → List Region → ℕ 
 RegionsKept c r h depth regions m =
     (k : ℕ) → k < m → (region : Region) → slice_get regions k ≡ Some region → RegionKept c r h depth region c.drones
 
--- ---- flights Three rows of which the first two values, on each axis, have each control value of a drone's first m
+-- ---- flights
+
+-- Three rows of which the first two values, on each axis, have each control value of a drone's first m
 -- cues between them.
 abbrev pub Covers : Raised → ℕ → List (Bez 8) → ℕ → Type 0
 Covers c drone flight m =
