@@ -11,6 +11,7 @@ sys.path.insert(0, os.path.join(os.path.dirname(os.path.dirname(os.path.abspath(
 from hemtoghai.language import choreo
 from hemtoghai.geometry import separation
 from hemtoghai.language.choreo import Refused
+import trees
 
 
 class Verdict:
@@ -42,6 +43,6 @@ class Verdict:
         if command == "compile":
             return 0, self.flown.plan()
         if command == "certify":
-            return 0, separation.certificate(self.flown, self.depth, self.version)
+            return 0, trees.certificate(self.flown, self.depth, self.version)
         counts = len(self.flown.names), len(self.flown.cues), self.flown.milliseconds
         return 0, "ok drones %d cues %d duration_ms %d\n" % counts
