@@ -143,36 +143,38 @@ fn front(alloc: Global, bytes: &[u8]) -> Result<(Vec<u8>, usize), AllocError> {
     Ok((out, view.size()))
 }
 
+// Bytes, the packet of the frame that they begin with, and the frame's length; no bytes and 0 if they begin with none.
+const FRONTS: [(&[u8], &[u8], usize); 18] = [
+    (b"\x54", b"T", 1),
+    (b"\x54\x50\x01", b"T", 1),
+    (&ANSWER, b"P\x01\x4E\x02\x18\x00\x00\x00\x00", 10),
+    (b"\x50\x20\x01\x54\x54", b"P\x20\x54", 4),
+    (b"\x50\x02\x03\x00\x48\x69\x51", b"P\x02\x00\x48\x69", 6),
+    // Some of the frame is still to come.
+    (b"", b"", 0),
+    (b"\x50", b"", 0),
+    (b"\x50\x01", b"", 0),
+    (b"\x50\x01\x01", b"", 0),
+    (b"\x50\x01\x07\x4E\x02\x18\x00\x00\x00", b"", 0),
+    // A byte without a place.
+    (b"\x51\x54", b"", 0),
+    (b"\x45\x00", b"", 0),
+    (b"\x50\x00\x01\x00", b"", 0),
+    (b"\x50\x21\x01\x00", b"", 0),
+    (b"\x50\xFF\x01\x00", b"", 0),
+    (b"\x50\x01\x00\x00", b"", 0),
+    (
+        b"\x50\x01\x20\x54\x54\x54\x54\x54\x54\x54\x54\x54\x54\x54\x54\x54\x54\x54\x54\x54\x54\x54\x54\x54\x54\x54\
+        \x54\x54\x54\x54\x54\x54\x54\x54\x54",
+        b"",
+        0,
+    ),
+    (b"\x50\x01\xFF\x54", b"", 0),
+];
+
 #[test]
 fn first_frames(rt: HostRuntime) -> Result<(), Fail> {
-    let cases: [(&[u8], &[u8], usize); 18] = [
-        (b"\x54", b"T", 1),
-        (b"\x54\x50\x01", b"T", 1),
-        (&ANSWER, b"P\x01\x4E\x02\x18\x00\x00\x00\x00", 10),
-        (b"\x50\x20\x01\x54\x54", b"P\x20\x54", 4),
-        (b"\x50\x02\x03\x00\x48\x69\x51", b"P\x02\x00\x48\x69", 6),
-        // Some of the frame is still to come.
-        (b"", b"", 0),
-        (b"\x50", b"", 0),
-        (b"\x50\x01", b"", 0),
-        (b"\x50\x01\x01", b"", 0),
-        (&ANSWER[..9], b"", 0),
-        // A byte without a place.
-        (b"\x51\x54", b"", 0),
-        (b"\x45\x00", b"", 0),
-        (b"\x50\x00\x01\x00", b"", 0),
-        (b"\x50\x21\x01\x00", b"", 0),
-        (b"\x50\xFF\x01\x00", b"", 0),
-        (b"\x50\x01\x00\x00", b"", 0),
-        (
-            b"\x50\x01\x20\x54\x54\x54\x54\x54\x54\x54\x54\x54\x54\x54\x54\x54\x54\x54\x54\x54\x54\x54\x54\x54\x54\x54\
-            \x54\x54\x54\x54\x54\x54\x54\x54\x54",
-            b"",
-            0,
-        ),
-        (b"\x50\x01\xFF\x54", b"", 0),
-    ];
-    for (bytes, wanted, size) in cases {
+    for (bytes, wanted, size) in FRONTS {
         let given = front(rt.alloc(), bytes)?;
         assert_eq!(rt; given.0.as_slice(), wanted);
         assert_eq!(rt; given.1, size);

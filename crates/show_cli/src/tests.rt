@@ -288,32 +288,41 @@ fn words_that_are_no_command(rt: HostRuntime) -> Result<(), Fail> {
     Ok(())
 }
 
-#[test]
-fn plans(rt: HostRuntime) -> Result<(), Fail> {
-    let repeated = b"repeat 255\ncue 1000\nend\nend\n";
-    let greatest = b"plan 1\ndrone solo bytes 28 pieces 1\n\
+// Plans that begin at the greatest and at the least value, of an arc, and of a mirrored figure.
+const GREATEST_START: &[u8] = b"plan 1\ndrone solo bytes 28 pieces 1\n\
 data FF 7F 00 00 E8 03 00 00 03 D0 07 FF 7F FF 7F FF 7F E8 03 E8 03 E8 03 E8 03 00 00 00\n\
 write 4E 02 00 00 00 00 FF 7F 00 00 E8 03 00 00 03 D0 07 FF 7F FF 7F FF 7F E8 03 E8 03 E8 03 E8\n\
 write 4E 02 18 00 00 00 03 00 00 00\ndefine 8C 06 00 01 01 00 00 00 00 01\nstart 8C 05 00 00 00 00 00 00 80 3F\nend\n";
-    let least = b"plan 1\ndrone solo bytes 28 pieces 1\n\
+
+const LEAST_START: &[u8] = b"plan 1\ndrone solo bytes 28 pieces 1\n\
 data 00 80 00 00 E8 03 00 00 03 D0 07 00 80 00 80 00 80 E8 03 E8 03 E8 03 E8 03 00 00 00\n\
 write 4E 02 00 00 00 00 00 80 00 00 E8 03 00 00 03 D0 07 00 80 00 80 00 80 E8 03 E8 03 E8 03 E8\n\
 write 4E 02 18 00 00 00 03 00 00 00\ndefine 8C 06 00 01 01 00 00 00 00 01\nstart 8C 05 00 00 00 00 00 00 80 3F\nend\n";
-    let arc = b"plan 1\ndrone solo bytes 26 pieces 1\n\
+
+const ARC_PLAN: &[u8] = b"plan 1\ndrone solo bytes 26 pieces 1\n\
 data E8 03 00 00 E8 03 00 00 0A E8 03 E8 03 28 02 00 00 28 02 E8 03 E8 03 00 00 00\n\
 write 4E 02 00 00 00 00 E8 03 00 00 E8 03 00 00 0A E8 03 E8 03 28 02 00 00 28 02 E8 03 E8 03 00\n\
 write 4E 02 18 00 00 00 00 00\ndefine 8C 06 00 01 01 00 00 00 00 01\nstart 8C 05 00 00 00 00 00 00 80 3F\nend\n";
-    let mirrored = b"plan 1\ndrone solo bytes 20 pieces 1\n\
+
+const MIRRORED_PLAN: &[u8] = b"plan 1\ndrone solo bytes 20 pieces 1\n\
 data 00 00 00 00 E8 03 00 00 54 E8 03 E8 03 DC 05 84 03 00 00 00\n\
 write 4E 02 00 00 00 00 00 00 00 00 E8 03 00 00 54 E8 03 E8 03 DC 05 84 03 00 00 00\n\
 define 8C 06 00 01 01 00 00 00 00 01\nstart 8C 05 00 00 00 00 00 00 80 3F\nend\n";
+
+#[test]
+fn plans(rt: HostRuntime) -> Result<(), Fail> {
+    let repeated = b"repeat 255\ncue 1000\nend\nend\n";
     let rows: [(&[u8], &[u8], &[u8]); 5] = [
         (
             b"choreo 1\ndrone solo 32767499 0 1000000 0\n",
             CUE,
-            greatest,
+            GREATEST_START,
         ),
-        (b"choreo 1\ndrone solo -32768500 0 1000000 0\n", CUE, least),
+        (
+            b"choreo 1\ndrone solo -32768500 0 1000000 0\n",
+            CUE,
+            LEAST_START,
+        ),
         (
             b"choreo 1\nmemory 2 4068\ndrone solo 0 0 1000000 0\n",
             CUE,
@@ -322,9 +331,9 @@ define 8C 06 00 01 01 00 00 00 00 01\nstart 8C 05 00 00 00 00 00 00 80 3F\nend\n
         (
             b"choreo 1\ndrone solo 1000000 0 1000000 0\n",
             b"cue 1000\nsolo arc ccw 0 0 0\nend\n",
-            arc,
+            ARC_PLAN,
         ),
-        (FIGURE, b"perform go y 1 0 0 500000 solo\n", mirrored),
+        (FIGURE, b"perform go y 1 0 0 500000 solo\n", MIRRORED_PLAN),
     ];
     for (front, rest, written) in rows {
         assert!(rt; is_met(rt.alloc(), &["compile"], front, rest, 0, written)?);
