@@ -3,9 +3,13 @@ use Rattle.std.proofs.lemmas.Grind.{common_steps}
 use Rattle.std.proofs.Common.{◌≡◌, ℕ, zero, suc, ◌-◌, ◌≤◌, length, pos, List, [], ◌∷◌, All, None, Some, codes, ap, get_or, arith, refl, slice_get}
 use Rattle.std.proofs.lemmas.List.Elements.{All-cons, All-nil}
 use Rattle.std.specs.Fmt.{digits}
+use Rattle.fleet_math.specs.Bernstein.{bernstein}
+use Rattle.fleet_math.specs.Decoded.{decoded}
+use Rattle.fleet_math.specs.Moments.{moment}
 use Rattle.traj_codec.specs.declared.traj.Traj.{Traj}
 use Rattle.traj_codec.specs.Joined.{hold, joined_from}
 use Rattle.traj_codec.specs.Spelling.{HasDuration, IsTrajectory}
+use Rattle.choreo_show.specs.Plain.{PlainShow}
 use Rattle.choreo_show.specs.Valid.{FitsPoint}
 use Rattle.choreo_show.specs.declared.show.DroneLine.{DroneLine}
 use Rattle.choreo_lines.specs.declared.table.Form.TheVariants.{Whole}
@@ -18,14 +22,16 @@ use Rattle.upload_model.specs.Sessions.{packet_at, packet_count, part_count, rea
 use Rattle.show_plan.specs.Fitting.{IsSendable, size}
 use Rattle.show_plan.specs.Flight.{KeepsNearShow}
 use Rattle.show_plan.specs.Landing.{AreUploadable}
+use Rattle.show_plan.specs.Separation.{FlyApart}
 use Rattle.show_plan.specs.Texts.{plan_text}
 use Rattle.show_plan.specs.Trajectories.{sent}
 use Rattle.show_plan.specs.Uploading.{Uploads, UploadsLaw}
 use Rattle.show_plan.proofs.Flight.{keeps_near_show}
 use Rattle.show_looks.specs.Compile.{Headline}
-use Rattle.definition_tests.specs.Headlines.{HeadlineRows, stay, stay_plan, stay_text}
+use Rattle.definition_tests.specs.Headlines.{HeadlineRows, stay, stay_plan, stay_text, staying}
 use Rattle.definition_tests.specs.Near.{spot}
 use Rattle.definition_tests.specs.Stands.{line_of}
+use Rattle.definition_tests.proofs.LandedRows.{touch}
 use Rattle.definition_tests.proofs.StandsRows.{begins_so}
 
 -- the only drone
@@ -121,16 +127,27 @@ near : KeepsNearShow (grid_of stay) (flown ∷ [])
 unfolding expanded joined_from
 near = keeps_near_show (grid_of stay) is_grid
 
+apart : FlyApart stay.settings (flown ∷ [])
+apart a b t u other first second = absurd (no_two flown t u a b other first second)
+
 uploads : UploadsLaw → Uploads (grid_of stay) stay.settings (flown ∷ [])
-uploads law = law (grid_of stay) stay.settings (flown ∷ []) uploadable near (λ a b t u other first second. absurd (no_two flown t u a b other first second))
+uploads law = law (grid_of stay) stay.settings (flown ∷ []) uploadable near apart
 
 pub holds : UploadsLaw → Headline stay_text (Some []) (Some stay_plan)
 unfolding digits plan_text packet_at packet_count part_count read_count write_count
-holds law = record { s = stay; sent = flown ∷ []; stands = stay_stands; planned = refl; uploads = uploads law }
+holds law = record { s = stay; sent = flown ∷ []; stands = stay_stands; planned = refl; near = near; apart = apart; uploads = uploads law }
 
 after_others : UploadsLaw → Headline stay_text (Some (1 ∷ 2 ∷ [])) (Some (1 ∷ 2 ∷ stay_plan))
 unfolding digits plan_text packet_at packet_count part_count read_count write_count
-after_others law = record { s = stay; sent = flown ∷ []; stands = stay_stands; planned = refl; uploads = uploads law }
+after_others law = record { s = stay; sent = flown ∷ []; stands = stay_stands; planned = refl; near = near; apart = apart; uploads = uploads law }
+
+-- what stays a millimetre aside isn't near
+pub far : KeepsNearShow (grid_of stay) (staying (pos 1) ∷ []) → ⊥
+unfolding expanded bernstein decoded moment
+far keeps = let near = (keeps.near 0 (omega arith)).x 0 1 (omega arith) (omega arith) in let high = near.above in absurd (omega (arith, high))
+
+aside : (s : PlainShow) (sent : List Traj) → s ≡ stay → sent ≡ staying (pos 1) ∷ [] → KeepsNearShow (grid_of s) sent → ⊥
+aside s sent s_is sent_is near = far (rw s_is at (rw sent_is at near))
 
 pub headlines : UploadsLaw → HeadlineRows
 unfolding plan_text
@@ -141,4 +158,6 @@ headlines law = record {
   cut = λ is. let same : ◌≡◌ {A = ℕ} 108 112 = ap (λ (bytes : List ℕ). get_or bytes 0 0) is.planned in absurd (omega (arith, same));
   no_show = λ old new is.
       let letters : ◌≡◌ {A = ℕ} 108 99 = begins_so (line_of (codes "late 3")) is.s is.stands in absurd (omega (arith, letters));
+  far = λ input old new is s_is sent_is. aside _ _ s_is sent_is is.near;
+  touching = λ input old new is e_is sent_is. touch _ _ e_is sent_is is.apart;
 }

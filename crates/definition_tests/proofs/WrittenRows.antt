@@ -4,9 +4,6 @@ use Rattle.std.proofs.Common.{◌≡◌, ℕ, ℤ, ◌-◌, ◌≤◌, length, p
 use Rattle.std.proofs.lemmas.List.{length-replicate}
 use Rattle.std.proofs.lemmas.List.Elements.{All-cons, All-nil}
 use Rattle.std.specs.Fmt.{digits}
-use Rattle.fleet_math.specs.Bernstein.{bernstein}
-use Rattle.fleet_math.specs.Decoded.{decoded}
-use Rattle.fleet_math.specs.Moments.{moment}
 use Rattle.crtp_packets.specs.declared.chunks.TheConstants.{MEMORY_BYTES}
 use Rattle.traj_codec.specs.declared.traj.Traj.{Traj}
 use Rattle.traj_codec.specs.Spelling.{HasDuration, IsTrajectory}
@@ -16,7 +13,6 @@ use Rattle.choreo_show.specs.Valid.{FitsSettings}
 use Rattle.choreo_show.specs.declared.show.Settings.{Settings}
 use Rattle.choreo_reader.specs.Laws.{ShowLaw}
 use Rattle.cue_grid.specs.Cues.{grid_of}
-use Rattle.figure_expand.specs.Expanded.{expanded}
 use Rattle.upload_model.specs.declared.loads.Def.{Def}
 use Rattle.upload_model.specs.Drones.{DroneState, handled}
 use Rattle.upload_model.specs.Hosts.{acked, acked_from, acknowledges, all_packets, all_settled, ending, flight_at, flight_in, out, phase_of, progress, progress_within, ticks}
@@ -25,13 +21,12 @@ use Rattle.upload_model.specs.Replies.{reply_in, reply_to}
 use Rattle.upload_model.specs.Sessions.{packet_at, packet_count, part_count, read_count, write_count}
 use Rattle.upload_model.specs.Worlds.{happens, host_event, start_world}
 use Rattle.show_plan.specs.Fitting.{IsSendable, size}
-use Rattle.show_plan.specs.Flight.{KeepsNearShow}
 use Rattle.show_plan.specs.Texts.{IsPlan, PlanLaw, plan_text}
 use Rattle.show_plan.specs.Uploading.{Uploads, UploadsLaw}
 use Rattle.show_judge.specs.Shows.{names_of}
 use Rattle.show_looks.specs.Compile.{Headline}
 use Rattle.definition_tests.specs.Headlines.{WrittenRows, aside_plan, second_byte, second_entry, stay, stay_text, staying}
-use Rattle.definition_tests.proofs.HeadlineRows.{holds, stay_stands}
+use Rattle.definition_tests.proofs.HeadlineRows.{far, holds, stay_stands}
 use Rattle.definition_tests.proofs.UploadRows.{events, unaltered}
 
 abbrev named : List ℕ → List Name
@@ -61,11 +56,6 @@ is_plan e name x is fit form room = record {
     room = All-cons (λ (t : Traj). size t ≤ MEMORY_BYTES - e.offset) (staying x) [] room (All-nil (λ (t : Traj). size t ≤ MEMORY_BYTES - e.offset));
   };
 }
-
--- what stays a millimetre aside isn't near
-far : KeepsNearShow (grid_of stay) (staying (pos 1) ∷ []) → ⊥
-unfolding expanded bernstein decoded moment
-far keeps = let near = (keeps.near 0 (omega arith)).x 0 1 (omega arith) (omega arith) in let high = near.above in absurd (omega (arith, high))
 
 -- drones with the memory of the show's settings
 abbrev blank : ℕ → DroneState

@@ -8,8 +8,10 @@ use Rattle.choreo_show.specs.declared.show.Settings.{Settings}
 use Rattle.show_plan.specs.Texts.{IsPlan, plan_text}
 use Rattle.show_judge.specs.Shows.{names_of}
 use Rattle.show_looks.specs.Compile.{Headline}
+use Rattle.definition_tests.specs.Flights.{flight}
 use Rattle.definition_tests.specs.Near.{spot}
 use Rattle.definition_tests.specs.Stands.{line_of, nobody}
+use Rattle.definition_tests.specs.Stored.{settings}
 
 -- one drone, and one cue of ten milliseconds in which it stays
 abbrev pub stay_text : List ℕ
@@ -22,6 +24,10 @@ stay = record (nobody 0) {
   body = plain.Cue 3 10 [] plain.Done;
 }
 
+-- a drone that stays this far on x for ten milliseconds
+abbrev pub staying : ℤ → Traj
+staying x = record { start = x ∷ pos 0 ∷ pos 0 ∷ pos 0 ∷ []; segments = hold 10 ∷ [] }
+
 -- its plan: a start, a segment that stays for ten milliseconds, and the ending
 abbrev pub stay_plan : List ℕ
 stay_plan =
@@ -32,17 +38,19 @@ stay_plan =
     ++ line_of (codes "end")
 
 -- The headline holds of the text and its plan, whole. It doesn't where nothing was written, where the plan lacks its
--- first byte, or of a text that isn't a show.
+-- first byte, or of a text that isn't a show. Nor does it of trajectories of the plan that aren't near to the show, as
+-- one that stays a millimetre aside, or that touch.
 pub record HeadlineRows : Type 0 where
   pub holds : Headline stay_text (Some []) (Some stay_plan)
   pub after_others : Headline stay_text (Some (1 ∷ 2 ∷ [])) (Some (1 ∷ 2 ∷ stay_plan))
   pub unwritten : Headline stay_text (Some []) (Some []) → ⊥
   pub cut : Headline stay_text (Some []) (Some (codes "lan 1")) → ⊥
   pub no_show : (old new : Option (List ℕ)) → Headline (line_of (codes "late 3")) old new → ⊥
-
--- a drone that stays this far on x for ten milliseconds
-abbrev pub staying : ℤ → Traj
-staying x = record { start = x ∷ pos 0 ∷ pos 0 ∷ pos 0 ∷ []; segments = hold 10 ∷ [] }
+  pub far : (input : List ℕ) (old new : Option (List ℕ)) (is : Headline input old new) → is.s ≡ stay →
+      is.sent ≡ staying (pos 1) ∷ [] → ⊥
+  pub touching : (input : List ℕ) (old new : Option (List ℕ)) (is : Headline input old new) →
+      is.s.settings ≡ settings →
+      is.sent ≡ flight (pos 50) (pos 50) ∷ flight (pos 51) (pos 51) ∷ [] → ⊥
 
 -- The plan of the show's neighbour, whose drone stays a millimetre aside: x is another in the data and in the write.
 abbrev pub aside_plan : List ℕ

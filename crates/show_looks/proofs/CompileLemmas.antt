@@ -5,13 +5,15 @@ use Rattle.choreo_reader.specs.Grammar.{StandsFor}
 use Rattle.show_judge.specs.Runs.{Runs}
 use Rattle.show_looks.specs.Compile.{Headline, compile_verb}
 
--- what was written safely is a plan of which each upload goes right
+-- what was written safely is a plan that is near and apart, and of which each upload goes right
 headline : (depth : ℕ) (input : List ℕ) (old new : Option (List ℕ)) (o : Outcome) → IsSafe (compile_verb depth) (cut_of input) o → Appends old new o.output → Headline input old new
 headline depth input old new o safe appended = record {
   s = safe.s;
   sent = sent_of safe.s;
   stands = subst (λ (text : List ℕ). StandsFor text safe.s) (whole_input (show_ways depth) input safe.s refl safe.accepted) safe.stands;
   planned = subst (λ (output : List ℕ). Appends old new output) (ap (λ (p : Outcome). p.output) safe.gives) appended;
+  near = safe.near;
+  apart = safe.promised.apart;
   uploads = safe.promised.uploads;
 }
 
