@@ -30,7 +30,7 @@ decodes rest = record {
   };
 }
 
-entry_is : (rest : List ℕ) (e : Def) → slice_get (loaded_with rest).table 0 ≡ Some (Some e) → e.offset ≡ 2
+pub entry_is : (rest : List ℕ) (e : Def) → slice_get (loaded_with rest).table 0 ≡ Some (Some e) → e.offset ≡ 2
 entry_is rest e listed = cc
 
 ended : (rest : List ℕ) → Carries (loaded_with rest) 0 (flight (pos 0) (pos 1)) → (more : List ℕ) × (rest ≡ 0 ∷ 0 ∷ 0 ∷ more)
@@ -65,6 +65,11 @@ other is =
 
 unlisted : DecodesTo (loaded_with (0 ∷ 0 ∷ 0 ∷ [])) 1 (flight (pos 0) (pos 1)) → ⊥
 unlisted is = let none : Some None ≡ Some (Some is.entry) = is.listed in absurd (cc)
+
+-- with nothing after the three zero bytes
+pub alone : Carries (loaded_with (0 ∷ 0 ∷ 0 ∷ [])) 0 (flight (pos 0) (pos 1))
+unfolding decodes
+alone = record { decodes = decodes (0 ∷ 0 ∷ 0 ∷ []); rest = []; whole = refl }
 
 pub carries : CarriesRows
 unfolding decodes

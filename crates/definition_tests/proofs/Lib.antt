@@ -9,6 +9,7 @@ pub mod BeginRows
 pub mod RightRows
 pub mod LandedRows
 pub mod UploadRows
+pub mod PairRows
 pub mod JoinedRows
 pub mod StandsRows
 pub mod FormRows
@@ -18,6 +19,7 @@ pub mod ShowRows
 pub mod MeetRows
 pub mod ExplainRows
 pub mod HeadlineRows
+pub mod WholeRows
 pub mod ShapeRows
 pub mod RangeRows
 pub mod ItemRows

@@ -21,10 +21,10 @@ use Rattle.definition_tests.specs.Flights.{flight}
 use Rattle.definition_tests.specs.Stored.{UploadRows, no_time, settings}
 use Rattle.definition_tests.proofs.NearRows.{show}
 
-abbrev blank : ℕ → DroneState
+abbrev pub blank : ℕ → DroneState
 blank d = record { memory_id = 0; memory = replicate 4096 255; table = replicate 10 None; started = None }
 
-is_drone : (d : ℕ) → IsDrone (blank d)
+pub is_drone : (d : ℕ) → IsDrone (blank d)
 is_drone d = record { memory = length-replicate {A = ℕ} 4096 255; table = length-replicate {A = Option Def} 10 None }
 
 -- the write and the define are taken and answered
@@ -61,7 +61,7 @@ accepted t first second zero (suc zero) within below = second
 accepted t first second zero (suc (suc k)) within below = absurd (omega (arith, below))
 accepted t first second (suc d) k within below = absurd (omega (arith, within))
 
-no_hold : All HasDuration (hold 0 ∷ []) → ⊥
+pub no_hold : All HasDuration (hold 0 ∷ []) → ⊥
 no_hold all = let some = All-head HasDuration (hold 0) [] all in absurd (omega (arith, some))
 
 pub uploads : UploadRows

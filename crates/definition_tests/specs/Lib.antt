@@ -8,6 +8,7 @@ pub mod Stored
 pub mod Motion
 pub mod Begins
 pub mod Rights
+pub mod Pairs
 pub mod Joined
 pub mod Stands
 pub mod Forms
@@ -17,6 +18,7 @@ pub mod Regions
 pub mod Shows
 pub mod Meetings
 pub mod Headlines
+pub mod Wholes
 pub mod Shapes
 pub mod Ranges
 pub mod Items

@@ -1,11 +1,14 @@
 -- What the definitions of motion say of small flights.
-use Rattle.std.specs.Prelude.{◌≡◌, false, true, pos, [], ◌∷◌}
+use Rattle.std.specs.Prelude.{◌≡◌, ℕ, false, true, pos, List, [], ◌∷◌, Option, None, Some}
 use Rattle.traj_codec.specs.declared.traj.Element.TheVariants.{Constant, Cubic}
 use Rattle.traj_codec.specs.declared.traj.Traj.{Traj}
 use Rattle.sep_parts.specs.Apart.{MovesWithin}
 use Rattle.speed_bound.specs.Speed.{KeepsSpeed}
 use Rattle.dynamics_bound.specs.Accelerations.{KeepsAcceleration}
-use Rattle.dynamics_bound.specs.Edges.{HasVelocities, KeepsTangents, is_rest_at, jump}
+use Rattle.dynamics_bound.specs.Edges.{HasVelocities, IsGreatestJump, KeepsTangents, is_rest_at, jump}
+use Rattle.dynamics_bound.specs.Excesses.{IsWithinLimits}
+use Rattle.show_judge.specs.Shows.{sent_of}
+use Rattle.show_studies.specs.Dynamics.{KeepsDynamics, limits_of}
 use Rattle.definition_tests.specs.Flights.{flight}
 
 -- A millimetre a millisecond is a metre a second: 10^6 micrometres per second, and not one less. In 5 ms it is 5 mm.
@@ -39,3 +42,24 @@ pub record JumpRows : Type 0 where
   pub rests_not : is_rest_at parabola 1 ≡ false
   pub even_begins : jump (flight (pos 0) (pos 10)) 0 0 ≡ 1000000
   pub even_ends : jump (flight (pos 0) (pos 10)) 0 1 ≡ 1000000
+
+-- The greatest jump of the parabola is at its end, and not the one at its beginning, which is none. The even flight has
+-- two that are equal: the first of them counts.
+pub record GreatestRows : Type 0 where
+  pub at_the_end : IsGreatestJump parabola 0 (record { speed = pos 600000; segment = 1 })
+  pub not_the_least : IsGreatestJump parabola 0 (record { speed = pos 0; segment = 0 }) → ⊥
+  pub first : IsGreatestJump (flight (pos 0) (pos 10)) 0 (record { speed = pos 1000000; segment = 0 })
+  pub not_the_second : IsGreatestJump (flight (pos 0) (pos 10)) 0 (record { speed = pos 1000000; segment = 1 }) → ⊥
+
+-- A jump of a metre a second is within a limit of 1,000 mm/s, and not within one of 999. The parabola's jump at its
+-- end, 600 mm/s, is not within 599, and its acceleration, 60,000 mm/s^2, not within 59,999. `dynamics` promises of no
+-- show of such a drone that it keeps to 999 mm/s, nor of one of the parabola that it keeps to 59,999 mm/s^2.
+pub record WithinRows : Type 0 where
+  pub within : IsWithinLimits (limits_of None (Some 1000)) 0 (flight (pos 0) (pos 10))
+  pub jumps : IsWithinLimits (limits_of None (Some 999)) 0 (flight (pos 0) (pos 10)) → ⊥
+  pub last_jump : IsWithinLimits (limits_of None (Some 599)) 0 parabola → ⊥
+  pub sharp : IsWithinLimits (limits_of (Some 59999) None) 0 parabola → ⊥
+  pub keeps_jump : (input : List ℕ) (old new : Option (List ℕ)) (is : KeepsDynamics 0 None (Some 999) input old new) →
+      sent_of is.s ≡ flight (pos 0) (pos 10) ∷ [] → ⊥
+  pub keeps_acceleration : (input : List ℕ) (old new : Option (List ℕ))
+      (is : KeepsDynamics 0 (Some 59999) None input old new) → sent_of is.s ≡ parabola ∷ [] → ⊥

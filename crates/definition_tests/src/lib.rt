@@ -17,10 +17,11 @@ ghost use Rattle.definition_tests.specs.Grids.{CountRows, NamingRows};
 ghost use Rattle.definition_tests.specs.Headlines.{HeadlineRows, WrittenRows};
 ghost use Rattle.definition_tests.specs.Items.{ItemRows, SingleRows};
 ghost use Rattle.definition_tests.specs.Joined.{JoinedRows};
-ghost use Rattle.definition_tests.specs.Motion.{AccelerationRows, JumpRows, SpeedRows};
+ghost use Rattle.definition_tests.specs.Motion.{AccelerationRows, GreatestRows, JumpRows, SpeedRows, WithinRows};
 ghost use Rattle.definition_tests.specs.Halves.{HalfRows};
 ghost use Rattle.definition_tests.specs.Meetings.{ExplainRows, MeetRows};
 ghost use Rattle.definition_tests.specs.Near.{ShowRows};
+ghost use Rattle.definition_tests.specs.Pairs.{BothReadRows, PairRows, UploadsRows};
 ghost use Rattle.definition_tests.specs.Ranges.{NameRows, NumberRows, SettingRows};
 ghost use Rattle.definition_tests.specs.Regions.{RegionRows};
 ghost use Rattle.definition_tests.specs.Rights.{RightRows};
@@ -29,6 +30,7 @@ ghost use Rattle.definition_tests.specs.Shows.{CueRows, PlanRows, WholeRows};
 ghost use Rattle.definition_tests.specs.Stands.{StandsRows};
 ghost use Rattle.definition_tests.specs.Stored.{LandedRows, UploadRows};
 ghost use Rattle.definition_tests.specs.Texts.{BlockRows, LimitRows, TwiceRows};
+ghost use Rattle.definition_tests.specs.Wholes.{FlyAsOneRows};
 
 use choreo_reader::show_law;
 use sep_certificate::certificate_law;
@@ -139,6 +141,18 @@ pub fn jump_rows()
     ensures { JumpRows }
 {}
 
+/// A law. The greatest jump is the first of those that none exceeds.
+#[tactic(auto, using(crate::proofs::MotionRows::greatest))]
+pub fn greatest_rows()
+    ensures { GreatestRows }
+{}
+
+/// A law. A jump or an acceleration is within its own limit, and not within a lower one.
+#[tactic(auto, using(crate::proofs::MotionRows::within))]
+pub fn within_rows()
+    ensures { WithinRows }
+{}
+
 /// A law. A drone begins as often as it takes a start.
 #[tactic(auto, using(crate::proofs::BeginRows::begins))]
 pub fn begin_rows()
@@ -167,6 +181,26 @@ pub fn right_rows()
 #[tactic(auto, using(crate::proofs::UploadRows::uploads))]
 pub fn upload_rows()
     ensures { UploadRows }
+{}
+
+/// A law. A start to one drone says of the other that it carries its own trajectory; two that carry the same aren't
+/// stored.
+#[tactic(auto, using(crate::proofs::PairRows::pairs))]
+pub fn pair_rows()
+    ensures { PairRows }
+{}
+
+/// A law. A start to one drone, and the end of an upload, say of the other that its read was right.
+#[tactic(auto, using(crate::proofs::PairRows::both_read))]
+pub fn both_read_rows()
+    ensures { BothReadRows }
+{}
+
+/// A law. What is said of all uploads says so of the second drone, in each of its parts; in any order a read needn't be
+/// accepted.
+#[tactic(auto, using(crate::proofs::PairRows::uploads))]
+pub fn uploads_rows()
+    ensures { UploadsRows }
 {}
 
 /// A law. A start that came first, a byte outside, and a load that isn't there are not safe.
@@ -240,6 +274,12 @@ pub fn headline_rows()
 {
     uploads_law();
 }
+
+/// A law. Three texts fly as one only if each is that of a show whose drones don't touch.
+#[tactic(auto, using(crate::proofs::WholeRows::wholes))]
+pub fn fly_as_one_rows()
+    ensures { FlyAsOneRows }
+{}
 
 /// A law. A repeat without a block is not filled, wherever it stands, nor is a figure without one.
 #[tactic(auto, using(crate::proofs::ShapeRows::filled))]
