@@ -78,6 +78,19 @@ class Verdicts(Case):
         self.assertEqual((verdict.ok, verdict.line, verdict.fault, verdict.blocked), (False, "error 3 line 2 bad-number", 2, ()))
         self.assertIn("write whole numbers", verdict.cure)
 
+    def test_truth(self):
+        # `if check(text)` asks whether the show is accepted, and what is printed says why it isn't.
+        refused = hemtoghai.check(CROSSING)
+        self.assertEqual([bool(hemtoghai.check(CURED)), bool(refused), bool(hemtoghai.check("choreo 1\n"))],
+                         [True, False, False])
+        self.assertIn("status=5, line='error 5 pair a b cue 1 part", repr(refused))
+
+    def test_name_of_a_file(self):
+        with tempfile.NamedTemporaryFile(suffix=".choreo") as file:
+            self.assertIn("the name of a file", hemtoghai.check(file.name).cure)
+        self.assertNotIn("file", hemtoghai.check(file.name).cure)
+        self.assertNotIn("file", hemtoghai.check("choreo 3").cure)
+
     def test_cautions(self):
         text = "choreo 1\ndrone a 0 0 100000 0\ncue 1000\na line 1000000 0 -100000 0\nend\n"
         cautions = hemtoghai.check(text).cautions
@@ -234,6 +247,11 @@ class Package(unittest.TestCase):
             self.assertTrue(getattr(hemtoghai, name).__doc__)
         with self.assertRaises(AttributeError):
             getattr(hemtoghai, "nothing")
+
+    def test_version(self):
+        with open(os.path.join(common.TOP, "VERSION"), encoding="utf-8") as file:
+            self.assertEqual(hemtoghai.__version__, file.read().strip())
+        self.assertTrue(os.path.exists(os.path.join(common.TOP, "python", "hemtoghai", "py.typed")))
 
     def test_by_its_name(self):
         # Both ways to a command say the same.

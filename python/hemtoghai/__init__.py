@@ -23,6 +23,10 @@ __all__ = ["Blocked", "Caution", "DronePlan", "Plan", "Refused", "Unusable", "Ve
 
 
 def __getattr__(name: str) -> object:
+    if name == "__version__":
+        from hemtoghai.launching import records
+        version = globals()[name] = records.version()
+        return version
     if name not in __all__:
         raise AttributeError("module 'hemtoghai' has no attribute %r" % name)
     from hemtoghai import judging

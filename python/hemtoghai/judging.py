@@ -8,6 +8,7 @@ from __future__ import annotations
 
 import json
 import operator
+import os
 import re
 from collections.abc import Iterator, Mapping
 from dataclasses import dataclass, field
@@ -68,6 +69,13 @@ class Verdict:
     depth: int = DEPTH
     by: Optional[str] = field(default=None, compare=False)  # "library" or "process": which of the two answered
 
+    def __bool__(self) -> bool:
+        """Whether the show is accepted, so that `if hemtoghai.check(text):` asks what it seems to ask."""
+        return self.ok
+
+    def __repr__(self) -> str:
+        return f"Verdict(status={self.status}, line={self.line!r}, depth={self.depth}, by={self.by!r})"
+
     @property
     def ok(self) -> bool:
         """Whether the show is accepted."""
@@ -94,6 +102,8 @@ class Verdict:
         """In words, what a faulty line needs, or None."""
         if self.fault is None:
             return None
+        if is_path(self.text):
+            return "a show's text is wanted, and this is the name of a file: check(open(name).read())"
         line = b"".join(self.text.split(b"\n")[self.fault - 1:self.fault])
         row = cures.cure_of(self.line.split(" ")[4], line, choreo.form_of(self.text))
         return str(row[-1]) if row else None
@@ -112,6 +122,13 @@ class Verdict:
         """What is wrong, as values of JSON."""
         return {"status": self.status, "ok": self.ok, "line": self.line, "proved": self.proved, "depth": self.depth,
                 "fault": self.fault, "cure": self.cure, "blocked": [dict(vars(place)) for place in self.blocked]}
+
+
+def is_path(text: bytes) -> bool:
+    """Whether a text is the name of a file, which was given in place of what the file says."""
+    if b"\n" in text or not 0 < len(text) < 4096 or b"\0" in text:
+        return False
+    return os.path.isfile(text)
 
 
 class Refused(Exception):
