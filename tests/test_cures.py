@@ -47,7 +47,39 @@ class Range(unittest.TestCase):
     def test_others(self):
         """Where no number is found, and of other faults, it is the row of the table."""
         self.assertEqual(cures.cure_of("range", b"a b c"), cures.row_of("range"))
-        self.assertEqual(cures.cure_of("bad-count", b"stray 2000"), cures.row_of("bad-count"))
+        for word, line in (("bad-count", b"stray 2000"), ("bad-count", b"figure f"), ("bad-word", b"takeoff 1m"),
+                           ("bad-word", b"end"), ("header", b"drone a 0 0 0 0")):
+            self.assertEqual(cures.cure_of(word, line), cures.row_of(word))
+
+
+class Words(unittest.TestCase):
+    """Of a word too many or too few, and of a word that may not stand where it does: a line, words of the row."""
+
+    def says(self, word, *rows):
+        for line, *wanted in rows:
+            row = " | ".join(cures.cure_of(word, line))
+            for words in wanted:
+                self.assertIn(words, row, line)
+
+    def test_count(self):
+        self.says("bad-count",
+                  (b"a move 1000000 0 2000000", "`move` takes 4 words after it, and here are 3", "X Y Z YAW"),
+                  (b"a swing ccw 0 1000 1000 0 # round", "`swing` takes 4 words", "here are 5", "SENSE CX CY YAW"),
+                  (b"a turn", "`turn` takes 1 word after it, and here are 0"), (b"end it", "0 words", "here is 1", "no word"),
+                  (b"drone a 0 0 0", "`drone` takes 5 words", "NAME X Y Z YAW"), (b"ellipsoid 120", "R H"),
+                  (b"form f", "`form` takes 2 words", "NAME move"), (b"a curve 0 0 0 0", "`curve` takes 10 words"))
+
+    def test_word(self):
+        self.says("bad-word",
+                  (b"form f swing", "`form` takes `line` or `move`, not `swing`", "`NAME swing SENSE CX CY YAW`"),
+                  (b"form f hold", "`NAME hold`"),
+                  (b"a arc 90deg 0 1m 0", "the sense of `arc` is 90deg", "`arc ccw ..`", "`arc cw ..`"),
+                  (b"perform g left 0 0 0 0 a", "the mirror of `perform` is left", "`none`"))
+        self.assertIn("write one of the acts", cures.cure_of("bad-word", b"a swng ccw 0 0 0")[2])
+
+    def test_header(self):
+        self.says("header", (b"choreo 3", "the first line is `choreo 3`", "`choreo 2`"), (b"choreo", "`choreo`"))
+        self.assertLess(len(cures.cure_of("header", b"choreo " + b"9" * 5000)[0]), 80)
 
 
 class Shown(unittest.TestCase):
@@ -135,7 +167,7 @@ class Units(unittest.TestCase):
         for word in (b"1e6", b"1,000", b"x", b"9" * 5000 + b"m"):
             line = b"a move " + word + b" 0 0 0"
             self.assertEqual(cures.cure_of("bad-number", line, 1), cures.row_of("bad-number"))
-        self.assertEqual(cures.cure_of("bad-count", b"drone a 0 0 1 m 0", 1), cures.row_of("bad-count"))
+        self.assertEqual(cures.cure_of("bad-count", b"drone a 0 0 1 m 0", 1)[2], "write `drone` and then NAME X Y Z YAW")
 
     def test_form_of_the_text(self):
         """What ./show prints of a text goes by its first line with words."""

@@ -10,7 +10,7 @@ from collections.abc import Iterable, Iterator
 from fractions import Fraction
 from typing import List, Tuple
 
-from hemtoghai.language.choreo import ACTS, form_of, LINES, Number, number_of, YAW
+from hemtoghai.language.choreo import ACTS, ARCS, form_of, LINES, Number, number_of, YAW
 from hemtoghai.language.quantities import Counts, FAR, in_unit, KINDS, value_of, written
 from hemtoghai.program import TOP
 
@@ -186,6 +186,67 @@ def bare_row(name: str, slot: Number, counts: Counts, word: str, is_whole: bool)
     return [what, "", f"write {listed(fitting)}{meant}; `choreo 1` reads it as {first}"]
 
 
+# The words after an act, or after the first word of a line that has always as many.
+AFTER = {
+    **{act: "X Y Z YAW" for act in ("line", "move")}, "hold": "", "turn": "YAW", "curve": "X Y Z X Y Z X Y Z YAW",
+    **{act: "SENSE CX CY YAW" for act in ARCS}, "memory": "ID OFFSET", "trajectory": "ID", "ellipsoid": "R H",
+    "stray": "MM", "late": "MS", "drone": "NAME X Y Z YAW", "formation": "NAME", "at": "NAME X Y Z YAW", "cue": "TIME",
+    "repeat": "COUNT", "form": "NAME line, or NAME move", "end": "",
+}
+
+
+def words_of(line: bytes) -> list[str]:
+    """The words of a line without its comment."""
+    return line.partition(b"#")[0].decode("ascii", "replace").split()
+
+
+def named(words: str) -> str:
+    return words or "no word"
+
+
+def length_row(line: bytes) -> Row | None:
+    """The row of a line that has too many or too few words; None where it isn't known how many are wanted."""
+    words = words_of(line)
+    what, given = (words[1], words[2:]) if words[1:] and words[1] in ACTS else ("".join(words[:1]), words[1:])
+    if what not in AFTER or any(word.startswith("//") for word in words):  # which is no comment
+        return None
+    wanted = 2 if what == "form" else len(AFTER[what].split())
+    if len(given) == wanted:
+        return None
+    return [f"`{what}` takes {wanted} word{'s' * (wanted != 1)} after it, and here {'is' if len(given) == 1 else 'are'} "
+            f"{len(given)}", "", f"write `{what}` and then {named(AFTER[what])}"]
+
+
+def word_row(line: bytes) -> Row | None:
+    """The row of a fixed word that isn't one of those that may stand there; None where none is found."""
+    words = words_of(line)
+    if words[:1] == ["form"] and words[2:]:
+        act = words[2]
+        if act in ACTS and act not in LINES["form"][1]:
+            return [f"`form` takes `line` or `move`, not `{act}`", "", f"give each drone a line of its own, as "
+                    f"`NAME {act} {AFTER[act]}`".rstrip(" `") + "`"]
+    if words[1:2] and words[1] in ARCS and words[2:] and words[2] not in ("ccw", "cw"):
+        return [f"the sense of `{words[1]}` is {short_word(words[2])}", "",
+                f"write `{words[1]} ccw ..` for a turn counter-clockwise as seen from above, or `{words[1]} cw ..`"]
+    if words[:1] == ["perform"] and words[2:] and words[2] not in LINES["perform"][1]:
+        return [f"the mirror of `perform` is {short_word(words[2])}", "",
+                "write `none`, or `x` or `y` for the axis whose sign changes"]
+    return None
+
+
+def short_word(word: str) -> str:
+    return word if len(word) <= LONGEST_SHOWN else word[:LONGEST_SHOWN] + ".."
+
+
+def header_row(line: bytes) -> Row | None:
+    """The row of a first line that begins as a header does; None where it doesn't."""
+    words = words_of(line)
+    if words[:1] != ["choreo"]:
+        return None
+    return [f"the first line is `{short_word(' '.join(words))}`", "", "write `choreo 2` where numbers have units, and "
+            "`choreo 1` where they are whole: there is no other form"]
+
+
 def count_row(line: bytes) -> Row | None:
     """The row of a line that has a word too many, since a unit stands alone; None where none does."""
     found = re.search(rb"(?<!\S)(-?[0-9.]+)\s+(" + "|".join(KINDS).encode() + rb")(?!\S)", line.partition(b"#")[0])
@@ -205,8 +266,12 @@ def cure_of(word: str, line: bytes, form: int = 1) -> Row | None:
         row = range_row(line, form)
     elif word == "bad-number":
         row = number_row(line, form)
-    elif word == "bad-count" and form == 2:
-        row = count_row(line)
+    elif word == "bad-count":
+        row = (count_row(line) if form == 2 else None) or length_row(line)
+    elif word == "bad-word":
+        row = word_row(line)
+    elif word == "header":
+        row = header_row(line)
     return row or row_of(word)
 
 
