@@ -388,6 +388,8 @@ class Words(Processes):
             self.assertIn("\n## %s\n" % command, page)
         self.assertIn("\nD is 0 to 8\nMS is 1 to 60000\n", self.show("play", "--help")[1])
         self.assertIn("[SHOW [REGIONS]]", self.show("boxes", "--help")[1])
+        self.assertIn("\n--json ", self.show("check", "--help")[1])
+        self.assertNotIn("--json", self.show("drill", "--help")[1])
         self.assertEqual(self.calls(), [])
 
     def test_table(self):
@@ -426,6 +428,7 @@ class Words(Processes):
         for words, line in (
                 (("chek", "good"), "there is no command chek; did you mean check?"),
                 (("xyz",), "there is no command xyz; ./show --help lists them"),
+                (("--unproved", "why", "good"), "./show why is none of them: leave --unproved out"),
                 (("check", "--dept", "6", "good"), "check has no option --dept; did you mean --depth?"),
                 (("check", "--step", "6", "good"), "check has no option --step"),
                 (("upload", "--start=1", "good"), "upload has no option --start=1; did you mean --start?"),

@@ -23,6 +23,7 @@ from common import Folder, PROGRAM, TOP
 from hemtoghai import program
 from hemtoghai.language import choreo
 from hemtoghai.commands import release
+from hemtoghai.__main__ import COMMANDS
 from hemtoghai.launching import manual, words as commands
 
 PROVED = "logic=proved functions=3 axioms=1"
@@ -638,6 +639,8 @@ class Manual(unittest.TestCase):
         self.assertGreater(len(statuses), 25)
         for option in ("--depth D", "--step MS", "--start", "--readback", "--limit V", "--fine E"):
             self.assertIn("\n.TP\n\\fB%s\\fR\n" % option.replace("-", "\\-"), text)
+        for word in ("studio", "why", "import"):
+            self.assertIn("\n.TP\n.B %s\n" % word, text)
         if shutil.which("groff"):
             self.assertEqual(done(["groff", "-ww", "-man", "-Tascii", "-z"], TOP, input=text), (0, "", ""))
 
@@ -651,8 +654,11 @@ class Manual(unittest.TestCase):
 
     def test_completion(self):
         self.assertEqual(self.completed("./show", "")[:len(commands.FORMS)], list(commands.FORMS))
+        for word in (word for word in COMMANDS if "_" not in word):
+            self.assertIn(word, self.completed("./show", ""))
         for words, wanted in ((("sp",), ["speed"]), (("--un",), ["--unproved"]), (("--unproved", "dr"), ["drill"]),
                               (("--pr",), ["--proved"]), (("--proved", "dr"), ["drill"]),
+                              (("stu",), ["studio"]), (("why", "--"), ["--json", "--help"]),
                               (("check", "--d"), ["--depth"]), (("check", "examples/so"), ["examples/solo.choreo"]),
                               (("check", "--depth", ""), list("012345678")),
                               (("explain", "--fine", ""), list("012345")),

@@ -7,12 +7,21 @@ import os
 import sys
 
 from hemtoghai import program, texts
-from hemtoghai.__main__ import COMMANDS
+from hemtoghai.__main__ import COMMANDS, WITH_JSON
 from hemtoghai.launching import running, words as commands
 from hemtoghai.launching.launcher import file_for, file_if_current, say
 from hemtoghai.program import COMMAND
 
-USAGE = """usage: ./show COMMAND [OPTIONS] [FILE]
+USAGE = """Begin here:
+       ./show studio SHOW             write a show in the browser, with the proof while you type
+       ./show check SHOW              do the drones keep apart at every instant?
+       ./show why SHOW                where not, and what helps
+       ./show picture SHOW > F.html   see it; ./show summary SHOW: its numbers
+       ./show compile SHOW > PLAN     each drone's trajectory and packets
+       ./show fly --simulate SHOW     fly it without drones
+The first show in ten minutes: docs/STUDIO.md, or docs/WRITING.md with an editor.
+
+usage: ./show COMMAND [OPTIONS] [FILE]
        ./show verify SHOW CERTIFICATE
        ./show rehearse SHOW SCHEDULE
        ./show boxes SHOW REGIONS
@@ -75,6 +84,8 @@ def usage_of(command: str) -> str:
     numbers = [commands.number_of(command), *commands.options_of(command).values()]
     lines += ["%s is %d to %d" % (name, *commands.NUMBERS[name])
               for name in dict.fromkeys(numbers) if name and not commands.choices_of(name)]
+    if command in WITH_JSON:
+        lines.append("--json writes the answer as values: docs/TOOLS.md")
     return "\n".join(lines) + "\nMore: docs/COMMANDS.md#%s\n" % command
 
 

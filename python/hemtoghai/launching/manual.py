@@ -11,7 +11,9 @@ import re
 import sys
 
 from hemtoghai.companion import parser
+from hemtoghai.__main__ import WITH_JSON
 from hemtoghai.launching import records, words as commands
+from hemtoghai.launching.help import PURPOSES as OTHERS
 
 COMPLETION = """# Completion of ./show for Bash: . show.bash
 _show() {
@@ -34,7 +36,7 @@ _show() {
     mapfile -t COMPREPLY < <(compgen -f -- "$word")
   fi
 }
-complete -o filenames -F _show show ./show
+complete -o filenames -F _show show ./show hemtoghai
 """
 
 
@@ -43,7 +45,8 @@ def completion() -> str:
     options, choices, numbers = [], [], {}
     for command in commands.FORMS:
         known = commands.options_of(command)
-        options.append("  %s) options='%s' ;;" % (command, " ".join([*known, "--help"])))
+        json = ["--json"] if command in WITH_JSON else []
+        options.append("  %s) options='%s' ;;" % (command, " ".join([*known, *json, "--help"])))
         for option, number in known.items():
             if number and commands.choices_of(number):
                 choices.append((option, commands.choices_of(number)))
@@ -52,7 +55,10 @@ def completion() -> str:
                 numbers[option] = [str(k) for k in range(low, high + 1)]
     few = ["  %s) mapfile -t COMPREPLY < <(compgen -W '%s' -- \"$word\"); return ;;" % (option, " ".join(words))
            for option, words in [*choices, *sorted(numbers.items())]]
-    return COMPLETION % (" ".join(commands.FORMS), "\n".join(options), "\n".join(few))
+    for word in OTHERS:
+        json = ["--json"] if word in WITH_JSON else []
+        options.append("  %s) options='%s' ;;" % (word, " ".join([*json, "--help"])))
+    return COMPLETION % (" ".join([*commands.FORMS, *OTHERS]), "\n".join(options), "\n".join(few))
 
 
 def roff(text: str) -> str:
@@ -74,6 +80,9 @@ def page(version: str) -> str:
         out += [".TP", ".B " + roff(form), roff(what[0].upper() + what[1:]) + "."]
         if second:
             out.append("Link frames follow the show." if second == "frames" else "The second part: %s." % second)
+    out.append(".SH OTHER COMMANDS")
+    for word, what in OTHERS.items():
+        out += [".TP", ".B " + word, roff(what[0].upper() + what[1:]) + "."]
     out += [".SH OPTIONS", "Options may stand before and behind the files."]
     for option, number, without in commands.table(commands.page, "| Option | Number | Without it |"):
         out += [".TP", roff(option), "%s. Without it: %s." % (roff(number[0].upper() + number[1:]), roff(without))]
