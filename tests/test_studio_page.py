@@ -103,6 +103,13 @@ class Browser:
         """Types into an element, at its cursor, key by key."""
         self.ask("POST", self.element(css) + "/value", {"text": words})
 
+    def keys(self, words, *held):
+        """Presses keys wherever the focus is, while others are held."""
+        acts = [{"type": "keyDown", "value": key} for key in held]
+        acts += [{"type": kind, "value": key} for key in words for kind in ("keyDown", "keyUp")]
+        acts += [{"type": "keyUp", "value": key} for key in held]
+        self.ask("POST", "/actions", {"actions": [{"type": "key", "id": "keys", "actions": acts}]})
+
     def drag(self, begin, end, kind="mouse"):
         """Presses the mouse at a point of the page, moves it in steps, and lets it go; a click where both are the same.
         The same with a finger, whose kind is `touch`."""
@@ -319,9 +326,8 @@ class Page(Led):
                          "const at = {clientX: box.left + 60, clientY: box.top + 50, bubbles: true};"
                          "document.getElementById('heights').dispatchEvent(new PointerEvent('pointerdown', at));"
                          "document.getElementById('heights').dispatchEvent(new MouseEvent('click', at))")
-        chosen = self.browser.run("const it = document.getElementById('text');"
-                                  "return it.value.slice(it.selectionStart, it.selectionEnd)")
-        self.assertEqual(chosen, "cue 2000\na move 0 1000000 1000000 0\nend")
+        cursor = self.browser.run("const it = document.getElementById('text'); return [it.selectionStart, it.selectionEnd]")
+        self.assertEqual(cursor, 2 * [GOOD.index("cue 2000")])  # nothing is selected
 
     def test_cure(self):
         studio = self.open(NEAR)

@@ -255,15 +255,17 @@ class Window(page.Led):
         self.assertEqual(self.browser.faults(), [])
 
     def test_timeline(self):
-        """A click into the timeline selects the lines of its cue, far away in the text."""
+        """A click into the timeline puts the cursor before its cue, far away in the text, and selects nothing."""
         self.begin()
         self.wait(lambda: self.browser.run("return Boolean(found.notes)"), "no notes")
         for share, first, words in ((0.95, 3007, "cue 1000\nb hold\nend"), (0.2, 1504, "\n".join(CUES))):
             self.browser.run("move(arguments[0] * flight.end); onPick(now)", share)
-            self.assertEqual(self.selected(), [words, words])
+            self.assertEqual(self.selected(), ["", ""])
+            self.assertEqual(self.browser.run("return wholeText().slice(head, head + arguments[0])", len(words)), words)
             self.is_drawn(first)
+        self.browser.run("field.focus()")
         self.browser.type("# x" + NULL)
-        self.assertEqual(self.text(), TEXT.replace("\n".join(CUES), "# x"))
+        self.assertEqual(self.text(), TEXT.replace("\n".join(CUES), "# x" + "\n".join(CUES)))
 
     def test_find(self):
         """Words are found in the whole text: how many there are, the next, the one before, and from the end anew."""

@@ -37,9 +37,9 @@ move = ms => {
     drawPaper();
   }
 };
+// A click into a chart puts the cursor before the cue. The lines that an older text had stand elsewhere in this one.
 onPick = ms => {
-  const own = flight.lines[cueAt(ms)][0];
-  showLines(own[0], own[1], true);
+  if (flightVersion === version && flight.lines) pointAt(...flight.lines[cueAt(ms)][0]);
 };
 onDrone = pickDrone;
 if (!given.watch) onStretch = stretchCue;
@@ -62,7 +62,7 @@ const watcher = new ResizeObserver(entries => {
 for (const id of ["room", "editor"]) watcher.observe(byId(id));
 // The cues that the line of the cursor stands for, those first in which it is an own line.
 function cuesAt(line) {
-  if (!flight || !flight.lines) return [];
+  if (!flight || !flight.lines || flightLines !== lines.length) return [];
   const within = ([from, to]) => from <= line && line <= to;
   const own = [], other = [];
   flight.lines.forEach((rows, k) => { if (within(rows[0])) own.push(k); else if (rows.some(within)) other.push(k); });
@@ -179,6 +179,11 @@ function bindButtons() {
   byId("follow").onchange = onCursor;
   // The mouse leaves the keys to the text there.
   for (const id of ["to-cue", "follows"]) byId(id).addEventListener("mousedown", event => event.preventDefault());
+  // After a click Space plays; who came to a button by keys presses it by Space.
+  for (const id of ["flight", "verdict", "found"]) byId(id).addEventListener("click", event => {
+    const button = event.target.closest("button, input[type=checkbox]");
+    if (event.detail && button) button.blur();
+  });
   const middle = () => [byId("space").clientWidth / 2, byId("space").clientHeight / 2];
   byId("nearer").onclick = () => { if (flight) zoomBy(1.25, middle()); };
   byId("farther").onclick = () => { if (flight) zoomBy(0.8, middle()); };

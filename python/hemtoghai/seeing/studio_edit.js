@@ -330,9 +330,9 @@ function stretchCue(cue, milliseconds) {
   const number = numberAt(line, words[1].at), length = Math.max(1, Math.min(65535, Math.round(milliseconds)));
   if (!number || length === number.value) return;
   const value = numberWord("ms", length);
-  writeText(number.from, number.to, value);
+  writeAside(number.from, number.to, value);
   scrollToLines(line, line);
-  select(number.from, number.from + value.length);
+  select(number.from, number.from);
   showNumber(true);
 }
 

@@ -119,13 +119,16 @@ function scrollToLines(first, last) {
   holdView();
   drawPaper();
 }
-// Shows lines of the text, and selects them from the first to the last where that is wanted.
-function showLines(first, last, isSelected) {
+// Shows lines of the text, with the cursor before the first. None is selected: the next key would write over it.
+function pointAt(first, last) {
   if (given.watch) return;
-  const from = offsetOf(first), to = isSelected ? offsetOf(last) + (lines[last - 1] || "").length : from;
   scrollToLines(first, last);
-  field.focus({preventScroll: true});
-  select(from, to);
+  select(offsetOf(first), offsetOf(first));
+}
+// The same, and the next key is typed there.
+function showLines(first, last) {
+  pointAt(first, last);
+  if (!given.watch) field.focus({preventScroll: true});
 }
 
 // ---- changes
@@ -156,8 +159,12 @@ function onInput() {
 }
 // Writes words in place of a part of the text; it can be undone.
 function writeText(from, to, words) {
-  edit(from, to, words.replace(/\r\n?/g, "\n"), false);
   field.focus({preventScroll: true});
+  writeAside(from, to, words);
+}
+// The same, and the keys stay where they are.
+function writeAside(from, to, words) {
+  edit(from, to, words.replace(/\r\n?/g, "\n"), false);
   afterWriting();
 }
 function afterWriting() {

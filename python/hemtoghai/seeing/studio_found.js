@@ -191,7 +191,7 @@ function showMark(mark, go) {
   stop();
   now = mark.nearest;
   draw();
-  showLines(mark.lines[0], mark.lines[0], false);
+  pointAt(mark.lines[0], mark.lines[0]);
 }
 // Says where the flight that is drawn isn't that of the text.
 function showAge() {
@@ -247,7 +247,7 @@ function showFault(verdict, by) {
   const {line, word, row} = verdict.fault, value = verdict.line.match(/out-of-range (\S+) (-?\d+)/);
   const more = value ? ` (${value[1]} ${grouped(value[2])})` : "";
   setBar("bad", `line ${line}: ${word}${more}`, [plain(row ? row[0] : ""), verdict.judge === "check" ? "" : by],
-    () => showLines(line, line, true));
+    () => showLines(line, line));
 }
 // What the program's `explain` says of these two in this cue, where it found an instant at which they touch.
 function touchOf(mark) {
@@ -333,7 +333,7 @@ function goButton(words, parent, work) {
 function goFault(fault) {
   stop();
   if (fault.cue !== null) move(flight.cues[fault.cue][0]);
-  showLines(fault.line, fault.line, true);
+  showLines(fault.line, fault.line);
 }
 const greatestBy = (rows, key) => rows.reduce((best, row) => row[key] > best[key] ? row : best);
 function listNotes(notes, panel, open) {

@@ -35,9 +35,33 @@ function afterChange() {
   findSoon();
   judgeSoon();
 }
+const STEP = 100;  // milliseconds by which an arrow moves the slider; ten times as many with Shift
+// What takes keys itself: with the focus there Space and the arrows have another meaning.
+const TAKES_KEYS = "textarea, select, button, summary, input:not([type=range])";
+// What a key does to the flight, or null: Space plays and stops, the arrows step; Ctrl-Enter plays from the text, too.
+function flyingOfKey(event) {
+  const {key, shiftKey} = event, command = event.ctrlKey || event.metaKey, by = shiftKey ? 10 * STEP : STEP;
+  if (!flight || event.altKey || byId("offer").open) return null;
+  if (command) return key === "Enter" ? playOrStop : null;
+  if (event.target.closest && event.target.closest(TAKES_KEYS)) return null;
+  const step = {ArrowLeft: -by, ArrowRight: by, Home: -Infinity, End: Infinity}[key];
+  if (step) return () => { stop(); move(now + step); };
+  return key === " " ? playOrStop : null;
+}
+// Undo reaches the text also from the flight, in which a cue can be dragged.
+function undoOfKey(event) {
+  const low = event.key.toLowerCase();
+  if (given.watch || !(event.ctrlKey || event.metaKey) || event.altKey || byId("offer").open) return null;
+  if (event.target === field || event.target.closest && event.target.closest("input:not([type=range])")) return null;
+  return low === "z" ? event.shiftKey ? redo : undo : low === "y" && !isMac ? redo : null;
+}
 function onKey(event) {
   const command = event.ctrlKey || event.metaKey, isHere = event.target.closest && event.target.closest("#editor");
-  if (command && event.key === "s") {
+  const work = flyingOfKey(event) || undoOfKey(event);
+  if (work) {
+    event.preventDefault();
+    work();
+  } else if (command && event.key === "s") {
     event.preventDefault();
     save(false);
   } else if (isHere && command && event.key === "f") {

@@ -683,15 +683,17 @@ function stop() {
   before = null;
   byId("go").textContent = "Play";
 }
+function playOrStop() {
+  if (before !== null) return stop();
+  if (now >= flight.end) now = 0;
+  byId("go").textContent = "Pause";
+  requestAnimationFrame(stamp => { before = stamp; play(stamp); });
+  before = performance.now();
+  return null;
+}
 // Binds the controls of the page; it is called once.
 function buildControls() {
-  byId("go").onclick = () => {
-    if (before !== null) return stop();
-    if (now >= flight.end) now = 0;
-    byId("go").textContent = "Pause";
-    requestAnimationFrame(stamp => { before = stamp; play(stamp); });
-    before = performance.now();
-  };
+  byId("go").onclick = playOrStop;
   for (const speed of [0.1, 0.25, 0.5, 1, 2, 4, 8]) {
     const it = element("option", `${speed}`, byId("speed"));
     it.value = speed;
