@@ -1,12 +1,16 @@
 """The flight of the page of ./show studio in Chromium: what a click, a drag and a key do there, and what is drawn."""
+import hashlib
+import json
 import os
+import re
 import sys
-import time
+import tempfile
 import unittest
 
 sys.dont_write_bytecode = True
 sys.path.insert(0, os.path.dirname(os.path.abspath(__file__)))
-from test_studio import GOOD, NEAR
+from common import wants_program
+from test_studio import GOOD, NEAR, PROGRAM
 from test_studio_page import CONTROL, Led
 
 LEFT, RIGHT, ENTER, SHIFT, END = "\uE012", "\uE014", "\uE007", "\uE008", "\uE010"
@@ -132,6 +136,99 @@ class Keys(Flight):
         self.browser.keys("z", CONTROL)
         self.assertEqual(self.text(), GOOD)
         self.assertEqual(self.browser.faults(), [])
+
+
+REGIONS = "volume -1000 -1000 300 2500 2500 2500\nkeepout 800 600 0 1200 1400 1500\n"
+SHELF = "choreo 1\nellipsoid 120 300\ndrone solo 0 1000000 1000000 0\ncue 3000\n" \
+        "solo move 2000000 1000000 %d 0\nend\ncue 1000\nend\n"
+JUMP = "choreo 1\ndrone a 0 0 1000000 0\ncue 100\na line 5000000 0 1000000 0\nend\n"  # at once 50 m/s
+
+
+@wants_program
+class Bar(Flight):
+    """What the bar says of an accepted show that breaks what else was asked. The program is one with a record, so that
+    the bar could be green."""
+
+    def setUp(self):
+        folder = tempfile.TemporaryDirectory()
+        self.addCleanup(folder.cleanup)
+        self.folder, self.program = folder.name, PROGRAM
+        self.regions = os.path.join(self.folder, "of.regions")
+        with open(self.regions, "w") as file:
+            file.write(REGIONS)
+
+    def colour(self):
+        """The class of the bar: good, care, bad or nothing."""
+        return self.browser.run("return document.getElementById('verdict').className.replace(' goes', '')")
+
+    def green_seen(self):
+        """Notes from here on whether the bar was ever green; the name of what notes it."""
+        self.browser.run("window.wasGreen = false; const bar = document.getElementById('verdict'); new MutationObserver(() =>"
+                         "{ wasGreen ||= bar.classList.contains('good'); }).observe(bar, {attributes: true})")
+
+    def test_keepout(self):
+        """A show whose drone flies through a box is never called proved in green. The bar names the region, the drone and
+        the line, a click goes there, and the box is red in space."""
+        self.open(SHELF % 1000000, "--regions", self.regions)
+        self.green_seen()
+        self.says("NOT OUT OF REGION 2: solo in cue 1")
+        self.assertEqual(self.colour(), "bad")
+        # The drone is at 800 - 120 mm, where the box widened by its ellipsoid begins, after 1.2 to 1.3 s (35 s^4 - ..).
+        began = float(re.search(r"at ([0-9.]+) s, line 5", self.verdict())[1])
+        self.assertTrue(1.2 < began < 1.35, began)
+        self.browser.click("#verdict")
+        self.assertAlmostEqual(self.at() / 1000, began, delta=0.05)
+        self.assertEqual(self.browser.run("return cursorLine()"), 5)
+        self.assertEqual(self.browser.run("return [...document.querySelectorAll('#paper .pair .number')].map(it => it.innerText)"),
+                         ["5"])
+        self.assertGreater(self.red(), 200)
+        self.assertIn("region 2: solo in cue 1 may reach into it", self.words("found"))
+        self.assertFalse(self.browser.run("return wasGreen"))
+        # Over the shelf it is green, once the regions are judged, and nothing is red.
+        self.browser.run("replaceText(arguments[0])", (SHELF % 1000000).replace(
+            "solo 0 1000000 1000000", "solo 0 1000000 2000000").replace("2000000 1000000 1000000", "2000000 1000000 2000000"))
+        self.says("PROVED: one drone")
+        self.wait(lambda: self.colour() == "good", "not green")
+        self.assertEqual(self.red(), 0)
+        self.assertEqual(self.browser.faults(), [])
+
+    def test_room(self):
+        """A drone that leaves the room."""
+        self.open(SHELF % 2400000, "--regions", self.regions)
+        self.says("NOT INSIDE REGION 1: solo in cue 1")
+        self.assertEqual(self.colour(), "bad")
+        self.assertIn("may reach out of it", self.verdict())
+
+    def test_unjudged(self):
+        """Regions that the program says nothing of aren't called kept."""
+        program = os.path.join(self.folder, "program")
+        with open(program, "w") as file:
+            file.write("#!/bin/sh\ncat > /dev/null\n[ $1 = check ] || exit 70\necho ok drones 1 cues 2 duration_ms 4000\n")
+        os.chmod(program, 0o755)
+        with open(program, "rb") as file:
+            digest = hashlib.sha256(file.read()).hexdigest()
+        with open(program + ".built", "w") as file:
+            json.dump({"sha256": digest, "rests_on": "logic=proved of a test"}, file)
+        self.open(SHELF % 1000000, "--regions", self.regions, "--program", program)
+        self.green_seen()
+        self.says("PROVED, but the regions aren't judged")
+        self.assertEqual((self.colour(), self.browser.run("return wasGreen")), ("care", False))
+
+    def test_no_drone_flies_it(self):
+        """A show that no drone can fly isn't green either; a click goes to its line."""
+        self.open(JUMP)
+        self.says("PROVED, but no drone can fly it")
+        self.assertEqual(self.colour(), "care")
+        self.browser.click("#verdict")
+        self.assertEqual(self.browser.run("return cursorLine()"), 3)
+
+    def red(self):
+        """How many pixels of the view in space are of the red in which a broken region is drawn."""
+        return self.browser.run(
+            "const it = document.getElementById('space'), pen = it.getContext('2d');"
+            "const {data} = pen.getImageData(0, 0, it.width, it.height); let many = 0;"
+            "for (let k = 0; k < data.length; k += 4) if (data[k] > 190 && data[k + 1] < 40 && data[k + 2] < 40) many += 1;"
+            "return many")
 
 
 if __name__ == "__main__":

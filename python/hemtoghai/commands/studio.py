@@ -130,7 +130,7 @@ class Studio:
     def page(self, nonce: str) -> bytes:
         """The page, with what it has to know at first."""
         given = {"name": self.file.name, "watch": self.watch, "most": choreo.LONGEST_TEXT, "depth": self.depth,
-                 "language": words_of_language()}
+                 "regions": bool(self.regions), "language": words_of_language()}
         page = read_file(os.path.join(FOLDER, "studio.html")).decode()
         for mark, name in PARTS.items():
             page = page.replace(mark, read_file(os.path.join(FOLDER, name)).decode())

@@ -118,6 +118,12 @@ async function take(stage) {
     if (mine !== version) return;
   }
   if (stage.stage === "lines") markLines();
+  if (stage.stage === "regions" && stage.fault && flight) {
+    broken = stage.fault;
+    markLines();
+    await drawInParts();
+    if (mine !== version) return;
+  }
   if (stage.stage === "marks" && flight) {
     await takeMarks(stage);
     if (mine !== version) return;
@@ -229,19 +235,47 @@ function showVerdict() {
   if (/too-large/.test(verdict.line)) return setBar("bad", "TOO LARGE: a show has at most 1,048,576 bytes", by);
   return setBar("", `NO ANSWER: ${verdict.line || `status ${verdict.status}`}`, by);
 }
+// An accepted show is green only where all is kept that was asked for: the regions, and what drones can fly.
 function showAccepted(verdict, by) {
   const [, names, cues, ms] = verdict.line.match(/drones (\d+) cues (\d+) duration_ms (\d+)/).map(Number);
   const size = `${many(names, "drone")}, ${many(cues, "cue")}, ${inSeconds(ms)}`;
-  const fault = found.notes && found.notes.faults[0], but = fault ? `but ${fault.words}` : "";
-  const go = fault && fault.line ? () => goFault(fault) : null;
-  if (verdict.proved && verdict.judge === "check") {
-    const words = names > 1 ? "PROVED APART at every instant" : "PROVED: one drone, near its text at every instant";
-    setBar("good", words, [`${size} · ${by}`, but], go);
-  } else {
-    const words = verdict.judge === "check" ? "NOT PROVED, but accepted" : "NOT PROVED, but no fault was found";
-    setBar("care", words, [size, by.replace("NOT PROVED: ", ""), but], go);
+  const isProved = verdict.proved && verdict.judge === "check";
+  const proved = names > 1 ? "PROVED APART at every instant" : "PROVED: one drone, near its text at every instant";
+  const other = verdict.judge === "check" ? "NOT PROVED, but accepted" : "NOT PROVED, but no fault was found";
+  const accepted = isProved ? proved : other;
+  const rest = isProved ? [`${size} · ${by}`] : [size, by.replace("NOT PROVED: ", "")];
+  if (regionFault()) {
+    return showRegion(regionFault(), [names > 1 && isProved ? "apart from each other: proved" : "", ...rest]);
   }
-  if (but) byId("verdict").lastChild.className = "care";
+  const fault = found.notes && found.notes.faults[0], wait = given.regions && !found.regions && !found.halted;
+  if (fault) {
+    setBar("care", isProved ? "PROVED, but no drone can fly it" : accepted, [`but ${fault.words}`, ...rest],
+      fault.line ? () => goFault(fault) : null);
+    byId("verdict").children[1].className = "care";
+  } else if (given.regions && !wait && !/^kept /.test((found.regions || {}).line || "")) {
+    setBar("care", accepted.replace(/^PROVED.*/, "PROVED, but the regions aren't judged"), rest);
+  } else {
+    setBar(!isProved ? "care" : wait ? "" : "good", accepted, [wait ? "the regions are being judged" : "", ...rest]);
+  }
+  return null;
+}
+// The place at which a region isn't kept, where the flight that is drawn is that of the text.
+const regionFault = () => found.regions && found.regions.fault && flight && flightVersion === version ?
+  found.regions.fault : null;
+const regionWords = fault => flight.regions[fault.region][0] === "volume" ? "may reach out of it" : "may reach into it";
+function showRegion(fault, rest) {
+  const isRoom = flight.regions[fault.region][0] === "volume", name = flight.names[fault.drone];
+  setBar("bad", `${isRoom ? "NOT INSIDE" : "NOT OUT OF"} REGION ${fault.region + 1}: ${name} in cue ${fault.cue + 1}`,
+    [`at ${inSeconds(Math.round(fault.from))}, line${fault.lines.length > 1 ? "s" : ""} ${fault.lines.join(", ")}: ` +
+      `its ellipsoid ${regionWords(fault)} (boxes)`, ...rest], () => goRegion(fault));
+}
+function goRegion(fault) {
+  stop();
+  [chosen, isChosenByMark] = [new Set([fault.drone]), true];
+  now = Math.round((fault.from + fault.to) / 2);
+  press();
+  draw();
+  pointAt(fault.lines[0], fault.lines[0]);
 }
 function showFault(verdict, by) {
   const {line, word, row} = verdict.fault, value = verdict.line.match(/out-of-range (\S+) (-?\d+)/);
@@ -351,7 +385,12 @@ function listNotes(notes, panel, open) {
     else goButton(fault.words, entry, () => goFault(fault));
   }
   const {regions} = found;
-  if (regions) add("regions", regions.line || "not judged: the program isn't built", !/^kept/.test(regions.line));
+  if (regions && regionFault()) {
+    const {fault} = regions, words = `${flight.names[fault.drone]} in cue ${fault.cue + 1} ${regionWords(fault)}`;
+    goButton(`region ${fault.region + 1}: ${words}`, add("regions", "", true), () => goRegion(fault));
+  } else if (regions) {
+    add("regions", regions.line || "not judged: the program isn't built", !/^kept/.test(regions.line));
+  }
   listMotion(notes, add);
   const full = notes.drones.reduce((best, row) => row.left < best.left ? row : best);
   add("memory", `least left: ${grouped(full.left)} of ${grouped(notes.room)} bytes (${full.name})`, full.left < 0);

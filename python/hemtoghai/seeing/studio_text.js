@@ -16,6 +16,7 @@ function markLines() {
   const fault = found.verdict && found.verdict.fault;
   for (const number of pickedLines()) marked.set(number, {kind: "own"});
   for (const number of shown ? shown.lines : []) marked.set(number, {kind: "pair"});
+  for (const number of regionFault() ? regionFault().lines : []) marked.set(number, {kind: "pair"});
   if (fault) marked.set(fault.line, {kind: "fault", say: fault.word === "marker" ? "a marker line" : fault.word});
   drawPaper();
 }

@@ -7,7 +7,7 @@ Standard input has a line of JSON and then the show's text. The line has the pat
 the page `want`s: "places", with a `line`, is what stands around that line (seeing/studio_places.py); "flight", with the
 status and the words of `check` as `answer`, or null where the tools are to judge, is all the rest. Each line of
 standard output is a stage in JSON, as soon as it is known: `verdict` where the tools judged, `flight`, `explained` of a
-show that is refused for nearness, `lines`, `notes`, `regions` where there is a file of them for `boxes`, `marks` of a
+show that is refused for nearness, `regions` where there is a file of them for `boxes`, `lines`, `notes`, `marks` of a
 show that is refused for nearness, several times until all are found, `margin` of one that is accepted. It is trusted
 for nothing: only what the program says is proved.
 """
@@ -62,11 +62,15 @@ def drone_lines(flown: choreo.Flown) -> dict[str, object]:
             "acts": [[cue.places.get(name, 0) for cue in flown.cues] for name in flown.names]}
 
 
-def with_lines(flown: choreo.Flown, mark: Mark) -> Mark:
-    """A mark with the lines by which both drones fly: their acts, or the `form` line and their places."""
-    cue, names = flown.cues[mark["cue"]], [flown.names[k] for k in mark["pair"]]
+def lines_of(flown: choreo.Flown, cue: choreo.Cue, names: list[str]) -> list[int]:
+    """The lines by which drones fly in a cue: their acts, or the `form` line and their places; else that of the cue."""
     lines = {number for name in names if name in cue.acts for number in (cue.acts[name][0], cue.places[name])}
-    return {**mark, "lines": sorted(lines or {cue.number})}
+    return sorted(lines or {cue.number})
+
+
+def with_lines(flown: choreo.Flown, mark: Mark) -> Mark:
+    """A mark with the lines by which both drones fly."""
+    return {**mark, "lines": lines_of(flown, flown.cues[mark["cue"]], [flown.names[k] for k in mark["pair"]])}
 
 
 def put_marks(flown: choreo.Flown, deep: int) -> None:
@@ -102,6 +106,21 @@ def explained(flown: choreo.Flown, text: bytes, program: str, deep: int) -> dict
                 "at": begins(flown)[cue] + flown.cues[cue].milliseconds * at / parts}
     looked = re.search(r"^no-touch instants (\d+)$", answer[1], re.M)
     return {"pair": None, "instants": int(looked[1])} if looked else None
+
+
+def regions_said(flown: choreo.Flown, text: bytes, program: str, path: str, deep: int) -> dict[str, object]:
+    """What the program's `boxes` says of the regions, and of a refusal the region and the drone by number, the cue, the
+    part of it in milliseconds, and the lines by which the drone flies there."""
+    said = boxes_said(program, text, path, deep)
+    found = re.fullmatch(r"error 15 region (\d+) drone (\S+) cue (\d+) part (\d+) of (\d+)", said)
+    if not found:
+        return {"line": said, "fault": None}
+    region, cue, part, parts = (int(found[k]) for k in (1, 3, 4, 5))
+    begin, flies = begins(flown)[cue - 1], flown.cues[cue - 1]
+    return {"line": said, "fault": {
+        "region": region - 1, "drone": flown.names.index(found[2]), "cue": cue - 1,
+        "from": begin + flies.milliseconds * part / parts, "to": begin + flies.milliseconds * (part + 1) / parts,
+        "lines": lines_of(flown, flies, [found[2]])}}
 
 
 def faults_of(flown: choreo.Flown, text: bytes, program: str) -> Iterator[dict[str, object]]:
@@ -149,10 +168,10 @@ def put_flight(text: bytes, deep: int, program: str, answer: list[Any] | None, p
                           "marks": [first] if first else []})
     if status == 5:
         put("explained", touch=explained(flown, text, program, deep))
+    if path:
+        put("regions", **regions_said(flown, text, program, path, deep))
     put("lines", **drone_lines(flown))
     put("notes", **notes_of(flown, text, program))
-    if path:
-        put("regions", line=boxes_said(program, text, path, deep))
     if status == 5:
         put_marks(flown, deep)
     if status == 0 and len(flown.names) > 1:

@@ -10,11 +10,12 @@ let chartEdges = {};  // by the id of a chart the room above and below it; witho
 let spaceHeight = null;  // a page's own height of the view in space, by its width
 let onPick = null;  // what a page does with a click into a chart
 let onDrone = null;  // what a page does with a click in space: it is given the drone's number, or null beside all
+let broken = null;  // the region that isn't kept: its number, the drone, and from when to when
 let onStretch = null;  // what a page does where the end of a cue is dragged: it is given the cue and its milliseconds
 const byId = id => document.getElementById(id);
 // Takes another flight; the page draws it then.
 function setFlight(data) {
-  flight = data;
+  [flight, broken] = [data, null];
   last = flight.times.length - 1;
   drones = flight.names.length;
   unit = flight.end >= 600000 ? "min:s" : "s";
@@ -247,14 +248,15 @@ function drawHeightAxis(step) {
 const add = ([x, y], [dx, dy]) => [x + dx, y + dy];
 function drawRegions() {
   const {pen, to} = view;
-  for (const [kind, ...box] of ROOM.regions) {
+  for (const [k, [kind, ...box]] of ROOM.regions.entries()) {
     const points = corners(box.slice(0, 3), box.slice(3)).map(to), inside = kind === "volume";
-    pen.strokeStyle = inside ? "#3a7d3a" : "#8a5a00";
-    pen.lineWidth = 1.4;
+    const isBroken = broken !== null && broken.region === k;
+    pen.strokeStyle = isBroken ? "#d00000" : inside ? "#3a7d3a" : "#8a5a00";
+    pen.lineWidth = isBroken ? 2.2 : 1.4;
     pen.setLineDash(inside ? [6, 4] : []);
     for (const [i, j] of EDGES) { way(pen, [points[i], points[j]]); pen.stroke(); }
     pen.setLineDash([]);
-    pen.fillStyle = "#e0a83022";
+    pen.fillStyle = isBroken ? "#d0000018" : "#e0a83022";
     const sides = [[0, 1, 3, 2], [4, 5, 7, 6], [0, 1, 5, 4], [2, 3, 7, 6], [0, 2, 6, 4], [1, 3, 7, 5]];
     if (!inside) for (const side of sides) { way(pen, side.map(k => points[k])); pen.closePath(); pen.fill(); }
   }
@@ -289,6 +291,16 @@ function drawPaths() {
   });
   pen.globalAlpha = 1;
 }
+// The part of a path in which a drone may not keep to a region.
+function drawBroken() {
+  if (broken === null) return;
+  const {pen, to} = view, {from, to: till, drone} = broken;
+  const inside = flight.times.filter(ms => from < ms && ms < till);
+  way(pen, [from, ...inside, till].map(ms => to(placeAt(drone, ms))));
+  pen.strokeStyle = "#d00000";
+  pen.lineWidth = 5;
+  pen.stroke();
+}
 // Puts names where they cover as little as can be; one that has no room is left out, unless it is wanted.
 const SIDES = [[1, -1], [1, 1], [-1, -1], [-1, 1], [0, -1.4], [0, 1.4], [1.4, 0], [-1.4, 0]];
 function placeNames(spots, edge, ring, wanted) {
@@ -317,6 +329,7 @@ function drawStill() {
   drawFloor();
   drawRegions();
   drawPaths();
+  drawBroken();
   view.still = document.createElement("canvas");
   [view.still.width, view.still.height] = [canvas.width, canvas.height];
   view.still.getContext("2d").drawImage(canvas, 0, 0);
@@ -469,7 +482,7 @@ function chart(svg, low, high, marks, words, height) {
   svg.replaceChildren();
   svg.setAttribute("viewBox", `0 0 ${width} ${height}`);
   svg.style.height = `${height}px`;
-  for (const mark of flight.marks) {
+  for (const mark of [...flight.marks, broken].filter(Boolean)) {
     box(svg, [x(mark.from), above, Math.max(x(mark.from) + 3, x(mark.to)), floor], {fill: "#f3b6b6"});
   }
   drawCues(svg, x, above, floor);
