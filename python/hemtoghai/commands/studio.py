@@ -21,7 +21,6 @@ import signal
 import subprocess
 import sys
 import threading
-import webbrowser
 from typing import Any
 
 from hemtoghai import program
@@ -213,13 +212,13 @@ def read_words(words: list[str]) -> argparse.Namespace:
 
 def serve(server: Server, open_browser: bool) -> None:
     """Answers requests until the studio is ended."""
-    studio, url = server.studio, "http://127.0.0.1:%d/%s/" % (server.server_port, server.studio.token)
-    print("%s: %s\n%s: Ctrl-C ends it" % (tool_name(), url, tool_name()), flush=True)
+    studio = server.studio
+    print("%s: %s\n%s: Ctrl-C ends it" % (tool_name(), server.opening.url, tool_name()), flush=True)
     state = studio.program.state()
     if not state["proved"]:
         print("%s: NOT PROVED: %s" % (tool_name(), state["why"]), file=sys.stderr)
     if open_browser:
-        threading.Thread(target=webbrowser.open, args=(url,), daemon=True).start()  # some browsers return when they end
+        server.opening.start()
     try:
         studio.make_ready()
         server.serve_forever(0.2)
@@ -227,6 +226,7 @@ def serve(server: Server, open_browser: bool) -> None:
         print()
     finally:
         studio.close()
+        server.opening.close()
         server.server_close()
 
 

@@ -25,6 +25,7 @@ from hemtoghai import program
 from hemtoghai.companion import tool_name
 from hemtoghai.language import choreo
 from hemtoghai.seeing.showfile import bytes_of, difference, MOST_TEXT, stamp_of, text_of
+from hemtoghai.seeing.studio_opening import Opening
 from hemtoghai.seeing.studio_program import answer, Answer, Cancelled, end, Job, LIMIT
 from hemtoghai.seeing.studio_texts import TooLarge, Unknown
 
@@ -56,15 +57,20 @@ class Handler(BaseHTTPRequestHandler):
 
     # -- who asks
 
-    def refusal(self) -> int | None:
-        """The status with which a request is refused, or None. The Host is looked at so that no name of another site
-        can lead here; the Origin so that no page of another site can send; and the path begins with the token."""
+    def foreign(self) -> int | None:
+        """The status with which a request from elsewhere is refused, or None. The Host is looked at so that no name of
+        another site can lead here, and the Origin so that no page of another site can send."""
         hosts = ["%s:%d" % (name, self.server.server_port) for name in ("127.0.0.1", "localhost")]
         if self.headers.get("Host") not in hosts:
             return 421
         origin = self.headers.get("Origin")
-        if origin not in (["http://" + host for host in hosts] + ([None] if self.command == "GET" else [])):
-            return 403
+        known = ["http://" + host for host in hosts] + ([None] if self.command == "GET" else [])
+        return None if origin in known else 403
+
+    def refusal(self) -> int | None:
+        """The same of each request but for the one that opens the page: the path begins with the token, too."""
+        if status := self.foreign():
+            return status
         token = urlsplit(self.path).path.split("/")[1:2] or [""]
         return None if hmac.compare_digest(token[0].encode(), self.studio.token.encode()) else 403
 
@@ -78,7 +84,15 @@ class Handler(BaseHTTPRequestHandler):
             else:
                 self.send_words(status or 404, "refused" if status else "there is nothing here")
 
+    def is_opening(self) -> bool:
+        """Whether this is the link that the browser was given, under this machine's own name."""
+        word = urlsplit(self.path).path[1:]
+        return self.foreign() is None and self.server.opening.leads(word, self.client_address[1])
+
     def do_GET(self) -> None:
+        if self.is_opening():
+            self.head(303, "text/plain; charset=utf-8", ("Location", "/%s/" % self.studio.token))
+            return
         self.route({"": self.get_page, "text": self.get_text, "events": self.get_events})
 
     def do_POST(self) -> None:
@@ -364,10 +378,12 @@ def feed(worker: subprocess.Popen[bytes], given: bytes) -> None:
 class Server(ThreadingHTTPServer):
     """The server; requests that still run don't keep it from ending."""
     daemon_threads, allow_reuse_address, request_queue_size = True, True, 128
+    opening: Opening
 
     def __init__(self, address: tuple[str, int], studio: Studio) -> None:
         super().__init__(address, Handler)
         self.listeners, self.studio = threading.Semaphore(MOST_LISTENERS), studio
+        self.opening = Opening("http://127.0.0.1:%d/%s/" % (self.server_port, studio.token), self.server_port)
 
     def handle_error(self, request: object, client_address: object) -> None:
         """Says in a line what went wrong with a request."""
