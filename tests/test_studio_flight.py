@@ -231,5 +231,82 @@ class Bar(Flight):
             "return many")
 
 
+class Begun(Flight):
+    """What is drawn of a text that isn't right as a whole."""
+
+    def drawn(self):
+        """Where the drones are that are drawn, by name, in millimetres, and how many cues fly them; None while the
+        flight isn't that of the text."""
+        return self.browser.run(
+            "return flight && flightVersion === version ? [Object.fromEntries(flight.names.map((name, k) =>"
+            "[name, placeAt(k, now).slice(0, 3).map(Math.round)])), flight.begun ? flight.begun.cues : flight.cues.length] : null")
+
+    def is_drawn(self, places, cues):
+        """Waits until drones are drawn at these places, moved by so many cues."""
+        self.wait(lambda: self.drawn() == [places, cues], "not drawn: %s" % self.drawn())
+
+    def shown(self):
+        """The class of the flight, and the words in it."""
+        return self.browser.run("return [document.getElementById('flight').className, document.getElementById('before').innerText]")
+
+    def test_without_cue(self):
+        """Drones are drawn where the text puts them before there is a cue, each as soon as its line is right."""
+        self.open("choreo 2\ndrone a 0 0 1m 0\n")
+        self.is_drawn({"a": [0, 0, 1000]}, 0)
+        self.assertEqual(self.shown(), ["flight still", "the drones at their starts: there is no cue yet"])
+        self.assertEqual(self.browser.run("return getComputedStyle(document.getElementById('space')).opacity"), "1")
+        self.put_cursor("choreo 2\ndrone a 0 0 1m 0\n")
+        self.browser.type("drone b 30cm -2m 1.5m 0\n")
+        self.is_drawn({"a": [0, 0, 1000], "b": [300, -2000, 1500]}, 0)
+        self.assertFalse(self.browser.run("return document.getElementById('slider').checkVisibility()"))
+        self.browser.type("\ncue 2s\na move 1m 0 1m 0\nend\n")
+        self.says("2 drones, 1 cue")
+        self.is_drawn({"a": [0, 0, 1000], "b": [300, -2000, 1500]}, 1)
+        self.assertTrue(self.browser.run("return document.getElementById('slider').checkVisibility()"))
+        self.assertGreater(self.browser.run("return document.querySelectorAll('#heights polyline').length"), 1)
+        self.assertEqual(self.browser.faults(), [])
+
+    def test_cues_deleted(self):
+        """Without its cues a text shows its own drones, and not those of the flight before."""
+        self.open(GOOD)
+        self.says("accepted")
+        self.browser.run("move(2000); replaceText(arguments[0])", GOOD[:GOOD.index("cue")].replace("b 1000000", "b 700000"))
+        self.is_drawn({"a": [0, 0, 1000], "b": [700, 0, 1000]}, 0)
+
+    def test_beginning(self):
+        """Of a faulty text the cues before the faulty line are flown, grey, and the page says so."""
+        self.open(TWO.replace("b hold", "b hald"))
+        self.is_drawn({"a": [0, 0, 1000], "b": [1000, 0, 1000]}, 1)
+        self.assertEqual(self.shown(), ["flight old", "line 8 isn't right yet: this is the flight of what stands before it"])
+        self.wait(lambda: self.browser.run("return getComputedStyle(document.getElementById('space')).opacity") == "0.4",
+                  "not grey")
+        self.browser.run("move(2000)")
+        self.is_drawn({"a": [0, 1000, 1000], "b": [1000, 0, 1000]}, 1)
+        self.browser.run("replaceText(arguments[0])", TWO)
+        self.says("2 cues")
+        self.assertEqual(self.shown(), ["flight", ""])
+        self.assertEqual(self.browser.faults(), [])
+
+    def test_line_being_typed(self):
+        """While a line is being typed the flight of the text before stays."""
+        self.open(TWO)
+        self.says("2 cues")
+        self.put_cursor("b hold")
+        self.browser.type(" x")
+        self.says("line 8: ")
+        self.wait(lambda: self.browser.run("return found.flight && found.flight.flight.begun.cues === 1"), "no beginning")
+        self.assertEqual(self.browser.run("return flight.cues.length"), 2)
+        self.assertEqual(self.shown(), ["flight old", "this is the flight of an earlier text"])
+
+    def test_between(self):
+        """From a key to the new flight the older one is grey, once that takes long."""
+        self.open(GOOD)
+        self.says("accepted")
+        self.browser.run("replaceText(wholeText() + '# x\\n')")
+        self.assertEqual(self.shown()[0], "flight old")
+        self.says("accepted")
+        self.assertEqual(self.shown()[0], "flight")
+
+
 if __name__ == "__main__":
     unittest.main()

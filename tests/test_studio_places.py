@@ -8,7 +8,7 @@ import unittest
 import common  # by which the package is found
 from hemtoghai.language import choreo
 from hemtoghai.seeing import studio_work
-from hemtoghai.seeing.studio_places import places_at
+from hemtoghai.seeing.studio_places import begun, places_at
 from hemtoghai.seeing.studio_words import words_of_language
 
 TEXT = """choreo 1
@@ -41,6 +41,52 @@ formation f
 at a 0 0 1000000 0
 end
 """
+
+
+class Begun(unittest.TestCase):
+    """The flight of the longest right beginning of a faulty text."""
+
+    def ends(self, line, text):
+        """How long the beginning before a line lasts, in milliseconds, and where the drones are at its end."""
+        flown = begun(text.encode(), line)
+        self.assertIsNotNone(flown)
+        return flown.milliseconds, {name: places[-1] for name, places in zip(flown.names, flown.places)}
+
+    def test_line_in_cue(self):
+        """The cue of a faulty line isn't flown, those before are, and a repeat that is open once; formations that are
+        declared later count."""
+        up, at, right = [0, 1000000, 1500000, 0], [1000000, 0, 1000000, 900], [500000, 1000000, 1500000, 0]
+        for line, words, wanted in ((5, "a move 0", (1, {"a": [0, 0, 1000000, 0], "b": at})),
+                                    (8, "  cue x", (2000, {"a": up, "b": at})),
+                                    (9, "  a lane 1", (2000, {"a": up, "b": at})),
+                                    (12, "  b turn", (3000, {"a": right, "b": at})),
+                                    (24, "cue", (8000, {"a": right, "b": [1000000, 0, 1000000, 0]}))):
+            lines = TEXT.split("\n")
+            lines[line - 1] = words
+            self.assertEqual(self.ends(line, "\n".join(lines)), wanted, line)
+
+    def test_figure(self):
+        """A figure with a faulty line is left out as a whole."""
+        lines = TEXT.split("\n")
+        lines[16] = "lead mave"
+        self.assertEqual(self.ends(17, "\n".join(lines))[0], 8000)
+
+    def test_no_cue(self):
+        """Without a cue the drones stand; without a header too; and without a drone there is nothing."""
+        drones = "choreo 2\ndrone a 1m 0 50cm 90deg\n"
+        self.assertEqual(self.ends(None, drones), (1, {"a": [1000000, 0, 500000, 900]}))
+        self.assertEqual(self.ends(3, drones + "drone b 1m 0\n"), (1, {"a": [1000000, 0, 500000, 900]}))
+        self.assertEqual(self.ends(1, "chor\ndrone a 1 0 5 0\n"), (1, {"a": [1, 0, 5, 0]}))
+        for text in ("", "choreo 2\n", "x\n%%\n"):
+            self.assertIsNone(begun(text.encode(), 1))
+
+    def test_same_numbers(self):
+        """Lines keep their numbers, also where a formation stands after the faulty line."""
+        text = "choreo 1\ndrone a 0 0 1000000 0\ncue 1000\nform f move\nend\ncue x\nend\nformation f\nat a 0 0 2000000 0\nend\n"
+        flown = begun(text.encode(), 6)
+        self.assertEqual([cue.line.number for cue in flown.cues], [3])
+        self.assertEqual(flown.cues[0].places["a"], 9)
+        self.assertEqual(flown.places[0][-1], [0, 0, 2000000, 0])
 
 
 class Places(unittest.TestCase):

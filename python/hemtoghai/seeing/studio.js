@@ -11,8 +11,8 @@ function layOut() {
   byId("alone").hidden = drones > 1;
   byId("share").style.display = drones > 1 ? "" : "none";
 }
-const DRAWING = [layOut, () => drawSpace(), () => drawHeights(), () => { if (drones > 1) drawShares(); },
-  () => move(now)];
+const DRAWING = [layOut, () => drawSpace(), () => { if (!isStill()) drawHeights(); },
+  () => { if (drones > 1 && !isStill()) drawShares(); }, () => move(now)];
 function draw() {
   if (flight) for (const part of DRAWING) part();
 }

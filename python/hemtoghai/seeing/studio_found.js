@@ -100,8 +100,8 @@ async function take(stage) {
   // A line that is half typed is faulty nearly always: that would be a red flash at each key.
   const left = HALF - (performance.now() - typed), mine = version;
   if (stage.fault && left > 0 && stage.fault.line === cursorLine()) {
-    setTimeout(() => { if (mine === version) take(stage); }, left);
-    return;
+    await new Promise(go => setTimeout(go, left));  // what follows waits, too
+    if (mine !== version) return;
   }
   if (stage.stage === "verdict") {
     [found, shown] = [{verdict: stage}, null];
@@ -113,7 +113,7 @@ async function take(stage) {
   } else {
     found[stage.stage] = stage;
   }
-  if (stage.stage === "flight") {
+  if (stage.stage === "flight" && !isKept(stage.flight)) {
     await takeFlight(stage.flight);
     if (mine !== version) return;
   }
@@ -148,6 +148,11 @@ function nearestAt(data, s) {
   }
   return [Math.round(1000 * Math.sqrt(best)) / 10, first, second];
 }
+// Whether the older flight stays in place of that of a beginning: while the faulty line is being typed it says more.
+function isKept({begun, names}) {
+  return Boolean(begun && begun.line !== null && flight && !flight.begun && `${flight.names}` === `${names}` &&
+    document.activeElement === field && begun.line === cursorLine());
+}
 async function takeFlight(data) {
   const mine = version;
   data.nearest = [];
@@ -160,6 +165,7 @@ async function takeFlight(data) {
   }
   showFlight(data);
   byId("flight").classList.replace("none", "old");  // a narrow page gives the charts no room before
+  byId("flight").classList.toggle("still", isStill());
   await drawInParts();
   if (mine === version) onCursor();
 }
@@ -199,14 +205,22 @@ function showMark(mark, go) {
   draw();
   pointAt(mark.lines[0], mark.lines[0]);
 }
-// Says where the flight that is drawn isn't that of the text.
+// Whether the flight that is drawn is that of drones that no cue moves.
+const isStill = () => Boolean(flight && flight.begun && !flight.begun.cues);
+// Says where the flight that is drawn isn't that of the text, or only of its beginning.
 function showAge() {
   const fault = found.none || found.verdict && ![0, 4, 5].includes(found.verdict.status);
-  byId("flight").classList.toggle("none", !flight);
-  byId("flight").classList.toggle("old", Boolean(flight && fault));
-  byId("before").hidden = !fault && flight !== null;
-  const later = fault ? "the flight is drawn once the text is right" : "";
-  byId("before").textContent = flight ? "this is the flight of an earlier text" : later;
+  const isOlder = flight !== null && flightVersion !== version, begun = flight && !isOlder && flight.begun;
+  const {classList} = byId("flight");
+  classList.toggle("none", !flight);
+  classList.toggle("still", isStill());
+  classList.toggle("old", Boolean(isOlder || begun && begun.line !== null));
+  byId("before").textContent = !flight ? fault ? "the flight is drawn once the text has a drone" : "" :
+    isOlder ? fault ? "this is the flight of an earlier text" : "" :
+    !begun ? "" : begun.line === null ? "the drones at their starts: there is no cue yet" :
+    `line ${begun.line} isn't right yet: ` + (begun.cues ? "this is the flight of what stands before it" :
+      "these are the drones at their starts");
+  byId("before").hidden = !byId("before").textContent;
 }
 
 // ---- the verdict in words

@@ -40,13 +40,34 @@ def before(lines: list[bytes], line: int, opened: list[choreo.Line]) -> list[byt
     return [b"" if number in repeats else it for number, it in enumerate(lines[:end - 1], 1)]
 
 
-def read(lines: list[bytes]) -> choreo.Flown | None:
-    """What the drones of these lines fly, with a pause at the end so that there is a cue; None if they are faulty."""
+def read(lines: list[bytes], is_paused: bool = True) -> choreo.Flown | None:
+    """What the drones of these lines fly, with a pause at the end so that there is a cue; without one where there is a
+    cue and none is wanted. None if they are faulty."""
     pause = line_in(choreo.form_of(b"\n".join(lines)), "cue", 1).encode()
     pauses: list[list[bytes]] = [[pause, b"end"], []]
-    for more in pauses:
+    for more in pauses if is_paused else pauses[::-1]:
         with contextlib.suppress(choreo.Refused):
             return choreo.flown_of(b"\n".join([*lines, *more, b""]))
+    return None
+
+
+def begun(text: bytes, line: int | None) -> choreo.Flown | None:
+    """What the drones fly by the lines before a faulty one, or by all of them where none is named: a block that is open
+    there is left out, but for a repeat, which is flown once so far. What is declared later counts, where it is right.
+    Else the drones stay at their starts. Lines keep their numbers. None where there is no drone."""
+    lines = text.split(b"\n")
+    top, at = tree(lines), len(lines) + 1 if line is None else line
+    opened = [block for block in choreo.inside(top) if block.number < at <= block.last]
+    cut = opened[0].number if opened and opened[0].kind == "figure" else at
+    flown_before = before(lines, cut, opened if cut == at else [])
+    later = {number for it in top.body if it.kind in DECLARED and it.number >= cut
+             for number in range(it.number, it.last + 1)} - {at}
+    whole = [it if number in later else b"" for number, it in enumerate(lines, 1)]
+    form = choreo.form_of(text)
+    starts = [line_in(form, "drone", name, *place).encode() for name, place in starts_of(lines, form).items()]
+    for wanted in ([*flown_before, *whole[len(flown_before):]], flown_before, [header(form).encode(), *starts]):
+        if flown := read(wanted, False):
+            return flown
     return None
 
 

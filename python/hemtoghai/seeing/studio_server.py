@@ -246,7 +246,7 @@ class Handler(BaseHTTPRequestHandler):
                 why = answered.told.decode(errors="replace")
                 return self.put({"stage": "none", "words": why or "the program was ended by a signal"})
             self.put({**studio.verdict(text, said, status, lasted), **state, "judge": "check"})
-            if status not in (0, 4, 5):
+            if status not in (0, 3, 4, 5):
                 return None
             told = [status, said]
         if job.over.wait(SETTLE):

@@ -25,6 +25,7 @@ function newVersion() {
   version += 1;
   if (asking) asking.abort();
   byId("verdict").classList.add("old");
+  byId("flight").classList.toggle("old", flight !== null);
 }
 function afterChange() {
   typed = performance.now();
@@ -42,7 +43,7 @@ const TAKES_KEYS = "textarea, select, button, summary, input:not([type=range])";
 // What a key does to the flight, or null: Space plays and stops, the arrows step; Ctrl-Enter plays from the text, too.
 function flyingOfKey(event) {
   const {key, shiftKey} = event, command = event.ctrlKey || event.metaKey, by = shiftKey ? 10 * STEP : STEP;
-  if (!flight || event.altKey || byId("offer").open) return null;
+  if (!flight || isStill() || event.altKey || byId("offer").open) return null;
   if (command) return key === "Enter" ? playOrStop : null;
   if (event.target.closest && event.target.closest(TAKES_KEYS)) return null;
   const step = {ArrowLeft: -by, ArrowRight: by, Home: -Infinity, End: Infinity}[key];

@@ -6,7 +6,8 @@ text comes:
 Standard input has a line of JSON and then the show's text. The line has the path of the `program` or null, and what
 the page `want`s: "places", with a `line`, is what stands around that line (seeing/studio_places.py); "flight", with the
 status and the words of `check` as `answer`, or null where the tools are to judge, is all the rest. Each line of
-standard output is a stage in JSON, as soon as it is known: `verdict` where the tools judged, `flight`, `explained` of a
+standard output is a stage in JSON, as soon as it is known: `verdict` where the tools judged, `flight`, which is that of
+the longest right beginning where the text is faulty, and then nothing follows, `explained` of a
 show that is refused for nearness, `regions` where there is a file of them for `boxes`, `lines`, `notes`, `marks` of a
 show that is refused for nearness, several times until all are found, `margin` of one that is accepted. It is trusted
 for nothing: only what the program says is proved.
@@ -26,7 +27,7 @@ from hemtoghai.companion import ask, ask_dynamics, begins, speeds_in
 from hemtoghai.geometry import separation
 from hemtoghai.language import choreo
 from hemtoghai.seeing.sampling import boxes_said, flight_of, Mark, mark_of, regions_of, rows_of_play, step_of
-from hemtoghai.seeing.studio_places import places_at
+from hemtoghai.seeing.studio_places import begun, places_at
 from hemtoghai.writing.flyable import below, MOST as FASTEST, motion_if_known, small
 from hemtoghai.writing.margins import greatest, MOST, with_setting
 
@@ -147,13 +148,29 @@ def notes_of(flown: choreo.Flown, text: bytes, program: str) -> dict[str, object
             "most": {"force": FASTEST["accel"] / 1000, "jump": FASTEST["jump"] / 1000}}
 
 
+def put_begun(text: bytes, said: str, path: str | None) -> None:
+    """Writes the flight of the longest right beginning of a text that `check` calls faulty, with the line at which it
+    ends, or null where only a cue is missing, and how many of its cues it has: without one the drones stand."""
+    found = re.match(r"error 3 line (\d+) ([a-z-]+)", said)
+    if not found:
+        return
+    line = None if found[2] in ("no-cue", "no-drone") else int(found[1])
+    flown = begun(text, line)
+    if flown is None:
+        return
+    drawn, _ = flight_of(flown, step_of(flown, None, MOST_PLACES), None, (), regions_of(path) if path else [])
+    cues = len(flown.cues) if flown.milliseconds > 1 else 0  # a pause of a millisecond stands for none
+    put("flight", flight={**drawn, "lines": [formed_lines(flown, cue) for cue in flown.cues], "marks": [],
+                          "begun": {"line": line, "cues": cues}})
+
+
 def put_flight(text: bytes, deep: int, program: str, answer: list[Any] | None, path: str | None) -> None:
     """Writes all that is known of a text, given what `check` said of it, or null."""
     status, said = answer or judged(text, deep)
     if answer is None:
         put("verdict", status=status, line=said, judge="tools")
     if status not in (0, 4, 5):
-        return
+        return put_begun(text, said, path)
     flown = choreo.flown_of(choreo.parts_of(text)[0])
     first = None
     if status == 5:  # the place that `check` names
@@ -179,6 +196,7 @@ def put_flight(text: bytes, deep: int, program: str, answer: list[Any] | None, p
         for name in ("stray", "late"):
             most, _ = greatest(deep, MOST + 1, partial(with_setting, text, name), judged, program)
             put("margin", name=name, most=most)
+    return None
 
 
 def main(words: list[str]) -> int:
