@@ -308,5 +308,32 @@ class Begun(Flight):
         self.assertEqual(self.shown()[0], "flight")
 
 
+class Sizes(Flight):
+    def test_low(self):
+        """A low window shows the flight, its charts and the text, and nothing is wider than it."""
+        self.open(TWO, size=(844, 390))
+        for width, height in ((844, 390), (1280, 420), (1280, 500), (1366, 620), (640, 400), (1280, 60), (1280, 800)):
+            self.browser.size(width, height)
+            self.says("2 cues")
+            self.wait(lambda: self.browser.run("return innerWidth === arguments[0]", width), "another size")
+            self.browser.run("return new Promise(go => requestAnimationFrame(() => requestAnimationFrame(go)))")
+            high, charts, text, wide = self.browser.run(
+                "const high = id => document.getElementById(id).getBoundingClientRect().height;"
+                "return [high('space'), Math.min(high('heights'), high('share')), high('scroller'),"
+                "document.documentElement.scrollWidth]")
+            self.assertLessEqual(wide, width)
+            if height > 60:
+                self.assertTrue(high >= 200 and charts >= 84 and text >= 60, (width, height, high, charts, text))
+            if width > 1000 and height > 60:  # all at once, without scrolling
+                self.assertEqual(self.browser.run("return document.documentElement.scrollHeight"), height)
+        # On a telephone that is held sideways all of the flight is in view at once, below the bar.
+        self.browser.size(844, 390)
+        self.browser.run("document.getElementById('flight').scrollIntoView({block: 'end'})")
+        self.wait(lambda: self.browser.run(
+            "const at = id => document.getElementById(id).getBoundingClientRect();"
+            "return at('room').top >= at('verdict').bottom && at('share').bottom <= innerHeight"), "it isn't in view")
+        self.assertEqual(self.browser.faults(), [])
+
+
 if __name__ == "__main__":
     unittest.main()

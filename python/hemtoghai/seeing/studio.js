@@ -24,8 +24,10 @@ async function drawInParts() {
     await rest();
   }
 }
-const isSmall = () => innerWidth <= 820;
-spaceHeight = width => isSmall() ? Math.min(340, width) : byId("room").clientHeight;
+// As in studio.css: a low window has the charts beside the view in space, a small one is scrolled.
+const isLow = () => innerHeight <= 640 && innerWidth >= 560;
+const isSmall = () => innerWidth <= 820 || innerWidth <= 1000 && isLow();
+spaceHeight = width => isSmall() && !isLow() ? Math.min(340, width) : byId("room").clientHeight;
 let playingCue = -1;
 // The lines of the cue that is flown are marked beside the text.
 const moveTo = move;
@@ -43,8 +45,10 @@ onPick = ms => {
 };
 onDrone = pickDrone;
 if (!given.watch) onStretch = stretchCue;
+const BESIDE_CHARTS = 104;  // pixels above, between and below the two charts of a low window
 function resize() {
-  chartHeight = isSmall() || innerHeight > 860 ? 130 : 108;
+  chartHeight = isLow() ? within((byId("flight").clientHeight - BESIDE_CHARTS) / 2, 84, 200) :
+    isSmall() || innerHeight > 860 ? 130 : 108;
   draw();
   drawPaper();
 }

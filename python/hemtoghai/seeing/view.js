@@ -152,6 +152,7 @@ function look() {
   const all = corners(ROOM.low, ROOM.high).map(flat), span = k => 2 * Math.max(...all.map(it => Math.abs(it[k])));
   const gap = spaceHeight ? 26 : 34, wanted = (width - 2 * gap) * span(1) / span(0) + 2 * gap;
   const height = Math.round(spaceHeight ? spaceHeight(width) : Math.max(280, Math.min(560, 0.95 * width, wanted)));
+  if (width < 1 || height < 1) return false;  // it isn't shown
   // Where there is hardly any room something small is drawn.
   const scale = zoom * Math.max(0.001, Math.min((width - 2 * gap) / span(0), (height - 2 * gap) / span(1)));
   if (canvas.width !== Math.round(width * sharp) || canvas.height !== Math.round(height * sharp)) {
@@ -169,6 +170,7 @@ function look() {
   const [origin, ...axes] = [[0, 0, 0], [1, 0, 0], [0, 1, 0], [0, 0, 1]].map(to);
   const steps = [0, 1].map(side => axes.map(point => point[side] - origin[side]));
   view = {pen, to, scale, width, height, se, ce, origin, steps, still: null};
+  return true;
 }
 function way(pen, points) {
   pen.beginPath();
@@ -351,6 +353,7 @@ function ring(k, [x, y], beside, up, stroke, fill) {
   pen.stroke();
 }
 function moveDrones() {
+  if (view === null) return;
   const {pen, to, still} = view;
   pen.save();
   pen.setTransform(1, 0, 0, 1, 0, 0);
@@ -416,6 +419,7 @@ function nameDrones(places, close) {
 const NEAR_CLICK = 16;  // pixels from a drone at which a click is still one on it
 // The drone that is drawn nearest to a point of the canvas, or null where none is near.
 function droneAt(x, y) {
+  if (view === null) return null;
   let best = NEAR_CLICK, drone = null;
   flight.names.forEach((_, k) => {
     const [px, py] = view.to(placeAt(k, now)), far = Math.hypot(px - x, py - y);
@@ -430,6 +434,7 @@ function setView(words) {
 }
 // Nearer or farther, so that what is at a point of the canvas stays there.
 function zoomBy(factor, [x, y]) {
+  if (view === null) return;
   const old = zoom;
   zoom = Math.max(1, Math.min(12, zoom * factor));
   const by = zoom / old, middle = [view.width / 2, view.height / 2];
@@ -437,7 +442,10 @@ function zoomBy(factor, [x, y]) {
   drawSpace();
 }
 function drawSpace() {
-  look();
+  if (!look()) {
+    view = null;
+    return;
+  }
   drawStill();
   moveDrones();
   for (const it of byId("views").children) {
