@@ -335,5 +335,42 @@ class Sizes(Flight):
         self.assertEqual(self.browser.faults(), [])
 
 
+class Tabs(Flight):
+    def tab(self):
+        """Another tab, which is shown."""
+        new = self.browser.ask("POST", "/window/new", {"type": "tab"})["handle"]
+        self.browser.ask("POST", "/window", {"handle": new})
+        self.browser.size(1280, 800)
+        self.browser.ask("POST", "/url", {"url": "http://127.0.0.1:%s/%s/" % (self.studio.port, self.studio.token)})
+        return new
+
+    def show(self, tab):
+        """Shows a tab that is there."""
+        self.browser.ask("POST", "/window", {"handle": tab})
+        self.browser.ask("POST", "/goog/cdp/execute", {"cmd": "Page.bringToFront", "params": {}})
+
+    def test_eight_tabs(self):
+        """Eight tabs of one studio: each has its verdict, the first one still judges, and learns of the file once it is
+        shown. A browser has six connections for all of them."""
+        self.open(GOOD)
+        self.says("accepted")
+        first = self.browser.ask("GET", "/window")
+        others = []
+        for _ in range(7):
+            others.append(self.tab())
+            self.says("accepted")
+        self.studio.write(GOOD + "# of another program\n")
+        self.wait(lambda: "by another program" in self.words("told"), "no warning in the tab that is shown")
+        self.show(first)
+        self.put_cursor(GOOD)
+        self.browser.type("cue 500\nend\n")
+        self.says("2 drones, 2 cues")
+        self.wait(lambda: "by another program" in self.words("told"), "no warning in the first tab")
+        for other in others:
+            self.browser.ask("POST", "/window", {"handle": other})
+            self.browser.ask("DELETE", "/window")
+        self.browser.ask("POST", "/window", {"handle": first})
+
+
 if __name__ == "__main__":
     unittest.main()

@@ -203,4 +203,7 @@ buildControls();
 bindText();
 bindButtons();
 resize();
-begin().then(listen, () => tell("The studio doesn't answer."));
+begin().then(() => {
+  addEventListener("visibilitychange", listen);
+  listen();
+}, () => tell("The studio doesn't answer."));

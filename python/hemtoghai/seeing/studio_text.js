@@ -174,9 +174,17 @@ async function begin() {
     tell("Some lines of the file end with a carriage return. Saved from here, all lines end with a line feed alone.");
   }
 }
-// What the server says of the file, as long as the page is open.
+// What the server says of the file, as long as the page is seen. A browser has few connections for all tabs of a studio
+// together, so a tab that isn't seen leaves its own, and asks anew once it is.
+let events = null, lost = false;
 function listen() {
-  const events = new EventSource("events");
+  if (document.hidden) {
+    if (events) events.close();
+    events = null;
+    return;
+  }
+  if (events) return;
+  events = new EventSource("events");
   events.onmessage = event => {
     const said = JSON.parse(event.data);
     if (given.watch) return follow(said);
@@ -184,7 +192,6 @@ function listen() {
     // It may be the text that is being saved, or the one before: over another program's text no save goes well.
     setTimeout(() => count === saves && warn(said), 500);
   };
-  let lost = false;
   events.onerror = () => {
     lost = true;
     newVersion();
