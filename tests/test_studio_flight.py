@@ -372,5 +372,35 @@ class Tabs(Flight):
         self.browser.ask("POST", "/window", {"handle": first})
 
 
+class Pairs(Flight):
+    def test_pairs(self):
+        """The pairs that come nearest are listed of an accepted show, in percent and in metres: of a and b, half a metre
+        aside and 0.2 m up, sqrt((500 / 200)^2 + (200 / 600)^2) of what their ellipsoids need, and 0.54 m straight."""
+        self.open("choreo 2\nellipsoid 100mm 300mm\ndrone a 0 0 1m 0\ndrone b 2m 2m 1.2m 0\ndrone c 0 3m 1m 0\n"
+                  "cue 4s\nb line 0.3m 0.4m 1.2m 0\nend\n")
+        self.says("3 drones")
+        self.wait(lambda: self.browser.run("return Boolean(found.notes)"), "no notes")
+        rows = self.browser.run("return [...document.querySelectorAll('#found table')[0].rows].map(row =>"
+                                "[...row.cells].map(it => it.innerText.trim()))")
+        self.assertEqual(rows[0], ["pair", "share", "aside", "up", "at"])
+        self.assertEqual(rows[1], ["a, b", "252 %", "0.5 m", "0.2 m", "4.0 s, cue 1"])
+        self.assertEqual([row[0] for row in rows[2:]], ["b, c", "a, c"])
+        self.assertEqual(rows[3][1:4], ["1500 %", "3 m", "0 m"])  # 3,000 of 200 mm, all the time
+        self.browser.run("document.querySelector('#found td button').click()")
+        self.assertEqual(self.browser.run("return [now, [...chosen]]"), [4000, [0, 1]])
+        self.assertIn("nearest: a and b with 252\u00a0%, 0.54\u00a0m", self.words("now"))
+        named = self.browser.run("return [...document.querySelectorAll('#share .name')].map(it => it.textContent)")
+        self.assertEqual([it for it in named if "m" in it], ["a, b 252 % · 0.54 m"])
+        self.assertEqual(self.browser.faults(), [])
+
+    def test_constant(self):
+        """A distance that stays the same has one label, however it is rounded."""
+        self.open("choreo 2\ndrone a 0 0 1m 0\ndrone b 1m 0 1m 0\ncue 9s\na swing ccw 0.5m 0 0\nb swing ccw 0.5m 0 0\nend\n"
+                  "cue 9s\na swing ccw 0.5m 0 0\nb swing ccw 0.5m 0 0\nend\n")
+        self.says("2 cues")
+        named = self.browser.run("return [...document.querySelectorAll('#share .name')].map(it => it.textContent)")
+        self.assertEqual([it[:5] for it in named if " m" in it], ["a, b "])
+
+
 if __name__ == "__main__":
     unittest.main()

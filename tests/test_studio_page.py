@@ -758,7 +758,7 @@ class Page(Led):
             self.wait(lambda: len(self.browser.run("return took")) == 9, "not drawn")
             self.assertLess(statistics.median(self.browser.run("return took")), 1000 * SOON)
             self.assertLess(self.browser.run("return document.querySelectorAll('#paper > div').length"), 100)
-            self.says("32 drones, 1,000 cues")
+            self.wait(lambda: "32 drones, 1,000 cues" in self.verdict(), "no verdict")  # the flight takes longer
             self.assertEqual(self.browser.faults(), [])
 
 

@@ -134,8 +134,10 @@ async function take(stage) {
   showAge();
   document.body.dataset.stage = stage.stage;  // for tests
 }
-// The nearest pair at a sample, as a share of the distance at which its ellipsoids touch.
-function nearestAt(data, s) {
+const shareOf = squared => Math.round(1000 * Math.sqrt(squared)) / 10;
+// The nearest pair at a sample, as a share of the distance at which its ellipsoids touch. By pair the sample at which
+// it is nearest so far, and how near, is kept in `least`.
+function nearestAt(data, s, least) {
   const wide = 4 * data.r * data.r, high = 4 * data.h * data.h, count = data.names.length;
   let best = Infinity, first = 0, second = 1;
   for (let i = 0; i < count; i += 1) {
@@ -144,9 +146,16 @@ function nearestAt(data, s) {
       const b = data.xyz[j], dx = b[3 * s] - x, dy = b[3 * s + 1] - y, dz = b[3 * s + 2] - z;
       const squared = (dx * dx + dy * dy) / wide + dz * dz / high;
       if (squared < best - 1e-9) [best, first, second] = [squared, i, j];
+      if (squared < least[i * count + j][0] - 1e-9) least[i * count + j] = [squared, i, j, s];
     }
   }
-  return [Math.round(1000 * Math.sqrt(best)) / 10, first, second];
+  return [shareOf(best), first, second];
+}
+const MOST_PAIRS = 8;
+// The pairs that come nearest, as [share, first, second, sample].
+function nearestPairs(least) {
+  const met = least.filter(([squared]) => squared < Infinity).sort((a, b) => a[0] - b[0]);
+  return met.slice(0, MOST_PAIRS).map(([squared, ...rest]) => [shareOf(squared), ...rest]);
 }
 // Whether the older flight stays in place of that of a beginning: while the faulty line is being typed it says more.
 function isKept({begun, names}) {
@@ -156,13 +165,15 @@ function isKept({begun, names}) {
 async function takeFlight(data) {
   const mine = version;
   data.nearest = [];
+  const least = new Array(data.names.length ** 2).fill([Infinity]);
   for (let s = 0, begun = performance.now(); data.names.length > 1 && s < data.times.length; s += 1) {
-    data.nearest.push(nearestAt(data, s));
+    data.nearest.push(nearestAt(data, s, least));
     if (performance.now() - begun < SLICE) continue;
     await rest();
     if (mine !== version) return;
     begun = performance.now();
   }
+  data.pairs = nearestPairs(least);
   showFlight(data);
   byId("flight").classList.replace("none", "old");  // a narrow page gives the charts no room before
   byId("flight").classList.toggle("still", isStill());
@@ -411,7 +422,26 @@ function listNotes(notes, panel, open) {
   const span = k => `${metres(lowest[k])} to ${metres(highest[k])}`;
   add("box in metres", `x ${span(0)}, y ${span(1)}, z ${span(2)}`);
   listMargin(add);
+  if (flightVersion === version && flight.pairs.length) listPairs(panel);
   listDrones(notes, panel, open);
+}
+// The pairs that come nearest, with their distance aside and up at that instant; a click goes there.
+function listPairs(panel) {
+  element("h2", "Pairs that come nearest", panel);
+  const table = element("table", "", panel), head = element("tr", "", table);
+  for (const word of ["pair", "share", "aside", "up", "at"]) element("th", word, head);
+  for (const [share, i, j, s] of flight.pairs) {
+    const row = element("tr", "", table), ms = flight.times[s], [aside, up] = gapAt(i, j, s);
+    goButton(`${flight.names[i]}, ${flight.names[j]}`, element("td", "", row), () => goPair(i, j, ms));
+    const where = `${inSeconds(ms)}, cue ${cueAt(ms) + 1}`;
+    for (const cell of [`${share.toFixed(0)} %`, `${metres(aside)} m`, `${metres(up)} m`, where]) element("td", cell, row);
+  }
+}
+function goPair(i, j, ms) {
+  stop();
+  [chosen, isChosenByMark, now] = [new Set([i, j]), true, ms];
+  press();
+  draw();
 }
 function listMotion(notes, add) {
   const rows = notes.drones;

@@ -58,6 +58,12 @@ function colour(k) {
 }
 const dashes = k => drones <= 8 ? "" : ["", "7 3", "2 3"][k % 3];
 const faint = k => chosen.size > 0 && !chosen.has(k);
+// How far two drones are apart at a sample, aside and up, in whole millimetres; and straight.
+function gapAt(i, j, sample) {
+  const [a, b] = [at(i, sample), at(j, sample)];
+  return [Math.round(Math.hypot(a[0] - b[0], a[1] - b[1])), Math.abs(a[2] - b[2])];
+}
+const farAt = (i, j, sample) => Math.round(Math.hypot(...gapAt(i, j, sample)) / 10) * 10;
 const at = (k, sample) => flight.xyz[k].slice(3 * sample, 3 * sample + 3);
 const time = ms => flight.end >= 600000 ? `${Math.floor(ms / 60000)}:${(ms % 60000 / 1000).toFixed(0).padStart(2, "0")}`
                                       : `${+(ms / 1000).toFixed(3)}`;
@@ -639,7 +645,12 @@ function drawShares() {
   charts.push(it);
 }
 
-// Names at the lowest dips, as far as they have room.
+// Whether the nearest pair stays below a share from one sample to another.
+function isLevel(from, to, share) {
+  for (let s = Math.min(from, to); s <= Math.max(from, to); s += 1) if (flight.nearest[s][0] >= share) return false;
+  return true;
+}
+// Names at the lowest dips, with the distance in metres, as far as they have room.
 function nameDips(svg, it, high) {
   const dips = [];
   for (let s = 0; s <= last; s += 1) {
@@ -647,14 +658,17 @@ function nameDips(svg, it, high) {
     if (v < high && falls && (s === last || v <= flight.nearest[s + 1][0])) dips.push(s);
   }
   dips.sort((a, b) => flight.nearest[a][0] - flight.nearest[b][0]);
-  const taken = [];
+  const taken = [], named = [];
   for (const s of dips.slice(0, 400)) {
     if (taken.length === 6) break;
-    const [v, i, j] = flight.nearest[s], words = `${flight.names[i]}, ${flight.names[j]} ${v.toFixed(0)} %`;
-    const wide = 7.4 * words.length;
+    const [v, i, j] = flight.nearest[s];
+    if (named.some(other => isLevel(other, s, v + 2))) continue;  // no dip of its own, but for rounding
+    const words = `${flight.names[i]}, ${flight.names[j]} ${v.toFixed(0)} % · ${metres(farAt(i, j, s))} m`;
+    const wide = 7.2 * words.length;
     const px = it.x(flight.times[s]), middle = Math.max(it.left + wide / 2 + 2, Math.min(it.right - wide / 2 - 2, px));
     if (taken.some(([m, w]) => Math.abs(m - middle) < (w + wide) / 2 + 6)) continue;
     taken.push([middle, wide]);
+    named.push(s);
     let py = it.y(v) + (it.y(v) + 20 > it.y(0) ? -10 : 17);
     if (Math.abs(py - 4 - it.y(100)) < 10) py = it.y(100) + (py - 4 < it.y(100) && py - 10 > it.y(high) ? -8 : 18);
     svg.append(node("circle", {cx: px, cy: it.y(v), r: 3, fill: v <= 100 ? "#d00000" : "#222"}));
@@ -671,8 +685,9 @@ function move(ms) {
   let said = `${time(shown)} of ${time(flight.end)} ${unit}, cue ${cue + 1} of ${flight.cues.length}`;
   said += ` (${flight.cues[cue][1]})`;
   if (flight.nearest.length) {
-    const [share, i, j] = flight.nearest[sampleAt(now)];
-    said += `; nearest: ${flight.names[i]} and ${flight.names[j]} with ${share.toFixed(0)}\u00a0%`;
+    const s = sampleAt(now), [share, i, j] = flight.nearest[s];
+    said += `; nearest: ${flight.names[i]} and ${flight.names[j]} with ${share.toFixed(0)}\u00a0%, ` +
+      `${metres(farAt(i, j, s))}\u00a0m`;
   }
   byId("now").textContent = said;
   moveDrones();
