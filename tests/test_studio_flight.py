@@ -402,5 +402,147 @@ class Pairs(Flight):
         self.assertEqual([it[:5] for it in named if " m" in it], ["a, b "])
 
 
+PLACED = """choreo 2
+drone a 0 0 1m 0
+drone b 1m 0 1m 0
+drone c 2m 0 1m 0
+formation line
+at a 0 2m 1m 0
+at b 1m 2m 1m 0
+end
+cue 4s
+a move 0 1.04m 1m 0  # its own line
+b curve 1m 0.5m 1m 1m 0.5m 1m 1m 1m 1.5m 0
+end
+cue 4s
+form line move
+end
+cue 4s
+a swing ccw 0.5m 2m 0
+b swing ccw 0.5m 2m 0
+end
+"""
+
+
+class Drag(Flight):
+    """Drones are placed by hand where a cue ends."""
+
+    def begin(self, text, ms, view="from above", size=(1280, 800)):
+        """A page at an instant, in a view."""
+        self.open(text, size=size)
+        self.wait(lambda: self.browser.run("return Boolean(found.lines)"), "no lines")
+        self.turn(ms, view)
+
+    def turn(self, ms, view):
+        """Another instant, in another view."""
+        self.browser.run("const [ms, words] = arguments; move(ms); setView(words)", ms, view)
+
+    def drone(self, k):
+        """Where a drone is drawn in the page, and how many pixels a metre has there."""
+        return self.browser.run("const box = document.getElementById('space').getBoundingClientRect();"
+                                "const [x, y] = view.to(placeAt(arguments[0], now));"
+                                "return [box.left + x, box.top + y, 1000 * view.scale]", k)
+
+    def carry(self, k, right, up):
+        """Drags a drone by so many metres of the view."""
+        x, y, metre = self.drone(k)
+        self.browser.drag((x, y), (x + right * metre, y - up * metre))
+
+    def is_text(self, *pairs, old=PLACED):
+        """Looks at the text: in place of old words stand others, once each."""
+        for words, other in pairs:
+            self.assertEqual(old.count(words), 1, words)
+            old = old.replace(words, other)
+        self.assertEqual(self.text(), old)
+
+    def test_ends(self):
+        """At the end of a cue a drone is dragged: the numbers of its act, or of its place in a formation, or of its start
+        become those of a place on the grid of 10 cm; what the view doesn't show stays, and one undo takes it back."""
+        self.begin(PLACED, 4000)
+        ways = ((4000, "from above", 0, (0.5, 0.33), ("0 1.04m 1m 0  #", "0.5m 1.4m 1m 0  #")),
+                (4000, "from above", 1, (-0.2, 0), ("1m 1m 1.5m 0", "0.8m 1m 1.5m 0")),
+                (4000, "from the front", 0, (0.02, 0.3), ("0 1.04m 1m 0  #", "0 1.04m 1.3m 0  #")),
+                (4000, "from the right", 1, (0.3, 0.2), ("1m 1m 1.5m 0", "1m 1.3m 1.7m 0")),
+                (8000, "from the front", 1, (0.4, -0.2), ("at b 1m 2m 1m 0", "at b 1.4m 2m 0.8m 0")),
+                (0, "from above", 2, (-0.4, -0.7), ("drone c 2m 0 1m 0", "drone c 1.6m -0.7m 1m 0")))
+        for ms, view, k, (right, up), pair in ways:
+            self.wait(lambda: self.browser.run("return flightVersion === version && Boolean(found.lines)"), "no flight")
+            self.turn(ms, view)
+            self.carry(k, right, up)
+            self.is_text(pair)
+            self.assertEqual((self.selected(), self.browser.run("return ghosts.size")), ("", 1))
+            self.browser.keys("z", CONTROL)
+            self.assertEqual(self.text(), PLACED)
+            self.assertEqual(self.browser.run("return ghosts.size"), 0)
+        self.assertEqual(self.browser.faults(), [])
+
+    def test_not_there(self):
+        """Between ends, of a drone without a line, at the end of an arc and in a turned view a drag turns the view."""
+        self.begin(PLACED, 2000)
+        for ms, view, k in ((2000, "from above", 0), (4000, "from above", 2), (12000, "from above", 0), (4000, "in space", 0)):
+            self.turn(ms, view)
+            before = self.browser.run("return turn")
+            self.carry(k, 0.5, 0.1)
+            self.assertEqual(self.text(), PLACED)
+            self.assertNotEqual(self.browser.run("return turn"), before)
+
+    def test_several(self):
+        """Chosen drones go together, by as much as the one that is dragged, in one step of undo. One that has no place
+        there stays."""
+        self.begin(PLACED, 4000)
+        for k in (0, 1, 2):
+            x, y, _ = self.drone(k)
+            self.browser.ask("POST", "/actions", {"actions": [
+                {"type": "key", "id": "keys", "actions": [{"type": "keyDown", "value": SHIFT}]}]})
+            self.browser.drag((x, y), (x, y))
+            self.browser.ask("POST", "/actions", {"actions": [
+                {"type": "key", "id": "keys", "actions": [{"type": "keyUp", "value": SHIFT}]}]})
+        self.assertEqual(self.browser.run("return [...chosen]"), [0, 1, 2])
+        self.carry(1, 0.3, 0.4)
+        both = (("0 1.04m 1m 0  #", "0.3m 1.44m 1m 0  #"), ("1m 1m 1.5m 0", "1.3m 1.4m 1.5m 0"))
+        self.is_text(*both)
+        self.says("3 drones, 3 cues")
+        self.assertEqual(self.browser.run("return [...chosen]"), [0, 1, 2])
+        self.browser.keys("z", CONTROL)
+        self.assertEqual(self.text(), PLACED)
+
+    def test_keys(self):
+        """With the focus in the view the arrows move what is chosen, one after the other before a new flight is there;
+        Shift by a metre; where nothing can be placed they step in time."""
+        self.begin(PLACED, 4000)
+        x, y, _ = self.drone(0)
+        self.browser.drag((x, y), (x, y))
+        self.assertEqual(self.focused(), "space")
+        self.browser.keys(RIGHT + RIGHT + "\uE013")
+        self.is_text(("0 1.04m 1m 0  #", "0.2m 1.14m 1m 0  #"))
+        self.browser.keys(LEFT, SHIFT)
+        self.is_text(("0 1.04m 1m 0  #", "-0.8m 1.14m 1m 0  #"))
+        self.wait(lambda: self.browser.run("return flightVersion === version && placeAt(0, 4000)[0] === -800"), "no flight")
+        for _ in range(4):
+            self.browser.keys("z", CONTROL)
+        self.assertEqual(self.text(), PLACED)
+        self.turn(2000, "from above")
+        self.browser.keys(RIGHT)
+        self.assertEqual((self.browser.run("return now"), self.text()), (2100, PLACED))
+
+    def test_starts(self):
+        """Before there is a cue drones are placed, too, and in whole micrometres of a text in `choreo 1`."""
+        text = "choreo 1\ndrone a 0 0 1000000 0\ndrone b 1000000 0 1000000 0\n"
+        self.begin(text, 0)
+        self.carry(1, 0.2, 0.5)
+        self.is_text(("b 1000000 0 1000000", "b 1200000 500000 1000000"), old=text)
+        self.wait(lambda: self.browser.run("return flightVersion === version && placeAt(1, 0)[1] === 500"), "not drawn")
+
+    def test_figure(self):
+        """The numbers of a figure are in its own frame: its drones aren't dragged."""
+        text = "choreo 2\ndrone a 0 0 1m 0\nfigure f r\ncue 2s\nr move 0 1m 1m 0\nend\nend\nperform f none 0 0 0 0 a\n"
+        self.open(text)
+        self.says("accepted")
+        self.wait(lambda: self.browser.run("return Boolean(found.lines)"), "no lines")
+        self.turn(2000, "from above")
+        self.carry(0, 0.5, 0)
+        self.assertEqual(self.text(), text)
+
+
 if __name__ == "__main__":
     unittest.main()

@@ -44,6 +44,7 @@ onPick = ms => {
   if (flightVersion === version && flight.lines) pointAt(...flight.lines[cueAt(ms)][0]);
 };
 onDrone = pickDrone;
+if (!given.watch) onGrab = grab;
 if (!given.watch) onStretch = stretchCue;
 const BESIDE_CHARTS = 104;  // pixels above, between and below the two charts of a low window
 function resize() {

@@ -345,10 +345,12 @@ function pickedLines() {
   if (k < 0 || !found.lines) return [];
   return new Set([found.lines.drones[k], ...found.lines.acts[k]].filter(Boolean));
 }
-// Marks the lines of a drone, and shows the one that it flies at this instant; null takes the marks away.
-function pickDrone(k) {
-  picked = k === null ? null : flight.names[k];
-  [chosen, isChosenByMark] = [new Set(k === null ? [] : [k]), false];
+// Marks the lines of a drone, and shows the one that it flies at this instant; null takes the marks away. With others
+// it is chosen beside those that are.
+function pickDrone(k, withOthers) {
+  const others = withOthers ? [...chosen].filter(it => it !== k) : [], wasChosen = withOthers && chosen.has(k);
+  picked = k === null || wasChosen ? null : flight.names[k];
+  [chosen, isChosenByMark] = [new Set(k === null || wasChosen ? others : [...others, k]), false];
   press();
   draw();
   markLines();

@@ -264,7 +264,7 @@ function showVerdict() {
 function showAccepted(verdict, by) {
   const [, names, cues, ms] = verdict.line.match(/drones (\d+) cues (\d+) duration_ms (\d+)/).map(Number);
   const size = `${many(names, "drone")}, ${many(cues, "cue")}, ${inSeconds(ms)}`;
-  const isProved = verdict.proved && verdict.judge === "check";
+  const isProved = verdict.proved && verdict.judge === "check", short = names > 1 ? "PROVED APART" : "PROVED";
   const proved = names > 1 ? "PROVED APART at every instant" : "PROVED: one drone, near its text at every instant";
   const other = verdict.judge === "check" ? "NOT PROVED, but accepted" : "NOT PROVED, but no fault was found";
   const accepted = isProved ? proved : other;
@@ -274,11 +274,11 @@ function showAccepted(verdict, by) {
   }
   const fault = found.notes && found.notes.faults[0], wait = given.regions && !found.regions && !found.halted;
   if (fault) {
-    setBar("care", isProved ? "PROVED, but no drone can fly it" : accepted, [`but ${fault.words}`, ...rest],
-      fault.line ? () => goFault(fault) : null);
+    setBar("care", isProved ? `${short}, but no drone can fly it` : accepted, [`${isProved ? "" : "but "}${fault.words}`,
+      ...rest], fault.line ? () => goFault(fault) : null);
     byId("verdict").children[1].className = "care";
   } else if (given.regions && !wait && !/^kept /.test((found.regions || {}).line || "")) {
-    setBar("care", accepted.replace(/^PROVED.*/, "PROVED, but the regions aren't judged"), rest);
+    setBar("care", isProved ? `${short}, but the regions aren't judged` : accepted, rest);
   } else {
     setBar(!isProved ? "care" : wait ? "" : "good", accepted, [wait ? "the regions are being judged" : "", ...rest]);
   }

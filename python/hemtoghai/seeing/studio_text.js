@@ -29,6 +29,7 @@ function newVersion() {
 }
 function afterChange() {
   typed = performance.now();
+  ghosts = new Map();
   newVersion();
   if (lines.length !== markedLines) marked = new Map();  // they would stand at other lines
   drawPaper();
@@ -46,6 +47,9 @@ function flyingOfKey(event) {
   if (!flight || isStill() || event.altKey || byId("offer").open) return null;
   if (command) return key === "Enter" ? playOrStop : null;
   if (event.target.closest && event.target.closest(TAKES_KEYS)) return null;
+  const ends = [0, ...flight.cues.map((_, k) => endOfCue(k))];
+  if (key === "ArrowUp") return () => { stop(); move(ends.reverse().find(ms => ms < now - 1) ?? 0); };
+  if (key === "ArrowDown") return () => { stop(); move(ends.find(ms => ms > now + 1) ?? flight.end); };
   const step = {ArrowLeft: -by, ArrowRight: by, Home: -Infinity, End: Infinity}[key];
   if (step) return () => { stop(); move(now + step); };
   return key === " " ? playOrStop : null;
@@ -59,7 +63,7 @@ function undoOfKey(event) {
 }
 function onKey(event) {
   const command = event.ctrlKey || event.metaKey, isHere = event.target.closest && event.target.closest("#editor");
-  const work = flyingOfKey(event) || undoOfKey(event);
+  const work = placingOfKey(event) || flyingOfKey(event) || undoOfKey(event);
   if (work) {
     event.preventDefault();
     work();

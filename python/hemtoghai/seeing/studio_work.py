@@ -162,6 +162,7 @@ def put_begun(text: bytes, said: str, path: str | None) -> None:
     cues = len(flown.cues) if flown.milliseconds > 1 else 0  # a pause of a millisecond stands for none
     put("flight", flight={**drawn, "lines": [formed_lines(flown, cue) for cue in flown.cues], "marks": [],
                           "begun": {"line": line, "cues": cues}})
+    put("lines", **drone_lines(flown))
 
 
 def put_flight(text: bytes, deep: int, program: str, answer: list[Any] | None, path: str | None) -> None:

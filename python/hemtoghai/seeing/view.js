@@ -11,11 +11,13 @@ let spaceHeight = null;  // a page's own height of the view in space, by its wid
 let onPick = null;  // what a page does with a click into a chart
 let onDrone = null;  // what a page does with a click in space: it is given the drone's number, or null beside all
 let broken = null;  // the region that isn't kept: its number, the drone, and from when to when
+let onGrab = null;  // what a page does with a drag in space: given its event and the drone, its step and its end, or null
+let ghosts = new Map();  // by drone how far it was dragged on x, y and z in millimetres, until a flight has it
 let onStretch = null;  // what a page does where the end of a cue is dragged: it is given the cue and its milliseconds
 const byId = id => document.getElementById(id);
 // Takes another flight; the page draws it then.
 function setFlight(data) {
-  [flight, broken] = [data, null];
+  [flight, broken, ghosts] = [data, null, new Map()];
   last = flight.times.length - 1;
   drones = flight.names.length;
   unit = flight.end >= 600000 ? "min:s" : "s";
@@ -370,6 +372,20 @@ function moveDrones() {
   for (const [k, point] of order) drawDrone(k, point, places[k], close.has(k));
   nameDrones(places, close);
   pen.globalAlpha = 1;
+  for (const [k, by] of ghosts) drawGhost(k, places[k].slice(0, 3), by);
+}
+// Where a drone is dragged to: its ellipsoid there, the way, and the place in metres.
+function drawGhost(k, place, by) {
+  const {pen, to} = view, there = place.map((v, axis) => v + by[axis]), point = to(there);
+  pen.strokeStyle = colour(k);
+  pen.lineWidth = 1;
+  pen.setLineDash([4, 3]);
+  way(pen, [to(place), point]);
+  pen.stroke();
+  pen.lineWidth = 2;
+  ring(k, point, flight.r, flight.h, colour(k), `color-mix(in srgb, ${colour(k)} 25%, transparent)`);
+  pen.setLineDash([]);
+  words(pen, point[0], point[1] - 14, there.map(v => metres(Math.round(v))).join(", "), colour(k));
 }
 // A drone with the line down to the floor, its ellipsoid, the ring of its stray, and where it looks.
 function drawDrone(k, point, [px, py, pz, yaw], touches) {
@@ -423,12 +439,13 @@ function nameDrones(places, close) {
   });
 }
 const NEAR_CLICK = 16;  // pixels from a drone at which a click is still one on it
-// The drone that is drawn nearest to a point of the canvas, or null where none is near.
+// The drone that is drawn nearest to a point of the canvas, or null where none is near; of two that cover each other one
+// that is chosen.
 function droneAt(x, y) {
   if (view === null) return null;
   let best = NEAR_CLICK, drone = null;
   flight.names.forEach((_, k) => {
-    const [px, py] = view.to(placeAt(k, now)), far = Math.hypot(px - x, py - y);
+    const [px, py] = view.to(placeAt(k, now)), far = Math.hypot(px - x, py - y) - (chosen.has(k) ? 1 : 0);
     if (far < best) [best, drone] = [far, k];
   });
   return drone;
@@ -460,29 +477,52 @@ function drawSpace() {
 }
 function buildViews() {
   for (const name in VIEWS) element("button", name, byId("views")).onclick = () => setView(name);
-  const canvas = byId("space");
-  let from = null;
+  const canvas = byId("space"), fingers = new Map();
+  let from = null, held = null, pinch = null;
+  const middle = () => [0, 1].map(side => [...fingers.values()].reduce((sum, it) => sum + it[side], 0) / fingers.size);
+  const span = () => { const [a, b] = [...fingers.values()]; return Math.hypot(a[0] - b[0], a[1] - b[1]); };
   canvas.onpointerdown = event => {
-    from = [event.clientX, event.clientY, turn, tilt, ...aside];
+    if (!flight) return;
+    fingers.set(event.pointerId, [event.offsetX, event.offsetY]);
     canvas.setPointerCapture(event.pointerId);
+    if (fingers.size === 2) {  // two fingers zoom, and neither turns
+      if (held) held.end(false);
+      [from, held, pinch] = [null, null, span()];
+      return;
+    }
+    from = [event.clientX, event.clientY, turn, tilt, ...aside];
+    held = onGrab && !event.shiftKey ? onGrab(event, droneAt(event.offsetX, event.offsetY)) : null;
   };
   canvas.onpointermove = event => {
+    if (fingers.has(event.pointerId)) fingers.set(event.pointerId, [event.offsetX, event.offsetY]);
+    if (pinch && fingers.size === 2) {
+      zoomBy(span() / pinch, middle());
+      pinch = span();
+    }
     if (from === null || !event.buttons) return;
     const [dx, dy] = [event.clientX - from[0], event.clientY - from[1]];
+    if (Math.hypot(dx, dy) < 4 && !rough) return;  // a click that shakes
+    rough = true;
+    if (held) return held.step(event);
     if (event.shiftKey) {
       aside = [from[4] + dx, from[5] + dy];
     } else {
       turn = from[2] - dx / 2;
-      tilt = Math.max(0, Math.min(90, from[3] + dy / 2));
+      // A finger that goes up or down scrolls a page that is longer than the window.
+      if (getComputedStyle(canvas).touchAction !== "pan-y" || event.pointerType !== "touch") {
+        tilt = Math.max(0, Math.min(90, from[3] + dy / 2));
+      }
     }
-    rough = true;
     drawSpace();
   };
   canvas.onpointerup = canvas.onpointercancel = event => {
-    const still = from && Math.hypot(event.clientX - from[0], event.clientY - from[1]) < 4;
-    from = null;
-    rough = false;
-    if (still && onDrone && flight && event.type === "pointerup") onDrone(droneAt(event.offsetX, event.offsetY));
+    const isClick = from !== null && !rough && event.type === "pointerup", grabbed = rough ? held : null;
+    fingers.delete(event.pointerId);
+    [from, held, rough] = [null, null, false];
+    if (fingers.size < 2) pinch = null;
+    if (!flight) return;
+    if (grabbed) grabbed.end(event.type === "pointerup");
+    else if (isClick && onDrone) onDrone(droneAt(event.offsetX, event.offsetY), event.shiftKey || event.ctrlKey);
     else drawSpace();
   };
 }
@@ -539,10 +579,12 @@ function drawCues(svg, x, above, floor) {
   });
 }
 const endOfCue = k => k + 1 < flight.cues.length ? flight.cues[k + 1][0] : flight.end;
+const NEAR_END = 4;  // pixels from the end of a cue at which a click is one on it
 function bindChart(svg, left, wide) {
   const go = event => {
-    const box = svg.getBoundingClientRect();
-    move((event.clientX - box.left - left) / wide * flight.end);
+    const box = svg.getBoundingClientRect(), ms = (event.clientX - box.left - left) / wide * flight.end;
+    const end = flight.cues.map((_, k) => endOfCue(k)).find(it => Math.abs(it - ms) * wide < NEAR_END * flight.end);
+    move(end ?? ms);
   };
   svg.onpointerdown = go;
   svg.onpointermove = event => { if (event.buttons) go(event); };
