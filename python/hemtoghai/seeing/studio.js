@@ -47,6 +47,13 @@ onDrone = pickDrone;
 if (!given.watch) onGrab = grab;
 if (!given.watch) onStretch = stretchCue;
 const BESIDE_CHARTS = 104;  // pixels above, between and below the two charts of a low window
+// The drawings follow the page from light to dark.
+const dark = matchMedia("(prefers-color-scheme: dark)");
+function repaint() {
+  paint = dark.matches ? DARK : LIGHT;
+  if (flight) buildLegend();
+  draw();
+}
 function resize() {
   chartHeight = isLow() ? within((byId("flight").clientHeight - BESIDE_CHARTS) / 2, 84, 200) :
     isSmall() || innerHeight > 860 ? 130 : 108;
@@ -203,6 +210,8 @@ if (given.watch) for (const id of ["editor", "cursor", "save", "cure", "deal"]) 
 buildControls();
 bindText();
 bindButtons();
+dark.addEventListener("change", repaint);
+repaint();
 resize();
 begin().then(() => {
   addEventListener("visibilitychange", listen);

@@ -274,8 +274,9 @@ function showAccepted(verdict, by) {
   }
   const fault = found.notes && found.notes.faults[0], wait = given.regions && !found.regions && !found.halted;
   if (fault) {
-    setBar("care", isProved ? `${short}, but no drone can fly it` : accepted, [`${isProved ? "" : "but "}${fault.words}`,
-      ...rest], fault.line ? () => goFault(fault) : null);
+    const why = isProved ? fault.words : `but ${fault.words}`;
+    setBar("care", isProved ? `${short}, but no drone can fly it` : accepted, [why, ...rest],
+      fault.line ? () => goFault(fault) : null);
     byId("verdict").children[1].className = "care";
   } else if (given.regions && !wait && !/^kept /.test((found.regions || {}).line || "")) {
     setBar("care", isProved ? `${short}, but the regions aren't judged` : accepted, rest);
@@ -434,7 +435,8 @@ function listPairs(panel) {
     const row = element("tr", "", table), ms = flight.times[s], [aside, up] = gapAt(i, j, s);
     goButton(`${flight.names[i]}, ${flight.names[j]}`, element("td", "", row), () => goPair(i, j, ms));
     const where = `${inSeconds(ms)}, cue ${cueAt(ms) + 1}`;
-    for (const cell of [`${share.toFixed(0)} %`, `${metres(aside)} m`, `${metres(up)} m`, where]) element("td", cell, row);
+    const cells = [`${share.toFixed(0)} %`, `${metres(aside)} m`, `${metres(up)} m`, where];
+    for (const cell of cells) element("td", cell, row);
   }
 }
 function goPair(i, j, ms) {

@@ -11,7 +11,7 @@ let spaceHeight = null;  // a page's own height of the view in space, by its wid
 let onPick = null;  // what a page does with a click into a chart
 let onDrone = null;  // what a page does with a click in space: it is given the drone's number, or null beside all
 let broken = null;  // the region that isn't kept: its number, the drone, and from when to when
-let onGrab = null;  // what a page does with a drag in space: given its event and the drone, its step and its end, or null
+let onGrab = null;  // what a page does with a drag in space: given its event and drone, its step and its end, or null
 let ghosts = new Map();  // by drone how far it was dragged on x, y and z in millimetres, until a flight has it
 let onStretch = null;  // what a page does where the end of a cue is dragged: it is given the cue and its milliseconds
 const byId = id => document.getElementById(id);
@@ -26,6 +26,14 @@ function setFlight(data) {
   floor = lowest[2] > 3000 ? lowest[2] - UP : Math.min(0, lowest[2]);
   ROOM = room();
 }
+
+// What is drawn with which colour, on a light ground and on a dark one; a page chooses.
+const LIGHT = {paper: "#fff", ink: "#222", label: "#555", axis: "#999", soft: "#777", grid: "#e2e2e2", rule: "#ccc",
+  touch: "#d00000", mark: "#f3b6b6", volume: "#3a7d3a", keepout: "#8a5a00", inside: "#e0a83022", grip: "#1d5fbf"};
+const DARK = {paper: "#171b20", ink: "#e4e8ec", label: "#a4aeb9", axis: "#78828d", soft: "#97a1ac", grid: "#2c333b",
+  rule: "#4a545f", touch: "#ff5a52", mark: "#6b2b2b", volume: "#6fbf73", keepout: "#d9a441", inside: "#e0a83022",
+  grip: "#7db2f5"};
+let paint = LIGHT;
 
 // ---- small things
 
@@ -44,7 +52,6 @@ function box(svg, [left, above, right, below], more) {
 function text(svg, x, y, words, anchor, more) {
   svg.append(node("text", {x, y, "text-anchor": anchor, ...more}, words));
 }
-const FRAME = {fill: "none", stroke: "#999"};
 function element(kind, words, parent) {
   const it = document.createElement(kind);
   it.textContent = words;
@@ -52,11 +59,13 @@ function element(kind, words, parent) {
   return it;
 }
 function colour(k) {
-  const few = ["#0072b2", "#d55e00", "#008a64", "#b8478f", "#7a5c00", "#5b3fb0", "#0092a8", "#a01830"];
+  const few = paint === LIGHT ?
+    ["#0072b2", "#d55e00", "#008a64", "#b8478f", "#7a5c00", "#5b3fb0", "#0092a8", "#a01830"] :
+    ["#56b4e9", "#f0803c", "#2fc596", "#e07cb4", "#c9a227", "#a48cf2", "#35c4d9", "#f0667a"];
   if (drones <= few.length) return few[k];
   // Steps of the golden angle, so that drones beside each other in the list differ; yellow and green are darker.
   const hue = k * 137.5 % 360, darker = hue > 40 && hue < 190 ? 10 : 0;
-  return `hsl(${Math.round(hue)} ${k % 2 ? 65 : 95}% ${[36, 48][k % 2] - darker}%)`;
+  return `hsl(${Math.round(hue)} ${k % 2 ? 65 : 95}% ${[36, 48][k % 2] - darker + (paint === LIGHT ? 0 : 26)}%)`;
 }
 const dashes = k => drones <= 8 ? "" : ["", "7 3", "2 3"][k % 3];
 const faint = k => chosen.size > 0 && !chosen.has(k);
@@ -188,7 +197,7 @@ function words(pen, x, y, it, style, align) {
   pen.textAlign = align || "center";
   pen.lineWidth = 3.5;
   pen.lineJoin = "round";
-  pen.strokeStyle = "#fff";
+  pen.strokeStyle = paint.paper;
   pen.strokeText(it, x, y);
   pen.fillStyle = style;
   pen.fillText(it, x, y);
@@ -204,7 +213,7 @@ function drawFloor() {
   const {pen, to} = view, [low, high] = [ROOM.low, ROOM.high], wide = Math.max(high[0] - low[0], high[1] - low[1]);
   const step = [100, 200, 500, 1000, 2000, 5000, 10000].find(it => wide / it <= 9) || 10000;
   pen.lineWidth = 1;
-  pen.strokeStyle = "#e2e2e2";
+  pen.strokeStyle = paint.grid;
   for (const x of marksOf(0, step)) { way(pen, [to([x, low[1], floor]), to([x, high[1], floor])]); pen.stroke(); }
   for (const y of marksOf(1, step)) { way(pen, [to([low[0], y, floor]), to([high[0], y, floor])]); pen.stroke(); }
   pen.font = SMALL;
@@ -214,7 +223,7 @@ function drawFloor() {
   const name = tilt > 80 ? "x to the right, y up, metres" :
     tilt >= 3 ? "metres" : Math.abs(turn % 180) < 3 ? "x and height, metres" :
     Math.abs(Math.abs(turn % 180) - 90) < 3 ? "y and height, metres" : "metres";
-  words(pen, 6, 12, name, "#555", "left");
+  words(pen, 6, 12, name, paint.label, "left");
 }
 const LEAST_GAP = 26, LEAST_HIGH = 17;  // pixels from one number to the next, along the floor and up
 // How many steps there are from one number to the next, so that none covers another.
@@ -235,11 +244,11 @@ function numberFloor(step) {
     return marksOf(axis, step * stepsBetween(Math.hypot(a[0] - b[0], a[1] - b[1]), LEAST_GAP));
   };
   if (flatX) for (const x of roomy(0, x => [x, yEdge, floor])) {
-    words(pen, ...add(to([x, yEdge, floor]), [0, 13]), metres(x), "#555");
+    words(pen, ...add(to([x, yEdge, floor]), [0, 13]), metres(x), paint.label);
   }
   if (flatY) for (const y of roomy(1, y => [xEdge, y, floor])) {
     const point = to([tilt > 80 ? low[0] : xEdge, y, floor]);
-    words(pen, ...(tilt > 80 ? add(point, [-14, 0]) : out(point[0], point[1])), metres(y), "#555");
+    words(pen, ...(tilt > 80 ? add(point, [-14, 0]) : out(point[0], point[1])), metres(y), paint.label);
   }
 }
 function drawHeightAxis(step) {
@@ -248,11 +257,11 @@ function drawHeightAxis(step) {
   const [x, y] = edges.sort((a, b) => to([...a, 0])[0] - to([...b, 0])[0])[0];
   way(pen, [to([x, y, floor]), to([x, y, high[2]])]);
   pen.lineWidth = 1;
-  pen.strokeStyle = "#ccc";
+  pen.strokeStyle = paint.rule;
   pen.stroke();
   const each = step * stepsBetween(Math.abs(to([x, y, step])[1] - to([x, y, 0])[1]), LEAST_HIGH);
   for (let v = Math.ceil(floor / each) * each; v <= high[2]; v += each) {
-    words(pen, ...add(to([x, y, v]), [-14, 0]), metres(v), "#555");
+    words(pen, ...add(to([x, y, v]), [-14, 0]), metres(v), paint.label);
   }
 }
 const add = ([x, y], [dx, dy]) => [x + dx, y + dy];
@@ -261,12 +270,12 @@ function drawRegions() {
   for (const [k, [kind, ...box]] of ROOM.regions.entries()) {
     const points = corners(box.slice(0, 3), box.slice(3)).map(to), inside = kind === "volume";
     const isBroken = broken !== null && broken.region === k;
-    pen.strokeStyle = isBroken ? "#d00000" : inside ? "#3a7d3a" : "#8a5a00";
+    pen.strokeStyle = isBroken ? paint.touch : inside ? paint.volume : paint.keepout;
     pen.lineWidth = isBroken ? 2.2 : 1.4;
     pen.setLineDash(inside ? [6, 4] : []);
     for (const [i, j] of EDGES) { way(pen, [points[i], points[j]]); pen.stroke(); }
     pen.setLineDash([]);
-    pen.fillStyle = isBroken ? "#d0000018" : "#e0a83022";
+    pen.fillStyle = isBroken ? `${paint.touch}18` : paint.inside;
     const sides = [[0, 1, 3, 2], [4, 5, 7, 6], [0, 1, 5, 4], [2, 3, 7, 6], [0, 2, 6, 4], [1, 3, 7, 5]];
     if (!inside) for (const side of sides) { way(pen, side.map(k => points[k])); pen.closePath(); pen.fill(); }
   }
@@ -295,7 +304,7 @@ function drawPaths() {
     pen.stroke();
     pen.setLineDash([]);
     pen.globalAlpha = faint(k) ? 0.2 : 1;
-    pen.fillStyle = "#fff";
+    pen.fillStyle = paint.paper;
     pen.fillRect(x - 3, y - 3, 6, 6);
     pen.strokeRect(x - 3, y - 3, 6, 6);
   });
@@ -307,7 +316,7 @@ function drawBroken() {
   const {pen, to} = view, {from, to: till, drone} = broken;
   const inside = flight.times.filter(ms => from < ms && ms < till);
   way(pen, [from, ...inside, till].map(ms => to(placeAt(drone, ms))));
-  pen.strokeStyle = "#d00000";
+  pen.strokeStyle = paint.touch;
   pen.lineWidth = 5;
   pen.stroke();
 }
@@ -334,7 +343,7 @@ function placeNames(spots, edge, ring, wanted) {
 }
 function drawStill() {
   const {pen, width, height} = view, canvas = byId("space");
-  pen.fillStyle = "#fff";
+  pen.fillStyle = paint.paper;
   pen.fillRect(0, 0, width, height);
   drawFloor();
   drawRegions();
@@ -389,7 +398,7 @@ function drawGhost(k, place, by) {
 }
 // A drone with the line down to the floor, its ellipsoid, the ring of its stray, and where it looks.
 function drawDrone(k, point, [px, py, pz, yaw], touches) {
-  const {pen, to, scale} = view, [x, y] = point, stroke = touches ? "#d00000" : colour(k), shown = faint(k) ? 0.2 : 1;
+  const {pen, to, scale} = view, [x, y] = point, stroke = touches ? paint.touch : colour(k), shown = faint(k) ? 0.2 : 1;
   pen.globalAlpha = faint(k) ? 0.2 : 1;
   pen.lineWidth = 0.8;
   pen.strokeStyle = colour(k);
@@ -400,7 +409,7 @@ function drawDrone(k, point, [px, py, pz, yaw], touches) {
     pen.globalAlpha = shown;
   }
   pen.lineWidth = touches ? 2.5 : 1.2;
-  const fill = touches ? "#d0000050" : `color-mix(in srgb, ${colour(k)} 13%, transparent)`;
+  const fill = touches ? `${paint.touch}50` : `color-mix(in srgb, ${colour(k)} 13%, transparent)`;
   ring(k, point, flight.r, flight.h, stroke, fill);
   if (flight.stray) {
     pen.setLineDash([3, 3]);
@@ -431,7 +440,7 @@ function nameDrones(places, close) {
     pen.globalAlpha = faint(k) ? 0.25 : 1;
     if (best.far > small + 20) {
       pen.lineWidth = 0.7;
-      pen.strokeStyle = "#888";
+      pen.strokeStyle = paint.soft;
       way(pen, [[px, py], [best.cx, best.cy]]);
       pen.stroke();
     }
@@ -439,8 +448,8 @@ function nameDrones(places, close) {
   });
 }
 const NEAR_CLICK = 16;  // pixels from a drone at which a click is still one on it
-// The drone that is drawn nearest to a point of the canvas, or null where none is near; of two that cover each other one
-// that is chosen.
+// The drone that is drawn nearest to a point of the canvas, or null where none is near; of two that cover each other
+// one that is chosen.
 function droneAt(x, y) {
   if (view === null) return null;
   let best = NEAR_CLICK, drone = null;
@@ -537,27 +546,27 @@ function chart(svg, low, high, marks, words, height) {
   svg.setAttribute("viewBox", `0 0 ${width} ${height}`);
   svg.style.height = `${height}px`;
   for (const mark of [...flight.marks, broken].filter(Boolean)) {
-    box(svg, [x(mark.from), above, Math.max(x(mark.from) + 3, x(mark.to)), floor], {fill: "#f3b6b6"});
+    box(svg, [x(mark.from), above, Math.max(x(mark.from) + 3, x(mark.to)), floor], {fill: paint.mark});
   }
   drawCues(svg, x, above, floor);
   for (const [v, label] of marks) {
-    line(svg, left, y(v), width - right, y(v), "#e8e8e8");
+    line(svg, left, y(v), width - right, y(v), paint.grid);
     text(svg, left - 6, y(v) + 4, label, "end");
   }
   for (const ms of timeTicks((width - left - right) / 56)) {
-    line(svg, x(ms), floor, x(ms), floor + Math.min(5, below), "#555");
+    line(svg, x(ms), floor, x(ms), floor + Math.min(5, below), paint.label);
     if (below > 20) text(svg, x(ms), floor + 17, time(ms), "middle");
   }
-  box(svg, [left, above, width - right, floor], FRAME);
+  box(svg, [left, above, width - right, floor], {fill: "none", stroke: paint.axis});
   if (above > 20) text(svg, 2, 12, "cue", "start");
   if (below > 20) text(svg, width - right, height - 3, `time in ${unit}`, "end");
   if (below > 20) text(svg, 2, height - 3, words, "start");
   else text(svg, left + 5, floor - 5, words, "start", {class: "name"});
   if (flight.marks.length) {
     const px = x(flight.marks[0].nearest);
-    line(svg, px, above - 3, px, floor, "#d00000", {"stroke-width": 1.5, "stroke-dasharray": "5 3"});
+    line(svg, px, above - 3, px, floor, paint.touch, {"stroke-width": 1.5, "stroke-dasharray": "5 3"});
   }
-  const cursor = node("line", {y1: above, y2: floor, stroke: "#000", "stroke-width": 1.3});
+  const cursor = node("line", {y1: above, y2: floor, stroke: paint.ink, "stroke-width": 1.3});
   bindChart(svg, left, width - left - right);
   if (onStretch && above > 20) drawGrips(svg, x, above, floor);
   const set = () => { for (const end of ["x1", "x2"]) cursor.setAttribute(end, x(now)); };
@@ -571,7 +580,7 @@ function drawCues(svg, x, above, floor) {
   let free = -Infinity;
   flight.cues.forEach(([from], k) => {
     const middle = (x(from) + x(endOfCue(k))) / 2, half = 4 * String(k + 1).length + 2;
-    if (k % lines === 0) line(svg, x(from), above, x(from), floor, "#d8d8d8");
+    if (k % lines === 0) line(svg, x(from), above, x(from), floor, paint.grid);
     if (above > 20 && (k + 1) % labels === 0 && middle - half >= free) {
       text(svg, middle, above - 8, k + 1, "middle");
       free = middle + half;
@@ -599,7 +608,7 @@ function drawGrips(svg, x, above, floor) {
     if (end - x(from) < 2 * GRIP) return;
     const grip = node("rect", {x: end - GRIP, width: 2 * GRIP, y: 0, height: above, fill: "#0000", class: "grip"});
     grip.append(node("title", {}, `drag: cue ${k + 1} longer or shorter`));
-    line(svg, end, above - 7, end, above, "#777", {"stroke-width": 1.5});
+    line(svg, end, above - 7, end, above, paint.soft, {"stroke-width": 1.5});
     bindGrip(svg, grip, k, x, above, floor);
     svg.append(grip);
   });
@@ -607,7 +616,7 @@ function drawGrips(svg, x, above, floor) {
 function bindGrip(svg, grip, k, x, above, floor) {
   const from = flight.cues[k][0], perPixel = flight.end / (x(flight.end) - x(0)), length = endOfCue(k) - from;
   const snap = [1, 5, 10, 20, 50, 100, 200, 500, 1000].find(it => it >= perPixel) || 1000;
-  const shown = node("line", {y1: 0, y2: floor, stroke: "#1d5fbf", "stroke-width": 1.5, "stroke-dasharray": "4 3"});
+  const shown = node("line", {y1: 0, y2: floor, stroke: paint.grip, "stroke-width": 1.5, "stroke-dasharray": "4 3"});
   const label = node("text", {y: above + 14, class: "name"});
   let at = null, begun = 0;
   grip.onpointerdown = event => {
@@ -676,10 +685,10 @@ function drawShares() {
   for (const [v] of flight.nearest) { low = Math.min(low, v); most = Math.max(most, v); }
   const high = Math.max(150, Math.min(most + 20, Math.max(chartHeight < 200 ? 260 : 400, 1.5 * low)));
   const it = chart(svg, 0, high, chartTicks(0, high).map(v => [v, `${v} %`]), shareWords, chartHeight);
-  box(svg, [it.left, it.y(100), it.right, it.y(0)], {fill: "#d00000", "fill-opacity": 0.07});
-  line(svg, it.left, it.y(100), it.right, it.y(100), "#d00000", {"stroke-width": 1.5});
+  box(svg, [it.left, it.y(100), it.right, it.y(0)], {fill: paint.touch, "fill-opacity": 0.07});
+  line(svg, it.left, it.y(100), it.right, it.y(100), paint.touch, {"stroke-width": 1.5});
   const points = graph(flight.times.map(ms => tenth(it.x(ms))), s => it.y(Math.min(high, flight.nearest[s][0])));
-  svg.append(node("polyline", {points: points.join(" "), fill: "none", stroke: "#222", "stroke-width": 1.8}));
+  svg.append(node("polyline", {points: points.join(" "), fill: "none", stroke: paint.ink, "stroke-width": 1.8}));
   nameDips(svg, it, high);
   const clipped = `what is above ${high.toFixed(0)} % is drawn there`;
   if (most > high && chartHeight > 200) text(svg, it.left + 4, it.y(high) + 14, clipped, "start");
@@ -713,7 +722,7 @@ function nameDips(svg, it, high) {
     named.push(s);
     let py = it.y(v) + (it.y(v) + 20 > it.y(0) ? -10 : 17);
     if (Math.abs(py - 4 - it.y(100)) < 10) py = it.y(100) + (py - 4 < it.y(100) && py - 10 > it.y(high) ? -8 : 18);
-    svg.append(node("circle", {cx: px, cy: it.y(v), r: 3, fill: v <= 100 ? "#d00000" : "#222"}));
+    svg.append(node("circle", {cx: px, cy: it.y(v), r: 3, fill: v <= 100 ? paint.touch : paint.ink}));
     text(svg, middle, py, words, "middle", {class: "name"});
   }
 }
