@@ -544,5 +544,129 @@ class Drag(Flight):
         self.assertEqual(self.text(), text)
 
 
+class Small(Flight):
+    """Dark, two fingers, undo by buttons, and what the page says in words."""
+
+    def emulate(self, command, **words):
+        """A command of Chromium's own protocol."""
+        return self.browser.ask("POST", "/goog/cdp/execute", {"cmd": command, "params": words})
+
+    def ground(self):
+        """How light the page, the view in space and the words of a chart are, from 0 to 255."""
+        return self.browser.run(
+            "const rgb = words => words.match(/[0-9]+/g).slice(0, 3).reduce((sum, it) => sum + Number(it) / 3, 0);"
+            "const space = document.getElementById('space').getContext('2d').getImageData(2, 90, 1, 1).data;"
+            "return [rgb(getComputedStyle(document.querySelector('.side')).backgroundColor), rgb([...space].join(' ')),"
+            "rgb(getComputedStyle(document.querySelector('#heights text')).fill)]")
+
+    def test_dark(self):
+        """The page is dark where the system is, also its drawings, and follows a change."""
+        self.open(TWO)
+        self.says("2 cues")
+        wide = "return document.querySelectorAll('#share polyline')[0].getAttribute('stroke')"
+        for scheme, is_light in (("light", True), ("dark", False), ("light", True)):
+            self.emulate("Emulation.setEmulatedMedia", features=[{"name": "prefers-color-scheme", "value": scheme}])
+            self.wait(lambda: (self.ground()[1] > 128) == is_light, "not drawn anew")
+            page, space, words = self.ground()
+            self.assertTrue((page > 230 and space > 230 and words < 100) if is_light else
+                            (page < 60 and space < 60 and words > 170), (scheme, page, space, words))
+            self.assertEqual(self.browser.run(wide), "#222" if is_light else "#e4e8ec")
+        self.assertEqual(self.browser.faults(), [])
+
+    def test_two_fingers(self):
+        """Two fingers that part zoom the view, and don't turn it."""
+        self.open(TWO, size=(390, 844))
+        self.says("2 cues")
+        self.emulate("Emulation.setTouchEmulationEnabled", enabled=True)
+        self.addCleanup(self.emulate, "Emulation.setTouchEmulationEnabled", enabled=False)
+        x, y = self.browser.run("document.getElementById('space').scrollIntoView({block: 'center'});"
+                                "const it = document.getElementById('space').getBoundingClientRect();"
+                                "return [it.left + it.width / 2, it.top + it.height / 2]")
+        before = self.browser.run("return [turn, tilt, zoom]")
+
+        def touch(kind, *xs):
+            self.emulate("Input.dispatchTouchEvent", type=kind, touchPoints=[
+                {"x": x + dx, "y": y, "id": k} for k, dx in enumerate(xs)])
+        touch("touchStart", -30)
+        touch("touchStart", -30, 30)
+        for far in (40, 50, 60):
+            touch("touchMove", -far, far)
+        touch("touchEnd")
+        self.wait(lambda: self.browser.run("return zoom") > 1.5, "no zoom")
+        self.assertEqual(self.browser.run("return [turn, tilt]"), before[:2])
+        self.assertAlmostEqual(self.browser.run("return zoom"), 2, delta=0.1)  # from 60 to 120 pixels
+
+    def test_undo_by_buttons(self):
+        """A number that is typed in the field is one step, which the button takes back and writes again."""
+        self.open(GOOD)
+        self.says("accepted")
+        disabled = "return ['undo', 'redo'].map(id => document.getElementById(id).disabled)"
+        self.assertEqual(self.browser.run(disabled), [True, True])
+        self.put_cursor("drone b 1000")
+        self.browser.click("#number-value")
+        self.browser.type(CONTROL + "a" + "\uE000" + "12.25", "#number-value")
+        self.assertEqual(self.focused(), "number-value")
+        self.assertIn("drone b 12250000 ", self.text())
+        self.browser.click("#undo")
+        self.assertEqual((self.text(), self.browser.run(disabled)), (GOOD, [True, False]))
+        self.browser.click("#redo")
+        self.assertIn("drone b 12250000 ", self.text())
+        self.put_cursor("drone b 1225")
+        self.browser.type(CONTROL + "a" + "\uE000" + "x", "#number-value")
+        self.assertEqual(self.words("no-number"), "no number")
+        self.browser.type(CONTROL + "a" + "\uE000" + "1", "#number-value")
+        self.assertEqual((self.words("no-number"), self.text()), ("", GOOD))
+
+    def test_file_gone(self):
+        """A file that is deleted is called so, and Save writes it anew."""
+        studio = self.open(GOOD)
+        self.says("accepted")
+        os.remove(studio.path)
+        self.wait(lambda: "isn't there any more" in self.words("told"), "it doesn't say so")
+        self.assertEqual(self.words("state"), "not written yet")
+        self.browser.click("#save")
+        self.wait(lambda: os.path.exists(studio.path) and self.words("state") == "saved", "not saved")
+        self.assertEqual(studio.read(), GOOD.encode())
+
+    def test_tabs_unsaved(self):
+        """What another tab keeps unsaved stays kept where this one saves its own text."""
+        studio = self.open(GOOD)
+        self.says("accepted")
+        first = self.browser.ask("GET", "/window")
+        second = self.browser.ask("POST", "/window/new", {"type": "tab"})["handle"]
+        self.browser.ask("POST", "/window", {"handle": second})
+        self.browser.size(1280, 800)
+        self.browser.ask("POST", "/url", {"url": "http://127.0.0.1:%s/%s/" % (studio.port, studio.token)})
+        self.says("accepted")
+        self.put_cursor(GOOD)
+        self.browser.type("# of the second tab\n")
+        kept = "return (localStorage.getItem(file.key) || '').includes('# of the second tab')"
+        self.wait(lambda: self.browser.run(kept), "not kept")
+        self.browser.ask("POST", "/window", {"handle": first})
+        self.emulate("Page.bringToFront")
+        self.browser.run("replaceText(wholeText() + '# of the first tab\\n'); clearTimeout(keeping); keeping = 1")
+        self.browser.click("#save")
+        self.wait(lambda: studio.read().endswith(b"# of the first tab\n"), "not saved")
+        self.wait(lambda: self.words("state") == "saved", "not saved")
+        self.assertTrue(self.browser.run(kept))
+        self.browser.ask("POST", "/window", {"handle": second})
+        self.browser.ask("DELETE", "/window")
+        self.browser.ask("POST", "/window", {"handle": first})
+
+    def test_words_for_readers(self):
+        """What changes many times a second isn't read out, what matters is, and all that can be reached has a name."""
+        self.open(TWO)
+        self.says("2 cues")
+        said = self.browser.run(
+            "move(2500); const of = (id, name) => document.getElementById(id).getAttribute(name);"
+            "return [of('now', 'aria-live'), of('told', 'role'), of('slider', 'aria-valuetext'), of('insert', 'aria-expanded'),"
+            "of('heights', 'aria-label'), of('share', 'aria-label'), of('offer', 'aria-labelledby')]")
+        self.assertEqual(said, ["off", "status", "2.5 s, cue 2", "false", "heights over time",
+                                "how near the nearest two are over time", "offer-title"])
+        small = self.browser.run("return [...document.querySelectorAll('button, input[type=range]')].filter(it => it.checkVisibility()"
+                                 "&& it.getBoundingClientRect().height < 24).map(it => it.id || it.innerText)")
+        self.assertEqual(small, [])
+
+
 if __name__ == "__main__":
     unittest.main()

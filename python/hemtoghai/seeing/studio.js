@@ -186,6 +186,8 @@ function bindButtons() {
   byId("compile").onclick = () => download("compile", ".plan");
   byId("certify").onclick = () => download("certify", ".certificate");
   byId("end").onclick = endStudio;
+  byId("undo").onclick = undo;
+  byId("redo").onclick = redo;
   byId("leave").onclick = () => byId("offer").close();
   byId("to-cue").onclick = toCue;
   byId("follow").onchange = onCursor;

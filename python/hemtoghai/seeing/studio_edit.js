@@ -54,7 +54,7 @@ function showNumber(force) {
   byId("number").firstElementChild.textContent = target.named;
   byId("number").lastElementChild.textContent = UNITS[target.unit][1];
   input.value = asShown(target.value, target.unit);
-  input.setCustomValidity("");
+  sayNumber(true);
 }
 // Writes a number of the field into the text, where the text still has the one that is shown; whether it was written.
 function writeNumber(value) {
@@ -62,11 +62,9 @@ function writeNumber(value) {
   const input = byId("number-value"), text = value === target.value ? target.text : numberWord(target.unit, value);
   if (textBetween(target.from, target.to) !== target.text) return false;
   if (text !== target.text) {
-    const focused = document.activeElement === input;
     writing = true;
-    writeText(target.from, target.to, text);
+    writeAside(target.from, target.to, text, true);
     target = {...target, to: target.from + text.length, text, value};
-    if (focused) input.focus();
     writing = false;
   }
   return true;
@@ -78,7 +76,12 @@ function numberOfField() {
   return /^-?([0-9]+\.?[0-9]*|\.[0-9]+)$/.test(words) ? Math.round(Number(words) * UNITS[target.unit][0]) : NaN;
 }
 function onNumber() {
-  if (target) byId("number-value").setCustomValidity(writeNumber(numberOfField()) ? "" : "no number");
+  if (target) sayNumber(writeNumber(numberOfField()));
+}
+// Says whether the field has a number for its place.
+function sayNumber(isOne) {
+  byId("number-value").setCustomValidity(isOne ? "" : "no number");
+  byId("no-number").textContent = isOne ? "" : "no number";
 }
 function onNumberKey(event) {
   const step = {ArrowUp: 1, ArrowDown: -1}[event.key];
@@ -141,6 +144,7 @@ async function openMenu() {
   placeMenu();
   byId("menu").replaceChildren(element("p", "Looking where the drones are"));
   byId("menu").hidden = false;
+  byId("insert").setAttribute("aria-expanded", true);
   try {
     const answer = await post("places", {line: menuLine});
     if (!answer.ok) throw new Error(await answer.text());
@@ -166,12 +170,12 @@ function placeMenu() {
 }
 function closeMenu(back) {
   byId("menu").hidden = true;
+  byId("insert").setAttribute("aria-expanded", false);
   if (back) field.focus({preventScroll: true});
 }
 function menuButton(words, work) {
   const button = element("button", words, byId("menu"));
   button.type = "button";
-  button.setAttribute("role", "menuitem");
   button.onclick = () => { closeMenu(true); if (menuVersion === version) work(); };
 }
 function onMenuKey(event) {

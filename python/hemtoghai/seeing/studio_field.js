@@ -162,9 +162,9 @@ function writeText(from, to, words) {
   field.focus({preventScroll: true});
   writeAside(from, to, words);
 }
-// The same, and the keys stay where they are.
-function writeAside(from, to, words) {
-  edit(from, to, words.replace(/\r\n?/g, "\n"), false);
+// The same, and the keys stay where they are. What is typed elsewhere is undone as what is typed in the text.
+function writeAside(from, to, words, isTyped = false) {
+  edit(from, to, words.replace(/\r\n?/g, "\n"), isTyped);
   afterWriting();
 }
 function afterWriting() {

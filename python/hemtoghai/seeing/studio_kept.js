@@ -4,6 +4,7 @@
 const KEEP = 300;  // milliseconds until what was typed is kept
 const MOST_KEPT = 1000;  // lines that are kept beside a whole text
 let keeping = null;  // the wait until it is kept
+let readAs = null;  // the name of the text that was there when the page was opened, and that it takes over
 const keptName = () => `${file.key} name`, keptRun = () => `${file.key} lines`;
 
 // While somebody types without a pause it is kept as well, at most once in this time; a long text takes longer to keep.
@@ -22,6 +23,8 @@ function keep() {
 }
 function forget() {
   keptAs = null;
+  const name = localStorage.getItem(keptName());
+  if (name && name !== readAs && !name.startsWith(`${page} `)) return;  // another tab's, which isn't saved
   for (const name of [file.key, keptName(), keptRun()]) localStorage.removeItem(name);
 }
 function keepWhole() {
@@ -44,6 +47,7 @@ function kept() {
   try {
     const stored = JSON.parse(localStorage.getItem(file.key)), more = JSON.parse(localStorage.getItem(keptRun()));
     if (!stored || typeof stored.text !== "string") return null;
+    readAs = stored.name || null;
     if (!more || more.name !== stored.name) return stored;
     const old = stored.text.split("\n"), from = more.line - 1;
     return {text: [...old.slice(0, from), ...more.put, ...old.slice(from + more.gone)].join("\n"), at: more.at};

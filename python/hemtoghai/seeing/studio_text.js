@@ -91,6 +91,7 @@ function showState() {
     dirty() ? "changed, not saved" : "saved";
   byId("state").textContent = words;
   byId("save").disabled = !dirty();
+  [byId("undo").disabled, byId("redo").disabled] = [!done.length, !undone.length];
   document.title = `${dirty() ? "• " : ""}${given.name} · studio`;
   const verdict = found.verdict, status = verdict ? verdict.status : -1;
   byId("cure").disabled = status !== 4 && status !== 5;
@@ -208,8 +209,19 @@ function listen() {
   };
 }
 function warn(said) {
-  if (!file || saving || !said.there || said.stamp === file.stamp || savedStamps.has(said.stamp)) return;
+  if (file && !said.there && !file.new && !saving) {
+    Object.assign(file, {new: true, stamp: said.stamp, gone: file.stamp});
+    showState();
+    return tell("The file isn't there any more. Save writes it anew.");
+  }
+  if (file && said.there && file.new && said.stamp === file.gone) {  // it was only away for a moment
+    Object.assign(file, {new: false, stamp: said.stamp});
+    showState();
+    return tell("");
+  }
+  if (!file || saving || !said.there || said.stamp === file.stamp || savedStamps.has(said.stamp)) return null;
   tell("The file was changed by another program.", ["Take its text", takeFile], ["Keep this text", () => {}]);
+  return null;
 }
 function follow(said) {
   if (!said.there) return setBar("", "No file yet", `waiting for ${given.name}`);

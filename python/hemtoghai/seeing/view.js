@@ -741,6 +741,7 @@ function move(ms) {
       `${metres(farAt(i, j, s))}\u00a0m`;
   }
   byId("now").textContent = said;
+  byId("slider").setAttribute("aria-valuetext", `${time(shown)} ${unit}, cue ${cue + 1}`);
   moveDrones();
   for (const it of charts) it.set();
 }
