@@ -37,7 +37,8 @@ from hemtoghai.seeing.studio_words import words_of_language
 PARTS = {"/*STYLE*/": "studio.css", "/*VIEW*/": "view.js", "/*LINES*/": "studio_lines.js",
          "/*FIELD*/": "studio_field.js", "/*PAPER*/": "studio_paper.js", "/*FIND*/": "studio_find.js",
          "/*TEXT*/": "studio_text.js", "/*KEPT*/": "studio_kept.js", "/*QUANTITIES*/": "studio_quantities.js",
-         "/*EDIT*/": "studio_edit.js", "/*DRAG*/": "studio_drag.js", "/*FOUND*/": "studio_found.js", "/*MAIN*/": "studio.js"}
+         "/*EDIT*/": "studio_edit.js", "/*DRAG*/": "studio_drag.js", "/*FOUND*/": "studio_found.js",
+         "/*MAIN*/": "studio.js"}
 FOLDER = os.path.join(program.PACKAGE, "seeing")  # of the page's files
 MOST_JOBS = 8  # that run at a time, of all pages together
 MOST_PAGES = 64  # whose newest text is remembered
