@@ -245,9 +245,8 @@ class Flights(unittest.TestCase):
 
     def test_not_up(self):
         down = r", 0.0[0-9]\) m, disarmed, 0 starts"
-        # the director waits eight seconds for one that isn't as the next step wants it
         for fault, said in (("unarmed", "not flown: b isn't armed\n"), ("stays", "FAULT: b refuses to take off: status 16; landing all\nlanded"),
-                            ("stuck", "FAULT: b is 1000 mm from its place; landing all\nlanded")):
+                            ("stuck", "FAULT: b is [0-9]+ mm from its way; landing all\nlanded")):
             self.flown(fault, 1, said, without=["started"], ends={"a": down, "b": down})
         self.flown("stray", 1, "FAULT: ([ab] is [0-9]+ mm from its place|a drone isn't as the next step wants it for long enough); landing all\n"
                    "landed", without=["started"])
@@ -263,7 +262,7 @@ class Flights(unittest.TestCase):
 
     def test_one_that_does_not_land(self):
         # It isn't disarmed, since it would fall.
-        self.flown("hovers", 1, "FAULT: b is 1000 mm from its place; landing all\nNOT SEEN TO BE DOWN: b.*\nNOT SEEN TO BE DOWN: b.*\n.*landed, but for b: not disarmed; "
+        self.flown("hovers", 1, "FAULT: b is [0-9]+ mm from its way; landing all\nNOT SEEN TO BE DOWN: b.*\nNOT SEEN TO BE DOWN: b.*\n.*landed, but for b: not disarmed; "
                    "--only land and --only stop still reach them",
                    ends={"a": r", 0.00\) m, disarmed, 1 start", "b": r", 1.00\) m, armed, 1 start"})
 

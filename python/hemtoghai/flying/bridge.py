@@ -96,6 +96,8 @@ class Bridge(Home):
             drone, words, seconds, stage = self.came.get()
             if words is None:
                 self.unheard.pop(drone, None)
+                if stage == self.begun:
+                    self.took[drone] = seconds
             else:
                 self.refusals[drone] = words
             self.director.hear(director.answer(drone, 0 if words is None else MUTE))
@@ -210,6 +212,7 @@ class Bridge(Home):
         seconds = stage.milliseconds / 1000
         self.leg, self.begun, self.stage_began, self.stage_ends = leg, number + 1, now, now + seconds + 1
         self.unheard, self.rising, self.is_said_late = {}, set(), len(stage.to) == 1
+        self.begin_moves(leg.places(number), stage)
         self.due_by = math.inf if stage is self.ways.up.stages[-1] else now + seconds + PATIENCE
         if stage.kind == TAKE_OFF:
             self.flying, self.rising = True, set(stage.to)

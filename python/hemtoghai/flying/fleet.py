@@ -88,9 +88,11 @@ class State:
         """Whether it has a supervisor that says none of these."""
         return self.info is not None and not self.info & bits
 
-    def speed(self) -> float:
-        """Its speed in metres a second by its last two samples, by its own clock."""
-        return 1000 * math.dist(*self.places[-2:]) / self.between if len(self.places) > 1 and self.between > 0 else 0.0
+    def speed(self, axes: int = 3) -> float:
+        """Its speed on its first axes, in metres a second, by its last two samples, by its own clock."""
+        if len(self.places) < 2 or self.between <= 0:
+            return 0.0
+        return 1000 * math.dist(*(place[:axes] for place in self.places[-2:])) / self.between
 
 
 class Log:

@@ -8,6 +8,7 @@ of what happens from the first fault on, so that it gives no orders any more: bu
 """
 import math
 import time
+from itertools import combinations
 from typing import Callable, Dict, Iterator, List, Optional, Set, Tuple
 
 from hemtoghai.companion import many
@@ -16,8 +17,8 @@ from hemtoghai.flying.crazyradio import Trouble
 from hemtoghai.flying.crew import Interrupted, say
 from hemtoghai.flying.descent import LANDING
 from hemtoghai.flying.director import Director, Ended, LAND as TO_LAND, Order, signal, SINK, To
-from hemtoghai.flying.stages import (apart, GO_TO, judge_stages, LAND, LATE, Leg, milliseconds_for, MOST, Place,
-                                     place_of, Rules, SAME_FLOOR, Stage)
+from hemtoghai.flying.stages import (apart, GO_TO, judge_stages, LAND, LATE, Leg, milliseconds_for, MOST, PEAK,
+                                     Place, place_of, Rules, SAME_FLOOR, Stage)
 from hemtoghai.flying.watched import Watched
 
 LEAD = 100  # milliseconds until a landing that is decided is begun
@@ -123,6 +124,39 @@ class Home(Watched):
             return self.ways.after_start(t)
         return row.now(self.since(self.stage_began)) if row else NO_ANSWER
 
+    def column(self, k: int, here: Dict[int, Place]) -> landings.Column:
+        """What a drone may be above of that is told to land now on the ways: where it is, and how far it is carried on
+        aside by its own speed or by the greatest of its move; one that may not have heard an order, or of a landing,
+        may be all along its way."""
+        mover, _ = self.moves[k]
+        if not self.is_fresh(k) or k in self.unheard:
+            return landings.Column(self.unheard.get(k, here[k]), self.aims[k])
+        speed = self.speed_aside(k)
+        if self.stage_ends > clock.now():
+            speed = max(speed, 1000 * PEAK * apart(mover.first, mover.last) / mover.milliseconds)
+        return landings.Column(here[k], here[k], landings.carried(speed) + speed * (LATE / 1000 + OLD))
+
+    def refusal_aside(self) -> Optional[str]:
+        """Why landings from the ways aren't apart for the reason alone that nobody is above or below another, whatever
+        each does in its column, or None. It asks nobody."""
+        if self.zero is not None and self.leg is self.ways.up:
+            return NO_ANSWER  # some may fly their curves
+        here = self.places_here()
+        columns = {k: self.column(k, here) for k in self.all}
+        for i, j in combinations(self.all, 2):
+            if (here[i] != self.ways.pads[i] or here[j] != self.ways.pads[j]) and columns[i].apart(
+                    columns[j]) <= self.ways.rules.side():
+                return f"{self.names[i]} and {self.names[j]}"
+        return None
+
+    def refusal_now(self) -> Optional[str]:
+        """Why not all may land now on the ways, or None: by what was judged beforehand, by columns that are apart, or
+        else by `check`, which hasn't long."""
+        why = self.refusal_ready()
+        if why is None or self.refusal_aside() is None:
+            return None
+        return self.soon(self.refusal_here, why)
+
     def refusal_here(self) -> Optional[str]:
         """Why not all may land straight down from where they are on the ways, or None: with how far they are carried
         on by the speed of their last two samples, and how far they fly until all are told. Who isn't heard stays where
@@ -175,8 +209,7 @@ class Home(Watched):
         down, or a new one. What is left to do is a landing of who isn't down: why that isn't shown apart, or None."""
         self.watch.lands = True
         self.fleet.radio.drop()
-        why = self.refusal_ready()  # what was judged beforehand, or else `check`, which hasn't long
-        why = why and self.soon(self.refusal_here, why)
+        why = self.refusal_now()
         if why is None:
             return None
         self.director.close_input()  # what follows is none of its flight
@@ -187,12 +220,22 @@ class Home(Watched):
         elif self.stage_ends > clock.now():
             say("%s; a landing of all now isn't shown apart (%s): the stage that is flown goes to its end first" % (
                 front, landings.short(why)))
+            if self.far_since and self.lands_sooner():
+                return None
         self.pause(self.stage_ends)
         self.wait_heard()
         why = NO_ANSWER if gone_back else self.refusal_ready()
         if why == NO_ANSWER:  # else what was judged beforehand is as good where all are at rest; `check` may be slow
             why = self.meanwhile(self.refusal_here)
         return self.go_home(front, why) if why else None
+
+    def lands_sooner(self) -> bool:
+        """Looks, while a stage is flown on which somebody isn't where it should be, whether all may land."""
+        while clock.now() < self.stage_ends - LEAD / 1000:
+            if self.refusal_now() is None:
+                return True
+            self.pause(clock.now() + 0.05)
+        return False
 
     def go_home(self, front: str, why: str) -> Optional[str]:
         """Flies a judged way home from where all are at rest, and may not land for a reason; why not all may land in
@@ -269,18 +312,20 @@ class Home(Watched):
         all motors. Who didn't answer, or isn't down, in words."""
         seconds = stage.milliseconds / 1000
         before = {k: self.aims[k] for k in stage.to}
+        self.begin_moves(self.places_here(), stage)
         self.aims.update(stage.to)
         if stage.kind == LAND:
             up = self.bring_down(list(stage.to), seconds, self.ways.rules.late / 1000)
             self.unheard = {k: before[k] for k in up}
             return ["%s isn't down" % self.names[k] for k in up]
-        self.unheard = before
+        self.unheard, begin = before, clock.now()
 
         def go(drone: int) -> None:
             x, y, z = (v / 1000 for v in stage.to[drone])
             yaw = math.radians(self.ways.yaws[drone] / 10)
             self.fleet.command(drone, firmware.go_to(x, y, z, yaw, seconds), "go back")
             self.unheard.pop(drone, None)
+            self.took[drone] = clock.now() - begin
         mute = [str(why) for why in self.fleet.radio.failures(list(stage.to), go, self.watch.look).values()]
         for words in mute:
             say(words)
@@ -293,6 +338,7 @@ class Home(Watched):
         """The show is over: what is flown from here on is the way down."""
         self.in_show, self.leg, self.begun, self.stage_began, self.stage_ends = (
             False, self.ways.down, 0, None, clock.now())
+        self.begin_moves(dict(enumerate(self.ways.lasts)), Stage(GO_TO, 1, dict(enumerate(self.ways.lasts))))
 
     def come_down(self) -> None:
         """Flies the way down, which the director isn't led by any more; where some are silent, and hover at the end of

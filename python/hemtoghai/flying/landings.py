@@ -46,6 +46,37 @@ def carried(speed: float) -> float:
     return speed * speed / (2000 * BRAKE) + REACT * speed
 
 
+def meet(a: Sequence[float], b: Sequence[float], c: Sequence[float], d: Sequence[float]) -> bool:
+    """Whether the lines from a to b and from c to d cross, as seen from above."""
+    def side(p: Sequence[float], q: Sequence[float], r: Sequence[float]) -> float:
+        return (q[0] - p[0]) * (r[1] - p[1]) - (q[1] - p[1]) * (r[0] - p[0])
+    return side(a, b, c) * side(a, b, d) < 0 and side(c, d, a) * side(c, d, b) < 0
+
+
+def aside(place: Sequence[float], a: Sequence[float], b: Sequence[float]) -> float:
+    """How far a place is from a line, as seen from above."""
+    x, y = b[0] - a[0], b[1] - a[1]
+    size = x * x + y * y
+    share = ((place[0] - a[0]) * x + (place[1] - a[1]) * y) / size if size > 0 else 0.0
+    share = min(1.0, max(0.0, share))
+    return apart(place, (a[0] + share * x, a[1] + share * y))
+
+
+class Column:
+    """What a drone may be above of while it comes straight down, or stays on its way: a line, and how far aside."""
+
+    def __init__(self, begin: Sequence[float], end: Sequence[float], reach: float = 0.0) -> None:
+        self.begin, self.end, self.reach = begin, end, reach
+
+    def apart(self, other: "Column") -> float:
+        """How far two columns are from each other at least."""
+        if meet(self.begin, self.end, other.begin, other.end):
+            return 0.0
+        return min(aside(self.begin, other.begin, other.end), aside(self.end, other.begin, other.end),
+                   aside(other.begin, self.begin, self.end), aside(other.end, self.begin, self.end)
+                   ) - self.reach - other.reach
+
+
 class Landings:
     """The landings of a show: `floors` are by drone, in mm. A step is how far apart the instants are that stand for
     all. Drones are `before` late at most in what they fly, and told of a landing within `told`. Some may be `standing`
@@ -302,6 +333,15 @@ class Mover:
     def at(self, t: float) -> List[float]:
         s = ease((t - self.begin) / self.milliseconds)
         return [v + (w - v) * s for v, w in zip(self.first, self.last)]
+
+    def distance(self, place: Sequence[float], low: float, high: float) -> float:
+        """How far a place is from where it is between two times, which is a straight line."""
+        a, b = self.at(max(low, self.begin)), self.at(max(high, self.begin))
+        way = [w - v for v, w in zip(a, b)]
+        size = sum(v * v for v in way)
+        share = sum((p - v) * w for p, v, w in zip(place, a, way)) / size if size > 0 else 0.0
+        share = min(1.0, max(0.0, share))
+        return dist(place, [v + share * w for v, w in zip(a, way)])
 
 
 def cubic_of(mover: Moving, begin: float, end: float) -> Cubic:

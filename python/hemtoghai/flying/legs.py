@@ -70,9 +70,15 @@ def places_of(flown: Flown) -> Tuple[List[Place], List[Place], List[int], List[i
     return firsts, lasts, [flight[0][1][3][0] for flight in flown.sent], [flight[-1][1][3][-1] for flight in flown.sent]
 
 
+def box_of(flown: Flown) -> List[Tuple[int, int]]:
+    """By axis a least and a greatest coordinate in mm between which all curves of a show stay."""
+    rows = [[v for flight in flown.sent for _, elements in flight for v in elements[axis]] for axis in range(3)]
+    return [(min(row), max(row)) for row in rows]
+
+
 def top_of(flown: Flown) -> int:
     """A height in mm that no curve of a show leaves upwards."""
-    return max(v for flight in flown.sent for _, elements in flight for v in elements[2])
+    return box_of(flown)[2][1]
 
 
 def pads_by_name(path: str) -> Dict[str, Place]:

@@ -177,9 +177,13 @@ class Leg:
         self.late = self.late if refusal else 0
         return refusal
 
+    def all_places(self) -> List[Place]:
+        """Where drones begin, and where they go to in each stage."""
+        return [place for at in [self.begin, *(stage.to for stage in self.stages)] for place in at.values()]
+
     def top(self) -> int:
         """The highest that the leg goes, in mm."""
-        return max(place[2] for at in [self.begin, *(stage.to for stage in self.stages)] for place in at.values())
+        return max(place[2] for place in self.all_places())
 
     def lines(self) -> Iterator[str]:
         for number, stage in enumerate(self.stages, 1):

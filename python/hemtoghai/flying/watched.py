@@ -6,7 +6,7 @@ first fault on by flying/home.py.
 import math
 import threading
 import time
-from typing import Callable, Dict, Iterator, List, Optional, Set, TypeVar
+from typing import Callable, Dict, Iterator, List, Optional, Set, Tuple, TypeVar
 
 from hemtoghai.flying import clock, firmware, landings
 from hemtoghai.flying.crazyradio import Silence, Trouble
@@ -14,11 +14,12 @@ from hemtoghai.flying.crew import say, Watch
 from hemtoghai.flying.descent import Descent
 from hemtoghai.flying.fleet import Fleet
 from hemtoghai.flying.routes import LIFT
-from hemtoghai.flying.stages import LATE, Place, place_of
+from hemtoghai.flying.stages import LATE, Place, place_of, Stage
 from hemtoghai.flying.ways import Ways
 from hemtoghai.geometry.curves import curves_of
 
-FAR_FOR = 0.3  # seconds for which a drone has to be far from its curve, or to send no numbers
+FAR_FOR = 0.3  # seconds for which a drone has to be far from where it should be, or to send no numbers
+SOONER = 50  # milliseconds by which a sample may be younger than its drone's clock says
 UNHEARD = 0.5  # seconds that the sample of one that didn't answer may be old
 Found = TypeVar("Found")
 
@@ -28,7 +29,8 @@ class Watched(Descent):
     `failed` those whose fault was said, and `out` those of them that don't fly any more. `armed` are those that were
     seen armed. `aims` has where each was told to go last, `unheard` who didn't answer that and where it was told to be
     before, and `leg`, `begun`, `stage_began` and `stage_ends` the leg that is flown, its stage, when its orders went
-    out, and when it has ended. `zero` is when the show was started, and `slack` the seconds after it within which all
+    out, and when it has ended. `moves` are what each flies outside of the show, and `took` after how many seconds it
+    answered the order to. `zero` is when the show was started, and `slack` the seconds after it within which all
     have."""
 
     def __init__(self, fleet: Fleet, ways: Ways, watch: Watch) -> None:
@@ -47,6 +49,9 @@ class Watched(Descent):
         self.stage_began: Optional[float] = None
         self.aims: Dict[int, Place] = dict(ways.pads)
         self.unheard: Dict[int, Place] = {}
+        self.moves: Dict[int, Tuple[landings.Mover, float]] = {
+            k: (landings.Mover(0, (pad, pad, 1)), clock.now()) for k, pad in ways.pads.items()}
+        self.took: Dict[int, float] = {}
 
     # ---- where drones are, in mm, and when
 
@@ -56,6 +61,10 @@ class Watched(Descent):
 
     def speed(self, k: int) -> float:
         return 1000 * self.fleet.states[k].speed()
+
+    def speed_aside(self, k: int) -> float:
+        """Its speed as seen from above."""
+        return 1000 * self.fleet.states[k].speed(2)
 
     def since(self, begin: Optional[float]) -> float:
         """The milliseconds since an instant; 0 where it didn't come."""
@@ -114,8 +123,11 @@ class Watched(Descent):
             return "%s sends a place that is no number" % name
         if state.is_empty(self.options.sag):
             return "%s has %.2f V left" % (name, state.volts or 0.0)
-        if self.in_show and clock.now() - self.far_since.get(k, math.inf) > FAR_FOR:
-            return "%s is %.0f mm from its curve" % (name, self.far[k])
+        if self.flying and not self.ways.has_room(self.at(k), self.limit()):
+            x, y, z = state.where()
+            return f"{name} is at ({x:.2f}, {y:.2f}, {z:.2f}) m, outside of the room of show and ways"
+        if clock.now() - self.far_since.get(k, math.inf) > FAR_FOR:
+            return "%s is %.0f mm from its %s" % (name, self.far[k], "curve" if self.in_show else "way")
         return None
 
     def is_out(self, k: int) -> bool:
@@ -151,16 +163,37 @@ class Watched(Descent):
                 self.silent.discard(k)
                 say("%s is heard again" % self.names[k])
 
+    def limit(self) -> float:
+        """How far a drone may be from where it should be, in mm."""
+        return float(self.options.stray if self.in_show else max(self.options.stray, self.ways.rules.stray))
+
+    def begin_moves(self, at: Dict[int, Place], stage: Stage) -> None:
+        """The orders of a stage go out now, to drones that are at places: what each of them flies from here on."""
+        now = clock.now()
+        self.moves.update((k, (landings.Mover(0, (at[k], to, stage.milliseconds)), now)) for k, to in stage.to.items())
+        self.took = {}
+
+    def far_on_way(self, k: int, measured: float) -> float:
+        """How far a drone was from what it flies, in mm, when its last sample was measured. It may have begun at any
+        instant from when its order went out to when it was answered, or hasn't yet."""
+        mover, began = self.moves[k]
+        t = 1000 * (measured - began)
+        late = max(float(self.ways.rules.late), 1000 * self.took.get(k, math.inf if k in self.unheard else 0.0))
+        return mover.distance(self.at(k), t - late - SOONER, t + SOONER)
+
     def measure(self) -> None:
-        """Looks how far drones are from their curves, as far as they are heard."""
+        """Looks how far drones are from their curves, or from what they fly on the ways, as far as they are heard."""
         late, now, promised = self.options.late, clock.now(), self.ways.rules.show_stray
         for k, (state, curve) in enumerate(zip(self.fleet.states, self.curves)):
             if k in self.silent or state.heard is None or state.measured is None or now - state.heard > 1:
                 continue
-            t, enough = 1000 * (state.measured - (self.zero or 0.0)), min(self.options.stray, promised) / 4
-            self.far[k] = curve.nearest(self.at(k), t - late - 50 - 1000 * self.slack, t + late, enough)[0]
-            self.strays[k] = max(self.strays[k], self.far[k])
-            if self.far[k] <= self.options.stray:
+            if self.in_show:
+                t, enough = 1000 * (state.measured - (self.zero or 0.0)), min(self.options.stray, promised) / 4
+                self.far[k] = curve.nearest(self.at(k), t - late - 50 - 1000 * self.slack, t + late, enough)[0]
+                self.strays[k] = max(self.strays[k], self.far[k])
+            else:
+                self.far[k] = self.far_on_way(k, state.measured)
+            if self.far[k] <= self.limit():
                 self.far_since.pop(k, None)
             else:
                 self.far_since.setdefault(k, now)
@@ -168,7 +201,7 @@ class Watched(Descent):
     def noted(self) -> List[str]:
         """Looks at all drones, and what is pressed; the faults that are new."""
         self.watch.look()
-        if self.in_show:
+        if self.flying:
             self.measure()
         return [*self.listen(), *self.faults()]
 

@@ -17,6 +17,7 @@ from hemtoghai.flying.stages import AIM, judge_stages, LAND, Leg, milliseconds_f
 from hemtoghai.language.choreo import Flown
 
 STARTS = range(0, 2001, 400)  # milliseconds after a start, at which it is judged as one that not all took
+ROOM = 200  # by which a drone may be farther outside of the box of show and ways than it may stray
 PATIENCE = 120  # real seconds for which a take-off waits until landings on the ways are judged
 # Why the flight director takes three shows for no flight, by the numbers of its causes and by the way or the seam.
 CAUSES = (("isn't the drone of the way up", "isn't the drone of the way down"),
@@ -48,6 +49,8 @@ class Ways:
         self.up, self.down = self.way("up"), self.way("down")
         if self.down.why_below:
             raise Trouble("not flown: no way down to the pads: %s" % self.down.why_below)
+        places = [place for leg in (self.up, self.down) for place in leg.all_places()]
+        self.box = [(min(low, *row), max(high, *row)) for (low, high), row in zip(legs.box_of(flown), zip(*places))]
         # The milliseconds of the director's landing of all, from the highest place of the flight. They are no multiple
         # of a hundred, by which it is told from the landings of the way down.
         top = max(self.up.top(), self.down.top(), legs.top_of(flown))
@@ -65,6 +68,10 @@ class Ways:
         self.broken: List[Tuple[int, Optional[str]]] = []
         self.preparing: Optional[threading.Thread] = None
         self.is_prepared = self.over = False
+
+    def has_room(self, place: Sequence[float], stray: float) -> bool:
+        """Whether a place is where a drone of this flight can be, if it strays by so much."""
+        return all(low - stray - ROOM <= v <= high + stray + ROOM for v, (low, high) in zip(place, self.box))
 
     def way(self, name: str) -> Leg:
         """The way up or down; raises Trouble."""

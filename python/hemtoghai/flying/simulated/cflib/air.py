@@ -42,6 +42,9 @@ FAULTS = {
     "astray": "stands half a metre off",
     "memory": "has another list of memories",
     "wanders": "leaves its curve by half a metre a second, so many seconds after its start",
+    "leaves": "leaves its way by half a metre a second, so many seconds after it took off",
+    "leaps": "its estimate leaps by half a metre, so many seconds after it took off",
+    "misled": "its estimate leaps by twenty-five metres, so many seconds after its start",
     "deaf": "hears no broadcast",
     "deafens": "hears no broadcast once it has taken off",
     "locked": "can't be armed",
@@ -107,6 +110,7 @@ class Drone:
         self.floor, self.hits, self.yaw = self.place[2], 0.0, 0.0
         self.cut: Optional[float] = None  # when its motors stopped
         self.curve_began: Optional[float] = None
+        self.rose_at: Optional[float] = None  # when it took off first
         self.starts: List[float] = []
         self.memories = [(kind, self.memory_bytes(b"\xFF" * size)) for kind, size in MEMORIES]
         self.thrown: Optional[Tuple[float, List[float]]] = None
@@ -139,6 +143,11 @@ class Drone:
         """Whether a fault of some seconds after the start has come."""
         flown = self.flown()
         return fault in self.faults and flown is not None and flown >= self.faults[fault]
+
+    def past(self, fault: str, now: float) -> float:
+        """The seconds since a fault that comes so long after its take-off, or 0."""
+        after = self.faults.get(fault)
+        return 0.0 if self.rose_at is None or after is None else max(0.0, now - self.rose_at - after)
 
     def is_in(self, fault: str, seconds: float) -> bool:
         """The same, for so many seconds."""
@@ -194,6 +203,8 @@ class Drone:
             at = [v + self.world.stray / 1000 * w for v, w in zip(at, way)]
         if self.is_due("wanders"):
             at[0] += 0.5 * ((self.flown(now) or 0.0) - self.faults["wanders"])
+        if self.flies:
+            at[0] += 0.5 * self.past("leaves", now)
         return [at[0], at[1], max(self.floor, at[2])]
 
     def drop(self) -> None:
@@ -365,7 +376,8 @@ class Drone:
             return math.nan
         if group == "stateEstimate":
             high = self.faults.get("high", 0.0) if item == "z" else 0.0
-            return self.is_at(now)["xyz".index(item)] + high
+            aside = 0.5 if self.past("leaps", now) else 25.0 if self.is_due("misled") else 0.0
+            return self.is_at(now)["xyz".index(item)] + (high if item == "z" else aside if item == "y" else 0.0)
         if group == "kalman":
             return 0.05 if "unsettled" in self.faults else 0.00002
         if name == "pm.vbat":
@@ -420,6 +432,7 @@ class Drone:
             here = self.planned()
             self.go([here[0], here[1], height], seconds)
             self.flies, self.lands = True, kind == 8
+            self.rose_at = clock.now() if self.rose_at is None else self.rose_at
             return 0
         if kind == 4:
             x, y, z, yaw, seconds = struct.unpack_from("<fffff", data, 3)

@@ -1,0 +1,71 @@
+"""./show fly where drones leave the ways up and down, or an estimate leaps there, and while the crew is asked."""
+import re
+import signal
+import unittest
+
+import common
+import flights
+from hemtoghai.flying.landings import Column, Mover
+from test_fly import HIGH, b, fly
+from test_fly_hard import SHORT, SLOW, WIDE
+
+INT = signal.SIGINT
+STRAYS = WIDE.replace("choreo 1\n", "choreo 1\nstray 60\nlate 60\n")
+FLIGHTS = {
+    "leaves going up": (fly, b("leaves:1") + SLOW, STRAYS), "leaps going up": (fly, b("leaps:2") + SLOW, STRAYS),
+    # nobody answers `Start?`, and b leaves its place meanwhile
+    "leaves waiting": (fly, b("leaves:13") + SLOW, STRAYS, "yes\nyes\n", [("no such line", INT)]),
+    "leaves coming down": (fly, b("wanders:4.5") + SLOW, STRAYS),
+    "leaps coming down": (fly, b("misled:6") + SLOW, STRAYS),
+}
+RUNS = flights.Flights(3, FLIGHTS)
+begun, forget, setUpModule = RUNS.begun, RUNS.forget, RUNS.set_up
+
+
+@common.wants_program
+class OffTheWay(unittest.TestCase):
+    def landed(self, name, *lines, without=("flown:",)):
+        """The output of a flight that lands early, with all drones but b on the floor."""
+        status, out, *_ = begun(name).result()
+        self.assertEqual(status, 1, out)
+        for line in lines:
+            self.assertRegex(out, line, name)
+        for line in (*without, "Traceback", "doesn't take the go", "its place"):
+            self.assertNotIn(line, out, name)
+        self.assertRegex(out, r"simulated: a at \([0-9., -]+, 0.0[0-9]\) m, disarmed", out)
+        return out
+
+    def test_going_up(self):
+        # At 0.5 m a second it is off by 90 mm, the stray and 30, after 0.2 s, and a fault 0.3 s later.
+        out = self.landed("leaves going up", "FAULT: b is [0-9]+ mm from its way; landing all\nlanded\n", without=["started"])
+        self.assertLess(int(re.search("b is ([0-9]+) mm", out).group(1)), 600, out)
+        # the leap looks like speed at first, with which no landing is judged: it isn't waited for the end of the stage
+        self.landed("leaps going up", r"FAULT: b is (at .*, outside of the room of show and ways|\d+ mm from its way)(; .*)?; landing all\n"
+                    "landed\n", without=["started"])
+
+    def test_while_the_crew_is_asked(self):
+        self.landed("leaves waiting", "Start\\? Type yes: \n?FAULT: b is [0-9]+ mm from its way; landing all\nlanded\n",
+                    without=["started"])
+
+    def test_coming_down(self):
+        self.landed("leaves coming down", "flown: 3.0 s", "FAULT: b is [0-9]+ mm from its way; landing all\n", without=())
+        self.landed("leaps coming down", r"FAULT: b is at \(3.\d+, 2[45].\d+, \d.\d+\) m, outside of the room of show and ways; "
+                    "landing all\n", without=())
+
+
+class Lines(unittest.TestCase):
+    def test_distances_from_moves(self):
+        # half way after half of the time, by hand; before the begin and after the end it is where it begins and ends
+        mover = Mover(0, ((0, 0, 0), (1000, 0, 0), 2000))
+        for place, low, high, far in (((500, 30, 0), 1000, 1000, 30), ((600, 0, 0), 1000, 1000, 100), ((600, 0, 40), 0, 2000, 40),
+                                      ((-30, 0, 40), -500, 2000, 50), ((1300, 0, 0), 900, 9000, 300), ((1000, 0, 0), -900, 0, 1000)):
+            self.assertAlmostEqual(mover.distance(place, low, high), far, 6)
+
+    def test_distances_of_columns(self):
+        point, along, across = Column((0, 0, 5), (0, 0, 9), 100), Column((1000, -500), (1000, 500)), Column((0, 100), (2000, 100), 50)
+        self.assertEqual((point.apart(along), along.apart(across), across.apart(point)), (900, 0, -50))
+        self.assertEqual(Column((0, 300), (0, 900)).apart(Column((400, 0), (400, 0))), 500)
+
+
+if __name__ == "__main__":
+    unittest.main()
