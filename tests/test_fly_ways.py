@@ -1,4 +1,5 @@
-"""./show fly where drones leave the ways up and down, or an estimate leaps there, and while the crew is asked."""
+"""./show fly where drones leave the ways up and down, or an estimate leaps there, and while the crew is asked; and where
+one isn't heard for a moment when a landing is chosen."""
 import re
 import signal
 import unittest
@@ -6,10 +7,17 @@ import unittest
 import common
 import flights
 from hemtoghai.flying.landings import Column, Mover
-from test_fly import HIGH, b, fly
-from test_fly_hard import SHORT, SLOW, WIDE
+from test_fly import b, fly
+from test_fly_hard import pressed, SLOW, UNDER, WIDE
 
 INT = signal.SIGINT
+
+
+def unheard_and_pressed():
+    """A flight in which b isn't heard from 2 s after the start on, and Ctrl-C is pressed 0.7 s later."""
+    return pressed(b("gap:2"), ("started", INT), show=UNDER, after=2.7, speed=2)
+
+
 STRAYS = WIDE.replace("choreo 1\n", "choreo 1\nstray 60\nlate 60\n")
 FLIGHTS = {
     "leaves going up": (fly, b("leaves:1") + SLOW, STRAYS), "leaps going up": (fly, b("leaps:2") + SLOW, STRAYS),
@@ -18,6 +26,15 @@ FLIGHTS = {
     "leaves coming down": (fly, b("wanders:4.5") + SLOW, STRAYS),
     "leaps coming down": (fly, b("misled:6") + SLOW, STRAYS),
 }
+# The same show with a third one, far away. b is heard of nobody from 2.4 s on; from 4 s on it flies through below a, which
+# takes 4.25 s to the floor. If b hears, both land 1.5 m apart; if it doesn't, a sinks into its way.
+THREE = UNDER.replace("drone a", "drone c 4000000 0 800000 0\ndrone a")
+FLIGHTS.update({
+    "unheard, empty": (fly, b("gap:2.4") + ["--fault", "c:drains:1.2", *SLOW], THREE),
+    "unheard, falls": (fly, b("gap:2.4") + ["--fault", "c:falls:2.6", *SLOW], THREE),
+    "unheard, Ctrl-C": (unheard_and_pressed,),
+    "heard, empty": (fly, ["--fault", "c:drains:1.2", *SLOW], THREE),
+})
 RUNS = flights.Flights(3, FLIGHTS)
 begun, forget, setUpModule = RUNS.begun, RUNS.forget, RUNS.set_up
 
@@ -51,6 +68,28 @@ class OffTheWay(unittest.TestCase):
         self.landed("leaves coming down", "flown: 3.0 s", "FAULT: b is [0-9]+ mm from its way; landing all\n", without=())
         self.landed("leaps coming down", r"FAULT: b is at \(3.\d+, 2[45].\d+, \d.\d+\) m, outside of the room of show and ways; "
                     "landing all\n", without=())
+
+
+@common.wants_program
+class Unheard(unittest.TestCase):
+    def said(self, name, *lines, without=()):
+        status, out, *_ = begun(name).result()
+        self.assertEqual(status, 1, out)
+        for line in lines:
+            self.assertRegex(out, line, name)
+        for line in (*without, "Traceback"):
+            self.assertNotIn(line, out, name)
+
+    def test_fault(self):
+        on = r"; flying on( to [0-9.]+ s)?: a landing of all now isn't shown apart \((a and b|b and a)\)\n"
+        self.said("unheard, empty", "FAULT: c has 3.00 V left" + on)
+        self.said("unheard, falls", "FAULT: c has tumbled" + on)
+        # the same fault, and b is heard: all land at once
+        self.said("heard, empty", "FAULT: c has 3.00 V left; landing all\nlanded\n", without=["flying on"])
+
+    def test_ctrl_c(self):
+        # the crew is obeyed, and told so
+        self.said("unheard, Ctrl-C", "Ctrl-C: landing all; once more stops the motors\nTHIS LANDING ISN'T SHOWN APART: (a and b|b and a)\n")
 
 
 class Lines(unittest.TestCase):

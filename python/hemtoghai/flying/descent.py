@@ -105,12 +105,16 @@ class Descent:
                 1000 * late, 1000 * told))
         if quiet:
             say("NO ANSWER to the landing: %s" % self.words_of(quiet))
+            self.note_quiet(quiet)
         lasting = [words for k, words in refused.items() if not self.is_down(k)]
         if lasting:  # by drones on the floor it may be refused: they have nothing to land from
             say("THE LANDING IS REFUSED: %s" % ", ".join(lasting))
         up = self.wait_down(drones, seconds)
         self.landed |= set(drones) - set(up)
         return up
+
+    def note_quiet(self, quiet: List[int]) -> None:
+        """Is told who didn't answer a landing."""
 
     def land(self, words: str, warn: Callable[[], None] = lambda: None, told: float = inf,
              seconds: Optional[float] = None) -> bool:

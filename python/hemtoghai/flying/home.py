@@ -33,10 +33,11 @@ NO_ANSWER = "`check` didn't answer in time"
 
 
 class Home(Watched):
-    """Brings all home. `doubt` is why a landing that begins now isn't shown apart, `is_said` whether the fault was
-    said, and `takes` the milliseconds that `check` takes."""
+    """Brings all home. `doubt` is why a landing that begins now isn't shown apart, `landed_at` the show's time when the
+    last one began, `is_said` whether the fault was said, and `takes` the milliseconds that `check` takes."""
     director: Director
     doubt: Optional[str] = None
+    landed_at = 0.0
     is_said = False
     takes = 200.0
 
@@ -53,7 +54,7 @@ class Home(Watched):
         floors, seconds = self.ways.floors, self.ways.descent / 1000
         is_landing = self.begun and self.leg.stages[self.begun - 1].kind == LAND
         if (not self.director.is_well or is_landing or max(floors) - min(floors) > SAME_FLOOR
-                or len(self.up(self.all)) < len(self.all) or self.silent or self.out
+                or len(self.up(self.all)) < len(self.all) or self.deaf() or self.out
                 or seconds > self.seconds_down(self.all) + SLOWER):
             return None
         left, until = set(self.all), time.monotonic() + ORDERED
@@ -70,18 +71,23 @@ class Home(Watched):
     # ---- in the show
 
     def refusal(self) -> Optional[str]:
-        """Why not all may land now in the show, or None; after a wait for the instant looked at if some are silent."""
-        t, off = self.since(self.zero), self.off()
-        if not self.silent and not off:
-            return self.ways.landings.now(t) or self.ways.landings.now(t + LEAD)
-        at, it, silent = t + self.takes + LEAD, self.ways.landings.where(off, self.told_now()), set(self.silent)
-        why = self.meanwhile(lambda: it.beside_silent(at, silent))
+        """Why not all may land now in the show, or None; after a wait for the instant looked at where that wasn't judged
+        before. Who wasn't heard for a moment may hear of it, or fly on."""
+        t, off, deaf = self.since(self.zero), self.off(), self.deaf()
+        if not off:
+            why = self.ways.landings.now_deaf(t, deaf) or self.ways.landings.now_deaf(t + LEAD, deaf)
+            if why != landings.NOT_LOOKED:
+                return why
+        at, it = t + self.takes + LEAD, self.ways.landings.where(off, self.told_now())
+        why = self.meanwhile(lambda: it.beside_silent(at, deaf))
         self.takes = max(1.2 * (self.since(self.zero) - t), 0.8 * self.takes)
         left = at - LEAD / 2 - self.since(self.zero)
         if why is None and left < -LEAD / 2:
             return "it took too long to look"
         if why is None:
             self.pause(clock.now() + left / 1000)
+            if self.deaf() - deaf:
+                return f"{self.words_of(self.deaf() - deaf)} may not hear of it"
         return why
 
     def fly_on(self, fault: BaseException) -> bool:
@@ -93,7 +99,7 @@ class Home(Watched):
             if not self.is_said:
                 free = self.ways.landings.next(self.since(self.zero))
                 say("FAULT: %s; flying on%s: a landing of all now isn't shown apart (%s)" % (
-                    fault, "" if free is None or self.silent or self.off() else " to %.1f s" % (free / 1000),
+                    fault, "" if free is None or self.deaf() or self.off() else " to %.1f s" % (free / 1000),
                     landings.short(why)))
                 self.is_said = True
             for words in self.noted():
@@ -107,10 +113,11 @@ class Home(Watched):
         """Why not all may land from the stage that is flown, by what was judged before take-off, or None. Where a drone
         isn't where the stage has it nothing was judged. After a start that not all took each is somewhere on its curve
         up to this instant."""
-        row, t, far = self.ways.landings_at(self.leg, self.begun), self.since(self.zero), self.ways.rules.stray
+        row, t, far, deaf = (self.ways.landings_at(self.leg, self.begun), self.since(self.zero), self.ways.rules.stray,
+                             self.deaf())
         has_started = self.zero is not None and self.leg is self.ways.up
         for k, (curve, state) in enumerate(zip(self.curves, self.fleet.states)):
-            if k in self.out or not self.is_fresh(k):
+            if k in self.out or not self.is_fresh(k) or has_started and k in deaf:
                 return NO_ANSWER
             if has_started:
                 is_there = curve.nearest(self.at(k), 0, t + 50, far)[0] <= far
@@ -122,14 +129,14 @@ class Home(Watched):
                 return NO_ANSWER
         if has_started:
             return self.ways.after_start(t)
-        return row.now(self.since(self.stage_began)) if row else NO_ANSWER
+        return row.now_deaf(self.since(self.stage_began), deaf) if row else NO_ANSWER
 
     def column(self, k: int, here: Dict[int, Place]) -> landings.Column:
         """What a drone may be above of that is told to land now on the ways: where it is, and how far it is carried on
         aside by its own speed or by the greatest of its move; one that may not have heard an order, or of a landing,
         may be all along its way."""
         mover, _ = self.moves[k]
-        if not self.is_fresh(k) or k in self.unheard:
+        if not self.is_fresh(k) or k in self.unheard or k in self.deaf():
             return landings.Column(self.unheard.get(k, here[k]), self.aims[k])
         speed = self.speed_aside(k)
         if self.stage_ends > clock.now():
@@ -167,7 +174,7 @@ class Home(Watched):
         for places in (self.aims, self.unheard) if lost else (at,):
             here = {**at, **{k: places[k] for k in lost}}
             land = set(self.all) - self.hold(here)
-            moving = [k for k in self.silent if here[k] != self.ways.pads[k]] if is_flown else []
+            moving = [k for k in self.deaf() if here[k] != self.ways.pads[k]] if is_flown else []
             if moving:
                 return "%s silent on the way" % self.words_of(moving)
             mute = {k for k in self.mute() if here[k] != self.ways.pads[k]}
@@ -381,14 +388,25 @@ class Home(Watched):
     def doubt_now(self) -> Optional[str]:
         """Why a landing that begins now in the show isn't shown apart, by what was judged before, or None."""
         t, over = self.since(self.zero), self.flown.milliseconds
-        if t < over and (self.silent or self.off()):
-            return "not looked at with %s" % (
-                self.words_of(self.silent) + " silent" if self.silent else self.words_of(self.off()) + " off the curve")
-        return self.ways.landings.now(min(t, over))
+        if t < over and self.off():
+            return "not looked at with %s off the curve" % self.words_of(self.off())
+        return self.doubt_deaf(t, self.deaf())
+
+    def doubt_deaf(self, t: float, deaf: Set[int]) -> Optional[str]:
+        """Why a landing at an instant of the show isn't shown apart where some may fly on, by what was judged before."""
+        why = self.ways.landings.now_deaf(min(t, self.flown.milliseconds), deaf)
+        return f"{why} with {self.words_of(deaf)} flying on" if deaf and why == landings.NOT_LOOKED else why
+
+    def note_quiet(self, quiet: List[int]) -> None:
+        """Says where a landing of the show isn't shown apart from those who didn't answer it, and may fly on."""
+        why = self.doubt_deaf(self.landed_at, set(quiet)) if self.in_show and self.doubt is None else None
+        if why:
+            say(f"THIS LANDING ISN'T SHOWN APART from {self.words_of(quiet)}, silent: {landings.short(why)}")
 
     def warn(self) -> None:
         """Says where the landing that begins now isn't shown apart, and names pairs that may come down on each other.
         Nobody is asked: the landing waits for nothing."""
+        self.landed_at = self.since(self.zero)
         if self.doubt is None:
             return
         say("THIS LANDING ISN'T SHOWN APART: %s" % landings.short(self.doubt))
@@ -401,10 +419,10 @@ class Home(Watched):
 
     def near_pairs(self, t: float) -> Iterator[Tuple[str, str]]:
         """The pairs that are nearer from above than their ellipsoids, with how far they may be carried on."""
-        places, carried = [self.at(k) for k in self.all], [0.0] * len(self.names)
+        places, carried, deaf = [self.at(k) for k in self.all], [0.0] * len(self.names), self.deaf()
         for k in self.all if self.in_show else ():
             carried[k] = landings.carried(math.hypot(*self.ways.landings.speed(k, min(t, self.flown.milliseconds))))
-            if k in self.silent:
+            if k in deaf:
                 places[k] = self.curves[k].at(t)
         for i in self.all:
             for j in range(i):

@@ -17,7 +17,7 @@ import threading
 from copy import copy
 from itertools import combinations, groupby
 from math import ceil, dist, hypot
-from typing import Dict, Iterable, Iterator, List, Optional, Sequence, Set, Tuple, Union
+from typing import Callable, Dict, Iterable, Iterator, List, Optional, Sequence, Set, Tuple, Union
 
 from hemtoghai.companion import begins, value
 from hemtoghai.flying.routes import LIFT
@@ -34,6 +34,7 @@ PIECE = 250  # of the curves of a silent drone
 MOST_CUES = 900  # of the show of a silent drone
 ROUNDED = 2  # by which a cut curve may be off by rounding
 TOO_FAR = "drones are carried on too far"
+NOT_LOOKED = "not looked at before take-off"
 COMPUTES = threading.Lock()  # one thread at a time, so that those of a flight aren't held up; `check` is asked by several
 
 Reach = Tuple[Place, float]  # the middle of what a drone may reach, and how far it is from that at most
@@ -94,6 +95,7 @@ class Landings:
         edges = begins(flown)
         self.cues = list(zip(edges, edges[1:]))
         self.rows: Optional[List[Tuple[int, Optional[str]]]] = None
+        self.deaf_rows: Dict[Tuple[int, int], Optional[str]] = {}
 
     def where(self, off: Dict[int, Reach], told: int) -> "Landings":
         """The same where some are off their curves, and all are told of the landing within these milliseconds."""
@@ -203,10 +205,32 @@ class Landings:
             self.rows = list(zip(instants, side_by_side(self.refusal, instants)))
         return self.rows
 
+    def row_at(self, t: float) -> Tuple[int, Optional[str]]:
+        """The row of the table that stands for an instant."""
+        rows = self.table()
+        return rows[min(max(0, round(t / self.step)), len(rows) - 1)]
+
     def now(self, t: float) -> Optional[str]:
         """Why not all may land at any instant, by the table; None where they may."""
-        rows = self.table()
-        return rows[min(max(0, round(t / self.step)), len(rows) - 1)][1]
+        return self.row_at(t)[1]
+
+    def judge_deaf(self, is_over: Callable[[], bool]) -> None:
+        """Judges for each drone, at the instants at which all may land, whether the others may where that one doesn't
+        hear of it and flies on; until that is over."""
+        pairs = [(at, k) for at, why in self.table() if why is None for k in range(len(self.names))
+                 if k not in self.standing and k not in self.landing]
+
+        def judge(pair: Tuple[int, int]) -> None:
+            if not is_over():
+                self.deaf_rows[pair] = self.beside(pair[0], self.landing | {pair[1]})
+        side_by_side(judge, pairs)
+
+    def now_deaf(self, t: float, deaf: Iterable[int]) -> Optional[str]:
+        """Why not all may land at any instant where some may not hear of it, by the tables; None where they may. In each
+        pair both land, or one of the two does."""
+        at, why = self.row_at(t)
+        flying = [k for k in deaf if k not in self.standing and k not in self.landing]
+        return why or next(filter(None, (self.deaf_rows.get((at, k), NOT_LOOKED) for k in flying)), None)
 
     def next(self, t: float) -> Optional[int]:
         """The first instant from one on at which all may land, or None."""
@@ -312,7 +336,7 @@ class StageLandings(Landings):
         self.curves = [Mover(0, (at[k], stage.to.get(k, at[k]), stage.milliseconds)) for k in range(len(at))]
         self.end, self.stray, self.before, self.told = stage.milliseconds, leg.rules.stray, leg.rules.late, LATE
         self.standing = {k: place for k, place in at.items() if k not in stage.to and place[2] <= floors[k]}
-        self.step, self.rows, self.cues = STEP, None, [(0, self.end)]
+        self.step, self.rows, self.cues, self.deaf_rows = STEP, None, [(0, self.end)], {}
         self.landing = set(stage.to) if stage.kind == LAND else set()
 
     def has(self, k: int, t: float, place: Sequence[float]) -> bool:

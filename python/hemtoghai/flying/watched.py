@@ -20,6 +20,7 @@ from hemtoghai.geometry.curves import curves_of
 
 FAR_FOR = 0.3  # seconds for which a drone has to be far from where it should be, or to send no numbers
 SOONER = 50  # milliseconds by which a sample may be younger than its drone's clock says
+GAP = 0.3  # seconds without a sample, or three of its samples' time, after which a drone may not hear of a landing
 UNHEARD = 0.5  # seconds that the sample of one that didn't answer may be old
 Found = TypeVar("Found")
 
@@ -89,10 +90,16 @@ class Watched(Descent):
         """Who isn't led any more: on its pad, silent, or not flying."""
         return {k for k in self.all if at[k] == self.ways.pads[k] or not self.is_fresh(k)} | self.out
 
+    def deaf(self) -> Set[int]:
+        """Who may not hear of a landing: nothing came from it for a moment. It may land as it is told to, or fly on."""
+        gap = max(GAP, 3 * self.options.every / 1000)
+        return {k for k, quiet in enumerate(self.quiet) if quiet > gap or k in self.silent} - self.out - self.landed
+
     def mute(self) -> Set[int]:
         """Who isn't heard, and isn't known to be on its pad: it may land where it is told to, or stay where it is."""
-        return {k for k, place in self.places_here().items()
-                if not self.is_fresh(k) and k not in self.out and place != self.ways.pads[k]}
+        deaf = self.deaf()
+        return {k for k, place in self.places_here().items() if (k in deaf or not self.is_fresh(k))
+                and k not in self.out and place != self.ways.pads[k]}
 
     def lost(self) -> List[int]:
         """Who may not have heard where to go and doesn't say now where it is: it is there, or where it was before."""

@@ -19,6 +19,7 @@ from hemtoghai.language.choreo import Flown
 STARTS = range(0, 2001, 400)  # milliseconds after a start, at which it is judged as one that not all took
 ROOM = 200  # by which a drone may be farther outside of the box of show and ways than it may stray
 PATIENCE = 120  # real seconds for which a take-off waits until landings on the ways are judged
+DEAF_PATIENCE = 30  # the same, until landings are that one drone may not hear of
 # Why the flight director takes three shows for no flight, by the numbers of its causes and by the way or the seam.
 CAUSES = (("isn't the drone of the way up", "isn't the drone of the way down"),
           ("doesn't begin the show where its way up ends", "doesn't begin its way down where the show ends",
@@ -67,7 +68,7 @@ class Ways:
             for leg in (self.up, self.down)}
         self.broken: List[Tuple[int, Optional[str]]] = []
         self.preparing: Optional[threading.Thread] = None
-        self.is_prepared = self.over = False
+        self.is_prepared = self.over = self.flies = False
 
     def has_room(self, place: Sequence[float], stray: float) -> bool:
         """Whether a place is where a drone of this flight can be, if it strays by so much."""
@@ -120,16 +121,22 @@ class Ways:
             for leg in (self.up.reversed(), self.down):
                 judge_stages(leg, leg.stages, self.pads, leg.begin)
             self.is_prepared = True
+            for it in (*self.rows[id(self.up)], *self.rows[id(self.down)], self.landings):
+                it.judge_deaf(lambda: self.over or self.flies)
         except RuntimeError:  # no thread begins any more: the tool ends
             if not self.over:
                 raise
 
     def wait(self, look: Callable[[], None]) -> None:
         """Waits until that is judged, but not for ever."""
-        until = time.monotonic() + PATIENCE
-        while self.preparing and self.preparing.is_alive() and time.monotonic() < until:
+        until, until_deaf = (time.monotonic() + seconds for seconds in (PATIENCE, DEAF_PATIENCE))
+        while self.preparing and self.preparing.is_alive() and time.monotonic() < (
+                until_deaf if self.is_prepared else until):
             look()
             self.preparing.join(0.05)
+        if self.is_prepared and self.preparing and self.preparing.is_alive():
+            say("LANDINGS BESIDE A DRONE THAT DOESN'T HEAR AREN'T ALL JUDGED: at a fault `check` is asked about the rest")
+        self.flies = True
         if not self.is_prepared:
             say("LANDINGS ON THE WAYS AREN'T ALL JUDGED: at a fault there the stage that is flown goes to its end")
 
