@@ -8,7 +8,7 @@ import common
 import flights
 from hemtoghai.flying.landings import Column, Mover
 from test_fly import b, fly
-from test_fly_hard import pressed, SLOW, UNDER, WIDE
+from test_fly_hard import ASIDE, pressed, SLOW, STACK, UNDER, WIDE, with_pads
 
 INT = signal.SIGINT
 
@@ -34,6 +34,14 @@ FLIGHTS.update({
     "unheard, falls": (fly, b("gap:2.4") + ["--fault", "c:falls:2.6", *SLOW], THREE),
     "unheard, Ctrl-C": (unheard_and_pressed,),
     "heard, empty": (fly, ["--fault", "c:drains:1.2", *SLOW], THREE),
+})
+# Two above each other, who have to come down by a way, and a third one aside.
+ABOVE, PADS = STACK.replace("cue", "drone c 4000000 0 1000000 0\ncue"), ASIDE + "c 4000000 0 0\n"
+FLIGHTS.update({
+    "flees": (with_pads, ["--fault", "c:flees:7", *SLOW], PADS, ABOVE),
+    "misled above": (with_pads, b("misled:7") + SLOW, PADS, ABOVE),
+    "Ctrl-C on the way home": (with_pads, SLOW, PADS, ABOVE, "yes\nyes\nno\n", [("all come down", INT)]),
+    "two on the way home": (with_pads, SLOW, PADS, ABOVE, "yes\nyes\nno\n", [("all come down", INT), ("Ctrl-C, once more", INT)]),
 })
 RUNS = flights.Flights(3, FLIGHTS)
 begun, forget, setUpModule = RUNS.begun, RUNS.forget, RUNS.set_up
@@ -90,6 +98,37 @@ class Unheard(unittest.TestCase):
     def test_ctrl_c(self):
         # the crew is obeyed, and told so
         self.said("unheard, Ctrl-C", "Ctrl-C: landing all; once more stops the motors\nTHIS LANDING ISN'T SHOWN APART: (a and b|b and a)\n")
+
+
+@common.wants_program
+class FarAway(unittest.TestCase):
+    def ended(self, name, status, *lines, without=()):
+        came, out, rows, _ = begun(name).result()
+        self.assertEqual(came, status, out)
+        for line in lines:
+            self.assertRegex(out, line, name)
+        for line in (*without, "Traceback", "NEITHER"):
+            self.assertNotIn(line, out, name)
+        return out, rows
+
+    def test_nobody_waits_for_it(self):
+        # c flies away at 3 m/s from 7 s on: by a way home of its own the others would fly as long as it, 2 s a metre
+        out, rows = self.ended("flees", 1, "FAULT: c is ", "c outside of the room of show and ways: nobody waits for it")
+        for name in "ab":
+            low = [float(row.split(",")[0]) for row in rows.split("\n")[1:] if row and row.split(",")[1] == name
+                   and float(row.split(",")[0]) > 6 and float(row.split(",")[4]) < 0.1]
+            self.assertTrue(low and min(low) < 25, (name, low[:1], out))
+
+    def test_it_may_be_where_it_was(self):
+        # b believes to be 25 m away, and hovers above a in truth: a doesn't wait for it, and b doesn't land on it
+        out, _ = self.ended("misled above", 1, "b outside of the room of show and ways: nobody waits for it; it may be where it was: b",
+                            without=["FAULT: b is [^;]*; landing all"])
+        self.assertGreater(float(re.search("nearest two of which one flew: [abc] and [abc], ([0-9.]+) m", out).group(1)), 0.5, out)
+
+    def test_ctrl_c_on_the_way_home(self):
+        self.ended("Ctrl-C on the way home", 1, r"all come down .*\n(.*\n)*Ctrl-C, once more stops the motors; a landing of all now isn't shown "
+                   r"apart \((a and b|b and a)\); landing now: c\n(.*\n)*landed\n", without=["MOTORS", "the landing goes on"])
+        self.ended("two on the way home", 60, "landing now: c\n(.*\n)*MOTORS STOPPED: emergency stop sent to all")
 
 
 class Lines(unittest.TestCase):

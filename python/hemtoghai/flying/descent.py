@@ -53,10 +53,16 @@ class Descent:
         return ", ".join(self.names[k] for k in sorted(drones))
 
     def seconds_down(self, drones: Iterable[int]) -> float:
-        """How long a landing of drones takes. None sets the pace of the others by a height that no room has."""
-        heights = [min(HIGHEST, place[2] - self.floors[k]) for k in drones
+        """How long a landing of drones takes. None sets the pace of the others by a height that no room has, or from
+        where it shouldn't be."""
+        drones, away = list(drones), self.away()
+        heights = [min(HIGHEST, place[2] - self.floors[k]) for k in drones if k not in away or away.issuperset(drones)
                    for place in [self.fleet.states[k].place] if place]
         return milliseconds_for(LAND, [1000 * height for height in heights or [UNKNOWN]]) / 1000
+
+    def away(self) -> Set[int]:
+        """Who is where no drone of this flight can be, or believes so."""
+        return set()
 
     def account(self) -> None:
         for k, (name, state) in enumerate(zip(self.names, self.fleet.states)):
@@ -99,7 +105,8 @@ class Descent:
         if not set(self.all) - self.landed - set(drones):
             self.watch.lands = True
         seconds = seconds or self.seconds_down(drones)
-        late, quiet, refused = self.fleet.land(self.floors, drones, seconds, self.watch.look)
+        own = {k: self.seconds_down([k]) for k in self.away() & set(drones)}
+        late, quiet, refused = self.fleet.land(self.floors, drones, seconds, self.watch.look, own)
         if late > told and len(drones) > 1:
             say("OUTSIDE OF WHAT WAS JUDGED: landings were answered within %.0f ms, and %.0f were judged" % (
                 1000 * late, 1000 * told))
@@ -132,6 +139,8 @@ class Descent:
             if not up:
                 break
             told, seconds = inf, None
+            if self.away().issuperset(up):  # the others needn't wait for it
+                self.disarm(set(self.all) - set(up))
             say("NOT SEEN TO BE DOWN: %s; %s" % (self.words_of(up), self.watch.stops() if any(
                 self.quiet_for(k) < self.longest for k in up) else "nothing from here reaches them"))
         self.disarm(self.all)

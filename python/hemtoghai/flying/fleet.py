@@ -22,6 +22,7 @@ REVIVE = 1.0  # seconds without samples of a drone whose link is heard, after wh
 AGAIN = 0.05  # seconds after which a landing that isn't answered is commanded again
 OBEYS = 2.0  # seconds in which a drone is seen to be disarmed
 WRAP = 2 ** 24  # milliseconds after which a drone's stamps begin anew
+LEAP, FASTEST = 0.3, 10.0  # metres, and metres a second: what is farther from one sample to the next nobody flew
 HISTORY = 20  # samples that are kept to see whether a drone is settled
 
 Look = Callable[[], None]  # what looks after a flight while others wait
@@ -34,7 +35,8 @@ class State:
     estimator's variances, with when it was heard. `low` is since when all samples were below its least voltage,
     `places` are its last ones, and `senseless` is since when its samples have no numbers, or None. `measured` is when
     the place was measured, by the drone's own clock: its packets are late by chance, and the least late one sets that
-    clock. `between` are the milliseconds between its last two samples."""
+    clock. `between` are the milliseconds between its last two samples, and `has_leapt` is whether its place was ever
+    farther from the one before than a drone flies meanwhile."""
 
     def __init__(self) -> None:
         self.place: Optional[List[float]] = None
@@ -49,7 +51,7 @@ class State:
         self.senseless: Optional[float] = None
         self.stamp: Optional[int] = None
         self.least: Optional[float] = None
-        self.least_volts, self.between = 0.0, 0
+        self.least_volts, self.between, self.has_leapt = 0.0, 0, False
 
     def take(self, values: Dict[str, float], at: float, stamp: int) -> bool:
         """Takes a sample that came at an instant; whether it has numbers. One that has none changes nothing else, so
@@ -59,12 +61,15 @@ class State:
         if not (finite.is_place(place) and math.isfinite(yaw) and math.isfinite(volts)):
             self.senseless = at if self.senseless is None else self.senseless
             return False
+        before = self.place
         self.place, self.info, self.yaw = place, None if info is None else int(info), values.get("stateEstimate.yaw")
         self.senseless, self.places, self.volts = None, (self.places + [place])[-HISTORY:], volts
         self.low = None if volts >= self.least_volts else self.low if self.low is not None else at
         turns = 0 if self.stamp is None else round((self.stamp - stamp) / WRAP)
         self.between = 0 if self.stamp is None else stamp + turns * WRAP - self.stamp
         self.stamp = stamp + turns * WRAP
+        if before and self.between > 0 and math.dist(before, place) > LEAP + FASTEST * self.between / 1000:
+            self.has_leapt = True
         late = at - self.stamp / 1000
         # A drone that started anew counts from 0.
         self.least = late if self.least is None or self.between < 0 else min(self.least, late)
@@ -348,18 +353,18 @@ class Fleet:
         with contextlib.suppress(Exception):
             self.radio.broadcast_beside(raw, copies)
 
-    def land(self, floors: Sequence[float], drones: List[int], seconds: float,
-             look: Optional[Look] = None) -> Tuple[float, List[int], Dict[int, str]]:
-        """Lands drones where they are within so many seconds, each by a command of its own, and beside that by a
-        broadcast where all land on floors of one height: the seconds until the last one that obeys answered, who didn't
-        answer, and who refused, in words."""
+    def land(self, floors: Sequence[float], drones: List[int], seconds: float, look: Optional[Look] = None,
+             own: Optional[Dict[int, float]] = None) -> Tuple[float, List[int], Dict[int, str]]:
+        """Lands drones where they are within so many seconds, some within their own, each by a command of its own, and
+        beside that by a broadcast where all land on floors of one height: the seconds until the last one that obeys
+        answered, who didn't answer, and who refused, in words."""
         self.radio.drop()
-        begin, answered = clock.now(), [0.0]
-        if len(drones) == len(self.names) and 1000 * (max(floors) - min(floors)) <= SAME_FLOOR:
+        begin, answered, times = clock.now(), [0.0], own or {}
+        if not own and len(drones) == len(self.names) and 1000 * (max(floors) - min(floors)) <= SAME_FLOOR:
             self.beside(firmware.packet(firmware.COMMANDER, 0, firmware.land(min(floors), seconds)), 2)
 
         def land(drone: int) -> None:
-            self.command(drone, firmware.land(floors[drone], seconds), "land", seconds=1.5)
+            self.command(drone, firmware.land(floors[drone], times.get(drone, seconds)), "land", seconds=1.5)
             answered.append(clock.now() - begin)
         failures = self.radio.failures(drones, land, look)
         return (max(answered), [k for k, why in failures.items() if isinstance(why, Dead)],

@@ -32,12 +32,17 @@ SLOWER = 2.0  # seconds that its landing may take longer than all need
 NO_ANSWER = "`check` didn't answer in time"
 
 
+class Apart(Exception):
+    """All may land at once: the way home isn't flown on."""
+
+
 class Home(Watched):
     """Brings all home. `doubt` is why a landing that begins now isn't shown apart, `landed_at` the show's time when the
-    last one began, `is_said` whether the fault was said, and `takes` the milliseconds that `check` takes."""
+    last one began, `is_said` whether the fault was said, `told_away` who was said to be outside of the room, and `takes` the milliseconds that `check` takes."""
     director: Director
     doubt: Optional[str] = None
     landed_at = 0.0
+    told_away: Set[int] = set()
     is_said = False
     takes = 200.0
 
@@ -73,13 +78,13 @@ class Home(Watched):
     def refusal(self) -> Optional[str]:
         """Why not all may land now in the show, or None; after a wait for the instant looked at where that wasn't judged
         before. Who wasn't heard for a moment may hear of it, or fly on."""
-        t, off, deaf = self.since(self.zero), self.off(), self.deaf()
+        t, off, deaf, gone = self.since(self.zero), self.off(), self.deaf(), self.away() - self.misled()
         if not off:
             why = self.ways.landings.now_deaf(t, deaf) or self.ways.landings.now_deaf(t + LEAD, deaf)
             if why != landings.NOT_LOOKED:
                 return why
-        at, it = t + self.takes + LEAD, self.ways.landings.where(off, self.told_now())
-        why = self.meanwhile(lambda: it.beside_silent(at, deaf))
+        at, it = t + self.takes + LEAD, self.ways.landings.where(off, self.told_now(), gone)
+        why = self.meanwhile(lambda: it.beside_silent(at, deaf - gone))
         self.takes = max(1.2 * (self.since(self.zero) - t), 0.8 * self.takes)
         left = at - LEAD / 2 - self.since(self.zero)
         if why is None and left < -LEAD / 2:
@@ -113,10 +118,12 @@ class Home(Watched):
         """Why not all may land from the stage that is flown, by what was judged before take-off, or None. Where a drone
         isn't where the stage has it nothing was judged. After a start that not all took each is somewhere on its curve
         up to this instant."""
-        row, t, far, deaf = (self.ways.landings_at(self.leg, self.begun), self.since(self.zero), self.ways.rules.stray,
-                             self.deaf())
+        row, t, far = self.ways.landings_at(self.leg, self.begun), self.since(self.zero), self.ways.rules.stray
+        deaf, away = self.deaf(), self.away()
         has_started = self.zero is not None and self.leg is self.ways.up
         for k, (curve, state) in enumerate(zip(self.curves, self.fleet.states)):
+            if k in away:  # it is gone, or where it was, and deaf then
+                continue
             if k in self.out or not self.is_fresh(k) or has_started and k in deaf:
                 return NO_ANSWER
             if has_started:
@@ -150,7 +157,7 @@ class Home(Watched):
             return NO_ANSWER  # some may fly their curves
         here = self.places_here()
         columns = {k: self.column(k, here) for k in self.all}
-        for i, j in combinations(self.all, 2):
+        for i, j in combinations(self.near(here), 2):
             if (here[i] != self.ways.pads[i] or here[j] != self.ways.pads[j]) and columns[i].apart(
                     columns[j]) <= self.ways.rules.side():
                 return f"{self.names[i]} and {self.names[j]}"
@@ -168,13 +175,14 @@ class Home(Watched):
         """Why not all may land straight down from where they are on the ways, or None: with how far they are carried
         on by the speed of their last two samples, and how far they fly until all are told. Who isn't heard stays where
         it is, or is told to land as all are: in each pair both land, or one of them alone."""
-        lost, at, is_flown = self.lost(), self.places_here(), clock.now() < self.stage_ends
+        at, is_flown = self.near(self.places_here()), clock.now() < self.stage_ends
+        lost = [k for k in self.lost() if k in at]
         if lost and is_flown:
             return "%s may not have heard where to go" % self.words_of(lost)
         for places in (self.aims, self.unheard) if lost else (at,):
             here = {**at, **{k: places[k] for k in lost}}
             land = set(self.all) - self.hold(here)
-            moving = [k for k in self.deaf() if here[k] != self.ways.pads[k]] if is_flown else []
+            moving = [k for k in self.deaf() if k in here and here[k] != self.ways.pads[k]] if is_flown else []
             if moving:
                 return "%s silent on the way" % self.words_of(moving)
             mute = {k for k in self.mute() if here[k] != self.ways.pads[k]}
@@ -214,11 +222,60 @@ class Home(Watched):
         """At a fault on the ways: where a landing of all from here isn't shown apart, the stage that is flown goes to
         its end, and all come down from there by a way that is judged: the way that they came, the rest of the way
         down, or a new one. What is left to do is a landing of who isn't down: why that isn't shown apart, or None."""
-        self.watch.lands = True
+        self.watch.lands = self.watch.was_pressed  # a first Ctrl-C lands who can
+        try:
+            return self.home(front)
+        except Interrupted:
+            self.watch.lands = True
+        self.fleet.radio.drop()
+        why, front = self.refusal_now(), "Ctrl-C, once more stops the motors"
+        if why is None:
+            return None
+        able = self.able()
+        say(f"{front}; a landing of all now isn't shown apart ({landings.short(why)}); "
+            f"landing now: {self.words_of(able) or 'nobody'}")
+        if able:
+            self.bring_down(sorted(able))
+        return self.home(front)
+
+    def land_away(self) -> None:
+        """Says who is outside of the room, and lands those there who flew out and are clear of all others from above."""
+        away, misled = self.away() - self.told_away, self.misled()
+        if not away:
+            return
+        self.told_away = self.told_away | away
+        (left, right), (front, back), _ = self.ways.box
+        wide = self.ways.rules.side() + 2 * self.ways.rules.stray
+        clear = [k for k in away - misled for x, y, _ in [self.at(k)]
+                 if not (left - wide < x < right + wide and front - wide < y < back + wide)]
+        say(f"{self.words_of(away)} outside of the room of show and ways: nobody waits for it" + "".join(
+            f"; {words} {self.words_of(them)}" for words, them in (
+                ("landing there:", clear), ("it may be where it was:", misled & away),
+                ("NOT JUDGED beside", away - misled - set(clear))) if them))
+        if clear:
+            self.fleet.land(self.floors, clear, 0.0, self.watch.look, {k: self.seconds_down([k]) for k in clear})
+
+    def able(self) -> Set[int]:
+        """Who may land at once whatever the others do: nobody else who lands, or goes on, comes above or below it."""
+        here = self.near(self.places_here())
+        columns = {k: self.column(k, here) for k in here}
+        tracks = {k: landings.Column(here[k], self.aims[k], columns[k].reach) for k in here}
+        able = set(here) - self.hold(here) - self.deaf()
+        while True:
+            near = {k: sum(columns[k].apart(columns[j] if j in able else tracks[j]) <= self.ways.rules.side()
+                           for j in here if j != k) for k in able}
+            worst = max(near, key=lambda k: near[k], default=None)
+            if worst is None or not near[worst]:
+                return able
+            able.discard(worst)
+
+    def home(self, front: str) -> Optional[str]:
+        """The same, as far as the crew says nothing."""
         self.fleet.radio.drop()
         why = self.refusal_now()
         if why is None:
             return None
+        self.land_away()
         self.director.close_input()  # what follows is none of its flight
         self.is_said = True
         gone_back = self.zero is not None and self.leg is self.ways.up
@@ -253,34 +310,45 @@ class Home(Watched):
             if leg is None:
                 break
             say("%s; a landing of all isn't shown apart (%s): all come down %s" % (front, landings.short(why), words))
-            if not any(map(self.home_stage, leg.stages)):
-                return self.meanwhile(self.refusal_here) if self.up(self.all) else None
+            try:
+                if not any(self.home_stage(stage, self.look_more) for stage in leg.stages):
+                    return self.meanwhile(self.refusal_here) if self.up(self.all) else None
+            except Apart:
+                return None
             self.wait_heard()
             refusal = self.meanwhile(self.refusal_here)
             if refusal is None:
                 return None
-            why, words, here = refusal, "by a new way", self.places_here()
+            why, words, here = refusal, "by a new way", self.near(self.places_here())
             leg = None if self.lost() else self.meanwhile(lambda: self.ways.new_judged(here, self.hold(here)))
         say("NEITHER A LANDING NOR A WAY DOWN is shown apart: %s" % landings.short(why))
         return why
 
+    def look_more(self) -> None:
+        """Says what is wrong besides on the way home, and ends it where all may land by then."""
+        more = self.noted()
+        for words in more:
+            say(f"FAULT besides: {words}")
+        if more and self.refusal_now() is None:
+            raise Apart
+
     def wait_heard(self) -> None:
         """Waits until all say again where they are, but not for long: where it is, is known of nobody else."""
         until = clock.now() + HEARD_AGAIN
-        while (self.lost() or self.mute()) and clock.now() < until:
+        while (self.lost() or self.mute() - self.misled()) and clock.now() < until:
             self.pause(clock.now() + 0.1)
 
     def places_planned(self) -> Dict[int, Place]:
         """Where drones are, those who are where their leg has them after its stage by the leg's own places: from there
         the ways back were judged beforehand."""
-        at, planned = self.places_here(), self.leg.places(self.begun)
+        at, planned = self.near(self.places_here()), self.leg.places(self.begun)
         return {k: planned[k] if k in planned and math.dist(place, planned[k]) <= self.ways.rules.stray else place
                 for k, place in at.items()}  # a way beside a wreck has no place of it
 
     def break_off(self, front: str, why: str) -> None:
         """After a start that not all took: has all go back to their first places, from which the rest is judged."""
-        at = self.places_here()
-        to = {k: place for k, place in enumerate(self.ways.firsts) if at[k] != self.ways.pads[k]}
+        at = self.near(self.places_here())
+        to = {k: place for k, place in enumerate(self.ways.firsts) if k in at and at[k] != self.ways.pads[k]}
         ways = [math.dist(at[k], place) for k, place in to.items()]
         mute = [k for k in to if not self.is_fresh(k)]
         doubt = "%s silent, and may fly the show" % self.words_of(mute) if mute else self.soon(
@@ -351,10 +419,10 @@ class Home(Watched):
         """Flies the way down, which the director isn't led by any more; where some are silent, and hover at the end of
         their curves as is assumed, or don't fly any more, one that keeps clear of them. Raises what is new on it."""
         self.director.close_input()
-        hold = self.silent | self.out
+        hold = self.silent | self.out | self.away()
         self.leg = self.way_beside(hold) if hold else self.ways.down
         for number, whole in enumerate(self.leg.stages, 1):
-            stage = whole.without(self.out | self.silent)
+            stage = whole.without(self.out | self.silent | self.away())
             self.begun, self.stage_began = number, clock.now()
             self.stage_ends = self.stage_began + stage.milliseconds / 1000 + 1
             if not stage.to:
@@ -373,9 +441,10 @@ class Home(Watched):
     def way_beside(self, hold: Set[int]) -> Leg:
         """A judged way down from the last places that keeps clear of some; raises Trouble where there is none."""
         say("silent, and hovering at the end of its curve, as is assumed: %s" % self.words_of(self.silent)
-            if self.silent else "doesn't fly any more: %s" % self.words_of(self.out))
+            if self.silent else "doesn't fly any more, or is away: %s" % self.words_of(hold))
         at = dict(enumerate(self.ways.lasts))
         at.update((k, place_of(self.at(k))) for k in self.out - self.silent)
+        at = self.near(at)
         leg = self.meanwhile(lambda: self.new_way(self.ways.down, 0, at, hold))
         if leg is None:
             raise Trouble("NO WAY DOWN is judged apart from %s" % self.words_of(hold))

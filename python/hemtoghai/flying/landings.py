@@ -81,9 +81,11 @@ class Column:
 class Landings:
     """The landings of a show: `floors` are by drone, in mm. A step is how far apart the instants are that stand for
     all. Drones are `before` late at most in what they fly, and told of a landing within `told`. Some may be `standing`
-    on the floor, at these places, be `landing` already, or be `off` their curves, and reach something else."""
+    on the floor, at these places, be `landing` already, be `off` their curves, and reach something else, or be `gone`
+    from the room, where nobody meets them."""
     standing: Dict[int, Place] = {}
     landing: Set[int] = set()
+    gone: Set[int] = set()
     off: Dict[int, Reach] = {}
 
     def __init__(self, flown: Flown, floors: Sequence[int], rules: Rules, step: Optional[int] = None) -> None:
@@ -97,10 +99,10 @@ class Landings:
         self.rows: Optional[List[Tuple[int, Optional[str]]]] = None
         self.deaf_rows: Dict[Tuple[int, int], Optional[str]] = {}
 
-    def where(self, off: Dict[int, Reach], told: int) -> "Landings":
-        """The same where some are off their curves, and all are told of the landing within these milliseconds."""
+    def where(self, off: Dict[int, Reach], told: int, gone: Set[int]) -> "Landings":
+        """The same where some are off their curves or gone, and all are told of the landing within these milliseconds."""
         out = copy(self)
-        out.off, out.told = off, told
+        out.off, out.told, out.gone = off, told, gone
         return out
 
     # ---- what drones may reach
@@ -165,7 +167,9 @@ class Landings:
         if self.landing:
             return self.beside(t, self.landing)
         with COMPUTES:
-            rows = {k: self.reach(k, t) for k in range(len(self.names))}
+            rows = {k: self.reach(k, t) for k in range(len(self.names)) if k not in self.gone}
+        if not rows:
+            return None
         line = self.ask(rows, max(row[1] for row in rows.values()))
         if line is None or len(rows) < 2:
             return line
@@ -273,7 +277,7 @@ class Landings:
 
     def beside(self, t: float, on: Set[int]) -> Optional[str]:
         """Why others may not land at an instant while some fly on to the end as they do, or None."""
-        land = [k for k in range(len(self.names)) if k not in on and k not in self.standing]
+        land = [k for k in range(len(self.names)) if k not in on and k not in self.standing and k not in self.gone]
         if not land:
             return None
         with COMPUTES:

@@ -79,26 +79,44 @@ class Watched(Descent):
         return [self.names[k] for k, place in places.items() if math.dist(place_of(self.at(k)), place) > limit]
 
     def places_here(self) -> Dict[int, Place]:
-        """Where drones are: on their pads, where they say that they are, or, if they say nothing, were told to go."""
-        out = {}
+        """Where drones are: on their pads, where they say that they are, or, if they say nothing, or what can't be, were
+        told to go."""
+        out, misled = {}, self.misled()
         for k, pad in self.ways.pads.items():
-            place = self.aims[k] if not self.is_fresh(k) else place_of(self.at(k))
+            place = self.aims[k] if not self.is_fresh(k) or k in misled else place_of(self.at(k))
             out[k] = pad if self.is_down(k) and math.dist(place, pad) < LIFT else place
         return out
 
+    def away(self) -> Set[int]:
+        """Who is outside of the room of show and ways, or believes so: nobody waits for it."""
+        limit = max(self.options.stray, self.ways.rules.stray)
+        return {k for k, state in enumerate(self.fleet.states) if self.flying and state.place and k not in self.landed
+                and not self.ways.has_room(self.at(k), limit)}
+
+    def misled(self) -> Set[int]:
+        """Who believes to be outside of the room, and can't have flown there: it may be where it was."""
+        return {k for k in self.away() if self.fleet.states[k].has_leapt}
+
+    def near(self, at: Dict[int, Place]) -> Dict[int, Place]:
+        """The places of those who didn't fly out of the room: they alone are judged."""
+        gone = self.away() - self.misled()
+        return {k: place for k, place in at.items() if k not in gone}
+
     def hold(self, at: Dict[int, Place]) -> Set[int]:
-        """Who isn't led any more: on its pad, silent, or not flying."""
-        return {k for k in self.all if at[k] == self.ways.pads[k] or not self.is_fresh(k)} | self.out
+        """Who isn't led any more: on its pad, landed, silent, away, or not flying."""
+        return {k for k in self.all if k not in at or at[k] == self.ways.pads[k] or not self.is_fresh(k)
+                } | self.misled() | self.out | self.landed
 
     def deaf(self) -> Set[int]:
         """Who may not hear of a landing: nothing came from it for a moment. It may land as it is told to, or fly on."""
         gap = max(GAP, 3 * self.options.every / 1000)
-        return {k for k, quiet in enumerate(self.quiet) if quiet > gap or k in self.silent} - self.out - self.landed
+        quiet = {k for k, quiet in enumerate(self.quiet) if quiet > gap}
+        return (quiet | self.silent | self.misled()) - self.out - self.landed
 
     def mute(self) -> Set[int]:
         """Who isn't heard, and isn't known to be on its pad: it may land where it is told to, or stay where it is."""
         deaf = self.deaf()
-        return {k for k, place in self.places_here().items() if (k in deaf or not self.is_fresh(k))
+        return {k for k, place in self.near(self.places_here()).items() if (k in deaf or not self.is_fresh(k))
                 and k not in self.out and place != self.ways.pads[k]}
 
     def lost(self) -> List[int]:
@@ -109,9 +127,9 @@ class Watched(Descent):
     def off(self) -> Dict[int, landings.Reach]:
         """The drones that aren't on their curves, as far as they are heard, and what they may reach by their own places
         and speeds, told of a landing by packets of their own."""
-        limit, out = self.ways.rules.show_stray or self.options.stray, {}
+        limit, out, away = self.ways.rules.show_stray or self.options.stray, {}, self.away()
         for k in self.all:
-            if k not in self.silent and (k in self.out or self.far[k] > limit):
+            if k not in self.silent | away and (k in self.out or self.far[k] > limit):
                 out[k] = place_of(self.at(k)), landings.carried(self.speed(k)) + self.speed(k) * LATE / 1000
         return out
 
@@ -130,7 +148,7 @@ class Watched(Descent):
             return "%s sends a place that is no number" % name
         if state.is_empty(self.options.sag):
             return "%s has %.2f V left" % (name, state.volts or 0.0)
-        if self.flying and not self.ways.has_room(self.at(k), self.limit()):
+        if k in self.away():
             x, y, z = state.where()
             return f"{name} is at ({x:.2f}, {y:.2f}, {z:.2f}) m, outside of the room of show and ways"
         if clock.now() - self.far_since.get(k, math.inf) > FAR_FOR:

@@ -159,12 +159,21 @@ class Ways:
         return None if not rest.stages or judge_stages(rest, rest.stages, self.pads, rest.begin) else rest
 
     def new_judged(self, at: Dict[int, Place], hold: Iterable[int]) -> Optional[Leg]:
-        """A new way down from where drones are, while some hold; None where none is found."""
-        pads, places = list(self.pads.values()), [at[k] for k in self.pads]
+        """A new way down from where drones are, while some hold; None where none is found. Who has no place isn't in
+        it."""
+        drones = [k for k in self.pads if k in at]
+        if not drones:
+            return None
+        names, yaws = ([row[k] for k in drones] for row in (self.flown.names, self.yaws))
         try:
-            return legs.down(self.flown.names, pads, places, self.yaws, self.rules, False, hold)
+            leg = legs.down(names, [self.pads[k] for k in drones], [at[k] for k in drones], yaws, self.rules, False,
+                            [drones.index(k) for k in hold if k in at])
         except NoWay:
             return None
+        leg.names, leg.yaws, leg.begin = self.flown.names, self.yaws, {drones[n]: place for n, place in leg.begin.items()}
+        for stage in leg.stages:
+            stage.to = {drones[n]: place for n, place in stage.to.items()}
+        return leg
 
     def tell(self) -> None:
         top = legs.top_of(self.flown)

@@ -43,6 +43,7 @@ FAULTS = {
     "memory": "has another list of memories",
     "wanders": "leaves its curve by half a metre a second, so many seconds after its start",
     "leaves": "leaves its way by half a metre a second, so many seconds after it took off",
+    "flees": "flies away at three metres a second, so many seconds after its start",
     "leaps": "its estimate leaps by half a metre, so many seconds after it took off",
     "misled": "its estimate leaps by twenty-five metres, so many seconds after its start",
     "deaf": "hears no broadcast",
@@ -203,6 +204,8 @@ class Drone:
             at = [v + self.world.stray / 1000 * w for v, w in zip(at, way)]
         if self.is_due("wanders"):
             at[0] += 0.5 * ((self.flown(now) or 0.0) - self.faults["wanders"])
+        if self.is_due("flees") and self.flies:
+            at[0] += 3 * ((self.flown(now) or 0.0) - self.faults["flees"])
         if self.flies:
             at[0] += 0.5 * self.past("leaves", now)
         return [at[0], at[1], max(self.floor, at[2])]
