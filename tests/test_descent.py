@@ -4,7 +4,7 @@ import unittest
 import unittest.mock
 
 import common
-from hemtoghai.flying import clock, crazyradio, descent, fleet
+from hemtoghai.flying import clock, crazyradio, descent, firmware, fleet
 
 
 class Clock(unittest.TestCase):
@@ -40,6 +40,21 @@ class Last(unittest.TestCase):
             clock.wait(0.02)
         watch = types.SimpleNamespace(look=lambda: None, end=lambda: None, over=False)
         return descent.Descent(it, [0.0, 0.0], 1.5, watch), common.drone(self.flown, "b")
+
+    def test_who_is_down(self):
+        # 0.12 m above or below the floor, and not flying; one that has tumbled lies wherever it is
+        it, _ = self.of()
+        flies, wreck = firmware.IS_FLYING, firmware.IS_TUMBLED
+        for high, info, is_down in ((0.0, 0, True), (0.12, 0, True), (-0.12, 0, True), (0.13, 0, False), (-0.13, 0, False), (-1.0, 0, False),
+                                    (0.0, flies, False), (1.0, wreck, True), (1.0, wreck | flies, False), (0.0, None, True),
+                                    (-1.0, None, False)):
+            state = fleet.State()
+            state.place, state.info, state.heard = [0.0, 0.0, high], info, clock.now()
+            it.fleet.states[0] = state
+            self.assertEqual(it.is_down(0), is_down, (high, info))
+        self.assertEqual(it.wrecks(), [])
+        state.info = wreck
+        self.assertEqual((it.wrecks(), it.finish([])), ([0], False))
 
     def test_disarmed(self):
         it, _ = self.of()

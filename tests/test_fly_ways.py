@@ -8,7 +8,7 @@ import common
 import flights
 from hemtoghai.flying.landings import Column, Mover
 from test_fly import b, fly
-from test_fly_hard import ASIDE, pressed, SLOW, STACK, UNDER, WIDE, with_pads
+from test_fly_hard import ASIDE, pressed, SLOW, STACK, strays, UNDER, WIDE, with_pads
 
 INT = signal.SIGINT
 
@@ -43,6 +43,7 @@ FLIGHTS.update({
     "Ctrl-C on the way home": (with_pads, SLOW, PADS, ABOVE, "yes\nyes\nno\n", [("all come down", INT)]),
     "two on the way home": (with_pads, SLOW, PADS, ABOVE, "yes\nyes\nno\n", [("all come down", INT), ("Ctrl-C, once more", INT)]),
 })
+FLIGHTS["lower"] = (fly, b("lower:1") + SLOW, strays())
 RUNS = flights.Flights(3, FLIGHTS)
 begun, forget, setUpModule = RUNS.begun, RUNS.forget, RUNS.set_up
 
@@ -129,6 +130,17 @@ class FarAway(unittest.TestCase):
         self.ended("Ctrl-C on the way home", 1, r"all come down .*\n(.*\n)*Ctrl-C, once more stops the motors; a landing of all now isn't shown "
                    r"apart \((a and b|b and a)\); landing now: c\n(.*\n)*landed\n", without=["MOTORS", "the landing goes on"])
         self.ended("two on the way home", 60, "landing now: c\n(.*\n)*MOTORS STOPPED: emergency stop sent to all")
+
+
+@common.wants_program
+class Below(unittest.TestCase):
+    def test_it_is_told_to_land(self):
+        # b says in the air that it is on the floor, and on the floor that it is below it: it lands, and isn't down
+        status, out, *_ = begun("lower").result()
+        self.assertEqual(status, 1, out)
+        self.assertRegex(out, "FAULT: b is [0-9]+ mm from its curve; landing all\n(.*\n)*NOT SEEN TO BE DOWN: b")
+        self.assertRegex(out, r"end: b: NOT KNOWN: it believes to be below its floor, at \(1.50, 0.00, -1.00\) m: IT MAY BE IN THE AIR\n")
+        self.assertRegex(out, r"simulated: b at \(1.50, 0.00, 0.00\) m, armed, 1 start")
 
 
 class Lines(unittest.TestCase):

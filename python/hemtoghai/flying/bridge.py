@@ -111,7 +111,7 @@ class Bridge(Home):
         for k, state in enumerate(self.fleet.states):
             if k in self.to_arm and state.says(firmware.IS_ARMED):
                 self.armed.add(k)
-            if k in self.sinking and self.is_down(k):
+            if k in self.sinking and self.is_down(k) and not state.says(firmware.WRECKED):
                 self.landed.add(k)
 
     def step(self) -> None:
@@ -375,7 +375,7 @@ class Bridge(Home):
     # ---- all of it
 
     def land_all(self, words: str) -> bool:
-        """Lands all that aren't down; whether all are."""
+        """Lands all that aren't down; whether all are, and nobody has tumbled."""
         if self.over is not None:
             done = self.finish(self.stay(self.up(self.all)))
         else:

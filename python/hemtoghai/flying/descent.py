@@ -7,7 +7,7 @@ from hemtoghai.flying.crew import Cut, say, Watch
 from hemtoghai.flying.fleet import Fleet
 from hemtoghai.flying.stages import LAND, milliseconds_for
 
-DOWN = 0.12  # metres above its pad up to which a drone counts as down
+DOWN = 0.12  # metres above or below its pad up to which a drone counts as down
 HIGHEST = 40.0  # metres above its floor at which a drone may be, whatever it says: the language ends at 33
 UNKNOWN = 2.0  # metres that are taken for the height of drones that never said where they are
 STAYS = 4.0  # seconds that a landing may take longer than it should
@@ -43,7 +43,15 @@ class Descent:
         return heard is not None and clock.now() - heard <= self.longest
 
     def is_down(self, k: int) -> bool:
-        return self.is_fresh(k) and self.fleet.states[k].where()[2] <= self.floors[k] + DOWN
+        """Whether a drone says that it is on its floor, and doesn't fly. One that has tumbled lies wherever it is."""
+        state = self.fleet.states[k]
+        if not self.is_fresh(k) or state.says(firmware.IS_FLYING):
+            return False
+        return abs(state.where()[2] - self.floors[k]) <= DOWN or state.says(firmware.WRECKED)
+
+    def wrecks(self) -> List[int]:
+        """Who has tumbled, it says."""
+        return [k for k, state in enumerate(self.fleet.states) if state.says(firmware.WRECKED)]
 
     def up(self, drones: Iterable[int]) -> List[int]:
         """Which of these drones aren't seen to be down: in the air, or silent."""
@@ -74,6 +82,8 @@ class Descent:
                 words = "NOT KNOWN: %s: IT MAY BE IN THE AIR" % (
                     "silent for %.1f s, and was at %s then" % (age, at) if state.senseless is None else
                     "sends a place that is no number, and was at %s %.1f s ago" % (at, age))
+            elif not self.is_down(k) and state.where()[2] < self.floors[k] - DOWN:
+                words = "NOT KNOWN: it believes to be below its floor, at %s: IT MAY BE IN THE AIR" % at
             elif not self.is_down(k):
                 words = "IN THE AIR, it said %.1f s ago, at %s" % (age, at)
             else:
@@ -127,7 +137,7 @@ class Descent:
              seconds: Optional[float] = None) -> bool:
         """Lands all drones that aren't down, in these seconds where they are given, and once more those that aren't
         then; disarms those that are down, since a drone that is disarmed in the air falls. A second Ctrl-C stops the
-        motors. Says who isn't down, and stays with them. Whether all are down."""
+        motors. Says who isn't down, and stays with them. Whether all are down, and nobody has tumbled."""
         self.watch.lands = True
         up = sorted(self.rising | set(self.up(self.all)))
         self.rising = set()
@@ -147,12 +157,12 @@ class Descent:
         return self.finish(self.stay(self.up(self.all)))
 
     def finish(self, up: List[int]) -> bool:
-        """Ends the watch, and says where all are; whether all are down."""
+        """Ends the watch, and says where all are; whether all are down, and nobody has tumbled."""
         self.watch.end()
         say("landed" if not up else "landed, but for %s: not disarmed; --only land and --only stop still reach them" %
             self.words_of(up))
         self.account()
-        return not up
+        return not up and not self.wrecks()
 
     def stay(self, up: List[int]) -> List[int]:
         """Stays with drones that aren't down: asks what to do with them, and where nobody answers tells them to land

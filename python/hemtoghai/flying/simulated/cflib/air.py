@@ -62,6 +62,7 @@ FAULTS = {
     "gap": "its link is gone for three seconds, so many seconds after its start, and its logs with it",
     "sag": "says for a moment that its battery is empty, so many seconds after its start",
     "high": "believes to be higher than it is, by so many metres",
+    "lower": "believes to be a metre lower than it is, so many seconds after its start",
     "riser": "stands on a riser of half a metre",
     "turned": "looks another way",
     "flying": "says on the floor that it flies",
@@ -378,7 +379,7 @@ class Drone:
         if name == "pm.vbat" and "volts" in self.faults:
             return math.nan
         if group == "stateEstimate":
-            high = self.faults.get("high", 0.0) if item == "z" else 0.0
+            high = self.faults.get("high", 0.0) - self.is_due("lower") if item == "z" else 0.0
             aside = 0.5 if self.past("leaps", now) else 25.0 if self.is_due("misled") else 0.0
             return self.is_at(now)["xyz".index(item)] + (high if item == "z" else aside if item == "y" else 0.0)
         if group == "kalman":
