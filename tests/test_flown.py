@@ -136,12 +136,72 @@ class Flown(unittest.TestCase):
         path = self.log(head="time,drone,x,y,z,stamp", stamps=True, every=20)
         status, rows, out = self.judged(path, "--stray", "8", "--late", "10")
         self.assertEqual(status, 0, out)
-        # the stamps begin anew 7.2 s after the start; all samples of 9 s count
-        self.assertTrue(all(450 <= int(row[0]) <= 451 for row in rows.values()), out)
+        # the stamps begin anew 7.2 s after the start; all samples of 9 s count, and those of up to 0.16 s before that came
+        # after the log's zero
+        self.assertTrue(all(450 <= int(row[0]) <= 459 for row in rows.values()), out)
         text = "\n".join(",".join(row.split(",")[:5]) for row in open(path).read().split("\n"))
         with open(path, "w") as file:
             file.write(text)
         self.assertEqual(self.judged(path, "--stray", "8", "--late", "10")[0], 1)
+
+    def reborn(self, at, off=3.0, back=None):
+        """A log with stamps in which b's begin anew at a time, and from then on it is so many metres off."""
+        path = self.log(head="time,drone,x,y,z,stamp", every=50)
+        with open(path) as file:
+            before, rows = file.read().split("\n")[1:-1], []
+        for row in before:
+            time, name, x, *rest = row.split(",")
+            t = float(time)
+            is_new = name == "b" and t >= at and (back is None or t < back)
+            stamp = round(1000 * (t - at)) if is_new else 50000 + round(1000 * t)
+            rows.append(",".join([time, name, "%.6f" % (float(x) + off * is_new), *rest, "%d" % stamp]))
+        with open(path, "w") as file:
+            file.write("\n".join(["time,drone,x,y,z,stamp", *rows]) + "\n")
+        return path
+
+    def test_a_drone_that_started_anew(self):
+        # Its stamps go back: what comes then isn't dropped, and the log is never KEPT, however good its places are.
+        end = self.flown.milliseconds / 1000
+        for at in (2.0, end - 0.9, end - 0.5, end - 0.1):
+            status, rows, out = self.judged(self.reborn(at), "--stray", "50", "--late", "100")
+            # each 50 ms from then to the end
+            self.assertEqual((status, int(rows["b"][-1]), "NOT KEPT: " in out), (1, round((end - at) * 20) + 1, True), out)
+            status, _, out = self.judged(self.reborn(at, 0.0), "--stray", "50", "--late", "100")
+            self.assertEqual((status, "NOT KNOWN: " in out), (1, True), out)
+            self.assertIn("b has a new life from %.2f s on" % at, out)
+        # a clock that leaps, for 0.8 s: 16 samples of b
+        status, rows, out = self.judged(self.reborn(3.0, back=3.8), "--stray", "50", "--late", "100")
+        self.assertEqual((status, rows["b"][-1]), (1, "16"), out)
+        self.assertIn("b has a ", out)
+        # before the start, or after the end, it is none of the flight
+        for at in (-0.3, end + 0.3):
+            status, _, out = self.judged(self.reborn(at, 0.0), "--stray", "50", "--late", "100")
+            self.assertEqual(status, 0, out)
+
+    def test_the_show_moves_with_the_clock(self):
+        # All are 900 ms late, or early, by the log's clock, and b is 3 m off in its last, or first, half second.
+        end = self.flown.milliseconds
+        for late, when in ((900, lambda t: end + 400 < t <= end + 900), (-450, lambda t: -450 <= t < -100)):
+            also = lambda name, t, when=when: (3000 if name == "b" and when(t) else 0, 0, 0)
+            path = self.log(late=dict.fromkeys("abcd", late), also=also)
+            status, rows, out = self.judged(path, "--stray", "50", "--late", "100")
+            self.assertEqual((status, "NOT KEPT: " in out), (1, True), (late, out))
+            path = self.log(late=dict.fromkeys("abcd", late))
+            self.assertEqual(self.judged(path, "--stray", "50", "--late", "100")[0], 0)
+
+    def test_left_out(self):
+        # every 50 ms from 500 ms before the start: 10 of each of four; after the end of 9 s 13, to 650 ms after it
+        _, _, out = self.judged(self.log())
+        self.assertEqual(self.flown.milliseconds, 9000)
+        self.assertIn("left out: 40 samples before the start and 52 after the end\n", out)
+
+    def test_a_log_that_stops(self):
+        # 400 ms before the end of 9 s nothing is known of that, though no gap is as long as a second
+        for last, status in ((8.6, 1), (8.75, 0)):
+            path = self.spoiled(lambda rows, last=last: [
+                row for row in rows if not row or row[0] == "t" or float(row.split(",")[0]) <= last])
+            came, _, out = self.judged(path, "--stray", "5", "--late", "5")
+            self.assertEqual((came, "has no sample in the last 400 ms" in out), (status, bool(status)), out)
 
     def test_bad_logs(self):
         for text, said in (("time,drone,x,y,z\n1,a,b,c,d\n", "row 1"), ("", "no sample during the show of a, b, c, d"),

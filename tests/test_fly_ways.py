@@ -31,7 +31,7 @@ FLIGHTS = {
 THREE = UNDER.replace("drone a", "drone c 4000000 0 800000 0\ndrone a")
 FLIGHTS.update({
     "unheard, empty": (fly, b("gap:2.4") + ["--fault", "c:drains:1.2", *SLOW], THREE),
-    "unheard, falls": (fly, b("gap:2.4") + ["--fault", "c:falls:2.6", *SLOW], THREE),
+    "unheard, falls": (fly, b("gap:2.4") + ["--fault", "c:falls:3", *SLOW], THREE),
     "unheard, Ctrl-C": (unheard_and_pressed,),
     "heard, empty": (fly, ["--fault", "c:drains:1.2", *SLOW], THREE),
 })

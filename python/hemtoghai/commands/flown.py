@@ -6,19 +6,21 @@ NEVER TRIED with a log of real drones, only with those of `./show fly --simulate
 `time,drone,x,y,z`: seconds since the start, the drone's name, metres; a first row with these names may have them in
 another order, and more columns. If there is a column `stamp` with the drone's own milliseconds, as `fly` writes it, it
 is used for the time, since packets are late by chance and a drone's clock isn't. Rows before the start and after the
-end are left out.
+end are left out, and counted. A stamp that goes back, or leaps away from `time`, is of a drone that started anew: it is
+judged by `time` then, and never kept.
 
 Without the options R and L are those of the show's lines `stray` and `late`. The question: at each sample, was the
 drone within R mm of a place of its curve that it should have had at most L / 2 ms earlier or later, all drones by one
 clock? Then any two of them were near to their curves at instants at most L ms apart, which is the premise under which
-the show keeps its drones apart. The clock is set so that the fewest samples are outside. A drone's best start is the
+the show keeps its drones apart. The clock is set so that the fewest samples are outside, and the show's
+begin and end go with it. A drone's best start is the
 one with which the greatest of its distances is least: `late ms` is how much later than the log's zero it is, and `-`
 where it doesn't matter. THIS LOOKS AT SAMPLES: between two of them nothing is known, places are those that drones
 estimate of themselves, and the time is that of the log.
 
 The verdict is `KEPT` only for a log that covers the show: each drone has at least 5 samples, and none is more than G
-ms, 1000 without the option, after the one before, the begin of the show and its end counted as samples. For any other
-log it is `NOT KEPT` or `NOT KNOWN`. A log with a number that isn't finite is refused. Status 0: kept. 1: not kept or
+ms, 1000 without the option, after the one before, the begin of the show and its end counted as samples. Nor may a log
+stop more than 300 ms before the end. For any other log it is `NOT KEPT` or `NOT KNOWN`. A log with a number that isn't finite is refused. Status 0: kept. 1: not kept or
 not known. 70: no answer.
 """
 import argparse
@@ -35,14 +37,17 @@ REACH = 1500  # milliseconds within which an offset is looked for
 TOLD = 3.0  # millimetres by which an offset has to matter to be told
 FLAT = 0.5  # millimetres of the greatest distance below which offsets are as good as each other
 GAP, FEWEST = 1000, 5  # milliseconds without a sample, and samples of a drone, with which a log covers a show
+LAST = 300  # milliseconds before the end of the show at which a log may stop: three samples of `fly`
+LEAP = 5.0  # seconds by which a drone's clock may differ from the log's at some samples more than at others
 LONGEST = 1e6  # seconds of a log, before and after its zero
 
-Sample = Tuple[float, List[float]]  # milliseconds, and a place in mm
+Row = Tuple[float, List[float], Optional[float]]  # seconds, a place in mm, and the drone's seconds or None
+Sample = Tuple[float, List[float], float]  # milliseconds by the drone's clock, a place in mm, milliseconds by the log's
 
 
-def read_log(path: str) -> Dict[str, List[Tuple[float, List[float], Optional[float]]]]:
-    """The samples by drone: (seconds, place in mm, the drone's seconds or None)."""
-    names, out = ["time", "drone", "x", "y", "z"], dict[str, List[Tuple[float, List[float], Optional[float]]]]()
+def read_log(path: str) -> Dict[str, List[Row]]:
+    """The samples by drone."""
+    names, out = ["time", "drone", "x", "y", "z"], dict[str, List[Row]]()
     try:
         rows = [row for row in csv.reader(read_file(path).decode(errors="replace").split("\n")) if row]
     except csv.Error as error:
@@ -62,25 +67,51 @@ def read_log(path: str) -> Dict[str, List[Tuple[float, List[float], Optional[flo
     return out
 
 
-def by_own_clock(samples: Sequence[Tuple[float, List[float], Optional[float]]]) -> List[Sample]:
-    """The samples as (milliseconds, place), by the drone's own clock if known: set so that no packet came early."""
-    own = [stamp for _, _, stamp in samples if stamp is not None]
-    if not samples or len(own) < len(samples):
-        return [(1000 * t, place) for t, place, _ in samples]
-    stamps: List[float] = []
-    turns = 0.0
-    for stamp in own:
-        if stamps and stamp + turns < stamps[-1] - WRAP / 2:
+def lives_of(rows: Sequence[Row]) -> Optional[List[List[float]]]:
+    """The drone's seconds of all samples, in a list for each time that it was switched on: its stamps go back then, and
+    not by what they wrap at. None where not all samples have one, or its clock leaps away from the log's."""
+    lives: List[List[float]] = []
+    turns, lags = 0.0, [0.0, 0.0]
+    for seconds, _, stamp in rows:
+        if stamp is None:
+            return None
+        if lives and stamp + turns < lives[-1][-1] - WRAP / 2:
             turns += WRAP
-        stamps.append(stamp + turns)
-    early = min(t - stamp for (t, _, _), stamp in zip(samples, stamps))
-    return [(1000 * (stamp + early), place) for stamp, (_, place, _) in zip(stamps, samples)]
+        lag = seconds - stamp - turns
+        if not lives or stamp + turns < lives[-1][-1]:
+            turns, lag = 0.0, seconds - stamp
+            lives.append([])
+            lags = [lag, lag]
+        lags = [min(lags[0], lag), max(lags[1], lag)]
+        if lags[1] - lags[0] > LEAP:
+            return None
+        lives[-1].append(stamp + turns)
+    return lives
+
+
+def by_own_clock(rows: Sequence[Row], end: float) -> Tuple[List[Sample], Optional[str]]:
+    """The samples by the drone's own clock if known, set so that no packet came early. And what is wrong with it, in
+    words, where the drone started anew between the begin and the end in milliseconds: then the log's clock counts."""
+    out = [(1000 * t, place, 1000 * t) for t, place, _ in rows]
+    if all(stamp is None for _, _, stamp in rows):
+        return out, None
+    lives, at = lives_of(rows), 0
+    if lives is None:
+        return out, "a clock that leaps"
+    own: List[Sample] = []
+    for number, life in enumerate(lives):
+        first, at = at, at + len(life)
+        if number and out[first][2] > 0 and out[first - 1][2] < end:
+            return out, f"a new life from {out[first][2] / 1000:.2f} s on"
+        early = min(seconds - stamp for (seconds, _, _), stamp in zip(rows[first:at], life))
+        own += [(1000 * (stamp + early), place, t) for stamp, (_, place, t) in zip(life, out[first:at])]
+    return own, None
 
 
 def farthest(samples: Iterable[Sample], curve: Curve, late: float, bound: float = inf) -> float:
     """The greatest distance where the drone is so late; where that is above the bound, any distance above it."""
     far = 0.0
-    for t, place in samples:
+    for t, place, _ in samples:
         far = max(far, dist(place, curve.at(t - late)))
         if far > bound:
             break
@@ -122,25 +153,40 @@ def edge(samples: Sequence[Sample], curve: Curve, best: Tuple[float, int], way: 
 
 class Judged:
     """A drone's flight: `late` is its offset, `own` the greatest distance at that offset, `worst` the greatest
-    distance from the places within the window, each with its time, `outside` the samples that are farther than
-    `stray`, and `gap` the longest time without a sample in the show, with when it began."""
+    distance from the places within the window, each with its time, `samples` those of the show by the clock that was
+    found, `outside` those that are farther than `stray`, `gap` the longest time without one in the show, with when it
+    began, and `wrong` what is wrong with its clock."""
 
-    def __init__(self, samples: Sequence[Sample], curve: Curve, late: Optional[int]) -> None:
-        self.samples, self.curve, self.late = samples, curve, late
-        self.own = max((dist(place, curve.at(t - (late or 0))), t) for t, place in samples)
-        times = [0.0, *sorted(t for t, _ in samples), float(curve.end)]
-        self.gap, self.gap_at = max((b - a, a) for a, b in zip(times, times[1:]))
+    def __init__(self, samples: Sequence[Sample], wrong: Optional[str], curve: Curve) -> None:
+        self.all, self.curve, self.wrong = samples, curve, wrong
+        self.samples = self.within(0.0)
+        self.late = offset_of(self.samples, curve) if self.samples else None
+        self.own = max(((dist(place, curve.at(t - (self.late or 0))), t) for t, place, _ in self.samples), default=(0.0, 0.0))
+
+    def within(self, middle: float) -> List[Sample]:
+        """The samples of the show where it begins at an instant, by the drone's clock or the log's; and those between
+        the log's zero and the show's end by that."""
+        low, high = min(0.0, middle), self.curve.end + max(0.0, middle)
+        return [row for row in self.all if low <= row[0] <= high or 0 <= row[2] <= self.curve.end]
 
     def lacks(self, longest: float) -> Optional[str]:
         """What keeps the samples from covering the show, or None."""
+        if self.wrong:
+            return self.wrong
         if self.gap > longest:
             return "no sample from %.2f to %.2f s" % (self.gap_at / 1000, (self.gap_at + self.gap) / 1000)
+        if self.stops > LAST:
+            return f"no sample in the last {self.stops:.0f} ms"
         return "%s in all" % many(len(self.samples), "sample") if len(self.samples) < FEWEST else None
 
     def judge(self, middle: float, window: float, stray: float) -> None:
-        """Looks at the places within half a window around each sample's time."""
-        self.worst, self.outside = (0.0, 0.0), []
-        for t, place in self.samples:
+        """Looks at the places within half a window around each sample's time, where the show begins at an instant."""
+        self.worst, self.outside, self.samples = (0.0, 0.0), [], self.within(middle)
+        end = self.curve.end + middle
+        times = [middle, *sorted(t for t, _, _ in self.samples if middle <= t <= end), end]
+        self.gap, self.gap_at = max((b - a, a) for a, b in zip(times, times[1:]))
+        self.stops = end - max(t for t, _, _ in self.all)
+        for t, place, _ in self.samples:
             near, _ = self.curve.nearest(place, t - middle - window / 2, t - middle + window / 2,
                                          min(stray, self.worst[0]))
             self.worst = max(self.worst, (near, t))
@@ -171,6 +217,14 @@ def print_table(judged: Dict[str, Judged]) -> None:
             name, len(it.samples), it.gap, "-" if it.late is None else it.late,
             "%.1f at %.2f s" % (it.own[0], it.own[1] / 1000),
             "%.1f at %.2f s" % (it.worst[0], it.worst[1] / 1000), len(it.outside)))
+
+
+def print_left_out(judged: Dict[str, Judged]) -> None:
+    """Says how many samples aren't of the show."""
+    left = sum(len(it.all) - len(it.samples) for it in judged.values())
+    before = sum(sum(row[0] < 0 for row in it.all) - sum(row[0] < 0 for row in it.samples) for it in judged.values())
+    if left:
+        print(f"left out: {many(before, 'sample')} before the start and {left - before} after the end")
 
 
 def print_verdict(judged: Dict[str, Judged], options: argparse.Namespace) -> bool:
@@ -212,15 +266,16 @@ def main(words: list[str]) -> int:
     if strangers:
         print("not of the show, and left out: %s" % ", ".join(strangers))
     for name, curve in curves.items():
-        samples = [(t, place) for t, place in by_own_clock(log.get(name, [])) if 0 <= t <= curve.end]
-        if samples:
-            judged[name] = Judged(samples, curve, offset_of(samples, curve))
+        it = Judged(*by_own_clock(log.get(name, []), curve.end), curve)
+        if it.samples:
+            judged[name] = it
     missing = [name for name in flown.names if name not in judged]
     if missing:
         stop("%s: no sample during the show of %s" % (options.log, ", ".join(missing)))
     offsets = sorted(it.late for it in judged.values() if it.late is not None) or [0]
     judge_all(judged, offsets, options)
     print_table(judged)
+    print_left_out(judged)
     if options.stray == 0:
         print("stray is 0, which no drone keeps: write the show's line `stray`, or give --stray")
     far = max(judged, key=lambda it: judged[it].own)
