@@ -622,7 +622,7 @@ class Packets(unittest.TestCase):
                              (firmware.start(3), "05 00 00 00 03 0000803F"), (firmware.STOP, "03 00"),
                              (firmware.EMERGENCY_STOP, "03"), (firmware.arm(True), "01 01"), (firmware.arm(False), "01 00"),
                              (firmware.read(2, 258, 1), "02 02010000 01"), (firmware.ask_memory(4), "02 04"),
-                             (firmware.create_block(1, [(258, 7)]), "06 01 77 0201"), (firmware.start_block(1, 100), "03 01 0A"),
+                             (firmware.create_block(1, [(258, 7, 7), (3, 7, 8)]), "06 01 77 0201 78 0300"), (firmware.start_block(1, 100), "03 01 0A"),
                              (firmware.packet(8, 0, [5]), "8C 05"), (firmware.packet(4, 2, []), "4E")):
             self.assertEqual(data, bytes.fromhex(wanted))
 

@@ -203,6 +203,28 @@ class Flown(unittest.TestCase):
             came, _, out = self.judged(path, "--stray", "5", "--late", "5")
             self.assertEqual((came, "has no sample in the last 400 ms" in out), (status, bool(status)), out)
 
+    def test_variances(self):
+        # sqrt(0.004) is 63 mm: one sample above it, or of no number, and the log isn't kept
+        def with_variances(of):
+            path = self.log()
+            with open(path) as file:
+                rows = file.read().split("\n")
+            with open(path, "w") as file:
+                file.write("\n".join([rows[0] + ",variance", *(row + "," + of(row.split(",")) for row in rows[1:] if row)]) + "\n")
+            return path
+        for word, words, status, said in (("0.004", (), 0, ""), ("", (), 0, ""), ("0.0041", (), 1, "variance up to 0.0041 m^2"),
+                                          ("nan", (), 1, "variance up to inf m^2"), ("-1", (), 1, "variance up to inf m^2"),
+                                          ("0.0041", ("--unsure", "0.01"), 0, "")):
+            path = with_variances(lambda row, word=word: word if row[:2] == ["4.0000", "c"] else "2e-05")
+            came, _, out = self.judged(path, "--stray", "5", "--late", "5", *words)
+            self.assertEqual((came, "NOT KNOWN: " in out, said in out), (status, bool(status), True), out)
+            self.assertEqual("not sure of their places: c at 1 sample, first at 4.00 s" in out, bool(status), out)
+            self.assertNotIn("has no variances", out)
+        # not before the start
+        path = with_variances(lambda row: "1" if row[:2] == ["-0.4000", "c"] else "2e-05")
+        self.assertEqual(self.judged(path, "--stray", "5", "--late", "5")[0], 0)
+        self.assertIn("the log has no variances: how sure drones were of their places isn't known\n", self.judged(self.log())[2])
+
     def test_bad_logs(self):
         for text, said in (("time,drone,x,y,z\n1,a,b,c,d\n", "row 1"), ("", "no sample during the show of a, b, c, d"),
                            ("1,a,0,0,0\n", "of b, c, d")):

@@ -43,6 +43,8 @@ FLIGHTS.update({
     "Ctrl-C on the way home": (with_pads, SLOW, PADS, ABOVE, "yes\nyes\nno\n", [("all come down", INT)]),
     "two on the way home": (with_pads, SLOW, PADS, ABOVE, "yes\nyes\nno\n", [("all come down", INT), ("Ctrl-C, once more", INT)]),
 })
+FLIGHTS["doubts"] = (fly, b("doubts:2") + SLOW, STRAYS)
+FLIGHTS["doubts in the show"] = (fly, b("doubts:16") + SLOW, STRAYS.replace("cue 3000", "cue 9000"))
 FLIGHTS["lower"] = (fly, b("lower:1") + SLOW, strays())
 RUNS = flights.Flights(3, FLIGHTS)
 begun, forget, setUpModule = RUNS.begun, RUNS.forget, RUNS.set_up
@@ -130,6 +132,22 @@ class FarAway(unittest.TestCase):
         self.ended("Ctrl-C on the way home", 1, r"all come down .*\n(.*\n)*Ctrl-C, once more stops the motors; a landing of all now isn't shown "
                    r"apart \((a and b|b and a)\); landing now: c\n(.*\n)*landed\n", without=["MOTORS", "the landing goes on"])
         self.ended("two on the way home", 60, "landing now: c\n(.*\n)*MOTORS STOPPED: emergency stop sent to all")
+
+
+@common.wants_program
+class Unsure(unittest.TestCase):
+    def test_positioning_is_lost(self):
+        # the estimate stays where it should be, and its variance grows by 0.02 m^2 a second, to 0.004 in 0.2 s
+        said = "FAULT: b isn't sure of its place any more: variance ([0-9.]+) m\\^2; landing all\nlanded\n"
+        for name in ("doubts", "doubts in the show"):
+            status, out, rows, judged = begun(name).result()
+            self.assertEqual(status, 1, out)
+            self.assertRegex(out, said)
+            self.assertLess(float(re.search(said, out).group(1)), 0.03, out)
+            heads, *cells = [row.split(",") for row in rows.split()]
+            self.assertEqual(heads[-1], "variance")
+            self.assertEqual({row[1] for row in cells if float(row[-1]) > 0.004}, {"b"})
+        self.assertIn("not sure of their places: b at ", judged[1])
 
 
 @common.wants_program

@@ -1,6 +1,6 @@
 """Judges a flight's log against the curves of its show: how far each drone strayed, and how late it was.
 
-    ./show flown [--stray R] [--late L] [--gap G] SHOW LOG.csv
+    ./show flown [--stray R] [--late L] [--gap G] [--unsure M2] SHOW LOG.csv
 
 NEVER TRIED with a log of real drones, only with those of `./show fly --simulate`. Each row of the log has
 `time,drone,x,y,z`: seconds since the start, the drone's name, metres; a first row with these names may have them in
@@ -20,7 +20,9 @@ estimate of themselves, and the time is that of the log.
 
 The verdict is `KEPT` only for a log that covers the show: each drone has at least 5 samples, and none is more than G
 ms, 1000 without the option, after the one before, the begin of the show and its end counted as samples. Nor may a log
-stop more than 300 ms before the end. For any other log it is `NOT KEPT` or `NOT KNOWN`. A log with a number that isn't finite is refused. Status 0: kept. 1: not kept or
+stop more than 300 ms before the end. For any other log it is `NOT KEPT` or `NOT KNOWN`. So it is where a column `variance`, as `fly` writes it, says that
+a drone wasn't sure of its place: above M2 square metres, 0.004 without the option. A log with a place or a time that
+isn't finite is refused. Status 0: kept. 1: not kept or
 not known. 70: no answer.
 """
 import argparse
@@ -41,8 +43,10 @@ LAST = 300  # milliseconds before the end of the show at which a log may stop: t
 LEAP = 5.0  # seconds by which a drone's clock may differ from the log's at some samples more than at others
 LONGEST = 1e6  # seconds of a log, before and after its zero
 
-Row = Tuple[float, List[float], Optional[float]]  # seconds, a place in mm, and the drone's seconds or None
-Sample = Tuple[float, List[float], float]  # milliseconds by the drone's clock, a place in mm, milliseconds by the log's
+# Seconds, a place in mm, the drone's seconds or None, and the estimate's variance or None.
+Row = Tuple[float, List[float], Optional[float], Optional[float]]
+# Milliseconds by the drone's clock, a place in mm, milliseconds by the log's, and the variance.
+Sample = Tuple[float, List[float], float, Optional[float]]
 
 
 def read_log(path: str) -> Dict[str, List[Row]]:
@@ -60,11 +64,18 @@ def read_log(path: str) -> Dict[str, List[Row]]:
             place = [1000 * finite.number(row[at[axis]], -finite.FAR, finite.FAR) for axis in "xyz"]
             stamp = finite.number(row[at["stamp"]], 0, 2 ** 32) / 1000 if "stamp" in at else None
             seconds = finite.number(row[at["time"]], -LONGEST, LONGEST)
-            out.setdefault(row[at["drone"]].strip(), []).append((seconds, place, stamp))
+            variance = variance_of(row[at["variance"]]) if "variance" in at else None
+            out.setdefault(row[at["drone"]].strip(), []).append((seconds, place, stamp, variance))
         except (ValueError, IndexError):
             stop("%s: row %d of the samples isn't time,drone,x,y,z in seconds and metres: %s" % (
                 path, number, ",".join(row)[:60]))
     return out
+
+
+def variance_of(word: str) -> Optional[float]:
+    """The variance of a word, in square metres; None where there is none. One that is no number is infinite."""
+    variance = float(word) if word.strip() else None
+    return inf if variance is not None and not 0 <= variance < inf else variance
 
 
 def lives_of(rows: Sequence[Row]) -> Optional[List[List[float]]]:
@@ -72,7 +83,7 @@ def lives_of(rows: Sequence[Row]) -> Optional[List[List[float]]]:
     not by what they wrap at. None where not all samples have one, or its clock leaps away from the log's."""
     lives: List[List[float]] = []
     turns, lags = 0.0, [0.0, 0.0]
-    for seconds, _, stamp in rows:
+    for seconds, _, stamp, _ in rows:
         if stamp is None:
             return None
         if lives and stamp + turns < lives[-1][-1] - WRAP / 2:
@@ -92,8 +103,8 @@ def lives_of(rows: Sequence[Row]) -> Optional[List[List[float]]]:
 def by_own_clock(rows: Sequence[Row], end: float) -> Tuple[List[Sample], Optional[str]]:
     """The samples by the drone's own clock if known, set so that no packet came early. And what is wrong with it, in
     words, where the drone started anew between the begin and the end in milliseconds: then the log's clock counts."""
-    out = [(1000 * t, place, 1000 * t) for t, place, _ in rows]
-    if all(stamp is None for _, _, stamp in rows):
+    out = [(1000 * t, place, 1000 * t, variance) for t, place, _, variance in rows]
+    if all(row[2] is None for row in rows):
         return out, None
     lives, at = lives_of(rows), 0
     if lives is None:
@@ -103,15 +114,15 @@ def by_own_clock(rows: Sequence[Row], end: float) -> Tuple[List[Sample], Optiona
         first, at = at, at + len(life)
         if number and out[first][2] > 0 and out[first - 1][2] < end:
             return out, f"a new life from {out[first][2] / 1000:.2f} s on"
-        early = min(seconds - stamp for (seconds, _, _), stamp in zip(rows[first:at], life))
-        own += [(1000 * (stamp + early), place, t) for stamp, (_, place, t) in zip(life, out[first:at])]
+        early = min(row[0] - stamp for row, stamp in zip(rows[first:at], life))
+        own += [(1000 * (stamp + early), *row[1:]) for stamp, row in zip(life, out[first:at])]
     return own, None
 
 
 def farthest(samples: Iterable[Sample], curve: Curve, late: float, bound: float = inf) -> float:
     """The greatest distance where the drone is so late; where that is above the bound, any distance above it."""
     far = 0.0
-    for t, place, _ in samples:
+    for t, place, *_ in samples:
         far = max(far, dist(place, curve.at(t - late)))
         if far > bound:
             break
@@ -154,14 +165,14 @@ def edge(samples: Sequence[Sample], curve: Curve, best: Tuple[float, int], way: 
 class Judged:
     """A drone's flight: `late` is its offset, `own` the greatest distance at that offset, `worst` the greatest
     distance from the places within the window, each with its time, `samples` those of the show by the clock that was
-    found, `outside` those that are farther than `stray`, `gap` the longest time without one in the show, with when it
+    found, `outside` those that are farther than `stray`, `unsure` those whose variance is too great, `gap` the longest time without one in the show, with when it
     began, and `wrong` what is wrong with its clock."""
 
     def __init__(self, samples: Sequence[Sample], wrong: Optional[str], curve: Curve) -> None:
         self.all, self.curve, self.wrong = samples, curve, wrong
         self.samples = self.within(0.0)
         self.late = offset_of(self.samples, curve) if self.samples else None
-        self.own = max(((dist(place, curve.at(t - (self.late or 0))), t) for t, place, _ in self.samples), default=(0.0, 0.0))
+        self.own = max(((dist(place, curve.at(t - (self.late or 0))), t) for t, place, *_ in self.samples), default=(0.0, 0.0))
 
     def within(self, middle: float) -> List[Sample]:
         """The samples of the show where it begins at an instant, by the drone's clock or the log's; and those between
@@ -179,14 +190,15 @@ class Judged:
             return f"no sample in the last {self.stops:.0f} ms"
         return "%s in all" % many(len(self.samples), "sample") if len(self.samples) < FEWEST else None
 
-    def judge(self, middle: float, window: float, stray: float) -> None:
+    def judge(self, middle: float, window: float, stray: float, unsure: float) -> None:
         """Looks at the places within half a window around each sample's time, where the show begins at an instant."""
         self.worst, self.outside, self.samples = (0.0, 0.0), [], self.within(middle)
         end = self.curve.end + middle
-        times = [middle, *sorted(t for t, _, _ in self.samples if middle <= t <= end), end]
+        times = [middle, *sorted(t for t, *_ in self.samples if middle <= t <= end), end]
         self.gap, self.gap_at = max((b - a, a) for a, b in zip(times, times[1:]))
-        self.stops = end - max(t for t, _, _ in self.all)
-        for t, place, _ in self.samples:
+        self.stops = end - max(row[0] for row in self.all)
+        self.unsure = [(t, variance) for t, *_, variance in self.samples if variance is not None and variance > unsure]
+        for t, place, *_ in self.samples:
             near, _ = self.curve.nearest(place, t - middle - window / 2, t - middle + window / 2,
                                          min(stray, self.worst[0]))
             self.worst = max(self.worst, (near, t))
@@ -199,7 +211,7 @@ def judge_all(judged: Dict[str, Judged], offsets: Sequence[int], options: argpar
     the fewest samples outside."""
     def outside(middle: float) -> int:
         for it in judged.values():
-            it.judge(middle, options.late, options.stray)
+            it.judge(middle, options.late, options.stray, options.unsure)
         return sum(len(it.outside) for it in judged.values())
     low, high, counts = offsets[0], offsets[-1], dict[float, int]()
     for middle in [offsets[len(offsets) // 2], *(low + (high - low) * k / 8 for k in range(9))]:
@@ -232,13 +244,20 @@ def print_verdict(judged: Dict[str, Judged], options: argparse.Namespace) -> boo
     count, outside = sum(len(it.samples) for it in judged.values()), sum(len(it.outside) for it in judged.values())
     lacking = {name: it.lacks(options.gap) for name, it in judged.items() if it.lacks(options.gap)}
     name = max(judged, key=lambda it: judged[it].worst)
-    word = "NOT KEPT" if outside else "NOT KNOWN" if lacking else "KEPT"
+    unsure = {name: it.unsure for name, it in judged.items() if it.unsure}
+    word = "NOT KEPT" if outside else "NOT KNOWN" if lacking or unsure else "KEPT"
     print("%s: %d of %s within %g mm of the curve at an instant within %g ms of the others'; the farthest is %s, "
           "%.1f mm at %.2f s"
           % (word, count - outside, many(count, "sample"), options.stray, options.late,
              name, judged[name].worst[0], judged[name].worst[1] / 1000))
     if lacking:
         print("the log doesn't cover the show: %s" % "; ".join("%s has %s" % it for it in lacking.items()))
+    if unsure:
+        print("not sure of their places: %s" % "; ".join(
+            f"{name} at {many(len(rows), 'sample')}, first at {rows[0][0] / 1000:.2f} s, variance up to "
+            f"{max(variance for _, variance in rows):.3g} m^2" for name, rows in unsure.items()))
+    if not any(row[3] is not None for it in judged.values() for row in it.samples):
+        print("the log has no variances: how sure drones were of their places isn't known")
     return word == "KEPT"
 
 
@@ -250,6 +269,8 @@ def options_of(words: list[str]) -> argparse.Namespace:
                        help="milliseconds between drones; without it the show's")
     reader.add_argument("--gap", type=finite.option(1, 100000), default=GAP, metavar="G",
                        help="the longest gap between samples in milliseconds; without it %d" % GAP)
+    reader.add_argument("--unsure", type=finite.option(0, 100), default=finite.UNSURE, metavar="M2",
+                       help="the greatest variance of a place that is known; without it %g" % finite.UNSURE)
     reader.add_argument("show", metavar="SHOW", help="a file with a show, or - for standard input")
     reader.add_argument("log", metavar="LOG", help="the flight's log, a CSV file")
     return reader.parse_args(words)

@@ -53,6 +53,7 @@ NUMBERS = [
     ("near", 150, 1, 1000, False, "MM", "how far aside of its pad a drone may stand"),
     ("turned", 15.0, 0.1, 180, False, "DEG", "how far off the yaw of its first place a drone may look"),
     ("variance", 0.001, 1e-9, 1, False, "M2", "greatest variance of a settled estimator"),
+    ("unsure", finite.UNSURE, 1e-9, 100, False, "M2", "variance in flight above which a drone isn't sure of its place"),
     ("wander", 30, 1, 500, False, "MM", "how far the last places of a settled estimator may be apart"),
     ("at-start", 80, 1, 1000, False, "MM", "how far off a drone may be at the start"),
     ("stray", None, 1, 10000, False, "MM", "farther from its curve all land; the show's, or %d" % NO_STRAY),

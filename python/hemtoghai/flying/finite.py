@@ -5,6 +5,7 @@ import math
 from typing import Callable, Dict, Iterable, Iterator, List, Sequence, Tuple, TypeVar
 
 Value = TypeVar("Value")
+UNSURE = 0.004  # square metres of variance above which an estimate in flight is none: 63 mm
 FAR = 100.0  # metres from the origin beyond which a place is none: the language ends at 33
 
 

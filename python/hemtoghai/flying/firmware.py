@@ -53,6 +53,7 @@ def read(number: int, address: int, length: int) -> bytes:
 
 ASK_TABLE = bytes([3])
 PARAMETER_TYPES = {0x08: "B", 0x09: "H", 0x0A: "I", 0x00: "b", 0x01: "h", 0x02: "i", 0x06: "f"}
+FLOAT, HALF = 7, 8  # of log items: in the drone, and as it may send them
 LOG_TYPES = {1: "B", 2: "H", 3: "I", 4: "b", 5: "h", 6: "i", 7: "f", 8: "e"}
 
 
@@ -84,9 +85,10 @@ def write_parameter(number: int, kind: int, value: float) -> bytes:
 RESET_LOGS = bytes([5])
 
 
-def create_block(block: int, items: Iterable[Tuple[int, int]]) -> bytes:
-    """The data that makes a block of (number, type) items."""
-    return bytes([6, block]) + b"".join(struct.pack("<BH", kind << 4 | kind, number) for number, kind in items)
+def create_block(block: int, items: Iterable[Tuple[int, int, int]]) -> bytes:
+    """The data that makes a block of items: their numbers, their types, and as what types they are sent (75 % where
+    these differ)."""
+    return bytes([6, block]) + b"".join(struct.pack("<BH", kind << 4 | sent, number) for number, kind, sent in items)
 
 
 def start_block(block: int, milliseconds: int) -> bytes:

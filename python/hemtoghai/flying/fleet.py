@@ -14,10 +14,13 @@ from hemtoghai.flying.stages import SAME_FLOOR
 
 FLIGHT, SETTLING = 1, 2  # log blocks
 MARK = 0x5A  # a byte by which the answer to a broadcast is told from others
-LOGGED = {FLIGHT: ["stateEstimate.x", "stateEstimate.y", "stateEstimate.z", "stateEstimate.yaw", "pm.vbat",
-                   "supervisor.info"],
-          SETTLING: ["kalman.varPX", "kalman.varPY", "kalman.varPZ"]}
-OPTIONAL = ("supervisor.info", "stateEstimate.yaw")  # old firmware hasn't them all
+VARIANCES = ["kalman.varPX", "kalman.varPY", "kalman.varPZ"]
+# A block has 26 bytes: three places of four bytes, the volts, two of the supervisor, and four halves.
+LOGGED = {FLIGHT: ["stateEstimate.x", "stateEstimate.y", "stateEstimate.z", "pm.vbat", "supervisor.info",
+                   "stateEstimate.yaw", *VARIANCES],
+          SETTLING: VARIANCES}
+HALVES = ("stateEstimate.yaw", *VARIANCES)  # are sent in two bytes in flight
+OPTIONAL = ("supervisor.info", *HALVES)  # old firmware hasn't them all
 REVIVE = 1.0  # seconds without samples of a drone whose link is heard, after which its blocks are made anew
 AGAIN = 0.05  # seconds after which a landing that isn't answered is commanded again
 OBEYS = 2.0  # seconds in which a drone is seen to be disarmed
@@ -36,7 +39,8 @@ class State:
     `places` are its last ones, and `senseless` is since when its samples have no numbers, or None. `measured` is when
     the place was measured, by the drone's own clock: its packets are late by chance, and the least late one sets that
     clock. `between` are the milliseconds between its last two samples, and `has_leapt` is whether its place was ever
-    farther from the one before than a drone flies meanwhile."""
+    farther from the one before than a drone flies meanwhile. `variance` is the greatest of its last sample, in m^2, or
+    None, and `unsure` since when it is greater than the greatest in flight, or None."""
 
     def __init__(self) -> None:
         self.place: Optional[List[float]] = None
@@ -51,7 +55,9 @@ class State:
         self.senseless: Optional[float] = None
         self.stamp: Optional[int] = None
         self.least: Optional[float] = None
-        self.least_volts, self.between, self.has_leapt = 0.0, 0, False
+        self.variance: Optional[float] = None
+        self.unsure: Optional[float] = None
+        self.least_volts, self.between, self.has_leapt, self.most_variance = 0.0, 0, False, math.inf
 
     def take(self, values: Dict[str, float], at: float, stamp: int) -> bool:
         """Takes a sample that came at an instant; whether it has numbers. One that has none changes nothing else, so
@@ -64,6 +70,10 @@ class State:
         before = self.place
         self.place, self.info, self.yaw = place, None if info is None else int(info), values.get("stateEstimate.yaw")
         self.senseless, self.places, self.volts = None, (self.places + [place])[-HISTORY:], volts
+        spread = [values[name] for name in VARIANCES if name in values]
+        self.variance = max(v if math.isfinite(v) else math.inf for v in spread) if spread else None
+        is_sure = self.variance is None or self.variance <= self.most_variance
+        self.unsure = None if is_sure else at if self.unsure is None else self.unsure
         self.low = None if volts >= self.least_volts else self.low if self.low is not None else at
         turns = 0 if self.stamp is None else round((self.stamp - stamp) / WRAP)
         self.between = 0 if self.stamp is None else stamp + turns * WRAP - self.stamp
@@ -106,20 +116,20 @@ class Log:
 
     def __init__(self, path: Optional[str], tell: Callable[[str], None]) -> None:
         self.path, self.tell, self.lock, self.over = path, tell, threading.Lock(), threading.Event()
-        self.waiting: List[Tuple[float, str, Sequence[float], int]] = []
+        self.waiting: List[Tuple[float, str, Sequence[float], int, Optional[float]]] = []
         self.fault: object = None
         self.zero: Optional[float] = None
         self.thread: Optional[threading.Thread] = None
         if path:
             file = open(path, "w", newline="", encoding="utf-8")
-            self.put_rows(file, [["time", "drone", "x", "y", "z", "stamp"]])
+            self.put_rows(file, [["time", "drone", "x", "y", "z", "stamp", "variance"]])
             self.thread = threading.Thread(target=self.run, args=(file,), daemon=True)
             self.thread.start()
 
-    def put(self, at: float, name: str, place: Sequence[float], stamp: int) -> None:
+    def put(self, at: float, name: str, place: Sequence[float], stamp: int, variance: Optional[float] = None) -> None:
         if self.path and self.fault is None:
             with self.lock:
-                self.waiting.append((at, name, place, stamp))
+                self.waiting.append((at, name, place, stamp, variance))
 
     @staticmethod
     def put_rows(file: TextIO, rows: Iterable[Sequence[object]]) -> None:
@@ -145,8 +155,9 @@ class Log:
             return
         with self.lock:
             rows, self.waiting = self.waiting, []
-        self.put_rows(file, [["%.4f" % (at - zero), name, *("%.5f" % v for v in place), stamp]
-                             for at, name, place, stamp in rows])
+        self.put_rows(file, [["%.4f" % (at - zero), name, *("%.5f" % v for v in place), stamp,
+                              "" if variance is None else f"{variance:.3g}"]
+                             for at, name, place, stamp, variance in rows])
 
     def close(self) -> None:
         """Has all written that waits, by the time of its last sample where nothing was started, but not for long."""
@@ -198,7 +209,7 @@ class Fleet:
             return
         at = clock.now()
         if state.take(dict(zip((name for name, _ in kinds), values)), at, stamp):
-            self.log.put(at, self.names[drone], state.where(), stamp)
+            self.log.put(at, self.names[drone], state.where(), stamp, state.variance)
 
     def table(self, drone: int, port: int) -> Table:
         """A drone's table of parameters or logs: numbers and types by name. Equal tables are read once."""
@@ -257,20 +268,23 @@ class Fleet:
         self.radio.ask(drone, firmware.LOGS, 1, firmware.RESET_LOGS, 1)
         for block in blocks:
             names = LOGGED[block]
-            missing = [name for name in names if name not in table and name not in OPTIONAL]
+            missing = [name for name in names if name not in table and (block == SETTLING or name not in OPTIONAL)]
             items = [(name, *table[name]) for name in names if name in table]
             strange = [name for name, _, kind in items if kind not in firmware.LOG_TYPES]
             if missing or strange:
                 raise Trouble("%s has no log %s, or of a type that this tool doesn't know: another firmware or "
                               "estimator?" % (self.names[drone], ", ".join(missing + strange)))
-            self.kinds[drone][block] = [(name, kind) for name, _, kind in items]
+            sent = [firmware.HALF if (block, kind) == (FLIGHT, firmware.FLOAT) and name in HALVES else kind
+                    for name, _, kind in items]
+            self.kinds[drone][block] = [(name, kind) for (name, *_), kind in zip(items, sent)]
             made, begun = (self.radio.ask(drone, firmware.LOGS, 1, data, 2, least=3)[2] for data in (
-                firmware.create_block(block, [it[1:] for it in items]), firmware.start_block(block, milliseconds)))
+                firmware.create_block(block, [(*it[1:], kind) for it, kind in zip(items, sent)]),
+                firmware.start_block(block, milliseconds)))
             if made or begun:
                 raise Trouble("%s refuses to log: %d %d" % (self.names[drone], made, begun))
 
     def end_settling(self) -> None:
-        """Has all drones send no variances any more: a radio has no room for them in flight."""
+        """Has all drones send their variances no more but with their places."""
         self.radio.each(lambda drone: self.radio.ask(drone, firmware.LOGS, 1, firmware.stop_block(SETTLING), 2))
 
     def end_logs(self) -> None:

@@ -96,7 +96,7 @@ def preflight(fleet: Fleet, flown: choreo.Flown, pads: Sequence[Place], options:
     for number, count in fleet.radio.crowded():
         say("dongle %s has %d drones: 10 to 15 are usual" % (number, count))
     for state in fleet.states:
-        state.least_volts = options.empty
+        state.least_volts, state.most_variance = options.empty, options.unsure
     # One after the other: the first reads the tables, which the others share.
     looks = [looked_over(fleet, drone, options, memory) for drone in range(len(fleet.names))]
     settle(fleet, options)

@@ -146,6 +146,8 @@ class Watched(Descent):
             return "%s is no longer armed" % name
         if state.senseless is not None and clock.now() - state.senseless > FAR_FOR:
             return "%s sends a place that is no number" % name
+        if self.flying and state.unsure is not None and clock.now() - state.unsure > FAR_FOR:
+            return f"{name} isn't sure of its place any more: variance {state.variance:.3g} m^2"
         if state.is_empty(self.options.sag):
             return "%s has %.2f V left" % (name, state.volts or 0.0)
         if k in self.away():

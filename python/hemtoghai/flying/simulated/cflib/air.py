@@ -44,6 +44,7 @@ FAULTS = {
     "wanders": "leaves its curve by half a metre a second, so many seconds after its start",
     "leaves": "leaves its way by half a metre a second, so many seconds after it took off",
     "flees": "flies away at three metres a second, so many seconds after its start",
+    "doubts": "its positioning is gone so many seconds after it took off: it drifts, and its variance grows",
     "leaps": "its estimate leaps by half a metre, so many seconds after it took off",
     "misled": "its estimate leaps by twenty-five metres, so many seconds after its start",
     "deaf": "hears no broadcast",
@@ -151,6 +152,10 @@ class Drone:
         after = self.faults.get(fault)
         return 0.0 if self.rose_at is None or after is None else max(0.0, now - self.rose_at - after)
 
+    def drifted(self, now: float) -> float:
+        """How far it is from where it believes to be, on y."""
+        return 0.2 * self.past("doubts", now)
+
     def is_in(self, fault: str, seconds: float) -> bool:
         """The same, for so many seconds."""
         return self.is_due(fault) and (self.flown() or 0.0) < self.faults[fault] + seconds
@@ -209,6 +214,7 @@ class Drone:
             at[0] += 3 * ((self.flown(now) or 0.0) - self.faults["flees"])
         if self.flies:
             at[0] += 0.5 * self.past("leaves", now)
+            at[1] += self.drifted(now)
         return [at[0], at[1], max(self.floor, at[2])]
 
     def drop(self) -> None:
@@ -381,9 +387,10 @@ class Drone:
         if group == "stateEstimate":
             high = self.faults.get("high", 0.0) - self.is_due("lower") if item == "z" else 0.0
             aside = 0.5 if self.past("leaps", now) else 25.0 if self.is_due("misled") else 0.0
+            aside -= self.drifted(now) if self.flies else 0.0
             return self.is_at(now)["xyz".index(item)] + (high if item == "z" else aside if item == "y" else 0.0)
         if group == "kalman":
-            return 0.05 if "unsettled" in self.faults else 0.00002
+            return 0.05 if "unsettled" in self.faults else 0.00002 + 0.02 * self.past("doubts", now)
         if name == "pm.vbat":
             low = 3.3 if "empty" in self.faults else 3.0 if self.is_due("drains") else FULL
             if self.is_in("sag", 0.5):
