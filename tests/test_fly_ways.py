@@ -45,6 +45,8 @@ FLIGHTS.update({
 })
 FLIGHTS["doubts"] = (fly, b("doubts:2") + SLOW, STRAYS)
 FLIGHTS["doubts in the show"] = (fly, b("doubts:16") + SLOW, STRAYS.replace("cue 3000", "cue 9000"))
+FLIGHTS["strangers"] = (fly, ["--sim", "strangers=2"] + SLOW, strays())
+FLIGHTS["strangers, unicast"] = (fly, ["--sim", "strangers=1", "--unicast", "--late", "500"] + SLOW, strays())
 FLIGHTS["lower"] = (fly, b("lower:1") + SLOW, strays())
 RUNS = flights.Flights(3, FLIGHTS)
 begun, forget, setUpModule = RUNS.begun, RUNS.forget, RUNS.set_up
@@ -148,6 +150,18 @@ class Unsure(unittest.TestCase):
             self.assertEqual(heads[-1], "variance")
             self.assertEqual({row[1] for row in cells if float(row[-1]) > 0.004}, {"b"})
         self.assertIn("not sure of their places: b at ", judged[1])
+
+
+@common.wants_program
+class Strangers(unittest.TestCase):
+    def test_they_stay(self):
+        # Both hold a trajectory of this very show, and were in each group before: no start reaches them.
+        for name, count in (("strangers", 2), ("strangers, unicast", 1)):
+            status, out, *_ = begun(name).result()
+            self.assertEqual(status, 0, out)
+            for k in range(count):
+                self.assertRegex(out, r"simulated: stranger %d at \(%d.\d+, -0.50, 0.00\) m, armed, 0 starts\n" % (k + 1, k))
+            self.assertEqual(len(re.findall("simulated: [ab] at .*, 1 start", out)), 2, out)
 
 
 @common.wants_program

@@ -237,7 +237,8 @@ class Bridge(Home):
     # ---- the flight
 
     def ready(self) -> None:
-        """Looks, just before anybody takes off, whether drones are still as they were looked over; raises where not."""
+        """Looks, just before anybody takes off, whether drones are still as they were looked over, and puts them into
+        the flight's group; raises where not."""
         faults = []
         for k, (name, state) in enumerate(zip(self.names, self.fleet.states)):
             moved = math.dist(self.at(k), self.ways.pads[k])
@@ -257,6 +258,7 @@ class Bridge(Home):
                       for name, is_held in zip(self.names, held) if not is_held]
         if faults:
             raise Trouble("not flown: " + ", ".join(faults))
+        self.fleet.join(not self.options.unicast)
 
     def say_go(self, is_taken: Callable[[], bool], least: float = REPLIES) -> None:
         """Says go until the director takes it, but not for long."""

@@ -122,7 +122,8 @@ WRECKED = IS_TUMBLED | IS_LOCKED | IS_CRASHED
 # ---- the high-level commander, port 8 channel 0 (90 %); metres, seconds, radians
 
 def group(mask: int = 0) -> bytes:
-    """The data that puts a drone into groups; 0 is how it begins. Here it is a question that changes nothing."""
+    """The data that puts a drone into the groups of a mask, and out of all others; 0 is how it begins. Packets with
+    group 0 reach all, others those that have a bit of it (85 %)."""
     return bytes([0, mask])
 
 
@@ -140,9 +141,9 @@ def go_to(x: float, y: float, z: float, yaw: float, seconds: float) -> bytes:
     return struct.pack("<BBBfffff", 4, 0, 0, x, y, z, yaw, seconds)
 
 
-def start(trajectory: int) -> bytes:
-    """The data that starts a trajectory, as a plan has it."""
-    return struct.pack("<BBBBBf", 5, 0, 0, 0, trajectory, 1.0)
+def start(trajectory: int, mask: int = 0) -> bytes:
+    """The data that starts a trajectory, as a plan has it but for the group."""
+    return struct.pack("<BBBBBf", 5, mask, 0, 0, trajectory, 1.0)
 
 
 LAND = bytes([8])  # the first byte of a landing

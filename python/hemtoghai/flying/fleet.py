@@ -5,6 +5,7 @@ As firmware.py it is from memory, and was run with simulated drones alone.
 import contextlib
 import csv
 import math
+import random
 import threading
 from typing import Callable, Dict, Iterable, List, Optional, Sequence, Set, TextIO, Tuple
 
@@ -182,6 +183,7 @@ class Fleet:
         self.started: Dict[int, Tuple[float, int]] = {}
         self.heard_broadcast: Set[int] = set()
         self.lock = threading.Lock()
+        self.group = 0  # that starts go to
         self.every, self.revived = 100, [0.0] * len(self.names)
         self.told_off = [-math.inf] * len(self.names)  # when each was told to disarm, or to stop, last
         radio.listeners.append(self.came)
@@ -292,7 +294,7 @@ class Fleet:
             self.radio.send(drone, firmware.packet(firmware.LOGS, 1, firmware.RESET_LOGS))
 
     def deaf(self) -> List[int]:
-        """The drones that answer no broadcast of a question that changes nothing, of three."""
+        """The drones that answer no broadcast of three, which take all out of every group, as they begin."""
         raw = firmware.packet(firmware.COMMANDER, 0, firmware.group() + bytes([MARK]))
         for _ in range(3):
             self.radio.broadcast(raw)
@@ -346,14 +348,22 @@ class Fleet:
         measured = self.states[drone].measured
         return measured is not None and measured > self.told_off[drone]
 
+    def join(self, by_broadcast: bool) -> None:
+        """Puts the drones of this flight into a group by chance, each by a packet that it answers: a start goes to that
+        group. Who else hears a broadcast on these channels is taken out of all groups before."""
+        self.group = 1 << random.randrange(8)
+        if by_broadcast:
+            self.radio.broadcast(firmware.packet(firmware.COMMANDER, 0, firmware.group()), 3)
+        self.radio.each(lambda drone: self.command(drone, firmware.group(self.group), "join the flight's group"))
+
     def start(self, trajectory: int, copies: int, by_broadcast: bool) -> Started:
-        """Starts a trajectory in all drones, by a broadcast that each hears at once, or one by one: when starts went
+        """Starts a trajectory in all drones of the flight's group, by a broadcast that each hears at once, or one by one: when starts went
         out first and last, and by drone when it answered last, and with which status. Nobody is sent a second start of
         its own, since it would begin anew. A drone answers in order: one that answers a question after the start and
-        not the start didn't take it."""
+        not the start didn't take it. That question takes it out of the group again."""
         with self.lock:
             self.started = {}
-        raw, drones = firmware.packet(firmware.COMMANDER, 0, firmware.start(trajectory)), range(len(self.names))
+        raw, drones = firmware.packet(firmware.COMMANDER, 0, firmware.start(trajectory, self.group)), range(len(self.names))
         begin = clock.now()
         for drone in [] if by_broadcast else drones:
             self.radio.send(drone, raw)

@@ -11,7 +11,7 @@ from hemtoghai.program import PACKAGE
 
 # What --sim can set, and its greatest number.
 SETTINGS = {"stray": 1e4, "late": 1e4, "loss": 100, "seed": 1e9, "speed": 100, "rate": 1e6, "dongles": 32,
-            "blocks": 1e6, "dies": 1e6}
+            "blocks": 1e6, "dies": 1e6, "strangers": 32}
 
 
 def set_simulation(flown: Flown, pads: Sequence[Tuple[int, int, int]], options: argparse.Namespace) -> List[str]:
@@ -29,6 +29,11 @@ def set_simulation(flown: Flown, pads: Sequence[Tuple[int, int, int]], options: 
                     dies=settings["dies"])
     for uri, start in zip(uris, flown.starts):
         air.WORLD.drones[uri].yaw = start[3] / 10
+    for k in range(int(settings["strangers"] or 0)):
+        n, (trajectory,) = k % len(flown.names), flown.show.settings["trajectory"]
+        home = [pads[n][0] / 1000, pads[n][1] / 1000 - 0.5 * (1 + k // len(flown.names)), pads[n][2] / 1000]
+        air.WORLD.add_stranger("radio://%d/80/2M/E7E7E7E8%02X" % (n % dongles, k), home, trajectory, flown.data()[n],
+                               len(flown.sent[n]))
     air.WORLD.watch()
     return uris
 

@@ -110,6 +110,7 @@ class Drone:
         self.place = [x + (0.5 if "astray" in faults else 0), y, 0.5 if "riser" in faults else z]
         self.plan: Optional[Tuple[Any, ...]] = None
         self.flies, self.armed, self.lands = False, False, False
+        self.group = 0
         self.floor, self.hits, self.yaw = self.place[2], 0.0, 0.0
         self.cut: Optional[float] = None  # when its motors stopped
         self.curve_began: Optional[float] = None
@@ -172,6 +173,7 @@ class Drone:
         del self.faults["reboots"]
         self.memories = [(kind, self.memory_bytes(size)) for kind, size in MEMORIES]
         self.table, self.blocks, self.up_queue, self.parameters = [None] * 10, {}, [], [row[2] for row in PARAMETERS]
+        self.group = 0
         self.safelink, self.armed, self.booted, self.off_until = False, False, clock.now(), clock.now() + OFF
 
     def planned(self, now: Optional[float] = None) -> List[float]:
@@ -414,7 +416,10 @@ class Drone:
         """Carries a command out, which was heard at an instant; its status."""
         kind = data[0]
         if kind == 0:
+            self.group = data[1]
             return 0
+        if kind != 6 and data[1] and not data[1] & self.group:
+            return 0  # taken, and nothing is done
         if kind == 3:
             if self.is_at()[2] > self.floor + 0.05:
                 self.drop()
@@ -493,6 +498,15 @@ class World:
         for drone, share in zip(self.drones.values(), shares):
             drone.late_share = share
 
+    def add_stranger(self, uri: str, home: Sequence[float], trajectory: int, data: bytes, pieces: int) -> None:
+        """A drone on the channel that isn't in the flight, and was in one before: armed, in all groups, and with a
+        trajectory in its memory."""
+        drone = Drone(self, uri, home, {})
+        drone.armed, drone.parameters[0], drone.group = True, 1, 0xFF
+        drone.memories[2][1][:len(data)] = data
+        drone.table[trajectory] = 1, 1, 0, pieces
+        self.drones[uri] = drone
+
     def ails(self, dongle: object, after: Optional[float]) -> bool:
         """Whether something that comes over dongle 0 so long after the first start has come over this one."""
         starts = [drone.starts[0] for drone in self.drones.values() if drone.starts]
@@ -519,6 +533,7 @@ class World:
         """Where the drones are, whether they are armed, how often they began a trajectory, and how long after the
         first one: lines for people."""
         first = min([drone.starts[0] for drone in self.drones.values() if drone.starts] or [0.0])
+        names = [*names, *("stranger %d" % (k + 1) for k in range(len(self.drones) - len(names)))]
         for name, drone in zip(names, self.drones.values()):
             after = " after %.0f ms" % (1000 * (drone.starts[0] - first)) if drone.starts else ""
             x, y, z = drone.is_at()
