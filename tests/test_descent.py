@@ -17,6 +17,7 @@ class Clock(unittest.TestCase):
             state.take(values, at, stamp)
             self.assertAlmostEqual(state.measured, measured, msg=(at, stamp))
             self.assertEqual(state.heard, at)
+            self.assertEqual(state.is_new, at >= 30.0, at)  # its stamps went back from 14900 to 100
 
 
 class Last(unittest.TestCase):
@@ -55,6 +56,21 @@ class Last(unittest.TestCase):
         self.assertEqual(it.wrecks(), [])
         state.info = wreck
         self.assertEqual((it.wrecks(), it.finish([])), ([0], False))
+
+    def test_what_is_refused(self):
+        # what a drone refuses is said in words: a memory that it hasn't, and a block of a log that it doesn't make
+        it, b = self.of()
+        with self.assertRaisesRegex(crazyradio.Trouble, "b refuses to have its memory 9 read: status 5"):
+            it.fleet.radio.fence(1, 9)
+        take = b.log
+        for asks, status, words in ((6, 17, "b refuses to have a log made: status 17, the block is there already"),
+                                    (3, 2, "b refuses to begin its log: status 2, no such variable or block: are two drones of one address on?"),
+                                    (3, 99, "b refuses to begin its log: status 99, which this tool does not know")):
+            b.log = lambda channel, data, asks=asks, status=status: (
+                bytes([*data[:2], status]) if channel == 1 and data[0] == asks else take(channel, data))
+            with self.assertRaises(crazyradio.Trouble) as why:
+                it.fleet.begin_logs(1, 100)
+            self.assertEqual(str(why.exception), words)
 
     def test_disarmed(self):
         it, _ = self.of()

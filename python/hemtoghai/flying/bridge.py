@@ -241,6 +241,7 @@ class Bridge(Home):
         the flight's group; raises where not."""
         faults = []
         for k, (name, state) in enumerate(zip(self.names, self.fleet.states)):
+            state.is_new = False
             moved = math.dist(self.at(k), self.ways.pads[k])
             if not self.is_fresh(k):
                 faults.append("%s is silent" % name)
@@ -262,12 +263,12 @@ class Bridge(Home):
 
     def say_go(self, is_taken: Callable[[], bool], least: float = REPLIES) -> None:
         """Says go until the director takes it, but not for long."""
-        until = time.monotonic() + max(least, clock.real(GOES))
+        until, why = time.monotonic() + max(least, clock.real(GOES)), ""
         while not is_taken():
+            flags = director.ARMED if self.to_arm else director.READY
+            why = "; ".join(words for words in (self.unfit(k, flags) for k in self.all) if words) or why
             if time.monotonic() > until:
-                flags = director.ARMED if self.to_arm else director.READY
-                raise Trouble("the flight director doesn't take the go: %s" % "; ".join(
-                    words for words in (self.unfit(k, flags) for k in self.all) if words))
+                raise Trouble("the flight director doesn't take the go: %s" % (why or "all seem to be as it wants them"))
             self.step()
             self.director.hear(director.signal(director.GO))
             self.went = self.told_at

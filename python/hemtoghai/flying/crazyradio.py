@@ -336,7 +336,15 @@ class Radio:
     def fence(self, drone: int, memory: int) -> None:
         """The same of all that a drone was sent before; the mark in the memory's port is a byte that is read, since an
         upload reads more at once."""
-        self.ask(drone, firmware.MEMORY, 1, firmware.read(memory, random.randrange(MEMORY), 1), 5, length=7)
+        data = firmware.read(memory, random.randrange(MEMORY), 1)
+        try:
+            self.ask(drone, firmware.MEMORY, 1, data, 5, length=7)
+        except Dead as why:
+            try:
+                status = self.ask(drone, firmware.MEMORY, 1, data, 5, seconds=0.5, length=6)[5]
+            except Dead:
+                raise why from None
+            raise Trouble(f"{self.names[drone]} refuses to have its memory {memory} read: status {status}") from None
         self.pass_by(drone)
 
     def dongles(self) -> List[Dongle]:

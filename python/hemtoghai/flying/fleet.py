@@ -24,9 +24,12 @@ HALVES = ("stateEstimate.yaw", *VARIANCES)  # are sent in two bytes in flight
 OPTIONAL = ("supervisor.info", *HALVES)  # old firmware hasn't them all
 REVIVE = 1.0  # seconds without samples of a drone whose link is heard, after which its blocks are made anew
 AGAIN = 0.05  # seconds after which a landing that isn't answered is commanded again
+REFUSALS = {2: "no such variable or block: are two drones of one address on?", 7: "too many bytes", 12: "no room",
+            17: "the block is there already"}  # statuses of log blocks (70 %)
 OBEYS = 2.0  # seconds in which a drone is seen to be disarmed
 WRAP = 2 ** 24  # milliseconds after which a drone's stamps begin anew
 LEAP, FASTEST = 0.3, 10.0  # metres, and metres a second: what is farther from one sample to the next nobody flew
+NEW = 1000  # milliseconds by which stamps go back, without a wrap, of a drone that started anew
 HISTORY = 20  # samples that are kept to see whether a drone is settled
 
 Look = Callable[[], None]  # what looks after a flight while others wait
@@ -41,7 +44,8 @@ class State:
     the place was measured, by the drone's own clock: its packets are late by chance, and the least late one sets that
     clock. `between` are the milliseconds between its last two samples, and `has_leapt` is whether its place was ever
     farther from the one before than a drone flies meanwhile. `variance` is the greatest of its last sample, in m^2, or
-    None, and `unsure` since when it is greater than the greatest in flight, or None."""
+    None, and `unsure` since when it is greater than the greatest in flight, or None. `is_new` is whether it started
+    anew: its stamps began at 0 again."""
 
     def __init__(self) -> None:
         self.place: Optional[List[float]] = None
@@ -58,6 +62,7 @@ class State:
         self.least: Optional[float] = None
         self.variance: Optional[float] = None
         self.unsure: Optional[float] = None
+        self.is_new = False
         self.least_volts, self.between, self.has_leapt, self.most_variance = 0.0, 0, False, math.inf
 
     def take(self, values: Dict[str, float], at: float, stamp: int) -> bool:
@@ -79,6 +84,7 @@ class State:
         turns = 0 if self.stamp is None else round((self.stamp - stamp) / WRAP)
         self.between = 0 if self.stamp is None else stamp + turns * WRAP - self.stamp
         self.stamp = stamp + turns * WRAP
+        self.is_new = self.is_new or self.between < -NEW
         if before and self.between > 0 and math.dist(before, place) > LEAP + FASTEST * self.between / 1000:
             self.has_leapt = True
         late = at - self.stamp / 1000
@@ -283,7 +289,9 @@ class Fleet:
                 firmware.create_block(block, [(*it[1:], kind) for it, kind in zip(items, sent)]),
                 firmware.start_block(block, milliseconds)))
             if made or begun:
-                raise Trouble("%s refuses to log: %d %d" % (self.names[drone], made, begun))
+                status = made or begun
+                raise Trouble(f"{self.names[drone]} refuses to {'have a log made' if made else 'begin its log'}: status "
+                              f"{status}, {REFUSALS.get(status, 'which this tool does not know')}")
 
     def end_settling(self) -> None:
         """Has all drones send their variances no more but with their places."""

@@ -140,6 +140,8 @@ class Watched(Descent):
         name, state = self.names[k], self.fleet.states[k]
         if k in self.landed:
             return None
+        if state.is_new and self.flying:
+            return f"{name} started anew in flight"
         if state.says(firmware.WRECKED):
             return "%s has tumbled" % name
         if self.is_out(k):
@@ -160,7 +162,8 @@ class Watched(Descent):
     def is_out(self, k: int) -> bool:
         """Whether a drone says that it doesn't fly any more."""
         state = self.fleet.states[k]
-        return state.says(firmware.WRECKED) or k in self.armed and state.denies(firmware.IS_ARMED)
+        return (state.says(firmware.WRECKED) or k in self.armed and state.denies(firmware.IS_ARMED)
+                or state.is_new and self.flying)
 
     def faults(self) -> Iterator[str]:
         """What is wrong with drones that are heard, and wasn't said before; that one is out is said once more."""
