@@ -20,9 +20,9 @@ estimate of themselves, and the time is that of the log.
 
 The verdict is `KEPT` only for a log that covers the show: each drone has at least 5 samples, and none is more than G
 ms, 1000 without the option, after the one before, the begin of the show and its end counted as samples. Nor may a log
-stop more than 300 ms before the end. For any other log it is `NOT KEPT` or `NOT KNOWN`. So it is where a column `variance`, as `fly` writes it, says that
-a drone wasn't sure of its place: above M2 square metres, 0.004 without the option. A log with a place or a time that
-isn't finite is refused. Status 0: kept. 1: not kept or
+stop more than 300 ms before the end. For any other log it is `NOT KEPT` or `NOT KNOWN`. So it is where a column
+`variance`, as `fly` writes it, says that a drone wasn't sure of its place: above M2 square metres, 0.004 without the
+option. A log with a place or a time that isn't finite is refused. Status 0: kept. 1: not kept or
 not known. 70: no answer.
 """
 import argparse
@@ -165,14 +165,16 @@ def edge(samples: Sequence[Sample], curve: Curve, best: Tuple[float, int], way: 
 class Judged:
     """A drone's flight: `late` is its offset, `own` the greatest distance at that offset, `worst` the greatest
     distance from the places within the window, each with its time, `samples` those of the show by the clock that was
-    found, `outside` those that are farther than `stray`, `unsure` those whose variance is too great, `gap` the longest time without one in the show, with when it
-    began, and `wrong` what is wrong with its clock."""
+    found, `outside` those that are farther than `stray`, `unsure` those whose variance is too great, `gap` the longest
+    time without one in the show, with when it began, `stops` how long before its end the last one is, and `wrong` what
+    is wrong with its clock."""
 
     def __init__(self, samples: Sequence[Sample], wrong: Optional[str], curve: Curve) -> None:
         self.all, self.curve, self.wrong = samples, curve, wrong
         self.samples = self.within(0.0)
         self.late = offset_of(self.samples, curve) if self.samples else None
-        self.own = max(((dist(place, curve.at(t - (self.late or 0))), t) for t, place, *_ in self.samples), default=(0.0, 0.0))
+        self.own = max(((dist(place, curve.at(t - (self.late or 0))), t) for t, place, *_ in self.samples),
+                       default=(0.0, 0.0))
 
     def within(self, middle: float) -> List[Sample]:
         """The samples of the show where it begins at an instant, by the drone's clock or the log's; and those between

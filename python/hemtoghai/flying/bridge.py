@@ -268,7 +268,7 @@ class Bridge(Home):
             flags = director.ARMED if self.to_arm else director.READY
             why = "; ".join(words for words in (self.unfit(k, flags) for k in self.all) if words) or why
             if time.monotonic() > until:
-                raise Trouble("the flight director doesn't take the go: %s" % (why or "all seem to be as it wants them"))
+                raise Trouble(f"the flight director doesn't take the go: {why or 'all seem to be as it wants them'}")
             self.step()
             self.director.hear(director.signal(director.GO))
             self.went = self.told_at

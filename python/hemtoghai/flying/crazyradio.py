@@ -327,8 +327,8 @@ class Radio:
                 for k in range(count)]
 
     def pass_by(self, drone: int, seconds: float = PATIENCE) -> None:
-        """Waits until a drone has answered all commands before: it does so in order. The question, which takes it out of
-        all groups, has a mark by chance, which the commander gives back, so that no answer to an earlier one is taken
+        """Waits until a drone has answered all commands before: it does so in order. The question takes it out of all
+        groups. It has a mark by chance, which the commander gives back, so that no answer to an earlier one is taken
         for its own."""
         mark = bytes([0x80 | random.randrange(0x80)])
         self.ask(drone, firmware.COMMANDER, 0, firmware.group() + mark, 3, seconds=seconds)

@@ -290,8 +290,9 @@ class Fleet:
                 firmware.start_block(block, milliseconds)))
             if made or begun:
                 status = made or begun
-                raise Trouble(f"{self.names[drone]} refuses to {'have a log made' if made else 'begin its log'}: status "
-                              f"{status}, {REFUSALS.get(status, 'which this tool does not know')}")
+                what = "have a log made" if made else "begin its log"
+                raise Trouble(f"{self.names[drone]} refuses to {what}: status {status}, "
+                              f"{REFUSALS.get(status, 'which this tool does not know')}")
 
     def end_settling(self) -> None:
         """Has all drones send their variances no more but with their places."""
@@ -365,13 +366,14 @@ class Fleet:
         self.radio.each(lambda drone: self.command(drone, firmware.group(self.group), "join the flight's group"))
 
     def start(self, trajectory: int, copies: int, by_broadcast: bool) -> Started:
-        """Starts a trajectory in all drones of the flight's group, by a broadcast that each hears at once, or one by one: when starts went
-        out first and last, and by drone when it answered last, and with which status. Nobody is sent a second start of
-        its own, since it would begin anew. A drone answers in order: one that answers a question after the start and
-        not the start didn't take it. That question takes it out of the group again."""
+        """Starts a trajectory in all drones of the flight's group, by a broadcast that each hears at once, or one by
+        one: when starts went out first and last, and by drone when it answered last, and with which status. Nobody is
+        sent a second start of its own, since it would begin anew. A drone answers in order: one that answers a question
+        after the start and not the start didn't take it. That question takes it out of the group again."""
         with self.lock:
             self.started = {}
-        raw, drones = firmware.packet(firmware.COMMANDER, 0, firmware.start(trajectory, self.group)), range(len(self.names))
+        raw = firmware.packet(firmware.COMMANDER, 0, firmware.start(trajectory, self.group))
+        drones = range(len(self.names))
         begin = clock.now()
         for drone in [] if by_broadcast else drones:
             self.radio.send(drone, raw)

@@ -38,7 +38,8 @@ class Apart(Exception):
 
 class Home(Watched):
     """Brings all home. `doubt` is why a landing that begins now isn't shown apart, `landed_at` the show's time when the
-    last one began, `is_said` whether the fault was said, `told_away` who was said to be outside of the room, and `takes` the milliseconds that `check` takes."""
+    last one began, `is_said` whether the fault was said, `told_away` who was said to be outside of the room, and
+    `takes` the milliseconds that `check` takes."""
     director: Director
     doubt: Optional[str] = None
     landed_at = 0.0
@@ -76,8 +77,8 @@ class Home(Watched):
     # ---- in the show
 
     def refusal(self) -> Optional[str]:
-        """Why not all may land now in the show, or None; after a wait for the instant looked at where that wasn't judged
-        before. Who wasn't heard for a moment may hear of it, or fly on."""
+        """Why not all may land now in the show, or None; after a wait for the instant looked at where that wasn't
+        judged before. Who wasn't heard for a moment may hear of it, or fly on."""
         t, off, deaf, gone = self.since(self.zero), self.off(), self.deaf(), self.away() - self.misled()
         if not off:
             why = self.ways.landings.now_deaf(t, deaf) or self.ways.landings.now_deaf(t + LEAD, deaf)
@@ -239,7 +240,7 @@ class Home(Watched):
         return self.home(front)
 
     def land_away(self) -> None:
-        """Says who is outside of the room, and lands those there who flew out and are clear of all others from above."""
+        """Says who is outside of the room, and lands those there who flew out and are clear of all others."""
         away, misled = self.away() - self.told_away, self.misled()
         if not away:
             return
@@ -462,7 +463,7 @@ class Home(Watched):
         return self.doubt_deaf(t, self.deaf())
 
     def doubt_deaf(self, t: float, deaf: Set[int]) -> Optional[str]:
-        """Why a landing at an instant of the show isn't shown apart where some may fly on, by what was judged before."""
+        """Why a landing in the show isn't shown apart where some may fly on, by what was judged before."""
         why = self.ways.landings.now_deaf(min(t, self.flown.milliseconds), deaf)
         return f"{why} with {self.words_of(deaf)} flying on" if deaf and why == landings.NOT_LOOKED else why
 

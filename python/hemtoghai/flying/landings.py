@@ -100,7 +100,7 @@ class Landings:
         self.deaf_rows: Dict[Tuple[int, int], Optional[str]] = {}
 
     def where(self, off: Dict[int, Reach], told: int, gone: Set[int]) -> "Landings":
-        """The same where some are off their curves or gone, and all are told of the landing within these milliseconds."""
+        """The same where some are off their curves or gone, and all are told within these milliseconds."""
         out = copy(self)
         out.off, out.told, out.gone = off, told, gone
         return out
@@ -230,8 +230,8 @@ class Landings:
         side_by_side(judge, pairs)
 
     def now_deaf(self, t: float, deaf: Iterable[int]) -> Optional[str]:
-        """Why not all may land at any instant where some may not hear of it, by the tables; None where they may. In each
-        pair both land, or one of the two does."""
+        """Why not all may land at any instant where some may not hear of it, by the tables; None where they may. In
+        each pair both land, or one of the two does."""
         at, why = self.row_at(t)
         flying = [k for k in deaf if k not in self.standing and k not in self.landing]
         return why or next(filter(None, (self.deaf_rows.get((at, k), NOT_LOOKED) for k in flying)), None)

@@ -79,8 +79,8 @@ class Watched(Descent):
         return [self.names[k] for k, place in places.items() if math.dist(place_of(self.at(k)), place) > limit]
 
     def places_here(self) -> Dict[int, Place]:
-        """Where drones are: on their pads, where they say that they are, or, if they say nothing, or what can't be, were
-        told to go."""
+        """Where drones are: on their pads, where they say that they are, or, if they say nothing, or what can't be,
+        were told to go."""
         out, misled = {}, self.misled()
         for k, pad in self.ways.pads.items():
             place = self.aims[k] if not self.is_fresh(k) or k in misled else place_of(self.at(k))

@@ -135,7 +135,7 @@ class Ways:
             look()
             self.preparing.join(0.05)
         if self.is_prepared and self.preparing and self.preparing.is_alive():
-            say("LANDINGS BESIDE A DRONE THAT DOESN'T HEAR AREN'T ALL JUDGED: at a fault `check` is asked about the rest")
+            say("LANDINGS BESIDE A DRONE THAT DOESN'T HEAR AREN'T ALL JUDGED: `check` is asked in flight")
         self.flies = True
         if not self.is_prepared:
             say("LANDINGS ON THE WAYS AREN'T ALL JUDGED: at a fault there the stage that is flown goes to its end")
@@ -170,7 +170,8 @@ class Ways:
                             [drones.index(k) for k in hold if k in at])
         except NoWay:
             return None
-        leg.names, leg.yaws, leg.begin = self.flown.names, self.yaws, {drones[n]: place for n, place in leg.begin.items()}
+        leg.names, leg.yaws = self.flown.names, self.yaws
+        leg.begin = {drones[n]: place for n, place in leg.begin.items()}
         for stage in leg.stages:
             stage.to = {drones[n]: place for n, place in stage.to.items()}
         return leg
