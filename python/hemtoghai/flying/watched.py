@@ -89,9 +89,12 @@ class Watched(Descent):
 
     def away(self) -> Set[int]:
         """Who is outside of the room of show and ways, or believes so: nobody waits for it."""
+        return {k for k in self.all if self.is_away(k)}
+
+    def is_away(self, k: int) -> bool:
         limit = max(self.options.stray, self.ways.rules.stray)
-        return {k for k, state in enumerate(self.fleet.states) if self.flying and state.place and k not in self.landed
-                and not self.ways.has_room(self.at(k), limit)}
+        return (self.flying and k not in self.landed and self.fleet.states[k].place is not None
+                and not self.ways.has_room(self.at(k), limit))
 
     def misled(self) -> Set[int]:
         """Who believes to be outside of the room, and can't have flown there: it may be where it was."""
@@ -152,7 +155,7 @@ class Watched(Descent):
             return f"{name} isn't sure of its place any more: variance {state.variance:.3g} m^2"
         if state.is_empty(self.options.sag):
             return "%s has %.2f V left" % (name, state.volts or 0.0)
-        if k in self.away():
+        if self.is_away(k):
             x, y, z = state.where()
             return f"{name} is at ({x:.2f}, {y:.2f}, {z:.2f}) m, outside of the room of show and ways"
         if clock.now() - self.far_since.get(k, math.inf) > FAR_FOR:
