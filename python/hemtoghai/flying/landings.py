@@ -99,10 +99,10 @@ class Landings:
         self.rows: Optional[List[Tuple[int, Optional[str]]]] = None
         self.deaf_rows: Dict[Tuple[int, int], Optional[str]] = {}
 
-    def where(self, off: Dict[int, Reach], told: int, gone: Set[int]) -> "Landings":
+    def where(self, off: Dict[int, Reach], told: int, gone: Iterable[int] = ()) -> "Landings":
         """The same where some are off their curves or gone, and all are told within these milliseconds."""
         out = copy(self)
-        out.off, out.told, out.gone = off, told, gone
+        out.off, out.told, out.gone = off, told, set(gone)
         return out
 
     # ---- what drones may reach
