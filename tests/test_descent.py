@@ -45,9 +45,10 @@ class Last(unittest.TestCase):
     def test_who_is_down(self):
         # 0.12 m above or below the floor, and not flying; one that has tumbled lies wherever it is
         it, _ = self.of()
-        flies, wreck = firmware.IS_FLYING, firmware.IS_TUMBLED
+        flies, wreck = firmware.IS_FLYING | firmware.IS_ARMED, firmware.IS_TUMBLED
         for high, info, is_down in ((0.0, 0, True), (0.12, 0, True), (-0.12, 0, True), (0.13, 0, False), (-0.13, 0, False), (-1.0, 0, False),
-                                    (0.0, flies, False), (1.0, wreck, True), (1.0, wreck | flies, False), (0.0, None, True),
+                                    (0.0, flies, False), (0.0, firmware.IS_FLYING, True), (1.0, firmware.IS_FLYING, False),
+                                    (1.0, wreck, True), (1.0, wreck | flies, False), (0.0, None, True),
                                     (-1.0, None, False)):
             state = fleet.State()
             state.place, state.info, state.heard = [0.0, 0.0, high], info, clock.now()

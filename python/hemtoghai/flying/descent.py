@@ -43,9 +43,10 @@ class Descent:
         return heard is not None and clock.now() - heard <= self.longest
 
     def is_down(self, k: int) -> bool:
-        """Whether a drone says that it is on its floor, and doesn't fly. One that has tumbled lies wherever it is."""
+        """Whether a drone says that it is on its floor, and doesn't fly. One that has tumbled lies wherever it is.
+        Motors that stopped a moment ago count as flying, but for a drone that has disarmed itself."""
         state = self.fleet.states[k]
-        if not self.is_fresh(k) or state.says(firmware.IS_FLYING):
+        if not self.is_fresh(k) or state.says(firmware.IS_FLYING) and not state.denies(firmware.IS_ARMED):
             return False
         return abs(state.where()[2] - self.floors[k]) <= DOWN or state.says(firmware.WRECKED)
 
