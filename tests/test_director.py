@@ -20,6 +20,9 @@ from test_fly_hard import ASIDE, STACK
 UP = b"choreo 1\nstray 100\ndrone a 0 0 0 0\ncue 2000\na move 0 0 1000000 0\nend\n"
 SHOW = b"choreo 1\nstray 50\nlate 20\ndrone a 0 0 1000000 0\ncue 1000\nend\n"
 DOWN = b"choreo 1\nstray 100\ndrone a 0 0 1000000 0\ncue 2500\na move 0 0 0 0\nend\n"
+# At first down by 100 mm and then up; down to 100 mm below the pad, and then up to it.
+FALLS_FIRST = (UP.replace(b"a move", b"a move 0 0 -100000 0\ncue 2000\na move", 1), SHOW, DOWN)
+RISES_LAST = (UP, SHOW, DOWN.replace(b"a move", b"a move 0 0 -100000 0\ncue 2000\na move", 1))
 # ./show fly with another program in the place of the proved one.
 OTHER = """
 import sys
@@ -121,7 +124,9 @@ CAUSES = [
     ((3, 1, 0, 0), "a has no move down"),
     ((4, 0, 0, 0), "a doesn't leave its pad straight up"),
     ((5, 0, 0, 0), "a may stand farther from its pad"),
-    ((6, 0, 0, 0), "a cause 6"),
+    ((6, 0, 0, 0), "a has another ellipsoid on its way up than in the show"),
+    ((6, 1, 0, 0), "a has another ellipsoid on its way down than in the show"),
+    ((7, 0, 0, 0), "a cause 7"),
     ((1, 9, 9, 0), "a drone cause 1"),
 ]
 RUNS = flights.Flights(3, FLIGHTS)
@@ -213,6 +218,23 @@ class Process(unittest.TestCase):
         self.assertEqual(judged(["--near", "101"], UP, SHOW, DOWN)[-1], Ended(19))
         self.assertEqual(judged([], UP, SHOW.replace(b"1000000", b"900000"), DOWN)[-1], Ended(19))
         self.assertEqual(judged([], UP, b"choreo 2\n", DOWN), [Ended(3)])
+
+    def test_another_ellipsoid(self):
+        # Ways that were judged for drones of 60 mm aren't ways of drones of 120 mm and 300 mm, nor the other way round.
+        def judged(*texts):
+            return director.judged(director.Director(["--near", "100"], texts))
+        small = [text.replace(b"choreo 1\n", b"choreo 1\nellipsoid 60 60\n") for text in (UP, SHOW, DOWN)]
+        self.assertEqual(judged(*small), [Ended(8)])
+        self.assertEqual(judged(small[0], SHOW, DOWN), [Cause(6, 0, 0, 0), Ended(19)])
+        self.assertEqual(judged(UP, SHOW, small[2]), [Cause(6, 1, 0, 0), Ended(19)])
+        self.assertEqual(judged(UP, small[1], DOWN), [Cause(6, 0, 0, 0), Ended(19)])
+
+    def test_the_wrong_direction(self):
+        # At first down by 100 mm and then up; down to 100 mm below the pad, and then up to it.
+        def judged(*texts):
+            return director.judged(director.Director(["--near", "100"], texts))
+        self.assertEqual(judged(*FALLS_FIRST), [Cause(4, 0, 0, 0), Ended(19)])
+        self.assertEqual(judged(*RISES_LAST), [Cause(4, 1, 0, 0), Ended(19)])
 
     def test_it_reads(self):
         it = director.Director(["--near", "100"], [UP, SHOW, DOWN])

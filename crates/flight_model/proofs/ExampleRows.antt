@@ -13,7 +13,7 @@ use Rattle.flight_model.specs.declared.events.Frame.TheVariants.{Over}
 use Rattle.flight_model.specs.declared.flights.Step.{Step}
 use Rattle.flight_model.specs.declared.flights.Flight.{Flight}
 unfoldable use Rattle.flight_model.specs.Legs.{steps_of}
-use Rattle.flight_model.specs.Legs.{IsWay, IsWayUp, IsWayDown, IsFlight, way_begins, way_ends, legs_of, leg, moves, is_vertical}
+use Rattle.flight_model.specs.Legs.{IsWay, IsWayUp, IsWayDown, IsFlight, way_begins, way_ends, legs_of, leg, moves, goes_up, goes_down}
 unfoldable use Rattle.flight_model.specs.Samples.{is_fit_by, is_kept}
 unfoldable use Rattle.flight_model.specs.Directors.{tracks_after, heard, is_due, notes, is_fault, choice, done, led, happens, says}
 use Rattle.flight_model.specs.Directors.{start, sent, State, Track, next_step, all_fit, is_silent, is_off}
@@ -128,11 +128,11 @@ rests-down x zero (suc (suc (suc zero))) l m = inl refl
 rests-down x zero (suc (suc (suc (suc a)))) l m = absurd (omega (arith, m))
 rests-down x (suc k) a l m = absurd (omega (arith, l))
 
-way_up : (x : ℤ) → moves (leg (legs_of (up_at x)) 0) ≡ true → is_vertical (leg (legs_of (up_at x)) 0) ≡ true → IsWayUp (up_at x)
-way_up x moving straight = record { rests = rests-up x; first = leg (legs_of (up_at x)) 0; is_first = rw moving refl; vertical = straight }
+way_up : (x : ℤ) → moves (leg (legs_of (up_at x)) 0) ≡ true → goes_up (leg (legs_of (up_at x)) 0) ≡ true → IsWayUp (up_at x)
+way_up x moving straight = record { rests = rests-up x; first = leg (legs_of (up_at x)) 0; is_first = rw moving refl; up = straight }
 
-way_down : (x : ℤ) → moves (leg (legs_of (down_at x)) 0) ≡ true → is_vertical (leg (legs_of (down_at x)) 0) ≡ true → IsWayDown (down_at x)
-way_down x moving straight = record { rests = rests-down x; last = leg (legs_of (down_at x)) 0; is_last = rw moving refl; vertical = straight }
+way_down : (x : ℤ) → moves (leg (legs_of (down_at x)) 0) ≡ true → goes_down (leg (legs_of (down_at x)) 0) ≡ true → IsWayDown (down_at x)
+way_down x moving straight = record { rests = rests-down x; last = leg (legs_of (down_at x)) 0; is_last = rw moving refl; down = straight }
 
 -- the three ways of a drone meet
 abbrev Meet : Traj → Traj → Traj → Type 0

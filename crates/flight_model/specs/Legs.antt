@@ -117,23 +117,30 @@ abbrev pub last_move : List Leg → Option Leg
 last_move [] = None
 last_move (l ∷ legs) = if list_any moves legs then last_move legs else (if moves l then Some l else None)
 
--- the leg goes straight up or down, and the drone doesn't turn
+-- the leg stays on x and y, and the drone doesn't turn
 abbrev pub is_vertical : Leg → Bool
 is_vertical l = same_on l 0 && same_on l 1 && same_on l 3
+
+-- the leg goes straight up, or straight down: it ends higher, or lower, than it begins
+abbrev pub goes_up : Leg → Bool
+goes_up l = is_vertical l && not (int_le (at l.to 2) (at l.from 2))
+
+abbrev pub goes_down : Leg → Bool
+goes_down l = is_vertical l && not (int_le (at l.from 2) (at l.to 2))
 
 -- A way up: the drone moves, and at first straight up, since a rise has a height alone.
 pub record IsWayUp (t : Traj) : Type 0 where
   pub rests : IsWay t
   pub first : Leg
   pub is_first : first_move (legs_of t) ≡ Some first
-  pub vertical : is_vertical first ≡ true
+  pub up : goes_up first ≡ true
 
 -- A way down: the drone moves, and at last straight down, since a landing has a height alone.
 pub record IsWayDown (t : Traj) : Type 0 where
   pub rests : IsWay t
   pub last : Leg
   pub is_last : last_move (legs_of t) ≡ Some last
-  pub vertical : is_vertical last ≡ true
+  pub down : goes_down last ≡ true
 
 -- Three ways are a flight: they have as many drones; each drone goes up by a way up and down by a way down; and its
 -- way up ends where its show begins, its show where its way down begins, and that where its way up began.

@@ -1,5 +1,5 @@
 -- That there is a fault exactly where there is no flight.
-use Rattle.std.proofs.Common.{◌≡◌, ◌<◌, ◌≤◌, ◌∷◌, ◌∙◌, [], List, Bool, false, cond, true, ◌&&◌, refl, sym, ap, None, Some, Option, ℕ, zero, suc, length, map, arith, inl, inr, nat_le}
+use Rattle.std.proofs.Common.{◌≡◌, ◌<◌, ◌≤◌, ◌∷◌, ◌∙◌, [], List, Bool, false, cond, true, ◌&&◌, ◌==◌, refl, sym, ap, None, Some, Option, ℕ, zero, suc, length, map, arith, inl, inr, nat_le}
 use Rattle.std.proofs.lemmas.List.{length-map}
 use Rattle.std.specs.Prelude.{ℤ, slice_get, All, bytes_eq}
 use Rattle.std.specs.Option.{option_or}
@@ -15,7 +15,7 @@ use Rattle.traj_codec.specs.Positions.{element_on, piece_on}
 use Rattle.traj_codec.specs.declared.traj.Segment.{Segment}
 use Rattle.traj_codec.specs.declared.traj.Traj.{Traj}
 use Rattle.flight_model.specs.declared.flights.Leg.{Leg}
-use Rattle.flight_model.specs.Legs.{Routes, RestsOn, IsWayUp, IsWayDown, IsFlight, after_segment, way_begins, way_ends, legs_of, first_move, last_move, is_vertical}
+use Rattle.flight_model.specs.Legs.{Routes, RestsOn, IsWayUp, IsWayDown, IsFlight, after_segment, way_begins, way_ends, legs_of, first_move, last_move}
 use Rattle.flight_steps.specs.declared.faults.Way.{Way}
 use Rattle.flight_steps.specs.declared.faults.Way.TheVariants as way
 use Rattle.flight_steps.specs.declared.faults.Seam.{Seam}
@@ -23,9 +23,10 @@ use Rattle.flight_steps.specs.declared.faults.Seam.TheVariants as seam
 use Rattle.flight_steps.specs.declared.faults.FlightFault.{FlightFault}
 use Rattle.flight_steps.specs.declared.faults.FlightFault.TheVariants as fault
 use Rattle.flight_steps.specs.declared.ways.Crews.{Crews}
+use Rattle.flight_steps.specs.declared.ways.Ellipsoid.{Ellipsoid}
 use Rattle.flight_steps.specs.declared.ways.Ways.{Ways}
 use Rattle.flight_steps.specs.Ways.{routes, AreFitted}
-use Rattle.flight_steps.specs.Faults.{same_place, rests_on, rests_by, rests_in, restless_from, restless, first_other, other_drone, gap, seam_fault, seams_fault, way_fault, up_fault, down_fault, ups_fault, downs_fault, narrow, crew_fault, route_fault, flight_fault, spelled, AreFlight, GivesFault}
+use Rattle.flight_steps.specs.Faults.{same_place, rests_on, rests_by, rests_in, restless_from, restless, first_other, other_drone, same_ellipsoid, other_ellipsoid, gap, seam_fault, seams_fault, is_straight, way_fault, up_fault, down_fault, ups_fault, downs_fault, narrow, name_fault, size_fault, crew_fault, route_fault, flight_fault, spelled, AreFlight, GivesFault}
 
 -- ---- no fault
 
@@ -137,39 +138,39 @@ restless-to n here (s ∷ rest) r =
 
 -- ---- ways
 
-record Faultless (cue : Option ℕ) (move : Option Leg) : Type 0 where
+record Faultless (w : Way) (cue : Option ℕ) (move : Option Leg) : Type 0 where
   rests : cue ≡ None
   leg : Leg
   is_leg : move ≡ Some leg
-  vertical : is_vertical leg ≡ true
+  straight : is_straight w leg ≡ true
 
-way-of : (w : Way) (d : ℕ) (cue : Option ℕ) (move : Option Leg) → way_fault w d cue move ≡ None → Faultless cue move
+way-of : (w : Way) (d : ℕ) (cue : Option ℕ) (move : Option Leg) → way_fault w d cue move ≡ None → Faultless w cue move
 way-of w d (Some cue) move e = absurd (cc)
 way-of w d None None e = absurd (cc)
-way-of w d None (Some l) e = record { rests = refl; leg = l; is_leg = refl; vertical = if-none (is_vertical l) (fault.Slanted w d) e }
+way-of w d None (Some l) e = record { rests = refl; leg = l; is_leg = refl; straight = if-none (is_straight w l) (fault.Slanted w d) e }
 
-way-to : (w : Way) (d : ℕ) (cue : Option ℕ) (move : Option Leg) (l : Leg) → cue ≡ None → move ≡ Some l → is_vertical l ≡ true → way_fault w d cue move ≡ None
+way-to : (w : Way) (d : ℕ) (cue : Option ℕ) (move : Option Leg) (l : Leg) → cue ≡ None → move ≡ Some l → is_straight w l ≡ true → way_fault w d cue move ≡ None
 way-to w d (Some cue) move l p q v = absurd (cc)
 way-to w d None None l p q v = absurd (cc)
 way-to w d None (Some k) l p q v =
     let same : k ≡ l = cc in
-    ap (λ (b : Bool). cond b None (Some (fault.Slanted w d))) (ap (λ (x : Leg). is_vertical x) same ∙ v)
+    ap (λ (b : Bool). cond b None (Some (fault.Slanted w d))) (ap (λ (x : Leg). is_straight w x) same ∙ v)
 
 up-of : (d : ℕ) (t : Traj) → up_fault d t ≡ None → IsWayUp t
 up-of d t e =
     let f = way-of way.Up d (restless t) (first_move (legs_of t)) e in
-    record { rests = restless-of 0 t.start t.segments f.rests; first = f.leg; is_first = f.is_leg; vertical = f.vertical }
+    record { rests = restless-of 0 t.start t.segments f.rests; first = f.leg; is_first = f.is_leg; up = f.straight }
 
 up-to : (d : ℕ) (t : Traj) → IsWayUp t → up_fault d t ≡ None
-up-to d t w = way-to way.Up d (restless t) (first_move (legs_of t)) w.first (restless-to 0 t.start t.segments w.rests) w.is_first w.vertical
+up-to d t w = way-to way.Up d (restless t) (first_move (legs_of t)) w.first (restless-to 0 t.start t.segments w.rests) w.is_first w.up
 
 down-of : (d : ℕ) (t : Traj) → down_fault d t ≡ None → IsWayDown t
 down-of d t e =
     let f = way-of way.Down d (restless t) (last_move (legs_of t)) e in
-    record { rests = restless-of 0 t.start t.segments f.rests; last = f.leg; is_last = f.is_leg; vertical = f.vertical }
+    record { rests = restless-of 0 t.start t.segments f.rests; last = f.leg; is_last = f.is_leg; down = f.straight }
 
 down-to : (d : ℕ) (t : Traj) → IsWayDown t → down_fault d t ≡ None
-down-to d t w = way-to way.Down d (restless t) (last_move (legs_of t)) w.last (restless-to 0 t.start t.segments w.rests) w.is_last w.vertical
+down-to d t w = way-to way.Down d (restless t) (last_move (legs_of t)) w.last (restless-to 0 t.start t.segments w.rests) w.is_last w.down
 
 ups-of : (d : ℕ) (ts : List Traj) → ups_fault d ts ≡ None → All IsWayUp ts
 ups-of d [] e = All-nil IsWayUp
@@ -275,6 +276,21 @@ drone-of : (w : Way) (o : Option ℕ) → other_drone w o ≡ None → o ≡ Non
 drone-of w None e = refl
 drone-of w (Some d) e = absurd (cc)
 
+-- ---- ellipsoids
+
+abbrev ellipsoid : ℕ → ℕ → Ellipsoid
+ellipsoid r h = record { r = r; h = h }
+
+ellipsoid-of : (w : Way) (a b : Ellipsoid) → other_ellipsoid w a b ≡ None → a ≡ b
+ellipsoid-of w a b e = let t : (a.r == b.r && a.h == b.h) ≡ true = if-none (same_ellipsoid a b) (fault.OtherEllipsoid w) e in same a.r b.r a.h b.h t where
+  same : (r s h k : ℕ) → (r == s && h == k) ≡ true → ellipsoid r h ≡ ellipsoid s k
+  same r s h k t = let p : r ≡ s = grind (arith, nat_tests) in let q : h ≡ k = grind (arith, nat_tests) in ap (λ (n : ℕ). ellipsoid n h) p ∙ ap (λ (n : ℕ). ellipsoid s n) q
+
+ellipsoid-to : (w : Way) (a b : Ellipsoid) → a ≡ b → other_ellipsoid w a b ≡ None
+ellipsoid-to w a b e =
+    let t : (a.r == b.r && a.h == b.h) ≡ true = let p : a.r ≡ b.r = ap (λ (x : Ellipsoid). x.r) e in let q : a.h ≡ b.h = ap (λ (x : Ellipsoid). x.h) e in grind (arith, nat_tests) in
+    ap (λ (c : Bool). cond c None (Some (fault.OtherEllipsoid w))) t
+
 long : (xs ys : List (ArrayVec ℕ)) → spelled xs ≡ spelled ys → length xs ≡ length ys
 long xs ys e =
     sym (length-map xs (λ (name : ArrayVec ℕ). name.items)) ∙ (ap (λ (names : List (List ℕ)). length names) e ∙ length-map ys (λ (name : ArrayVec ℕ). name.items))
@@ -312,22 +328,29 @@ route-to w f =
 pub flight-of : (c : Crews) (w : Ways) → AreFitted c w → flight_fault c (routes w) ≡ None → AreFlight c (routes w)
 flight-of c w fits e =
     let f = or-of (crew_fault c) (route_fault (routes w)) e in
-    let g = or-of (other_drone way.Up (first_other 0 c.up.now c.show.now)) (other_drone way.Down (first_other 0 c.down.now c.show.now)) f.0 in
-    let up : spelled c.up.now ≡ spelled c.show.now = other-of 0 c.up.now c.show.now (drone-of way.Up _ g.0) in
-    let down : spelled c.down.now ≡ spelled c.show.now = other-of 0 c.down.now c.show.now (drone-of way.Down _ g.1) in
+    let k = or-of (name_fault c) (size_fault c.up.ellipsoid c.show.ellipsoid c.down.ellipsoid) f.0 in
+    let g = or-of (other_drone way.Up (first_other 0 c.up.names.now c.show.names.now)) (other_drone way.Down (first_other 0 c.down.names.now c.show.names.now)) k.0 in
+    let s = or-of (other_ellipsoid way.Up c.up.ellipsoid c.show.ellipsoid) (other_ellipsoid way.Down c.down.ellipsoid c.show.ellipsoid) k.1 in
+    let up : spelled c.up.names.now ≡ spelled c.show.names.now = other-of 0 c.up.names.now c.show.names.now (drone-of way.Up _ g.0) in
+    let down : spelled c.down.names.now ≡ spelled c.show.names.now = other-of 0 c.down.names.now c.show.names.now (drone-of way.Down _ g.1) in
     record {
       up = up;
       down = down;
+      up_ellipsoid = ellipsoid-of way.Up c.up.ellipsoid c.show.ellipsoid s.0;
+      down_ellipsoid = ellipsoid-of way.Down c.down.ellipsoid c.show.ellipsoid s.1;
       flight =
-          route-of (routes w) (fits.up ∙ (long c.up.now c.show.now up ∙ sym fits.show)) (fits.down ∙ (long c.down.now c.show.now down ∙ sym fits.show)) f.1;
+          route-of (routes w) (fits.up ∙ (long c.up.names.now c.show.names.now up ∙ sym fits.show)) (fits.down ∙ (long c.down.names.now c.show.names.now down ∙ sym fits.show)) f.1;
     }
 
 -- a flight: no fault
 flight-to : (c : Crews) (w : Routes) → AreFlight c w → flight_fault c w ≡ None
 flight-to c w f =
     or-to (crew_fault c) (route_fault w)
-    (or-to (other_drone way.Up (first_other 0 c.up.now c.show.now)) (other_drone way.Down (first_other 0 c.down.now c.show.now))
-    (ap (λ (o : Option ℕ). other_drone way.Up o) (other-to 0 c.up.now c.show.now f.up)) (ap (λ (o : Option ℕ). other_drone way.Down o) (other-to 0 c.down.now c.show.now f.down)))
+    (or-to (name_fault c) (size_fault c.up.ellipsoid c.show.ellipsoid c.down.ellipsoid)
+    (or-to (other_drone way.Up (first_other 0 c.up.names.now c.show.names.now)) (other_drone way.Down (first_other 0 c.down.names.now c.show.names.now))
+    (ap (λ (o : Option ℕ). other_drone way.Up o) (other-to 0 c.up.names.now c.show.names.now f.up)) (ap (λ (o : Option ℕ). other_drone way.Down o) (other-to 0 c.down.names.now c.show.names.now f.down)))
+    (or-to (other_ellipsoid way.Up c.up.ellipsoid c.show.ellipsoid) (other_ellipsoid way.Down c.down.ellipsoid c.show.ellipsoid)
+    (ellipsoid-to way.Up c.up.ellipsoid c.show.ellipsoid f.up_ellipsoid) (ellipsoid-to way.Down c.down.ellipsoid c.show.ellipsoid f.down_ellipsoid)))
     (route-to w f.flight)
 
 pub fault-of : (c : Crews) (w : Routes) (f : FlightFault) → flight_fault c w ≡ Some f → GivesFault c w f

@@ -3,7 +3,7 @@ use Rattle.std.proofs.Common.{◌≡◌, refl, Some, arith}
 use Rattle.flight_model.specs.Legs.{Routes}
 use Rattle.flight_steps.specs.declared.faults.FlightFault.{FlightFault}
 use Rattle.flight_steps.specs.Faults.{route_fault}
-use Rattle.flight_steps.specs.Rejected.{hop, bent_hop, Refuses, FlightRows}
+use Rattle.flight_steps.specs.Rejected.{hop, bent_hop, high_hop, Refuses, FlightRows}
 use Rattle.flight_steps.proofs.Judged.{route-of, route-to}
 
 refused : (w : Routes) (f : FlightFault) → route_fault w ≡ Some f → Refuses w f
@@ -13,6 +13,7 @@ pub rows : FlightRows
 rows = record {
   straight = route-of hop refl refl refl;
   bent = route-of bent_hop refl refl refl;
+  high = route-of high_hop refl refl refl;
   none_up = λ f. let e = f.ups in omega (arith, e);
   none_down = λ f. let e = f.downs in omega (arith, e);
   high_show = refused _ _ refl;
@@ -24,5 +25,7 @@ rows = record {
   still_down = refused _ _ refl;
   slant_up = refused _ _ refl;
   slant_down = refused _ _ refl;
+  falls_first = refused _ _ refl;
+  rises_last = refused _ _ refl;
   narrow = refused _ _ refl;
 }

@@ -1,8 +1,8 @@
--- Why three shows are no flight: the first cause, in this order. Names on the way up, then on the way down; drone by
--- drone, whether each of the three begins where the one before ended; drone by drone, the way up; then the way down;
--- then how far drones may stand from their pads.
-use Rattle.std.specs.Prelude.{◌≡◌, ℕ, suc, Bool, true, ◌&&◌, nat_le, if◌then◌else◌, List, [], ◌∷◌, length, map, Option}
-use Rattle.std.specs.Prelude.{Some, None, ℤ, bytes_eq, Result, Ok, Err, All}
+-- Why three shows are no flight: the first cause, in this order. Names on the way up, then on the way down; the
+-- ellipsoid of the way up, then of the way down; drone by drone, whether each of the three begins where the one before
+-- ended; drone by drone, the way up; then the way down; then how far drones may stand from their pads.
+use Rattle.std.specs.Prelude.{◌≡◌, ℕ, suc, Bool, true, ◌&&◌, ◌==◌, nat_le, if◌then◌else◌, List, [], ◌∷◌, length, map}
+use Rattle.std.specs.Prelude.{Option, Some, None, ℤ, bytes_eq, Result, Ok, Err, All}
 use Rattle.std.specs.Ordering.{int_eq}
 use Rattle.std.specs.Cmp.Lexicographic.{pointwise}
 use Rattle.std.specs.Option.{option_or}
@@ -16,7 +16,7 @@ use Rattle.arrayvec.specs.ArrayVec.{ArrayVec}
 use Rattle.flight_model.specs.declared.flights.Step.{Step}
 use Rattle.flight_model.specs.declared.flights.Leg.{Leg}
 use Rattle.flight_model.specs.Legs.{Routes, IsFlight, after_segment, way_begins, way_ends, legs_of, first_move}
-use Rattle.flight_model.specs.Legs.{last_move, is_vertical, steps_of}
+use Rattle.flight_model.specs.Legs.{last_move, goes_up, goes_down, steps_of}
 use Rattle.flight_steps.specs.declared.faults.Way.{Way}
 use Rattle.flight_steps.specs.declared.faults.Way.TheVariants as way
 use Rattle.flight_steps.specs.declared.faults.Seam.{Seam}
@@ -26,6 +26,7 @@ use Rattle.flight_steps.specs.declared.faults.FlightFault.TheVariants as fault
 use Rattle.flight_steps.specs.declared.faults.StepsError.{StepsError}
 use Rattle.flight_steps.specs.declared.faults.StepsError.TheVariants as error
 use Rattle.flight_steps.specs.declared.ways.Crews.{Crews}
+use Rattle.flight_steps.specs.declared.ways.Ellipsoid.{Ellipsoid}
 use Rattle.flight_steps.specs.Sizes.{IsStepOf}
 
 -- ---- names
@@ -40,6 +41,15 @@ first_other d (a ∷ as') (b ∷ bs) = if bytes_eq a.items b.items then first_ot
 abbrev pub other_drone : Way → Option ℕ → Option FlightFault
 other_drone w None = None
 other_drone w (Some d) = Some (fault.OtherDrone w d)
+
+-- ---- ellipsoids
+
+-- whether two ellipsoids have the same half axes
+abbrev pub same_ellipsoid : Ellipsoid → Ellipsoid → Bool
+same_ellipsoid a b = a.r == b.r && a.h == b.h
+
+abbrev pub other_ellipsoid : Way → Ellipsoid → Ellipsoid → Option FlightFault
+other_ellipsoid w a b = if same_ellipsoid a b then None else Some (fault.OtherEllipsoid w)
 
 -- ---- seams
 
@@ -91,11 +101,16 @@ restless t = restless_from 0 t.start t.segments
 
 -- ---- a way
 
+-- whether the move by which a drone leaves its pad goes straight up, or that by which it reaches its pad straight down
+abbrev pub is_straight : Way → Leg → Bool
+is_straight way.Up l = goes_up l
+is_straight way.Down l = goes_down l
+
 -- what is wrong with a way: a cue that doesn't rest, no move, or the move by which the drone leaves or reaches its pad
 abbrev pub way_fault : Way → ℕ → Option ℕ → Option Leg → Option FlightFault
 way_fault w d (Some cue) move = Some (fault.Restless w d cue)
 way_fault w d None None = Some (fault.Still w d)
-way_fault w d None (Some move) = if is_vertical move then None else Some (fault.Slanted w d)
+way_fault w d None (Some move) = if is_straight w move then None else Some (fault.Slanted w d)
 
 abbrev pub up_fault : ℕ → Traj → Option FlightFault
 up_fault d t = way_fault way.Up d (restless t) (first_move (legs_of t))
@@ -118,10 +133,18 @@ abbrev pub narrow : Routes → Option FlightFault
 narrow w = if nat_le w.near w.stray then None else Some (fault.Narrow w.near w.stray)
 
 -- what is wrong with the names
+abbrev pub name_fault : Crews → Option FlightFault
+name_fault c =
+    option_or (other_drone way.Up (first_other 0 c.up.names.now c.show.names.now))
+    (other_drone way.Down (first_other 0 c.down.names.now c.show.names.now))
+
+-- what is wrong with the ellipsoids of the way up, the show and the way down
+abbrev pub size_fault : Ellipsoid → Ellipsoid → Ellipsoid → Option FlightFault
+size_fault up show down = option_or (other_ellipsoid way.Up up show) (other_ellipsoid way.Down down show)
+
+-- what is wrong with the drones
 abbrev pub crew_fault : Crews → Option FlightFault
-crew_fault c =
-    option_or (other_drone way.Up (first_other 0 c.up.now c.show.now))
-    (other_drone way.Down (first_other 0 c.down.now c.show.now))
+crew_fault c = option_or (name_fault c) (size_fault c.up.ellipsoid c.show.ellipsoid c.down.ellipsoid)
 
 -- what is wrong with the ways
 abbrev pub route_fault : Routes → Option FlightFault
@@ -137,10 +160,12 @@ flight_fault c w = option_or (crew_fault c) (route_fault w)
 abbrev pub spelled : List (ArrayVec ℕ) → List (List ℕ)
 spelled names = map (λ (name : ArrayVec ℕ). name.items) names
 
--- Three shows are a flight: the same drones, by name, in the same order; and their ways are a flight.
+-- Three shows are a flight: the same drones, by name, in the same order; one ellipsoid; and their ways are a flight.
 pub record AreFlight (c : Crews) (w : Routes) : Type 0 where
-  pub up : spelled c.up.now ≡ spelled c.show.now
-  pub down : spelled c.down.now ≡ spelled c.show.now
+  pub up : spelled c.up.names.now ≡ spelled c.show.names.now
+  pub down : spelled c.down.names.now ≡ spelled c.show.names.now
+  pub up_ellipsoid : c.up.ellipsoid ≡ c.show.ellipsoid
+  pub down_ellipsoid : c.down.ellipsoid ≡ c.show.ellipsoid
   pub flight : IsFlight w
 
 -- This is the first cause, and there is no flight.

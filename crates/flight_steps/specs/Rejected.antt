@@ -1,5 +1,5 @@
 -- Small ways that are no flight, each beside a neighbour that is one.
-use Rattle.std.specs.Prelude.{◌≡◌, List, [], ◌∷◌, Some, ℤ, pos}
+use Rattle.std.specs.Prelude.{◌≡◌, List, [], ◌∷◌, Some, ℤ, pos, negsuc}
 use Rattle.traj_codec.specs.declared.traj.Segment.{Segment}
 use Rattle.traj_codec.specs.declared.traj.Traj.{Traj}
 use Rattle.traj_codec.specs.declared.traj.Element.{Element}
@@ -43,9 +43,9 @@ slanted_up = leg_by (rest (pos 0) (pos 1)) (rest (pos 0) (pos 1000))
 abbrev pub slanted_down : Segment
 slanted_down = leg_by (rest (pos 1) (pos 0)) (rest (pos 1000) (pos 0))
 
--- down to this height
-abbrev pub lower : ℤ → ℤ → Segment
-lower z to = leg_by Constant (rest z to)
+-- from this height to that one
+abbrev pub lift : ℤ → ℤ → Segment
+lift z to = leg_by Constant (rest z to)
 
 -- holds at this x and z
 abbrev pub held_at : ℤ → ℤ → Traj
@@ -69,6 +69,12 @@ bent_hop =
     alone (way_from (pos 0) (pos 0) (ascent ∷ aside ∷ [])) (held_at (pos 1) (pos 1000))
     (way_from (pos 1) (pos 1000) (back ∷ descent ∷ []))
 
+-- up to two metres, and then to one metre; a hold; up to two metres again, and down: first and last moves alone count
+abbrev pub high_hop : Routes
+high_hop =
+    alone (way_from (pos 0) (pos 0) (lift (pos 0) (pos 2000) ∷ lift (pos 2000) (pos 1000) ∷ [])) (held_at (pos 0) (pos 1000))
+    (way_from (pos 0) (pos 1000) (lift (pos 1000) (pos 2000) ∷ lift (pos 2000) (pos 0) ∷ []))
+
 -- ---- the rows
 
 -- This is the first cause, and the three are no flight.
@@ -76,22 +82,23 @@ pub record Refuses (w : Routes) (f : FlightFault) : Type 0 where
   pub first : route_fault w ≡ Some f
   pub none : IsFlight w → ⊥
 
--- Each has one thing in another way than `hop` or `bent_hop`.
+-- Each has one thing in another way than `hop`, `bent_hop` or `high_hop`.
 pub record FlightRows : Type 0 where
   pub straight : IsFlight hop
   pub bent : IsFlight bent_hop
+  pub high : IsFlight high_hop
   -- as many drones up, in the show and down
   pub none_up : IsFlight (record hop { up = [] }) → ⊥
   pub none_down : IsFlight (record hop { down = [] }) → ⊥
   -- the ends are a millimetre apart: before the show, after it, and at the pad
   pub high_show : Refuses
-      (after_ascent (held_at (pos 0) (pos 1001)) (way_from (pos 0) (pos 1001) (lower (pos 1001) (pos 0) ∷ [])))
+      (after_ascent (held_at (pos 0) (pos 1001)) (way_from (pos 0) (pos 1001) (lift (pos 1001) (pos 0) ∷ [])))
       (fault.Gap seam.UpToShow 0)
   pub low_return : Refuses
-      (after_ascent (held_at (pos 0) (pos 1000)) (way_from (pos 0) (pos 999) (lower (pos 999) (pos 0) ∷ [])))
+      (after_ascent (held_at (pos 0) (pos 1000)) (way_from (pos 0) (pos 999) (lift (pos 999) (pos 0) ∷ [])))
       (fault.Gap seam.ShowToDown 0)
   pub high_pad : Refuses
-      (after_ascent (held_at (pos 0) (pos 1000)) (way_from (pos 0) (pos 1000) (lower (pos 1000) (pos 1) ∷ [])))
+      (after_ascent (held_at (pos 0) (pos 1000)) (way_from (pos 0) (pos 1000) (lift (pos 1000) (pos 1) ∷ [])))
       (fault.Gap seam.DownToUp 0)
   -- not from rest to rest: a curve, and a constant speed in the second cue
   pub restless_up : Refuses
@@ -107,10 +114,11 @@ pub record FlightRows : Type 0 where
   -- each drone moves
   pub still_up : Refuses
       (alone (held_at (pos 0) (pos 1000)) (held_at (pos 0) (pos 1000))
-      (way_from (pos 0) (pos 1000) (descent ∷ ascent ∷ [])))
+      (way_from (pos 0) (pos 1000) (lift (pos 1000) (pos 2000) ∷ lift (pos 2000) (pos 1000) ∷ [])))
       (fault.Still way.Up 0)
   pub still_down : Refuses
-      (alone (way_from (pos 0) (pos 1000) (descent ∷ ascent ∷ [])) (held_at (pos 0) (pos 1000))
+      (alone (way_from (pos 0) (pos 1000) (lift (pos 1000) (pos 2000) ∷ lift (pos 2000) (pos 1000) ∷ []))
+      (held_at (pos 0) (pos 1000))
       (held_at (pos 0) (pos 1000)))
       (fault.Still way.Down 0)
   -- at first straight up, at last straight down
@@ -121,6 +129,17 @@ pub record FlightRows : Type 0 where
   pub slant_down : Refuses
       (alone (way_from (pos 0) (pos 0) (ascent ∷ aside ∷ [])) (held_at (pos 1) (pos 1000))
       (way_from (pos 1) (pos 1000) (slanted_down ∷ [])))
+      (fault.Slanted way.Down 0)
+  -- at first up and not down, at last down and not up
+  pub falls_first : Refuses
+      (record high_hop {
+        up = way_from (pos 0) (pos 0) (lift (pos 0) (negsuc 0) ∷ lift (negsuc 0) (pos 1000) ∷ []) ∷ [];
+      })
+      (fault.Slanted way.Up 0)
+  pub rises_last : Refuses
+      (record high_hop {
+        down = way_from (pos 0) (pos 1000) (lift (pos 1000) (negsuc 0) ∷ lift (negsuc 0) (pos 0) ∷ []) ∷ [];
+      })
       (fault.Slanted way.Down 0)
   -- drones may stand as far from their pads as they may stray from their ways up, and no farther
   pub narrow : Refuses (record hop { stray = 99 }) (fault.Narrow 100 99)

@@ -19,7 +19,7 @@ routes w =
 -- Each show has a trajectory for each of its names, and the show lasts as long as is said; those of fitted shows are
 -- so.
 pub record AreFitted (crews : Crews) (w : Ways) : Type 0 where
-  pub up : length w.up.now ≡ length crews.up.now
-  pub show : length w.show.now ≡ length crews.show.now
-  pub down : length w.down.now ≡ length crews.down.now
+  pub up : length w.up.now ≡ length crews.up.names.now
+  pub show : length w.show.now ≡ length crews.show.names.now
+  pub down : length w.down.now ≡ length crews.down.names.now
   pub duration : lasts w.show.now ≡ w.show_ms

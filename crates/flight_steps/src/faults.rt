@@ -31,10 +31,12 @@ pub enum FlightFault {
     Restless { way: Way, drone: usize, cue: usize },
     /// The drone doesn't move on its way.
     Still { way: Way, drone: usize },
-    /// Its first move up, or its last move down, isn't straight up or down.
+    /// Its first move on the way up doesn't go straight up, or its last move on the way down not straight down.
     Slanted { way: Way, drone: usize },
     /// Drones may stand farther from their pads than they may stray from their way up.
     Narrow { near: u16, stray: u16 },
+    /// The ellipsoid of the way isn't that of the show.
+    OtherEllipsoid { way: Way },
 }
 
 /// Why there are no steps.

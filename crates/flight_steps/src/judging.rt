@@ -8,6 +8,8 @@ ghost use Rattle.flight_model.specs.Legs.{after_segment, way_begins, way_ends as
 ghost use Rattle.flight_model.specs.Legs.{last_move as word_last, legs_of};
 ghost use Rattle.flight_steps.specs.declared.faults.Way.TheVariants as way_word;
 ghost use Rattle.flight_steps.specs.Faults.{first_other as word_other, other_drone as word_drone};
+ghost use Rattle.flight_steps.specs.Faults.{name_fault as word_names, size_fault as word_sizes};
+ghost use Rattle.flight_steps.specs.Faults.{other_ellipsoid as word_ellipsoid, is_straight as word_straight};
 ghost use Rattle.flight_steps.specs.Faults.{crew_fault as word_crew, gap as word_gap, same_place};
 ghost use Rattle.flight_steps.specs.Faults.{seam_fault as word_seam, seams_fault as word_seams};
 ghost use Rattle.flight_steps.specs.Faults.{rests_on as word_rests_on, rests_by as word_rests_by};
@@ -19,8 +21,8 @@ ghost use Rattle.flight_steps.specs.Ways.{routes};
 
 use crate::faults::{FlightFault, Seam, Way};
 use crate::legs::{after, way_ends};
-use crate::moves::{first_move, is_vertical, last_move};
-use crate::ways::{Crews, Name, Ways};
+use crate::moves::{first_move, goes_down, goes_up, last_move};
+use crate::ways::{Crews, Ellipsoid, Name, Ways};
 use flight_model::Leg;
 use listed::Listed;
 use traj_codec::{Element, Segment, Traj};
@@ -60,14 +62,46 @@ fn other_drone(way: Way, place: Option<usize>) -> Option<FlightFault>
 }
 
 // What is wrong with the names.
-fn crew_fault(c: &Crews) -> Option<FlightFault>
-    ensures { result ≡ word_crew c.now }
+fn name_fault(c: &Crews) -> Option<FlightFault>
+    ensures { result ≡ word_names c.now }
 {
-    let up = other_drone(Way::Up, first_other(c.up, c.show));
+    let up = other_drone(Way::Up, first_other(c.up.names, c.show.names));
     if up.is_some() {
         return up;
     }
-    other_drone(Way::Down, first_other(c.down, c.show))
+    other_drone(Way::Down, first_other(c.down.names, c.show.names))
+}
+
+fn other_ellipsoid(way: Way, a: &Ellipsoid, b: &Ellipsoid) -> Option<FlightFault>
+    ensures { result ≡ word_ellipsoid way a.now b.now }
+{
+    if a.r == b.r && a.h == b.h {
+        None
+    } else {
+        Some(FlightFault::OtherEllipsoid { way })
+    }
+}
+
+// What is wrong with the ellipsoids.
+fn size_fault(up: &Ellipsoid, show: &Ellipsoid, down: &Ellipsoid) -> Option<FlightFault>
+    ensures { result ≡ word_sizes up.now show.now down.now }
+{
+    let first = other_ellipsoid(Way::Up, up, show);
+    if first.is_some() {
+        return first;
+    }
+    other_ellipsoid(Way::Down, down, show)
+}
+
+// What is wrong with the drones.
+fn crew_fault(c: &Crews) -> Option<FlightFault>
+    ensures { result ≡ word_crew c.now }
+{
+    let names = name_fault(c);
+    if names.is_some() {
+        return names;
+    }
+    size_fault(&c.up.ellipsoid, &c.show.ellipsoid, &c.down.ellipsoid)
 }
 
 // What is wrong where a drone ends here and begins there.
@@ -166,6 +200,16 @@ fn restless(t: &Traj) -> Option<usize>
     None
 }
 
+// Whether a drone leaves its pad straight up, or reaches it straight down.
+fn is_straight(way: Way, l: &Leg) -> bool
+    ensures { result ≡ word_straight way l.now }
+{
+    match way {
+        Way::Up => goes_up(l),
+        Way::Down => goes_down(l),
+    }
+}
+
 fn way_fault(way: Way, drone: usize, cue: Option<usize>, one: Option<Leg>) -> Option<FlightFault>
     ensures { result ≡ word_way way drone cue one }
 {
@@ -175,7 +219,7 @@ fn way_fault(way: Way, drone: usize, cue: Option<usize>, one: Option<Leg>) -> Op
     match one {
         None => Some(FlightFault::Still { way, drone }),
         Some(l) => {
-            if is_vertical(&l) {
+            if is_straight(way, &l) {
                 None
             } else {
                 Some(FlightFault::Slanted { way, drone })

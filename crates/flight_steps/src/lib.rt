@@ -21,4 +21,4 @@ mod ways;
 pub use faults::{FlightFault, Seam, StepsError, Way};
 pub use law::ways_law;
 pub use steps::steps_of;
-pub use ways::{Crews, Name, Ways};
+pub use ways::{Crew, Crews, Ellipsoid, Name, Ways};

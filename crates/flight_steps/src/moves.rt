@@ -3,6 +3,7 @@
 ghost use Rattle.std.specs.Prelude.{◌≡◌, ◌<◌, ℕ, suc, length};
 ghost use Rattle.std.specs.List.{list_any};
 ghost use Rattle.flight_model.specs.Legs.{same_on as word_same, moves as word_moves, is_vertical as word_vertical};
+ghost use Rattle.flight_model.specs.Legs.{goes_up as word_goes_up, goes_down as word_goes_down};
 ghost use Rattle.flight_model.specs.Legs.{has_moved as word_has, will_move as word_will, first_move as word_first};
 ghost use Rattle.flight_model.specs.Legs.{last_move as word_last, leg as word_leg};
 ghost use Rattle.flight_steps.specs.Steps.{IsLike};
@@ -24,11 +25,25 @@ pub fn is_move(l: &Leg) -> bool
     !(same_on(l, 0) && same_on(l, 1) && same_on(l, 2) && same_on(l, 3))
 }
 
-/// Whether a leg goes straight up or down.
-pub fn is_vertical(l: &Leg) -> bool
+// Whether a leg stays on x and y, and the drone doesn't turn.
+fn is_vertical(l: &Leg) -> bool
     ensures { result ≡ word_vertical l.now }
 {
     same_on(l, 0) && same_on(l, 1) && same_on(l, 3)
+}
+
+/// Whether a leg goes straight up.
+pub fn goes_up(l: &Leg) -> bool
+    ensures { result ≡ word_goes_up l.now }
+{
+    is_vertical(l) && !(l.to[2] <= l.from[2])
+}
+
+/// Whether a leg goes straight down.
+pub fn goes_down(l: &Leg) -> bool
+    ensures { result ≡ word_goes_down l.now }
+{
+    is_vertical(l) && !(l.from[2] <= l.to[2])
 }
 
 fn any_moves(legs: &[Leg]) -> bool

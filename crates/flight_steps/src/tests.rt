@@ -1,11 +1,13 @@
-//! Crews that aren't the same, and the steps of a flight of two drones. All values were computed by hand; those of ways
+//! Crews that aren't the same, or of another size, and the steps of a flight of two drones. All values were computed by hand; those of ways
 //! that are no flight are in specs/Rejected.antt.
 
 ghost use Rattle.std.specs.Prelude.{◌≡◌, ◌∷◌, [], drop, length, IfOk};
 ghost use Rattle.traj_codec.specs.Positions.{durations};
 ghost use Rattle.flight_model.specs.Legs.{lasts};
 
-use crate::{Crews, FlightFault, Name, Seam, StepsError, Way, Ways, steps_of};
+use crate::{
+    Crew, Crews, Ellipsoid, FlightFault, Name, Seam, StepsError, Way, Ways, steps_of,
+};
 use arrayvec::ArrayVec;
 use flight_model::{Condition, Order, Orders, Position, Step};
 use listed::Listed;
@@ -101,6 +103,12 @@ fn name(letter: u8) -> Name {
     name
 }
 
+fn crew<'a>(names: &'a [Name], ellipsoid: Ellipsoid) -> Crew<'a>
+    ensures { result.names ≡ names }
+{
+    Crew { names, ellipsoid }
+}
+
 // What is said of these drones, which may stray by 100 mm from their way up.
 fn said(
     alloc: Global,
@@ -110,9 +118,9 @@ fn said(
     shows: &[Traj],
     downs: &[Traj],
 ) -> Result<Listed<Step>, StepsError>
-    requires ups { length ups.now ≡ length crews.now.up.now }
-    requires shows { length shows.now ≡ length crews.now.show.now }
-    requires downs { length downs.now ≡ length crews.now.down.now }
+    requires ups { length ups.now ≡ length crews.now.up.names.now }
+    requires shows { length shows.now ≡ length crews.now.show.names.now }
+    requires downs { length downs.now ≡ length crews.now.down.names.now }
     requires lasting { lasts shows.now ≡ 2500 }
 {
     let ways = Ways {
@@ -126,6 +134,8 @@ fn said(
     };
     steps_of(alloc, crews, &ways)
 }
+
+const BODY: Ellipsoid = Ellipsoid { r: 120, h: 300 };
 
 // The letters of two drones in each of the three, and the first that is another.
 const CREWS: [([u8; 2], [u8; 2], [u8; 2], Option<(Way, usize)>); 5] = [
@@ -144,13 +154,48 @@ fn first_faults_of_names(rt: HostRuntime) -> Result<(), Fail> {
     let downs = two(alloc, DOWN, DOWN)?;
     let (ups, shows, downs) = (ups.as_slice(), shows.as_slice(), downs.as_slice());
     for (up, show, down, other) in CREWS {
+        let up = [name(up[0]), name(up[1])];
+        let show = [name(show[0]), name(show[1])];
+        let down = [name(down[0]), name(down[1])];
         let crews = Crews {
-            up: &[name(up[0]), name(up[1])],
-            show: &[name(show[0]), name(show[1])],
-            down: &[name(down[0]), name(down[1])],
+            up: crew(&up, BODY),
+            show: crew(&show, BODY),
+            down: crew(&down, BODY),
         };
         let wanted = other.map(|(way, drone)| StepsError::Fault {
             fault: FlightFault::OtherDrone { way, drone },
+        });
+        assert_eq!(rt; said(alloc, &crews, 100, ups, shows, downs).err(), wanted);
+    }
+    Ok(())
+}
+
+// The half axes of the way up, the show and the way down, and the first way with other ones than the show.
+const BODIES: [([u16; 2], [u16; 2], [u16; 2], Option<Way>); 6] = [
+    ([120, 300], [120, 300], [120, 300], None),
+    ([119, 300], [120, 300], [119, 300], Some(Way::Up)),
+    ([120, 301], [120, 300], [120, 300], Some(Way::Up)),
+    ([120, 300], [120, 300], [121, 300], Some(Way::Down)),
+    ([120, 300], [120, 300], [120, 299], Some(Way::Down)),
+    ([120, 300], [300, 120], [120, 300], Some(Way::Up)),
+];
+
+#[test]
+fn first_faults_of_ellipsoids(rt: HostRuntime) -> Result<(), Fail> {
+    let alloc = rt.alloc();
+    let ups = two(alloc, UP, UP)?;
+    let shows = hovers(alloc, 0, 1000)?;
+    let downs = two(alloc, DOWN, DOWN)?;
+    let (ups, shows, downs) = (ups.as_slice(), shows.as_slice(), downs.as_slice());
+    let names = [name(97), name(98)];
+    for (up, show, down, other) in BODIES {
+        let crews = Crews {
+            up: crew(&names, Ellipsoid { r: up[0], h: up[1] }),
+            show: crew(&names, Ellipsoid { r: show[0], h: show[1] }),
+            down: crew(&names, Ellipsoid { r: down[0], h: down[1] }),
+        };
+        let wanted = other.map(|way| StepsError::Fault {
+            fault: FlightFault::OtherEllipsoid { way },
         });
         assert_eq!(rt; said(alloc, &crews, 100, ups, shows, downs).err(), wanted);
     }
@@ -254,9 +299,9 @@ fn steps_of_two_drones(rt: HostRuntime) -> Result<(), Fail> {
     let alloc = rt.alloc();
     let names = [name(97), name(98)];
     let crews = Crews {
-        up: &names,
-        show: &names,
-        down: &names,
+        up: crew(&names, BODY),
+        show: crew(&names, BODY),
+        down: crew(&names, BODY),
     };
     let ups = two(alloc, RISES[0], RISES[1])?;
     let shows = hovers(alloc, 500, 1000)?;

@@ -6,12 +6,26 @@ use traj_codec::Traj;
 /// The name of a drone, 1 to 16 bytes.
 pub type Name = ArrayVec<u8, 16>;
 
-/// The names of the drones of three shows, each in its order.
+/// The ellipsoid around each drone of a show: its half axes in millimetres, across and upwards.
+#[derive(Clone, Copy, Debug, PartialEq, Eq)]
+pub struct Ellipsoid {
+    pub r: u16,
+    pub h: u16,
+}
+
+/// The drones of a show: their names, in order, and the ellipsoid around each.
+#[derive(Clone, Copy)]
+pub struct Crew<'a> {
+    pub names: &'a [Name],
+    pub ellipsoid: Ellipsoid,
+}
+
+/// The drones of three shows.
 #[derive(Clone, Copy)]
 pub struct Crews<'a> {
-    pub up: &'a [Name],
-    pub show: &'a [Name],
-    pub down: &'a [Name],
+    pub up: Crew<'a>,
+    pub show: Crew<'a>,
+    pub down: Crew<'a>,
 }
 
 /// The trajectories of the drones of three shows, one segment a cue, and what their flight is allowed. Lengths in

@@ -7,6 +7,7 @@ use Rattle.choreo_show.specs.declared.show.DroneLine.{DroneLine}
 use Rattle.cue_grid.specs.Cues.{grid_of}
 use Rattle.flight_model.specs.Legs.{Routes, arm_step, down_step, last_step, lasts, leg_count, legs_of, start_step, up_step}
 unfoldable use Rattle.flight_model.specs.Legs.{steps_of}
+use Rattle.flight_steps.specs.declared.ways.Crew.{Crew}
 use Rattle.flight_steps.specs.declared.ways.Crews.{Crews}
 use Rattle.flight_steps.specs.declared.ways.Ways.{Ways}
 use Rattle.flight_steps.specs.Ways.{AreFitted}
@@ -14,7 +15,7 @@ use Rattle.flight_steps.proofs.Judged.{flight-of}
 use Rattle.show_plan.proofs.Flight.{by_cue_counted}
 use Rattle.show_judge.specs.Shows.{names_of, trajectories_of}
 use Rattle.show_direct.specs.declared.options.Options.{Options}
-use Rattle.show_direct.specs.Flights.{AreFlight, fault_of}
+use Rattle.show_direct.specs.Flights.{AreFlight, ellipsoid_of, fault_of}
 
 -- a flight has steps: the start, and the last one
 pub some_steps : (w : Routes) → 1 ≤ length (steps_of w)
@@ -30,11 +31,14 @@ some_steps w =
 pub counted : (s : PlainShow) → length (trajectories_of s) ≡ length (names_of s)
 counted s = by_cue_counted (grid_of s) ∙ sym (length-map s.drones (λ (d : DroneLine). d.name))
 
+crew_of : PlainShow → Crew
+crew_of s = record { names = record { ref_ptr = (0, 0); now = names_of s }; ellipsoid = ellipsoid_of s }
+
 crews_of : PlainShow → PlainShow → PlainShow → Crews
 crews_of up show down = record {
-  up = record { ref_ptr = (0, 0); now = names_of up };
-  show = record { ref_ptr = (0, 0); now = names_of show };
-  down = record { ref_ptr = (0, 0); now = names_of down };
+  up = crew_of up;
+  show = crew_of show;
+  down = crew_of down;
 }
 
 ways_of : Options → PlainShow → PlainShow → PlainShow → Ways
@@ -50,8 +54,8 @@ ways_of o up show down = record {
 
 -- where nothing keeps three shows from being a flight, they are one
 pub are_flight : (o : Options) (up show down : PlainShow) → fault_of o up show down ≡ None → AreFlight o up show down
-unfolding crews_of ways_of
+unfolding crew_of crews_of ways_of
 are_flight o up show down none =
     let fitted : AreFitted (crews_of up show down) (ways_of o up show down) = record { up = counted up; show = counted show; down = counted down; duration = refl } in
     let is = flight-of (crews_of up show down) (ways_of o up show down) fitted none in
-    record { up_names = is.up; down_names = is.down; flight = is.flight }
+    record { up_names = is.up; down_names = is.down; up_ellipsoid = is.up_ellipsoid; down_ellipsoid = is.down_ellipsoid; flight = is.flight }

@@ -95,6 +95,7 @@ frame_begins (cause.Restless w d cue) = refl
 frame_begins (cause.Still w d) = refl
 frame_begins (cause.Slanted w d) = refl
 frame_begins (cause.Narrow near stray) = refl
+frame_begins (cause.OtherEllipsoid w) = refl
 
 never_cause : (f : FlightFault) (old new : Option (List ℕ)) → Appends old new (no_flight_bytes f) → HasBegun old new → ⊥
 never_cause f old new appends begun =

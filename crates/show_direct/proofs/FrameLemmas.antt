@@ -1,5 +1,5 @@
 -- What a frame says of the cause that it names.
-use Rattle.std.proofs.Common.{◌≡◌, ℕ, ◌+◌, ◌*◌, ◌/◌, ◌%◌, ◌<◌, ap, sym, ◌∙◌, arith}
+use Rattle.std.proofs.Common.{◌≡◌, ℕ, ◌+◌, ◌*◌, ◌/◌, ◌%◌, ◌<◌, ap, refl, sym, ◌∙◌, arith}
 use Rattle.choreo_reader.specs.Laws.{ShowLaw}
 use Rattle.flight_steps.specs.declared.faults.FlightFault.{FlightFault}
 use Rattle.flight_steps.specs.declared.faults.FlightFault.TheVariants as fault
@@ -31,6 +31,8 @@ reads_back near stray (fault.Still way.Down d) is = ap (λ (n : ℕ). fault.Stil
 reads_back near stray (fault.Slanted way.Up d) is = ap (λ (n : ℕ). fault.Slanted way.Up n) (one_byte d is)
 reads_back near stray (fault.Slanted way.Down d) is = ap (λ (n : ℕ). fault.Slanted way.Down n) (one_byte d is)
 reads_back near stray (fault.Narrow n s) is = ap (λ (k : ℕ). fault.Narrow k stray) (sym is.0) ∙ ap (λ (k : ℕ). fault.Narrow n k) (sym is.1)
+reads_back near stray (fault.OtherEllipsoid way.Up) is = refl
+reads_back near stray (fault.OtherEllipsoid way.Down) is = refl
 
 pub frame_law : ShowLaw → FaultFrameLaw
 frame_law law = record { one = reads_back; named = named law }

@@ -26,10 +26,12 @@ use Rattle.flight_steps.specs.declared.faults.FlightFault.{FlightFault}
 use Rattle.flight_steps.specs.declared.faults.StepsError.{StepsError}
 use Rattle.flight_steps.specs.declared.faults.StepsError.TheVariants as error
 use Rattle.flight_steps.specs.declared.faults.Way.TheVariants as way
+use Rattle.flight_steps.specs.declared.ways.Crew.{Crew}
 use Rattle.flight_steps.specs.declared.ways.Crews.{Crews}
+use Rattle.flight_steps.specs.declared.ways.Ellipsoid.{Ellipsoid}
 use Rattle.flight_steps.specs.declared.ways.Ways.{Ways}
 use Rattle.flight_steps.specs.Faults as faults
-use Rattle.flight_steps.specs.Faults.{StepsGive, first_other, flight_fault, other_drone, route_fault}
+use Rattle.flight_steps.specs.Faults.{StepsGive, first_other, flight_fault, other_drone, route_fault, size_fault}
 use Rattle.flight_steps.specs.Sizes.{AreOrdersOf, IsStepOf}
 use Rattle.flight_steps.specs.Ways.{AreFitted, routes}
 use Rattle.show_plan.specs.declared.fitted.Fitted.{Fitted}
@@ -37,7 +39,7 @@ use Rattle.show_plan.specs.Fitting.{IsFitted, IsValidFitted}
 use Rattle.show_plan.specs.Landing.{AreUploadable}
 use Rattle.show_judge.specs.Shows.{names_of, sent_of, trajectories_of}
 use Rattle.show_direct.specs.declared.options.Options.{Options}
-use Rattle.show_direct.specs.Flights.{fault_of, flight_of, most_silence, routes_of}
+use Rattle.show_direct.specs.Flights.{ellipsoid_in, ellipsoid_of, fault_of, flight_of, most_silence, routes_of}
 use Rattle.show_direct.specs.Steps.{FlightMade, StepsMade}
 
 -- ---- steps
@@ -47,19 +49,29 @@ no_fault : (c : Crews) (w : Routes) (why : Option FlightFault) → flight_fault 
 no_fault c w None is flight = refl
 no_fault c w (Some f) is flight = absurd ((fault-of c w f is).none flight)
 
--- the first cause, by names and routes
-abbrev fault_by : List Name → List Name → List Name → Routes → Option FlightFault
-fault_by up show down w =
-    option_or (option_or (other_drone way.Up (first_other 0 up show)) (other_drone way.Down (first_other 0 down show))) (route_fault w)
+-- the first cause, by names, ellipsoids and routes
+abbrev fault_by : List Name → List Name → List Name → Ellipsoid → Ellipsoid → Ellipsoid → Routes → Option FlightFault
+fault_by up show down a b c w =
+    option_or (option_or (option_or (other_drone way.Up (first_other 0 up show)) (other_drone way.Down (first_other 0 down show))) (size_fault a b c)) (route_fault w)
 
-fault_is : (o : Options) (u s d : PlainShow) (c : Crews) (w : Routes) → c.up.now ≡ names_of u → c.show.now ≡ names_of s → c.down.now ≡ names_of d → w ≡ routes_of o u s d →
+-- a crew is the drones of a show
+pub record IsCrewOf (s : PlainShow) (c : Crew) : Type 0 where
+  pub names : c.names.now ≡ names_of s
+  pub ellipsoid : c.ellipsoid ≡ ellipsoid_of s
+
+fault_is : (o : Options) (u s d : PlainShow) (c : Crews) (w : Routes) → IsCrewOf u c.up → IsCrewOf s c.show → IsCrewOf d c.down → w ≡ routes_of o u s d →
     flight_fault c w ≡ fault_of o u s d
 fault_is o u s d c w up show down same =
-    ap (λ (xs : List Name). fault_by xs c.show.now c.down.now w) up ∙ ap (λ (xs : List Name). fault_by (names_of u) xs c.down.now w) show
-    ∙ ap (λ (xs : List Name). fault_by (names_of u) (names_of s) xs w) down ∙ ap (λ (r : Routes). fault_by (names_of u) (names_of s) (names_of d) r) same
+    ap (λ (xs : List Name). fault_by xs c.show.names.now c.down.names.now c.up.ellipsoid c.show.ellipsoid c.down.ellipsoid w) up.names
+    ∙ ap (λ (xs : List Name). fault_by (names_of u) xs c.down.names.now c.up.ellipsoid c.show.ellipsoid c.down.ellipsoid w) show.names
+    ∙ ap (λ (xs : List Name). fault_by (names_of u) (names_of s) xs c.up.ellipsoid c.show.ellipsoid c.down.ellipsoid w) down.names
+    ∙ ap (λ (e : Ellipsoid). fault_by (names_of u) (names_of s) (names_of d) e c.show.ellipsoid c.down.ellipsoid w) up.ellipsoid
+    ∙ ap (λ (e : Ellipsoid). fault_by (names_of u) (names_of s) (names_of d) (ellipsoid_of u) e c.down.ellipsoid w) show.ellipsoid
+    ∙ ap (λ (e : Ellipsoid). fault_by (names_of u) (names_of s) (names_of d) (ellipsoid_of u) (ellipsoid_of s) e w) down.ellipsoid
+    ∙ ap (λ (r : Routes). fault_by (names_of u) (names_of s) (names_of d) (ellipsoid_of u) (ellipsoid_of s) (ellipsoid_of d) r) same
 
 -- the steps of fitted shows are those of the shows
-pub steps_made : (o : Options) (u s d : PlainShow) (c : Crews) (w : Routes) (result : Result (List Step) StepsError) → c.up.now ≡ names_of u → c.show.now ≡ names_of s → c.down.now ≡ names_of d →
+pub steps_made : (o : Options) (u s d : PlainShow) (c : Crews) (w : Routes) (result : Result (List Step) StepsError) → IsCrewOf u c.up → IsCrewOf s c.show → IsCrewOf d c.down →
     w ≡ routes_of o u s d → StepsGive c w result → StepsMade o u s d result
 steps_made o u s d c w (Ok steps) up show down same gives =
     (gives.steps ∙ ap (λ (r : Routes). steps_of r) same, sym (fault_is o u s d c w up show down same) ∙ no_fault c w (flight_fault c w) refl gives.flight)
@@ -119,7 +131,7 @@ routes_is o up show down u s d w e_up e_show e_down stray near at_place is_up is
     ∙ ap (λ (n : ℕ). routes_from (trajectories_of u) (trajectories_of s) (trajectories_of d) u.settings.stray o.near n) at_place
 
 -- the shows' trajectories are counted as their names
-pub are_fitted : (up show down : Fitted) (c : Crews) (w : Ways) → IsValidFitted up → IsValidFitted show → IsValidFitted down → c.up.now ≡ up.names → c.show.now ≡ show.names → c.down.now ≡ down.names →
+pub are_fitted : (up show down : Fitted) (c : Crews) (w : Ways) → IsValidFitted up → IsValidFitted show → IsValidFitted down → c.up.names.now ≡ up.names → c.show.names.now ≡ show.names → c.down.names.now ≡ down.names →
     w.up.now ≡ up.trajs → w.show.now ≡ show.trajs → w.down.now ≡ down.trajs → w.show_ms ≡ show.duration → AreFitted c w
 are_fitted up show down c w valid_up valid_show valid_down n_up n_show n_down t_up t_show t_down ms = record {
   up = ap (λ (ts : List Traj). length ts) t_up ∙ valid_up.trajs_counted ∙ sym (ap (λ (ns : List Name). length ns) n_up);
@@ -128,12 +140,20 @@ are_fitted up show down c w valid_up valid_show valid_down n_up n_show n_down t_
   duration = ap lasts t_show ∙ fitted_lasts show valid_show ∙ sym ms;
 }
 
+-- a crew is the drones of a fitted show
+pub record IsCrewIn (f : Fitted) (c : Crew) : Type 0 where
+  pub names : c.names.now ≡ f.names
+  pub ellipsoid : c.ellipsoid ≡ ellipsoid_in f.settings
+
+crew_is : (f : Fitted) (s : PlainShow) (c : Crew) → IsFitted f s → IsCrewIn f c → IsCrewOf s c
+crew_is f s c is crew = record { names = crew.names ∙ is.names; ellipsoid = crew.ellipsoid ∙ ap ellipsoid_in is.settings }
+
 -- the steps of fitted shows
 pub steps_fitted : (o : Options) (up show down : Fitted) (u s d : PlainShow) (c : Crews) (w : Ways) (result : Result (List Step) StepsError) → IsFitted up u → IsFitted show s → IsFitted down d →
-    c.up.now ≡ up.names → c.show.now ≡ show.names → c.down.now ≡ down.names → w.up.now ≡ up.trajs → w.show.now ≡ show.trajs → w.down.now ≡ down.trajs → w.stray ≡ up.settings.stray →
+    IsCrewIn up c.up → IsCrewIn show c.show → IsCrewIn down c.down → w.up.now ≡ up.trajs → w.show.now ≡ show.trajs → w.down.now ≡ down.trajs → w.stray ≡ up.settings.stray →
     w.near ≡ o.near → w.at_place ≡ o.at_place → StepsGive c (routes w) result → StepsMade o u s d result
 steps_fitted o up show down u s d c w result is_up is_show is_down n_up n_show n_down t_up t_show t_down stray near at_place gives =
-    steps_made o u s d c (routes w) result (n_up ∙ is_up.names) (n_show ∙ is_show.names) (n_down ∙ is_down.names)
+    steps_made o u s d c (routes w) result (crew_is up u c.up is_up n_up) (crew_is show s c.show is_show n_show) (crew_is down d c.down is_down n_down)
     (routes_is o up show down u s d w t_up t_show t_down stray near at_place is_up is_show is_down) gives
 
 -- ---- the flight

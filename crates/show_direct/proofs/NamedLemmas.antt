@@ -13,21 +13,22 @@ use Rattle.cue_grid.specs.Grids.{IsGrid}
 use Rattle.traj_codec.specs.declared.traj.Segment.{Segment}
 use Rattle.traj_codec.specs.declared.traj.Traj.{Traj}
 use Rattle.flight_model.specs.declared.flights.Leg.{Leg}
-use Rattle.flight_model.specs.Legs.{Routes, after_segment, first_move, is_vertical, last_move, legs_of, way_begins, way_ends}
+use Rattle.flight_model.specs.Legs.{Routes, after_segment, first_move, last_move, legs_of, way_begins, way_ends}
 use Rattle.flight_steps.specs.declared.faults.FlightFault.{FlightFault}
 use Rattle.flight_steps.specs.declared.faults.FlightFault.TheVariants as fault
 use Rattle.flight_steps.specs.declared.faults.Seam.{Seam}
 use Rattle.flight_steps.specs.declared.faults.Seam.TheVariants as seam
 use Rattle.flight_steps.specs.declared.faults.Way.{Way}
 use Rattle.flight_steps.specs.declared.faults.Way.TheVariants as way
-use Rattle.flight_steps.specs.Faults.{down_fault, downs_fault, first_other, gap, narrow, other_drone, rests_in, restless, restless_from, route_fault, same_place, seam_fault, seams_fault, up_fault, ups_fault, way_fault}
+use Rattle.flight_steps.specs.declared.ways.Ellipsoid.{Ellipsoid}
+use Rattle.flight_steps.specs.Faults.{down_fault, downs_fault, first_other, gap, is_straight, narrow, other_drone, other_ellipsoid, rests_in, restless, restless_from, route_fault, same_ellipsoid, same_place, seam_fault, seams_fault, size_fault, up_fault, ups_fault, way_fault}
 use Rattle.show_plan.proofs.Flight.{by_cue_counted}
 use Rattle.show_plan.proofs.Sendable.{flown}
 use Rattle.show_plan.specs.Fitting.{IsFlown}
 use Rattle.show_judge.specs.Shows.{names_of, trajectories_of}
 use Rattle.show_direct.specs.declared.options.Options.{Options}
 use Rattle.show_direct.specs.Exchanges.{Accepts}
-use Rattle.show_direct.specs.Flights.{fault_of, routes_of}
+use Rattle.show_direct.specs.Flights.{ellipsoid_of, fault_of, routes_of}
 use Rattle.show_direct.specs.Frames.{IsNamed}
 use Rattle.show_direct.proofs.KeptLemmas.{accepted_grid}
 
@@ -94,7 +95,7 @@ rest_small cue here (s ∷ rest) few = elim (rests_in here s) as (λ rests. IfSo
 way_named : (near stray : ℕ) (w : Way) (d : ℕ) (cue : Option ℕ) (move : Option Leg) → d < 256 → IfSome cue IsWord → IfSome (way_fault w d cue move) (IsNamed near stray)
 way_named near stray w d (Some cue) move small few = (small, few)
 way_named near stray w d None None small few = small
-way_named near stray w d None (Some move) small few = elim (is_vertical move) as (λ upright. IfSome (cond upright None (Some (fault.Slanted w d))) (IsNamed near stray)) [
+way_named near stray w d None (Some move) small few = elim (is_straight w move) as (λ upright. IfSome (cond upright None (Some (fault.Slanted w d))) (IsNamed near stray)) [
   | true ↦ tt
   | false ↦ small
 ]
@@ -112,6 +113,16 @@ downs_named near stray d (t ∷ ts) few whole =
     either (IsNamed near stray) (down_fault d t) (downs_fault (suc d) ts)
     (way_named near stray way.Down d (restless t) (last_move (legs_of t)) (omega (arith, few)) (rest_small 0 t.start t.segments (omega (arith, (All-head IsFlown t ts whole).few))))
     (downs_named near stray (suc d) ts (omega (arith, few)) (All-tail IsFlown t ts whole))
+
+ellipsoid_named : (near stray : ℕ) (w : Way) (a b : Ellipsoid) → IfSome (other_ellipsoid w a b) (IsNamed near stray)
+ellipsoid_named near stray w a b = elim (same_ellipsoid a b) as (λ same. IfSome (cond same None (Some (fault.OtherEllipsoid w))) (IsNamed near stray)) [
+  | true ↦ tt
+  | false ↦ tt
+]
+
+sizes_named : (near stray : ℕ) (up show down : Ellipsoid) → IfSome (size_fault up show down) (IsNamed near stray)
+sizes_named near stray up show down =
+    either (IsNamed near stray) (other_ellipsoid way.Up up show) (other_ellipsoid way.Down down show) (ellipsoid_named near stray way.Up up show) (ellipsoid_named near stray way.Down down show)
 
 narrow_named : (w : Routes) → IfSome (narrow w) (IsNamed w.near w.stray)
 narrow_named w = elim (nat_le w.near w.stray) as (λ wide. IfSome (cond wide None (Some (fault.Narrow w.near w.stray))) (IsNamed w.near w.stray)) [
@@ -144,7 +155,9 @@ fault_named o up show down is_up is_show is_down =
     (seams_named near stray 0 w.up w.show w.down (omega (arith, ways_few up is_up)))
     (either P (ups_fault 0 w.up) (option_or (downs_fault 0 w.down) (narrow w)) (ups_named near stray 0 w.up (omega (arith, ways_few up is_up)) (flown (grid_of up) is_up))
     (either P (downs_fault 0 w.down) (narrow w) (downs_named near stray 0 w.down (omega (arith, ways_few down is_down)) (flown (grid_of down) is_down)) (narrow_named w))) in
-    either P (option_or (other_drone way.Up other_up) (other_drone way.Down other_down)) (route_fault w) crews routes
+    let sizes = size_fault (ellipsoid_of up) (ellipsoid_of show) (ellipsoid_of down) in
+    let names = option_or (other_drone way.Up other_up) (other_drone way.Down other_down) in
+    either P (option_or names sizes) (route_fault w) (either P names sizes crews (sizes_named near stray (ellipsoid_of up) (ellipsoid_of show) (ellipsoid_of down))) routes
 
 some_named : (why : Option FlightFault) (f : FlightFault) (P : FlightFault → Type 0) → why ≡ Some f → IfSome why P → P f
 some_named None f P is holds = absurd (cc)

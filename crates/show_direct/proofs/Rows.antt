@@ -1,7 +1,7 @@
 -- Three shows by hand that are a flight, and beside them some that are none.
 use Rattle.std.proofs.Common.{◌≡◌, ℕ, ◌*◌, true, List, [], ◌∷◌, Some, None, refl, arith}
 use Rattle.std.proofs.lemmas.List.Elements.{All-nil}
-use Rattle.std.specs.Prelude.{codes, pos}
+use Rattle.std.specs.Prelude.{codes, pos, negsuc}
 use Rattle.choreo_lines.specs.declared.parts.Act.TheVariants as act
 use Rattle.choreo_lines.specs.declared.parts.Point.{Point}
 use Rattle.choreo_show.specs.Plain as plain
@@ -29,6 +29,10 @@ within near = record { near = near; at_place = 80; silence = 1000; floor = pos 0
 abbrev place : ℕ → ℕ → Point
 place x z = record { x = pos (x * 1000000); y = pos 0; z = pos (z * 1000000); yaw = pos 0 }
 
+-- a millimetre below the floor
+abbrev under : ℕ → Point
+under x = record { x = pos (x * 1000000); y = pos 0; z = negsuc 999; yaw = pos 0 }
+
 abbrev moves : List ℕ → List Point → plain.Body
 moves name [] = plain.Done
 moves name (p ∷ ps) = plain.Cue 4 2000 (on.One 5 (record { items = name }) (act.Move p) ∷ []) (moves name ps)
@@ -42,6 +46,10 @@ alone name from ps = record {
   figures = [];
   body = moves name ps;
 }
+
+-- the same drones in an ellipsoid of these half axes
+abbrev sized : ℕ → ℕ → PlainShow → PlainShow
+sized r h s = record s { settings = record { memory_id = 2; offset = 0; trajectory_id = 0; r = r; h = h; stray = 100; late = 0 } }
 
 -- up a metre; a metre along x, and back; and down
 abbrev up : PlainShow
@@ -59,6 +67,16 @@ record FaultRows : Type 0 where
   apart : fault_of (within 100) up up down ≡ Some (fault.Gap seam.UpToShow 0)
   below : fault_of (within 100) up (there_and_back (codes "a")) up ≡ Some (fault.Gap seam.ShowToDown 0)
   slanted : fault_of (within 100) (alone (codes "a") (place 0 0) (place 1 0 ∷ place 0 1 ∷ [])) (there_and_back (codes "a")) down ≡ Some (fault.Slanted way.Up 0)
+  -- other half axes are no fault where all three have them; those of a way that aren't the show's are one
+  all_smaller : fault_of (within 100) (sized 60 90 up) (sized 60 90 (there_and_back (codes "a"))) (sized 60 90 down) ≡ None
+  smaller_up : fault_of (within 100) (sized 60 300 up) (there_and_back (codes "a")) down ≡ Some (fault.OtherEllipsoid way.Up)
+  higher_up : fault_of (within 100) (sized 120 301 up) (there_and_back (codes "a")) (sized 60 300 down) ≡ Some (fault.OtherEllipsoid way.Up)
+  smaller_down : fault_of (within 100) up (there_and_back (codes "a")) (sized 119 300 down) ≡ Some (fault.OtherEllipsoid way.Down)
+  turned_show : fault_of (within 100) up (sized 300 120 (there_and_back (codes "a"))) down ≡ Some (fault.OtherEllipsoid way.Up)
+  -- at first up and not down, at last down and not up
+  rises_first : fault_of (within 100) (alone (codes "a") (place 0 0) (place 0 2 ∷ place 0 1 ∷ [])) (there_and_back (codes "a")) (alone (codes "a") (place 0 1) (place 0 2 ∷ place 0 0 ∷ [])) ≡ None
+  falls_first : fault_of (within 100) (alone (codes "a") (place 0 0) (under 0 ∷ place 0 1 ∷ [])) (there_and_back (codes "a")) down ≡ Some (fault.Slanted way.Up 0)
+  rises_last : fault_of (within 100) up (there_and_back (codes "a")) (alone (codes "a") (place 0 1) (under 0 ∷ place 0 0 ∷ [])) ≡ Some (fault.Slanted way.Down 0)
   narrow : fault_of (within 101) up (there_and_back (codes "a")) down ≡ Some (fault.Narrow 101 100)
   -- without any frame: the end frame of 8 after three shows that are a flight; after others the cause, and the end frame
   -- of 19
@@ -73,11 +91,13 @@ record FrameRows : Type 0 where
   still : fault_frame (fault.Still way.Up 7) ≡ 5 ∷ 3 ∷ 0 ∷ 7 ∷ 0 ∷ 0 ∷ []
   slanted : fault_frame (fault.Slanted way.Down 0) ≡ 5 ∷ 4 ∷ 1 ∷ 0 ∷ 0 ∷ 0 ∷ []
   narrow : fault_frame (fault.Narrow 101 100) ≡ 5 ∷ 5 ∷ 0 ∷ 0 ∷ 0 ∷ 0 ∷ []
+  ellipsoid : fault_frame (fault.OtherEllipsoid way.Down) ≡ 5 ∷ 6 ∷ 1 ∷ 0 ∷ 0 ∷ 0 ∷ []
   read : fault_in 101 100 (5 ∷ 2 ∷ 1 ∷ 2 ∷ 231 ∷ 3 ∷ []) ≡ fault.Restless way.Down 2 999
   read_narrow : fault_in 101 100 (5 ∷ 5 ∷ 0 ∷ 0 ∷ 0 ∷ 0 ∷ []) ≡ fault.Narrow 101 100
+  read_ellipsoid : fault_in 101 100 (5 ∷ 6 ∷ 1 ∷ 0 ∷ 0 ∷ 0 ∷ []) ≡ fault.OtherEllipsoid way.Down
 
 frame_rows : FrameRows
-frame_rows = record { other = refl; gap = refl; restless = refl; still = refl; slanted = refl; narrow = refl; read = refl; read_narrow = refl }
+frame_rows = record { other = refl; gap = refl; restless = refl; still = refl; slanted = refl; narrow = refl; ellipsoid = refl; read = refl; read_narrow = refl; read_ellipsoid = refl }
 
 early : FlightGives (flight_of (within 100) up (there_and_back (codes "a")) down) [] 8 (0x45 ∷ 8 ∷ [])
 unfolding ended sent_over expanded end_of
@@ -91,4 +111,4 @@ early = record {
 
 rows : FaultRows
 unfolding expanded end_of
-rows = record { none = refl; other = refl; apart = refl; below = refl; slanted = refl; narrow = refl; ended_early = early; no_flight = refl }
+rows = record { none = refl; other = refl; apart = refl; below = refl; slanted = refl; all_smaller = refl; smaller_up = refl; higher_up = refl; smaller_down = refl; turned_show = refl; rises_first = refl; falls_first = refl; rises_last = refl; narrow = refl; ended_early = early; no_flight = refl }

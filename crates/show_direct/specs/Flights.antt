@@ -2,11 +2,13 @@
 use Rattle.std.specs.Prelude.{◌≡◌, ℕ, min, not, Option}
 use Rattle.std.specs.Option.{option_or}
 use Rattle.choreo_show.specs.Plain.{PlainShow}
+use Rattle.choreo_show.specs.declared.show.Settings.{Settings}
 use Rattle.flight_model.specs.declared.flights.Flight.{Flight}
 use Rattle.flight_model.specs.Legs.{IsFlight, Routes, lasts, steps_of}
 use Rattle.flight_steps.specs.declared.faults.FlightFault.{FlightFault}
 use Rattle.flight_steps.specs.declared.faults.Way.TheVariants as way
-use Rattle.flight_steps.specs.Faults.{first_other, other_drone, route_fault}
+use Rattle.flight_steps.specs.declared.ways.Ellipsoid.{Ellipsoid}
+use Rattle.flight_steps.specs.Faults.{first_other, other_drone, route_fault, size_fault}
 use Rattle.show_judge.specs.Shows.{names_of, sent_of, trajectories_of, words_of}
 use Rattle.show_direct.specs.declared.options.Options.{Options}
 
@@ -22,17 +24,28 @@ routes_of o up show down = record {
   at_place = o.at_place;
 }
 
--- The first cause why the three are no flight: of their names, and then of their ways.
+-- the ellipsoid around each drone of a show
+abbrev pub ellipsoid_in : Settings → Ellipsoid
+ellipsoid_in e = record { r = e.r; h = e.h }
+
+abbrev pub ellipsoid_of : PlainShow → Ellipsoid
+ellipsoid_of s = ellipsoid_in s.settings
+
+-- The first cause why the three are no flight: of their names, then of their ellipsoids, and then of their ways.
 abbrev pub fault_of : Options → PlainShow → PlainShow → PlainShow → Option FlightFault
 fault_of o up show down =
-    option_or (option_or (other_drone way.Up (first_other 0 (names_of up) (names_of show)))
+    option_or (option_or (option_or (other_drone way.Up (first_other 0 (names_of up) (names_of show)))
     (other_drone way.Down (first_other 0 (names_of down) (names_of show))))
+    (size_fault (ellipsoid_of up) (ellipsoid_of show) (ellipsoid_of down)))
     (route_fault (routes_of o up show down))
 
--- The three are a flight: the same drones, by name, in the same order; and their ways are a flight.
+-- The three are a flight: the same drones, by name, in the same order; one ellipsoid, so that in all three the same
+-- drones are apart; and their ways are a flight.
 pub record AreFlight (o : Options) (up show down : PlainShow) : Type 0 where
   pub up_names : words_of up ≡ words_of show
   pub down_names : words_of down ≡ words_of show
+  pub up_ellipsoid : ellipsoid_of up ≡ ellipsoid_of show
+  pub down_ellipsoid : ellipsoid_of down ≡ ellipsoid_of show
   pub flight : IsFlight (routes_of o up show down)
 
 -- The director counts times up to 1,000,000,000 ms, so a longer silence than this is none that it would find.

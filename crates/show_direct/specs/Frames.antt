@@ -42,6 +42,7 @@ fault_frame (fault.Restless w d cue) = cause_bytes 2 (way_byte w) d cue
 fault_frame (fault.Still w d) = cause_bytes 3 (way_byte w) d 0
 fault_frame (fault.Slanted w d) = cause_bytes 4 (way_byte w) d 0
 fault_frame (fault.Narrow near stray) = cause_bytes 5 0 0 0
+fault_frame (fault.OtherEllipsoid w) = cause_bytes 6 (way_byte w) 0 0
 
 -- what is written of three shows that are no flight: the first cause, and the end
 abbrev pub no_flight_bytes : FlightFault → List ℕ
@@ -63,7 +64,8 @@ fault_from near stray cause place drone cue =
     else (if cause == 2 then fault.Restless (way_in place) drone cue
     else (if cause == 3 then fault.Still (way_in place) drone
     else (if cause == 4 then fault.Slanted (way_in place) drone
-    else fault.Narrow near stray))))
+    else (if cause == 5 then fault.Narrow near stray
+    else fault.OtherEllipsoid (way_in place))))))
 
 -- the cause that a frame names
 abbrev pub fault_in : ℕ → ℕ → List ℕ → FlightFault
@@ -79,6 +81,7 @@ IsNamed near stray (fault.Restless w d cue) = (d < 256) × (cue < 256 * 256)
 IsNamed near stray (fault.Still w d) = d < 256
 IsNamed near stray (fault.Slanted w d) = d < 256
 IsNamed near stray (fault.Narrow n s) = (n ≡ near) × (s ≡ stray)
+IsNamed near stray (fault.OtherEllipsoid w) = Unit {0}
 
 -- What holds of the frame.
 pub record FaultFrameLaw : Type 0 where

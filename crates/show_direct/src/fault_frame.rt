@@ -62,6 +62,7 @@ pub fn no_flight_bytes(fault: &FlightFault) -> [u8; 8]
         FlightFault::Still { way, drone } => cause_bytes(3, way_byte(*way), *drone, 0),
         FlightFault::Slanted { way, drone } => cause_bytes(4, way_byte(*way), *drone, 0),
         FlightFault::Narrow { .. } => cause_bytes(5, 0, 0, 0),
+        FlightFault::OtherEllipsoid { way } => cause_bytes(6, way_byte(*way), 0, 0),
     }
 }
 

@@ -6,12 +6,12 @@ ghost use Rattle.choreo_show.specs.Plain.{PlainShow};
 ghost use Rattle.flight_director.specs.Held.{IsHeld};
 ghost use Rattle.flight_steps.specs.Sizes.{IsStepOf};
 ghost use Rattle.show_plan.specs.Fitting.{IsFitted, IsValidFitted};
-ghost use Rattle.show_direct.specs.Flights.{most_silence};
+ghost use Rattle.show_direct.specs.Flights.{ellipsoid_in, most_silence};
 ghost use Rattle.show_direct.specs.Steps.{FlightMade, StepsMade};
 
 use crate::options::Options;
 use flight_model::{Flight, Step};
-use flight_steps::{Crews, StepsError, Ways, steps_of};
+use flight_steps::{Crew, Crews, Ellipsoid, StepsError, Ways, steps_of};
 use listed::Listed;
 use show_plan::{Fitted, uploadable_law};
 use std::alloc::Global;
@@ -22,6 +22,20 @@ use traj_codec::join_law;
 pub struct Shows {
     pub up: Fitted,
     pub show: Fitted,
+}
+
+// The drones of a show.
+fn crew_of<'a>(show: &'a Fitted) -> Crew<'a>
+    ensures names { result.names.now ≡ show.now.names }
+    ensures ellipsoid { result.ellipsoid ≡ ellipsoid_in show.now.settings }
+{
+    Crew {
+        names: show.names.as_slice(),
+        ellipsoid: Ellipsoid {
+            r: show.settings.r,
+            h: show.settings.h,
+        },
+    }
 }
 
 // The steps of a flight of three shows, or the first cause why they are none.
@@ -40,9 +54,9 @@ fn make_steps(
     ensures sizes { IfOk result (λ steps. All (IsStepOf (length show.now.trajs)) steps) }
 {
     let crews = Crews {
-        up: up.names.as_slice(),
-        show: show.names.as_slice(),
-        down: down.names.as_slice(),
+        up: crew_of(up),
+        show: crew_of(show),
+        down: crew_of(down),
     };
     let ways = Ways {
         up: up.trajs.as_slice(),

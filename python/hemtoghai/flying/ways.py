@@ -27,7 +27,9 @@ CAUSES = (("isn't the drone of the way up", "isn't the drone of the way down"),
           ("doesn't rest on its way up, in stage %d", "doesn't rest on its way down, in stage %d"),
           ("has no move up", "has no move down"),
           ("doesn't leave its pad straight up", "doesn't come to its pad straight down"),
-          ("may stand farther from its pad than its way up is judged for",))
+          ("may stand farther from its pad than its way up is judged for",),
+          ("has another ellipsoid on its way up than in the show",
+           "has another ellipsoid on its way down than in the show"))
 
 
 def words_of(cause: director.Cause, names: Sequence[str]) -> str:
