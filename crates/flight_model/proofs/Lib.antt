@@ -5,6 +5,7 @@ mod Choices
 mod Telling
 mod Beginning
 mod Rises
+mod Turns
 mod Ending
 mod Flown
 mod Quiet

@@ -31,7 +31,7 @@ use Rattle.flight_model.proofs.Beginning.{begin-may, onward-begins, contains-nil
 
 -- ---- before its first move a drone is where its way begins
 
-or-parts : (a b : Bool) → a || b ≡ false → (a ≡ false) × (b ≡ false)
+pub or-parts : (a b : Bool) → a || b ≡ false → (a ≡ false) × (b ≡ false)
 or-parts false false h = (refl, refl)
 or-parts false true h = absurd (cc)
 or-parts true b h = absurd (cc)
@@ -43,7 +43,7 @@ four true true false d h = absurd (cc)
 four true false c d h = absurd (cc)
 four false b c d h = absurd (cc)
 
-same-value : (a b : ℤ) → int_le a b && int_le b a ≡ true → b ≡ a
+pub same-value : (a b : ℤ) → int_le a b && int_le b a ≡ true → b ≡ a
 same-value a b h = let p = and_parts (int_le a b) (int_le b a) h in omega (arith, ints, p.0, p.1)
 
 same-position : (u v : List ℤ) → at v 0 ≡ at u 0 → at v 1 ≡ at u 1 → at v 2 ≡ at u 2 → position_of v ≡ position_of u
@@ -54,7 +54,7 @@ still-there l h =
     let s = four (same_on l 0) (same_on l 1) (same_on l 2) (same_on l 3) h in
     same-position l.from l.to (same-value (at l.from 0) (at l.to 0) s.0) (same-value (at l.from 1) (at l.to 1) s.1) (same-value (at l.from 2) (at l.to 2) s.2)
 
-begins-there : (here : List ℤ) (segments : List Segment) (k : ℕ) → has_moved (legs_from here segments) k ≡ false → moves (leg (legs_from here segments) k) ≡ true →
+pub begins-there : (here : List ℤ) (segments : List Segment) (k : ℕ) → has_moved (legs_from here segments) k ≡ false → moves (leg (legs_from here segments) k) ≡ true →
     position_of (leg (legs_from here segments) k).from ≡ position_of here
 begins-there here [] k still moving = absurd (cc)
 begins-there here (s ∷ rest) zero still moving = refl
@@ -63,7 +63,7 @@ begins-there here (s ∷ rest) (suc k) still moving =
     let p = or-parts (moves l) (has_moved (legs_from (after_segment here s) rest) k) still in
     begins-there (after_segment here s) rest k p.1 moving ∙ still-there l p.0
 
-still-sooner : (legs : List Leg) (j k : ℕ) → j ≤ k → has_moved legs k ≡ false → has_moved legs j ≡ false
+pub still-sooner : (legs : List Leg) (j k : ℕ) → j ≤ k → has_moved legs k ≡ false → has_moved legs j ≡ false
 still-sooner legs zero k l h = refl
 still-sooner legs (suc j) zero l h = absurd (omega arith)
 still-sooner [] (suc j) (suc k) l h = refl
@@ -79,12 +79,12 @@ StartsNear w d up z ms step =
     order_in step.orders d ≡ Some (Some (order.Rise z ms)) →
     (c : Condition) × (slice_get step.conditions d ≡ Some c) × (c.bound ≡ w.near) × (c.position ≡ position_of (way_begins up))
 
-get-leg : {B : Type 0} (g : List Leg → B) (ts : List Traj) (d : ℕ) (t : Traj) → slice_get ts d ≡ Some t → slice_get (map g (map legs_of ts)) d ≡ Some (g (legs_of t))
+pub get-leg : {B : Type 0} (g : List Leg → B) (ts : List Traj) (d : ℕ) (t : Traj) → slice_get ts d ≡ Some t → slice_get (map g (map legs_of ts)) d ≡ Some (g (legs_of t))
 get-leg g [] d t e = absurd (cc)
 get-leg g (u ∷ ts) zero t e = ap (λ (o : Option Traj). option_map (λ v. g (legs_of v)) o) e
 get-leg g (u ∷ ts) (suc d) t e = get-leg g ts d t e
 
-get-none : {B : Type 0} (g : List Leg → B) (ts : List Traj) (d : ℕ) → slice_get ts d ≡ None → slice_get (map g (map legs_of ts)) d ≡ None
+pub get-none : {B : Type 0} (g : List Leg → B) (ts : List Traj) (d : ℕ) → slice_get ts d ≡ None → slice_get (map g (map legs_of ts)) d ≡ None
 get-none g [] d e = refl
 get-none g (u ∷ ts) zero e = absurd (cc)
 get-none g (u ∷ ts) (suc d) e = get-none g ts d e
@@ -100,7 +100,7 @@ no_rise-down false true x y h yaw floor z n m ms e = absurd (cc)
 no_rise-down false false x y h yaw floor z n m ms e = absurd (cc)
 
 -- a rise of the way up is the first move
-rises-first : (a b : Bool) (x y h yaw top z : ℤ) (n m ms : ℕ) →
+pub rises-first : (a b : Bool) (x y h yaw top z : ℤ) (n m ms : ℕ) →
     Some (cond a (Some (order.Go x y h yaw n)) (cond b (Some (order.Rise top m)) None)) ≡ Some (Some (order.Rise z ms)) → (a ≡ false) × (b ≡ true)
 rises-first true b x y h yaw top z n m ms e = absurd (cc)
 rises-first false true x y h yaw top z n m ms e = (refl, refl)
@@ -133,44 +133,51 @@ in-down w d up z ms total k rise = absurd (by_way (slice_get w.down d) refl) whe
       no_rise-down (will_move legs (suc k)) (moves l) (at l.to 0) (at l.to 1) (at l.to 2) (at l.to 3) (at l.to 2) z l.ms l.ms ms
       (sym (get-leg (λ legs. down_order legs k) w.down d t same) ∙ rise)
 
-flat-all : (P : Step → Type 0) (h : ℕ → List Step) (ks : List ℕ) → ((k : ℕ) → All P (h k)) → All P (flat_map h ks)
+pub flat-all : (P : Step → Type 0) (h : ℕ → List Step) (ks : List ℕ) → ((k : ℕ) → All P (h k)) → All P (flat_map h ks)
 flat-all P h [] each = All-nil P
 flat-all P h (k ∷ ks) each = All-append P (h k) (flat_map h ks) (each k) (flat-all P h ks each)
 
-map-all : (P : Step → Type 0) (h : ℕ → Step) (ks : List ℕ) → ((k : ℕ) → P (h k)) → All P (map h ks)
+pub map-all : (P : Step → Type 0) (h : ℕ → Step) (ks : List ℕ) → ((k : ℕ) → P (h k)) → All P (map h ks)
 map-all P h [] each = All-nil P
 map-all P h (k ∷ ks) each = All-cons P (h k) (map h ks) (each k) (map-all P h ks each)
 
-all-near : (w : Routes) (d : ℕ) (up : Traj) (z : ℤ) (ms : ℕ) → slice_get w.up d ≡ Some up → All (StartsNear w d up z ms) (steps_of w)
+-- what holds of each kind of step holds of all steps
+pub all-steps : (P : Step → Type 0) (w : Routes) → ((k : ℕ) → P (arm_step w (map legs_of w.up) k)) → ((k : ℕ) → P (up_step w (map legs_of w.up) k)) →
+    P (start_step w (map legs_of w.up)) → ((k : ℕ) → P (down_step w (lasts w.show) (map legs_of w.down) k)) → P (last_step w (map legs_of w.down)) →
+    All P (steps_of w)
 unfolding steps_of
-all-near w d up z ms e =
-    let P = StartsNear w d up z ms in
+all-steps P w arm up begin down last =
     let ups = map legs_of w.up in
     let downs = map legs_of w.down in
     All-append P (flat_map (λ k. arm_step w ups k ∷ up_step w ups k ∷ []) (range_with_len 0 (leg_count ups))) _
     (flat-all P (λ k. arm_step w ups k ∷ up_step w ups k ∷ []) (range_with_len 0 (leg_count ups))
-    (λ k. All-cons P (arm_step w ups k) (up_step w ups k ∷ []) (in-arm w d up z ms k e) (All-cons P (up_step w ups k) [] (in-up w d up z ms k e) (All-nil P))))
-    (All-cons P (start_step w ups) _ (λ rise. absurd (cc))
+    (λ k. All-cons P (arm_step w ups k) (up_step w ups k ∷ []) (arm k) (All-cons P (up_step w ups k) [] (up k) (All-nil P))))
+    (All-cons P (start_step w ups) _ begin
     (All-append P (map (down_step w (lasts w.show) downs) (range_with_len 0 (leg_count downs))) (last_step w downs ∷ [])
-    (map-all P (down_step w (lasts w.show) downs) (range_with_len 0 (leg_count downs)) (λ k. in-down w d up z ms (lasts w.show) k))
-    (All-cons P (last_step w downs) [] (λ rise. absurd (cc)) (All-nil P))))
+    (map-all P (down_step w (lasts w.show) downs) (range_with_len 0 (leg_count downs)) down)
+    (All-cons P (last_step w downs) [] last (All-nil P))))
 
-all-get : (P : Step → Type 0) (steps : List Step) (n : ℕ) (step : Step) → All P steps → slice_get steps n ≡ Some step → P step
+all-near : (w : Routes) (d : ℕ) (up : Traj) (z : ℤ) (ms : ℕ) → slice_get w.up d ≡ Some up → All (StartsNear w d up z ms) (steps_of w)
+all-near w d up z ms e =
+    all-steps (StartsNear w d up z ms) w (λ k. in-arm w d up z ms k e) (λ k. in-up w d up z ms k e) (λ rise. absurd (cc))
+    (λ k. in-down w d up z ms (lasts w.show) k) (λ rise. absurd (cc))
+
+pub all-get : (P : Step → Type 0) (steps : List Step) (n : ℕ) (step : Step) → All P steps → slice_get steps n ≡ Some step → P step
 all-get P [] n step all e = absurd (cc)
 all-get P (x ∷ steps) zero step all e = let same : x ≡ step = cc in subst P same (All-head P x steps all)
 all-get P (x ∷ steps) (suc n) step all e = all-get P steps n step (All-tail P x steps all) e
 
 -- ---- the step that tells a drone to rise
 
-told-in : (o : Option (Option Order)) (x : Order) → Contains (in_step o) x → o ≡ Some (Some x)
+pub told-in : (o : Option (Option Order)) (x : Order) → Contains (in_step o) x → o ≡ Some (Some x)
 told-in None x c = absurd (contains-nil x c)
 told-in (Some None) x c = absurd (contains-nil x c)
 told-in (Some (Some y)) x c = ap (λ (v : Order). Some (Some v)) (contains-one y x c)
 
-ordered-rise : (f : Flight) (s : State) (e : Event) (d : ℕ) (x : Order) (step : Step) → choice f s e ≡ Begin → slice_get f.steps s.next ≡ Some step →
+pub ordered-step : (f : Flight) (s : State) (e : Event) (d : ℕ) (x : Order) (step : Step) → choice f s e ≡ Begin → slice_get f.steps s.next ≡ Some step →
     Contains (orders_to d (says f s e)) x → order_in step.orders d ≡ Some (Some x)
 unfolding done heard
-ordered-rise f s e d x step same is has =
+ordered-step f s e d x step same is has =
     let told : orders_to d (says f s e) ≡ in_step (order_in step.orders d) =
     orders_to-says d f s e ∙ rw same (ap (λ o. orders_to d (frames_of_step o)) is ∙ orders_to-of_step d step.orders) in
     told-in (order_in step.orders d) x (subst (λ os. Contains os x) told has)
@@ -185,7 +192,7 @@ rise_law f w is steps s e d up at_d z ms has =
     let begins = onward-begins f (heard f s e) d (order.Rise z ms) (choice f s e) (Rises z ms) (subst (λ os. Contains os (order.Rise z ms)) (orders_to-says d f s e) has) in
     let m = begin-may f s e begins in
     let all = all-get (StartsNear w d up z ms) (steps_of w) s.next m.step (all-near w d up z ms at_d) (sym (ap (λ (xs : List Step). slice_get xs s.next) steps) ∙ m.is_next) in
-    let c = all (ordered-rise f s e d (order.Rise z ms) m.step begins m.is_next has) in
+    let c = all (ordered-step f s e d (order.Rise z ms) m.step begins m.is_next has) in
     let fit = m.fit d c.0 c.1 in
     let near = subst (λ (p : Position). IsNear c.0.bound p fit.1) c.3 fit.4.near in
     record {

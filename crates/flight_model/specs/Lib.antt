@@ -3,6 +3,7 @@ pub mod Samples
 pub mod Directors
 pub mod Law
 pub mod Rises
+pub mod Turns
 pub mod Kept
 pub mod Plan
 pub mod Example

@@ -4,6 +4,7 @@ ghost use Rattle.std.specs.Prelude.{◌≡◌};
 ghost use Rattle.flight_model.specs.Plan.{PlanLaw};
 ghost use Rattle.flight_model.specs.Law.{OnlyLaw, DueLaw, LandLaw, FaultLaw, HaltLaw, OverLaw, QuietLaw};
 ghost use Rattle.flight_model.specs.Rises.{RiseLaw};
+ghost use Rattle.flight_model.specs.Turns.{TurnLaw};
 ghost use Rattle.flight_model.specs.Kept.{KeptLaw};
 ghost use Rattle.flight_model.specs.Example.{ExampleLaw};
 ghost use Rattle.flight_model.specs.Rejected.{RejectedLaw};
@@ -18,6 +19,7 @@ pub fn director_law()
     ensures only { OnlyLaw }
     ensures due { DueLaw }
     ensures rise { RiseLaw }
+    ensures turn { TurnLaw }
     ensures land { LandLaw }
     ensures fault { FaultLaw }
     ensures halt { HaltLaw }

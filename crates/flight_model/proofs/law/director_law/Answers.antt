@@ -1,6 +1,7 @@
 use Rattle.flight_model.proofs.Telling as telling
 use Rattle.flight_model.proofs.Beginning as beginning
 use Rattle.flight_model.proofs.Rises as rises
+use Rattle.flight_model.proofs.Turns as turns
 use Rattle.flight_model.proofs.Ending as ending
 use Rattle.flight_model.proofs.Flown as flown
 use Rattle.flight_model.proofs.Kept as kept
@@ -15,6 +16,9 @@ returns-clause-due c = beginning.due_law
 
 pub returns-clause-rise : goal.returns-clause-rise
 returns-clause-rise c = rises.rise_law
+
+pub returns-clause-turn : goal.returns-clause-turn
+returns-clause-turn c = turns.turn_law
 
 pub returns-clause-land : goal.returns-clause-land
 returns-clause-land c = ending.land_law

@@ -1,0 +1,339 @@
+-- In whose turn each order goes out.
+use Rattle.std.proofs.Common.{◌≡◌, ◌⊎◌, ◌≤◌, ◌∷◌, ◌∙◌, ◌||◌, ◌&&◌, [], List, Bool, true, false, not, cond, refl, sym, ap, subst, None, Some, Option, ℕ, zero, suc, inl, inr, ◌-◌, ltb, arith}
+use Rattle.std.specs.Prelude.{ℤ, map, slice_get, Contains, All}
+use Rattle.std.specs.Option.{option_map}
+use Rattle.std.proofs.lemmas.Bool.{and_parts, not-true, ltb-true, ltb-false}
+use Rattle.traj_codec.specs.declared.traj.Traj.{Traj}
+use Rattle.flight_model.specs.declared.events.Order.{Order}
+use Rattle.flight_model.specs.declared.events.Order.TheVariants as order
+use Rattle.flight_model.specs.declared.events.Sample.{Sample}
+use Rattle.flight_model.specs.declared.events.Signal.TheVariants as signal
+use Rattle.flight_model.specs.declared.events.Event.{Event}
+use Rattle.flight_model.specs.declared.events.Event.TheVariants.{Clock, Seen, Answered, Said}
+use Rattle.flight_model.specs.declared.flights.Position.{Position}
+use Rattle.flight_model.specs.declared.flights.Condition.{Condition}
+use Rattle.flight_model.specs.declared.flights.Step.{Step}
+use Rattle.flight_model.specs.declared.flights.Flight.{Flight}
+unfoldable use Rattle.flight_model.specs.Legs.{steps_of}
+use Rattle.flight_model.specs.Legs.{Routes, Leg, legs_of, leg, moves, has_moved, will_move, arm_order, up_order, down_order, way_begins, position_of, leg_count, arm_condition, arm_step, up_condition, start_condition, start_step, last_condition, last_step}
+unfoldable use Rattle.flight_model.specs.Directors.{heard, choice, done, happens}
+use Rattle.flight_model.specs.Directors.{Phase, Steps, Landing, Off, Halted, Ended, Track, State, Choice, Rest, Begin, Descend, Cut, Quit, Finish, chosen, is_fault, is_stop, is_down, is_silent, all_seen, order_in, says, land_order, has_risen, drones}
+use Rattle.flight_model.specs.Law.{orders_to, only_if, IsNear, MayBegin, IsOnward, Arms, Rises, Starts}
+use Rattle.flight_model.specs.Turns.{MayArm, MayRise, MayStart, AtPads, IsSeenDown, AllDown, TurnLaw}
+use Rattle.flight_model.proofs.OrdersTo.{orders_to-landing, orders_to-no_landing}
+use Rattle.flight_model.proofs.Telling.{orders_to-says}
+use Rattle.flight_model.proofs.Choices.{steps-has, landing-has, off-has, halted-has}
+use Rattle.flight_model.proofs.Beginning.{begin-may, due_law, onward-begins, contains-nil, contains-one}
+use Rattle.flight_model.proofs.Rises.{begins-there, still-sooner, get-leg, get-none, all-steps, all-get, ordered-step, rises-first}
+
+-- ---- which step has an order
+
+-- arm, rise, go and land are orders of legs
+abbrev is_of_leg : Order → Bool
+is_of_leg order.Arm = true
+is_of_leg (order.Rise z ms) = true
+is_of_leg (order.Go x y z yaw ms) = true
+is_of_leg (order.Land z ms) = true
+is_of_leg order.Start = false
+is_of_leg order.Halt = false
+is_of_leg order.Disarm = false
+
+of_leg : (a b : Bool) (x y o : Order) → is_of_leg x ≡ true → is_of_leg y ≡ true → Some (cond a (Some x) (cond b (Some y) None)) ≡ Some (Some o) → is_of_leg o ≡ true
+of_leg true b x y o p q e = let same : x ≡ o = cc in subst (λ (z : Order). is_of_leg z ≡ true) same p
+of_leg false true x y o p q e = let same : y ≡ o = cc in subst (λ (z : Order). is_of_leg z ≡ true) same q
+of_leg false false x y o p q e = absurd (cc)
+
+-- a list of one order a drone has only orders of legs
+each_of_leg : (g : List Leg → Option Order) (ts : List Traj) (d : ℕ) (o : Order) → ((legs : List Leg) → Some (g legs) ≡ Some (Some o) → is_of_leg o ≡ true) →
+    slice_get (map g (map legs_of ts)) d ≡ Some (Some o) → is_of_leg o ≡ true
+each_of_leg g ts d o each e = by_way (slice_get ts d) refl where
+  by_way : (t : Option Traj) → slice_get ts d ≡ t → is_of_leg o ≡ true
+  by_way None same = let none = get-none g ts d same in absurd (cc)
+  by_way (Some t) same = each (legs_of t) (sym (get-leg g ts d t same) ∙ e)
+
+arm_of_leg : (legs : List Leg) (k : ℕ) (o : Order) → Some (arm_order legs k) ≡ Some (Some o) → is_of_leg o ≡ true
+arm_of_leg legs k o e = of_leg (not (has_moved legs k) && moves (leg legs k)) false order.Arm order.Arm o refl refl e
+
+up_of_leg : (legs : List Leg) (k : ℕ) (o : Order) → Some (up_order legs k) ≡ Some (Some o) → is_of_leg o ≡ true
+up_of_leg legs k o e = of_leg (has_moved legs k) (moves (leg legs k)) _ _ o refl refl e
+
+down_of_leg : (legs : List Leg) (k : ℕ) (o : Order) → Some (down_order legs k) ≡ Some (Some o) → is_of_leg o ≡ true
+down_of_leg legs k o e = of_leg (will_move legs (suc k)) (moves (leg legs k)) _ _ o refl refl e
+
+-- the step has this order for the drone only if it is that one
+abbrev Has : ℕ → Order → Step → Type 0
+Has d o step = order_in step.orders d ≡ Some (Some o)
+
+-- an order that no leg has is that of the start, or of the last step
+abbrev IsOfNoLeg : Routes → ℕ → Order → Step → Type 0
+IsOfNoLeg w d o step =
+    Has d o step → is_of_leg o ≡ false →
+    ((step ≡ start_step w (map legs_of w.up)) × (o ≡ order.Start)) ⊎ ((step ≡ last_step w (map legs_of w.down)) × (o ≡ order.Disarm))
+
+of_no_leg : (w : Routes) (d : ℕ) (o : Order) → All (IsOfNoLeg w d o) (steps_of w)
+of_no_leg w d o =
+    all-steps (IsOfNoLeg w d o) w
+    (λ k has no. let yes : is_of_leg o ≡ true = each_of_leg (λ legs. arm_order legs k) w.up d o (λ legs. arm_of_leg legs k o) has in absurd (cc))
+    (λ k has no. let yes : is_of_leg o ≡ true = each_of_leg (λ legs. up_order legs k) w.up d o (λ legs. up_of_leg legs k o) has in absurd (cc))
+    (λ has no. inl (refl, cc))
+    (λ k has no. let yes : is_of_leg o ≡ true = each_of_leg (λ legs. down_order legs k) w.down d o (λ legs. down_of_leg legs k o) has in absurd (cc))
+    (λ has no. inr (refl, cc))
+
+-- what holds of the steps of three ways holds of the step that begins
+begun : (f : Flight) (w : Routes) (P : Step → Type 0) → f.steps ≡ steps_of w → All P (steps_of w) → (s : State) (e : Event) (m : MayBegin f s e) → P m.step
+begun f w P steps all s e m = all-get P (steps_of w) s.next m.step all (sym (ap (λ (xs : List Step). slice_get xs s.next) steps) ∙ m.is_next)
+
+-- ---- the first step
+
+first-asks : (w : Routes) (step : Step) → slice_get (steps_of w) 0 ≡ Some step → step.asked ≡ true
+unfolding steps_of
+first-asks w step e = by_legs (leg_count (map legs_of w.up)) refl where
+  by_legs : (n : ℕ) → leg_count (map legs_of w.up) ≡ n → step.asked ≡ true
+  by_legs zero none = let same : start_step w (map legs_of w.up) ≡ step = cc in subst (λ (x : Step). x.asked ≡ true) same refl
+  by_legs (suc n) some = let same : arm_step w (map legs_of w.up) 0 ≡ step = cc in subst (λ (x : Step). x.asked ≡ true) same refl
+
+first_waits : (f : Flight) (w : Routes) → f.steps ≡ steps_of w → (s : State) (e : Event) → s.next ≡ 0 → ((happens f s e).next ≡ 0) ⊎ (e ≡ Said signal.Go)
+first_waits f w steps s e zeroth = elim (due_law.steps f s e) [
+  | inl same ↦ inl (same ∙ zeroth)
+  | inr m ↦ inr (m.asked (first-asks w m.step (sym (ap (λ (xs : List Step). slice_get xs 0) steps) ∙ (sym (ap (λ (n : ℕ). slice_get f.steps n) zeroth) ∙ m.is_next))))
+]
+
+-- ---- arm
+
+abbrev ArmsReady : Routes → ℕ → Traj → Step → Type 0
+ArmsReady w d up step =
+    Has d order.Arm step → (c : Condition) × (slice_get step.conditions d ≡ Some c) × (c.ready ≡ true) × (c.bound ≡ w.near) × (c.position ≡ position_of (way_begins up))
+
+arm-parts : (a b : Bool) → Some (cond (not a && b) (Some order.Arm) None) ≡ Some (Some order.Arm) → (a ≡ false) × (b ≡ true)
+arm-parts true b e = absurd (cc)
+arm-parts false true e = (refl, refl)
+arm-parts false false e = absurd (cc)
+
+no_arm : (a b : Bool) (x y z yaw h : ℤ) (n m : ℕ) → Some (cond a (Some (order.Go x y z yaw n)) (cond b (Some (order.Rise h m)) None)) ≡ Some (Some order.Arm) → ⊥
+no_arm true b x y z yaw h n m e = absurd (cc)
+no_arm false true x y z yaw h n m e = absurd (cc)
+no_arm false false x y z yaw h n m e = absurd (cc)
+
+no_arm-down : (a b : Bool) (x y z yaw h : ℤ) (n m : ℕ) → Some (cond a (Some (order.Go x y z yaw n)) (cond b (Some (order.Land h m)) None)) ≡ Some (Some order.Arm) → ⊥
+no_arm-down true b x y z yaw h n m e = absurd (cc)
+no_arm-down false true x y z yaw h n m e = absurd (cc)
+no_arm-down false false x y z yaw h n m e = absurd (cc)
+
+no_down : (g : List Leg → Option Order) (ts : List Traj) (d : ℕ) (o : Order) → ((legs : List Leg) → Some (g legs) ≡ Some (Some o) → ⊥) → slice_get (map g (map legs_of ts)) d ≡ Some (Some o) → ⊥
+no_down g ts d o never e = by_way (slice_get ts d) refl where
+  by_way : (t : Option Traj) → slice_get ts d ≡ t → ⊥
+  by_way None same = let none = get-none g ts d same in absurd (cc)
+  by_way (Some t) same = never (legs_of t) (sym (get-leg g ts d t same) ∙ e)
+
+arms_ready : (w : Routes) (d : ℕ) (up : Traj) → slice_get w.up d ≡ Some up → All (ArmsReady w d up) (steps_of w)
+arms_ready w d up e =
+    all-steps (ArmsReady w d up) w
+    (λ k has. (let legs = legs_of up in
+    let parts = arm-parts (has_moved legs k) (moves (leg legs k)) (sym (get-leg (λ legs. arm_order legs k) w.up d up e) ∙ has) in (
+      arm_condition w k legs,
+      get-leg (arm_condition w k) w.up d up e,
+      ap not parts.0,
+      ap (λ (b : Bool). cond b w.at_place w.near) (still-sooner legs (k - 1) k (omega arith) parts.0),
+      begins-there up.start up.segments k parts.0 parts.1,
+    )))
+    (λ k has. absurd (no_down (λ legs. up_order legs k) w.up d order.Arm (λ legs is. no_arm (has_moved legs k) (moves (leg legs k)) _ _ _ _ _ _ _ is) has))
+    (λ has. absurd (cc))
+    (λ k has. absurd (no_down (λ legs. down_order legs k) w.down d order.Arm (λ legs is. no_arm-down (will_move legs (suc k)) (moves (leg legs k)) _ _ _ _ _ _ _ is) has))
+    (λ has. absurd (cc))
+
+-- the step that tells a drone something onward
+onward-step : (f : Flight) (s : State) (e : Event) (d : ℕ) (o : Order) → IsOnward o → Contains (orders_to d (says f s e)) o → (m : MayBegin f s e) × Has d o m.step
+onward-step f s e d o on has =
+    let begins = onward-begins f (heard f s e) d o (choice f s e) on (subst (λ os. Contains os o) (orders_to-says d f s e) has) in
+    let m = begin-may f s e begins in
+    (m, ordered-step f s e d o m.step begins m.is_next has)
+
+may_arm : (f : Flight) (w : Routes) → f.steps ≡ steps_of w → (s : State) (e : Event) (d : ℕ) (up : Traj) → slice_get w.up d ≡ Some up →
+    Contains (orders_to d (says f s e)) order.Arm → MayArm f w s e d up
+may_arm f w steps s e d up at_d has =
+    let m = onward-step f s e d order.Arm Arms has in
+    let c = begun f w (ArmsReady w d up) steps (arms_ready w d up at_d) s e m.0 m.1 in
+    let fit = m.0.fit d c.0 c.1 in
+    record {
+      sample = fit.1;
+      is_last = record { track = fit.0; is_track = fit.2; is_sample = fit.3 };
+      ready = fit.4.ready c.2;
+      near = subst (λ (n : ℕ). IsNear n (position_of (way_begins up)) fit.1) c.3 (subst (λ (p : Position). IsNear c.0.bound p fit.1) c.4 fit.4.near);
+    }
+
+-- ---- rise
+
+abbrev RisesArmed : ℕ → ℤ → ℕ → Step → Type 0
+RisesArmed d z ms step = Has d (order.Rise z ms) step → (c : Condition) × (slice_get step.conditions d ≡ Some c) × (c.armed ≡ true)
+
+has_moved-now : (legs : List Leg) (k : ℕ) → moves (leg legs k) ≡ true → has_moved legs (suc k) ≡ true
+has_moved-now [] k m = absurd (cc)
+has_moved-now (l ∷ legs) zero m = rw m refl
+has_moved-now (l ∷ legs) (suc k) m = by_now (moves l) (has_moved legs (suc k)) (has_moved-now legs k m) where
+  by_now : (a b : Bool) → b ≡ true → a || b ≡ true
+  by_now true b e = refl
+  by_now false b e = e
+
+no_rise : (b : Bool) (z : ℤ) (ms : ℕ) → Some (cond b (Some order.Arm) None) ≡ Some (Some (order.Rise z ms)) → ⊥
+no_rise true z ms e = absurd (cc)
+no_rise false z ms e = absurd (cc)
+
+no_rise-down : (a b : Bool) (x y h yaw floor z : ℤ) (n m ms : ℕ) → Some (cond a (Some (order.Go x y h yaw n)) (cond b (Some (order.Land floor m)) None)) ≡ Some (Some (order.Rise z ms)) → ⊥
+no_rise-down true b x y h yaw floor z n m ms e = absurd (cc)
+no_rise-down false true x y h yaw floor z n m ms e = absurd (cc)
+no_rise-down false false x y h yaw floor z n m ms e = absurd (cc)
+
+rises_armed : (w : Routes) (d : ℕ) (up : Traj) (z : ℤ) (ms : ℕ) → slice_get w.up d ≡ Some up → All (RisesArmed d z ms) (steps_of w)
+rises_armed w d up z ms e =
+    all-steps (RisesArmed d z ms) w
+    (λ k has. absurd (no_down (λ legs. arm_order legs k) w.up d (order.Rise z ms) (λ legs is. no_rise (not (has_moved legs k) && moves (leg legs k)) z ms is) has))
+    (λ k has. (let legs = legs_of up in
+    let first = rises-first (has_moved legs k) (moves (leg legs k)) _ _ _ _ _ z _ _ ms (sym (get-leg (λ legs. up_order legs k) w.up d up e) ∙ has) in
+    (up_condition w k legs, get-leg (up_condition w k) w.up d up e, has_moved-now legs k first.1)))
+    (λ has. absurd (cc))
+    (λ k has. absurd (no_down (λ legs. down_order legs k) w.down d (order.Rise z ms) (λ legs is. no_rise-down (will_move legs (suc k)) (moves (leg legs k)) _ _ _ _ _ z _ _ ms is) has))
+    (λ has. absurd (cc))
+
+may_rise : (f : Flight) (w : Routes) → f.steps ≡ steps_of w → (s : State) (e : Event) (d : ℕ) (up : Traj) → slice_get w.up d ≡ Some up → (z : ℤ) (ms : ℕ) →
+    Contains (orders_to d (says f s e)) (order.Rise z ms) → MayRise f s e d
+may_rise f w steps s e d up at_d z ms has =
+    let m = onward-step f s e d (order.Rise z ms) (Rises z ms) has in
+    let c = begun f w (RisesArmed d z ms) steps (rises_armed w d up z ms at_d) s e m.0 m.1 in
+    let fit = m.0.fit d c.0 c.1 in
+    record { sample = fit.1; is_last = record { track = fit.0; is_track = fit.2; is_sample = fit.3 }; armed = fit.4.armed c.2 }
+
+-- ---- start
+
+get-map : {B : Type 0} (g : Traj → B) (ts : List Traj) (d : ℕ) (t : Traj) → slice_get ts d ≡ Some t → slice_get (map g ts) d ≡ Some (g t)
+get-map g [] d t e = absurd (cc)
+get-map g (u ∷ ts) zero t e = ap (λ (o : Option Traj). option_map g o) e
+get-map g (u ∷ ts) (suc d) t e = get-map g ts d t e
+
+starts_at : (f : Flight) (w : Routes) (s : State) (e : Event) (m : MayBegin f s e) → m.step ≡ start_step w (map legs_of w.up) → MayStart f w s e
+starts_at f w s e m is = record {
+  go = m.asked (ap (λ (x : Step). x.asked) is);
+  over = subst (λ (x : Step). x.after ≤ (heard f s e).waited) is m.time;
+  settled = subst (λ (x : Step). x.settle ≤ (heard f s e).steady) is m.settled;
+  each = λ k show at_k.
+      (let c = start_condition w w.at_place show in
+      let fit = m.fit k c (ap (λ (x : Step). slice_get x.conditions k) is ∙ get-map (start_condition w w.at_place) w.show k show at_k) in
+      record { sample = fit.1; is_last = record { track = fit.0; is_track = fit.2; is_sample = fit.3 }; armed = fit.4.armed refl; near = fit.4.near });
+}
+
+may_start : (f : Flight) (w : Routes) → f.steps ≡ steps_of w → (s : State) (e : Event) (d : ℕ) → Contains (orders_to d (says f s e)) order.Start → MayStart f w s e
+may_start f w steps s e d has =
+    let m = onward-step f s e d order.Start Starts has in
+    elim (begun f w (IsOfNoLeg w d order.Start) steps (of_no_leg w d order.Start) s e m.0 m.1 refl) [
+      | inl is ↦ starts_at f w s e m.0 is.0
+      | inr is ↦ absurd (cc)
+    ]
+
+-- ---- disarm and halt
+
+-- an order that no leg and no start has goes out by the last step, by a landing that is over, or at the operator's stop
+abbrev Ends : Flight → State → Event → ℕ → Order → Choice → Type 0
+Ends f s e d o c = Contains (orders_to d (done f (heard f s e) c)) o → is_of_leg o ≡ false → (c ≡ Begin) ⊎ (((c ≡ Quit) × (o ≡ order.Disarm)) ⊎ ((c ≡ Cut) × (o ≡ order.Halt)))
+
+ends-by : (f : Flight) (s : State) (e : Event) (d : ℕ) (o : Order) (c : Choice) → Ends f s e d o c
+unfolding done
+ends-by f s e d o Rest has other = absurd (contains-nil o has)
+ends-by f s e d o Begin has other = inl refl
+ends-by f s e d o Cut has other = inr (inr (refl, sym (contains-one order.Halt o has)))
+ends-by f s e d o Quit has other = inr (inl (refl, sym (contains-one order.Disarm o has)))
+ends-by f s e d o Finish has other = absurd (contains-nil o has)
+ends-by f s e d o Descend has other = absurd (by_drone (ltb d (drones f)) refl) where
+  by_told : (b : Bool) → Contains (only_if b (land_order f)) o → ⊥
+  by_told true l = let same = contains-one (land_order f) o l in absurd (cc)
+  by_told false l = contains-nil o l
+
+  by_drone : (b : Bool) → ltb d (drones f) ≡ b → ⊥
+  by_drone true l = by_told (has_risen f (heard f s e).next d) (subst (λ xs. Contains xs o) (orders_to-landing f (heard f s e).next d (ltb-true d (drones f) l)) has)
+  by_drone false l = contains-nil o (subst (λ xs. Contains xs o) (orders_to-no_landing f (heard f s e).next d (ltb-false d (drones f) l)) has)
+
+stop-true : (e : Event) → is_stop e ≡ true → e ≡ Said signal.Stop
+stop-true (Said signal.Go) h = absurd (cc)
+stop-true (Said signal.Land) h = absurd (cc)
+stop-true (Said signal.Stop) h = refl
+stop-true (Clock ms) h = absurd (cc)
+stop-true (Seen d x) h = absurd (cc)
+stop-true (Answered d status) h = absurd (cc)
+
+-- all is cut off at the operator's stop alone
+cut-stops : (f : Flight) (h : State) (e : Event) (fault : Bool) (p : Phase) → chosen f h e fault p ≡ Cut → e ≡ Said signal.Stop
+cut-stops f h e fault Steps same =
+    steps-has (λ c. c ≡ Cut → e ≡ Said signal.Stop) f h e fault (λ stop is. stop-true e stop) (λ go land is. absurd (cc)) (λ go on due is. absurd (cc)) (λ is. absurd (cc)) same
+cut-stops f h e fault Landing same = landing-has (λ c. c ≡ Cut → e ≡ Said signal.Stop) f h e fault (λ stop is. stop-true e stop) (λ go is. absurd (cc)) (λ go is. absurd (cc)) same
+cut-stops f h e fault Off same = off-has (λ c. c ≡ Cut → e ≡ Said signal.Stop) f h e fault (λ stop is. stop-true e stop) (λ go is. absurd (cc)) (λ go is. absurd (cc)) same
+cut-stops f h e fault Halted same = halted-has (λ c. c ≡ Cut → e ≡ Said signal.Stop) f h e fault (λ is. absurd (cc)) (λ is. absurd (cc)) same
+cut-stops f h e fault Ended same = absurd (cc)
+
+-- a landing is over where all are seen down
+landed : (b a : Bool) → cond b Cut (cond a Quit Rest) ≡ Quit → a ≡ true
+landed true a e = absurd (cc)
+landed false true e = refl
+landed false false e = absurd (cc)
+
+quit-lands : (f : Flight) (h : State) (e : Event) (fault : Bool) (p : Phase) → chosen f h e fault p ≡ Quit → (p ≡ Landing) × (all_seen f.silence is_down h.tracks ≡ true)
+quit-lands f h e fault Steps same =
+    steps-has (λ c. c ≡ Quit → (Steps ≡ Landing) × (all_seen f.silence is_down h.tracks ≡ true)) f h e fault (λ stop is. absurd (cc)) (λ go land is. absurd (cc)) (λ go on due is. absurd (cc))
+    (λ is. absurd (cc)) same
+quit-lands f h e fault Landing same = (refl, landed (is_stop e) (all_seen f.silence is_down h.tracks) same)
+quit-lands f h e fault Off same =
+    off-has (λ c. c ≡ Quit → (Off ≡ Landing) × (all_seen f.silence is_down h.tracks ≡ true)) f h e fault (λ stop is. absurd (cc)) (λ go is. absurd (cc)) (λ go is. absurd (cc)) same
+quit-lands f h e fault Halted same =
+    halted-has (λ c. c ≡ Quit → (Halted ≡ Landing) × (all_seen f.silence is_down h.tracks ≡ true)) f h e fault (λ is. absurd (cc)) (λ is. absurd (cc)) same
+quit-lands f h e fault Ended same = absurd (cc)
+
+seen_down : (silence : ℕ) (t : Track) (o : Option Sample) → t.seen ≡ o → is_down o ≡ true → is_silent silence o ≡ false → IsSeenDown silence t
+seen_down silence t None is down fresh = absurd (cc)
+seen_down silence t (Some x) is down fresh = record { sample = x; is_sample = is; down = down; fresh = ltb-false silence x.age fresh }
+
+each_down : (silence : ℕ) (ts : List Track) → all_seen silence is_down ts ≡ true → (k : ℕ) (t : Track) → slice_get ts k ≡ Some t → IsSeenDown silence t
+each_down silence [] all k t e = absurd (cc)
+each_down silence (u ∷ ts) all zero t e =
+    let p = and_parts (is_down u.seen && not (is_silent silence u.seen)) (all_seen silence is_down ts) all in
+    let q = and_parts (is_down u.seen) (not (is_silent silence u.seen)) p.0 in
+    let same : u ≡ t = cc in
+    subst (IsSeenDown silence) same (seen_down silence u u.seen refl q.0 (not-true (is_silent silence u.seen) q.1))
+each_down silence (u ∷ ts) all (suc k) t e =
+    each_down silence ts (and_parts (is_down u.seen && not (is_silent silence u.seen)) (all_seen silence is_down ts) all).1 k t e
+
+at_pads : (f : Flight) (w : Routes) (s : State) (e : Event) (m : MayBegin f s e) → m.step ≡ last_step w (map legs_of w.down) → AtPads f w s e
+at_pads f w s e m is = record {
+  over = subst (λ (x : Step). x.after ≤ (heard f s e).waited) is m.time;
+  settled = subst (λ (x : Step). x.settle ≤ (heard f s e).steady) is m.settled;
+  each = λ k down at_k.
+      (let c = last_condition w down in
+      let fit = m.fit k c (ap (λ (x : Step). slice_get x.conditions k) is ∙ get-map (last_condition w) w.down k down at_k) in
+      record { sample = fit.1; is_last = record { track = fit.0; is_track = fit.2; is_sample = fit.3 }; near = fit.4.near });
+}
+
+may_disarm : (f : Flight) (w : Routes) → f.steps ≡ steps_of w → (s : State) (e : Event) (d : ℕ) → Contains (orders_to d (says f s e)) order.Disarm → AllDown f s e ⊎ AtPads f w s e
+unfolding choice
+may_disarm f w steps s e d has =
+    elim (ends-by f s e d order.Disarm (choice f s e) (subst (λ os. Contains os order.Disarm) (orders_to-says d f s e) has) refl) [
+      | inl begins ↦ let m = begin-may f s e begins in
+      elim (begun f w (IsOfNoLeg w d order.Disarm) steps (of_no_leg w d order.Disarm) s e m (ordered-step f s e d order.Disarm m.step begins m.is_next has) refl) [
+        | inl is ↦ absurd (cc)
+        | inr is ↦ inr (at_pads f w s e m is.0)
+      ]
+      | inr (inl quits) ↦ let down = quit-lands f (heard f s e) e (is_fault f s e) s.phase quits.0 in
+      inl (record { landing = down.0; each = each_down f.silence (heard f s e).tracks down.1 })
+      | inr (inr cuts) ↦ absurd (cc)
+    ]
+
+may_halt : (f : Flight) (w : Routes) → f.steps ≡ steps_of w → (s : State) (e : Event) (d : ℕ) → Contains (orders_to d (says f s e)) order.Halt → e ≡ Said signal.Stop
+unfolding choice
+may_halt f w steps s e d has =
+    elim (ends-by f s e d order.Halt (choice f s e) (subst (λ os. Contains os order.Halt) (orders_to-says d f s e) has) refl) [
+      | inl begins ↦ let m = begin-may f s e begins in
+      elim (begun f w (IsOfNoLeg w d order.Halt) steps (of_no_leg w d order.Halt) s e m (ordered-step f s e d order.Halt m.step begins m.is_next has) refl) [
+        | inl is ↦ absurd (cc)
+        | inr is ↦ absurd (cc)
+      ]
+      | inr (inl quits) ↦ absurd (cc)
+      | inr (inr cuts) ↦ cut-stops f (heard f s e) e (is_fault f s e) s.phase cuts.0
+    ]
+
+pub turn_law : TurnLaw
+turn_law = record { first = first_waits; arm = may_arm; rise = may_rise; start = may_start; disarm = may_disarm; halt = may_halt }
