@@ -13,5 +13,6 @@ mod Sightings
 mod Shows
 mod Kept
 mod Planned
+mod Drawn
 mod RejectedPositions
 mod RejectedShows

@@ -6,5 +6,6 @@ pub mod Rises
 pub mod Turns
 pub mod Kept
 pub mod Plan
+pub mod Draws
 pub mod Example
 pub mod Rejected

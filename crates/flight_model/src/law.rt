@@ -2,6 +2,7 @@
 
 ghost use Rattle.std.specs.Prelude.{◌≡◌};
 ghost use Rattle.flight_model.specs.Plan.{PlanLaw};
+ghost use Rattle.flight_model.specs.Draws.{DrawLaw};
 ghost use Rattle.flight_model.specs.Law.{OnlyLaw, DueLaw, LandLaw, FaultLaw, HaltLaw, OverLaw, QuietLaw};
 ghost use Rattle.flight_model.specs.Rises.{RiseLaw};
 ghost use Rattle.flight_model.specs.Turns.{TurnLaw};
@@ -9,9 +10,11 @@ ghost use Rattle.flight_model.specs.Kept.{KeptLaw};
 ghost use Rattle.flight_model.specs.Example.{ExampleLaw};
 ghost use Rattle.flight_model.specs.Rejected.{RejectedLaw};
 
-/// The steps of three ways order of each drone: leg by leg up, the start, leg by leg down, and disarm.
+/// The steps of three ways order of each drone: leg by leg up, the start, leg by leg down, and disarm. A drone that
+/// obeys the order of a leg from where the leg begins flies along the leg.
 pub fn plan_law()
-    ensures { PlanLaw }
+    ensures plan { PlanLaw }
+    ensures draw { DrawLaw }
 {}
 
 /// What holds of every flight and every list of events, whatever is lost, late or wrong.
