@@ -1,5 +1,5 @@
 -- The first direction that separates a place.
-use Rattle.pair_search.proofs.Prelude.{common_steps, ◌≡◌, ℕ, ◌+◌, ◌-◌, ◌≤◌, ◌<◌, ℤ, pos, ◌≤ℤ◌, ◌<ℤ◌, Bool, true, false, zero, suc, ◌∷◌, cond, nat_lt, arith, refl, sym, subst, List, [], length, get_or, Option, Some, None, is_none, not, position_or_len_is, nat_tests, at, by_lt, linear, Bez, Place, direction_of, IsLevel, Measure, low_value, Level, Lanes, Point, AreLanes, IsLowAt, IsPoint, first_by, first_direction, FindsFrom, NoneFrom, does_separate}
+use Rattle.pair_search.proofs.Prelude.{◌⊎◌, inl, inr, IsPoint, common_steps, ◌≡◌, ℕ, ◌+◌, ◌-◌, ◌≤◌, ◌<◌, Bool, true, false, zero, suc, ◌∷◌, cond, nat_lt, arith, refl, sym, subst, List, [], length, get_or, Option, Some, None, is_none, not, position_or_len_is, nat_tests, by_lt, Bez, Place, direction_of, IsLevel, Measure, low_value, Level, Lanes, Point, AreLanes, IsLowAt, IsPoint, first_by, first_direction, EachFrom, FindsBy, does_separate}
 use Rattle.std.specs.List.{position, position_or_len}
 use Rattle.pair_search.proofs.LaneLemmas.{lane_fails_at}
 
@@ -30,48 +30,69 @@ position-there p xs k d inside passes =
         later true low = omega arith
         later false low = omega arith
 
--- ---- directions in groups
-module _ (m : Measure) (diff : List (Bez 8)) (place : Place) where
-  -- none of two groups that follow one another
-  pub none_on : (begin middle past : ℕ) → NoneFrom m diff place begin middle → NoneFrom m diff place middle past → NoneFrom m diff place begin past
-  none_on begin middle past none more k from less inside = by_lt k middle (λ before. none k from before inside) (λ after. more k after less inside)
+-- ---- numbers that are passed over, and the first that isn't
+module _ (fails holds : ℕ → Type 0) (count : ℕ) where
+  -- two runs that follow one another
+  pub each_on : (begin middle past : ℕ) → EachFrom fails count begin middle → EachFrom fails count middle past → EachFrom fails count begin past
+  each_on begin middle past first second k from less inside = by_lt k middle (λ before. first k from before inside) (λ after. second k after less inside)
 
-  -- none of a group, nor the direction after it
-  pub none_more : (begin i : ℕ) → NoneFrom m diff place begin (begin + i) → (begin + i < length m.directions → does_separate m diff place (begin + i) ≡ false) → NoneFrom m diff place begin (begin + (i + 1))
-  none_more begin i none here k from past inside =
-      by_lt k (begin + i) (λ less. none k from less inside)
-      (λ more. let is : begin + i ≡ k = omega (arith, more, past) in subst (λ (j : ℕ). does_separate m diff place j ≡ false) is (here (omega (arith, is, inside))))
+  -- a run and the number after it
+  pub each_more : (begin i : ℕ) → EachFrom fails count begin (begin + i) → (begin + i < count → fails (begin + i)) → EachFrom fails count begin (begin + (i + 1))
+  each_more begin i run here k from past inside =
+      by_lt k (begin + i) (λ less. run k from less inside)
+      (λ more. let is : begin + i ≡ k = omega (arith, more, past) in subst fails is (here (omega (arith, is, inside))))
 
-  -- none of the first, nor the direction after them
-  pub none_next : (past : ℕ) → NoneFrom m diff place 0 past → does_separate m diff place past ≡ false → NoneFrom m diff place 0 (past + 1)
-  none_next past none here k from less inside =
-      by_lt k past (λ before. none k from before inside)
-      (λ after. let is : past ≡ k = omega (arith, after, less) in subst (λ (j : ℕ). does_separate m diff place j ≡ false) is here)
+  -- a run in which none is found, after another run
+  pub none_on : (begin middle past : ℕ) (o : Option ℕ) → EachFrom fails count begin middle → FindsBy fails holds count middle past o → o ≡ None → EachFrom fails count begin past
+  none_on begin middle past o before finds is =
+      each_on begin middle past before (subst (λ (x : Option ℕ). FindsBy fails holds count middle past x) is finds)
 
-  -- none at all
-  pub none_first : (past : ℕ) → length m.directions ≤ past → NoneFrom m diff place 0 past → None ≡ first_by m diff place
-  unfolding first_direction
-  none_first past few none =
-      sym (position-none (λ n. is_none (low_value m.clearance diff place n)) m.directions [] (λ k inside. none k (omega arith) (omega (arith, few, inside)) inside))
+  -- what is found in a run, after another run
+  pub found_on : (begin middle past last : ℕ) (o : Option ℕ) (dir : ℕ) → begin ≤ middle → past ≤ last → EachFrom fails count begin middle → FindsBy fails holds count middle past o → o ≡ Some dir → FindsBy fails holds count begin last (Some dir)
+  found_on begin middle past last o dir from ends before finds is =
+      let found : FindsBy fails holds count middle past (Some dir) = subst (λ (x : Option ℕ). FindsBy fails holds count middle past x) is finds in
+      (omega (arith, from, found.0), omega (arith, ends, found.1), found.2, each_on begin middle dir before found.3, found.4)
 
-  -- what is found in a group before which there is none is the first of all
-  pub found_first : (begin past : ℕ) (o : Option ℕ) (dir : ℕ) → NoneFrom m diff place 0 begin → FindsFrom m diff place begin past o → o ≡ Some dir → Some dir ≡ first_by m diff place
-  unfolding first_direction
-  found_first begin past o dir none finds is =
-      let found : FindsFrom m diff place begin past (Some dir) = subst (λ (x : Option ℕ). FindsFrom m diff place begin past x) is finds in
-      sym (position-is (λ n. is_none (low_value m.clearance diff place n)) m.directions dir [] found.1
-      (λ k less. none_on 0 begin dir none found.2 k (omega arith) less (omega (arith, less, found.1))) found.3)
+-- the same where another fact holds for what is passed over
+pub finds_other : (fails other holds : ℕ → Type 0) (count begin past : ℕ) (o : Option ℕ) → ((k : ℕ) → begin ≤ k → k < past → k < count → fails k → other k) → FindsBy fails holds count begin past o → FindsBy other holds count begin past o
+finds_other fails other holds count begin past None also finds = λ k from less inside. also k from less inside (finds k from less inside)
+finds_other fails other holds count begin past (Some dir) also finds =
+    (finds.0, finds.1, finds.2, λ k from less inside. also k from (omega (arith, less, finds.1)) inside (finds.3 k from less inside), finds.4)
 
-  -- a group whose lanes are all too low
-  pub none_near : (begin : ℕ) (near : List ℤ) (most : ℤ) → most <ℤ pos 0 → ((i : ℕ) → i < 16 → at near i ≤ℤ most) →
-      ((i : ℕ) → i < 16 → begin + i < length m.directions → at near i <ℤ pos 0 → does_separate m diff place (begin + i) ≡ false) → NoneFrom m diff place begin (begin + 16)
-  none_near begin near most low each fails k from past inside =
-      let is : begin + (k - begin) ≡ k = omega (arith, from) in
-      let few : k - begin < 16 = omega (arith, from, past) in
-      subst (λ (j : ℕ). does_separate m diff place j ≡ false) is (fails (k - begin) few (omega (arith, is, inside)) (omega (arith, linear, each (k - begin) few, low)))
+-- a number from another one on is that one and the rest
+pub from_begin : (P : ℕ → Type 0) (begin k : ℕ) → begin ≤ k → P (begin + (k - begin)) → P k
+from_begin P begin k from there = let is : begin + (k - begin) ≡ k = omega (arith, from) in subst P is there
+
+-- one of two, where the first gives another
+pub low_or : {A B C : Type 0} → (A → B) → A ⊎ C → B ⊎ C
+low_or also (inl a) = inl (also a)
+low_or also (inr c) = inr c
+
+-- what is found among all directions of a table is its first direction
+pub first_found : (m : Measure) (diff : List (Bez 8)) (place : Place) (fails holds : ℕ → Type 0) (o : Option ℕ) →
+    ((k : ℕ) → k < length m.directions → fails k → does_separate m diff place k ≡ false) → ((k : ℕ) → k < length m.directions → holds k → does_separate m diff place k ≡ true) →
+    length m.directions ≤ 98 → FindsBy fails holds (length m.directions) 0 112 o → o ≡ first_by m diff place
+unfolding first_direction
+first_found m diff place fails holds None wrong right few finds =
+    sym (position-none (λ n. is_none (low_value m.clearance diff place n)) m.directions [] (λ k inside. wrong k inside (finds k (omega arith) (omega (arith, few, inside)) inside)))
+first_found m diff place fails holds (Some dir) wrong right few finds =
+    sym (position-is (λ n. is_none (low_value m.clearance diff place n)) m.directions dir [] finds.2
+    (λ k less. wrong k (omega (arith, less, finds.2)) (finds.3 k (omega arith) less (omega (arith, less, finds.2)))) (right dir finds.2 finds.4))
 
 -- a direction whose lane is too low at an end of a part doesn't separate it
 pub low_lane : (m : Measure) (diff : List (Bez 8)) (level : Level) (l : Lanes) (p q : Point) (i : ℕ) → IsLevel diff level → IsPoint level 0 p → IsPoint level 7 q → AreLanes m l → i < length m.directions →
     IsLowAt l p q i → does_separate m diff level.place i ≡ false
 low_lane m diff level l p q i is start end lanes inside low =
     lane_fails_at diff level m.clearance (direction_of m.directions i) l p q i is start end (lanes.each i inside) low
+
+-- what is found among directions that aren't too low at the ends of a part is its first direction
+pub first_between : (m : Measure) (diff : List (Bez 8)) (level : Level) (l : Lanes) (p q : Point) (count : ℕ) (o : Option ℕ) → IsLevel diff level → IsPoint level 0 p → IsPoint level 7 q → AreLanes m l →
+    count ≡ length m.directions → count ≤ 98 →
+    FindsBy (λ k. IsLowAt l p q k ⊎ (false ≡ does_separate m diff level.place k)) (λ k. true ≡ does_separate m diff level.place k) count 0 112 o → o ≡ first_by m diff level.place
+first_between m diff level l p q count o is start end lanes same few finds =
+    first_found m diff level.place (λ k. IsLowAt l p q k ⊎ (false ≡ does_separate m diff level.place k)) (λ k. true ≡ does_separate m diff level.place k) o wrong (λ k inside right. sym right) (omega (arith, same, few))
+    (subst (λ (n : ℕ). FindsBy (λ k. IsLowAt l p q k ⊎ (false ≡ does_separate m diff level.place k)) (λ k. true ≡ does_separate m diff level.place k) n 0 112 o) same finds)
+  where
+    wrong : (k : ℕ) → k < length m.directions → IsLowAt l p q k ⊎ (false ≡ does_separate m diff level.place k) → does_separate m diff level.place k ≡ false
+    wrong k inside (inl low) = low_lane m diff level l p q k is start end lanes inside low
+    wrong k inside (inr answer) = sym answer

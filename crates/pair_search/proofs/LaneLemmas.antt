@@ -1,5 +1,5 @@
 -- Numbers of lanes, and what they tell of a direction.
-use Rattle.pair_search.proofs.Prelude.{common_steps, lit<, ◌≡◌, ◌≢◌, inl, inr, ℕ, zero, suc, ◌+◌, ◌*◌, ◌^◌, ◌≤◌, ◌<◌, ℤ, pos, negsuc, neg_ℤ, ◌+ℤ◌, ◌-ℤ◌, ◌*ℤ◌, ◌≤ℤ◌, ◌<ℤ◌, unsigned_abs, FitsSigned, to_z, of_z, arith, refl, sym, ◌∙◌, ap, subst, List, length, get_or-set_other, get_or-set_same, slice_set, replicate, is_none, false, true, Option, Some, None, ints, unsigned_abs-mul, to_z-of_z, mul-le, pow-add, pow_pos, pow-le-pow_right, w32, w64, at, IsBelow, by_lt, Clearance, threshold, weights, least_value, low_value, part_along, IsLevel, Level, first_low-values, Bez, controls, at-eight, part_value, linear, le_mul_pos, mul_add_ℤ, mul_assoc_ℤ, mul_comm_ℤ, mul_left_comm_ℤ, mul_neg_ℤ, neg_mul_ℤ, one_mul_ℤ, IsWithin, Lanes, Point, IsFloor, IsLane, IsLowAt, IsPoint, IsSmallLane, lane_value, slack_on, slack_of}
+use Rattle.pair_search.proofs.Prelude.{All, [], get_or, below_at, controls_row, curves_of, root, common_steps, lit<, ◌≡◌, ◌≢◌, inl, inr, ℕ, zero, suc, ◌+◌, ◌*◌, ◌^◌, ◌≤◌, ◌<◌, ℤ, pos, negsuc, neg_ℤ, ◌+ℤ◌, ◌-ℤ◌, ◌*ℤ◌, ◌≤ℤ◌, ◌<ℤ◌, unsigned_abs, FitsSigned, to_z, of_z, arith, refl, sym, ◌∙◌, ap, subst, List, length, get_or-set_other, get_or-set_same, slice_set, replicate, is_none, false, true, Option, Some, None, ints, unsigned_abs-mul, to_z-of_z, mul-le, pow-add, pow_pos, pow-le-pow_right, w32, w64, at, IsBelow, by_lt, Clearance, threshold, weights, least_value, low_value, part_along, IsLevel, Level, first_low-values, Bez, controls, at-eight, part_value, linear, le_mul_pos, mul_add_ℤ, mul_assoc_ℤ, mul_comm_ℤ, mul_left_comm_ℤ, mul_neg_ℤ, neg_mul_ℤ, one_mul_ℤ, IsWithin, Lanes, Point, IsFloor, IsLane, IsLowAt, IsPoint, IsSmallLane, lane_value, slack_on, slack_of}
 use lib.Signed.{lt_z}
 
 -- ---- sizes
@@ -234,3 +234,24 @@ floor_small e v q below floor = within q floor.low floor.high
 -- it fits 64 bits where it is halved at most four times
 pub value_short : (e : ℕ) (v : ℤ) → e ≤ 4 → IsBelow (2 ^ (7 * e) * 2 ^ 30) v → FitsSigned w64 v
 value_short e v shallow below = grind (arith, common_steps, ints, pow-le-pow_right, lit<)
+
+-- ---- the ends of a whole cue
+pub row_fits : (x : ℤ) → IsBelow (2 ^ 30) x → FitsSigned w32 x
+row_fits x small = omega (arith, ints)
+
+-- a number of a row of a difference
+pub row_within : (rows : List (List ℤ)) (diff : List (Bez 8)) (axis k : ℕ) → curves_of rows ≡ diff → length diff ≡ 3 → axis ≤ 2 → All (λ (curve : Bez 8). All (IsBelow (2 ^ 30)) curve.b) diff → IsBelow (2 ^ 30) (at (get_or rows axis []) k)
+row_within rows diff axis k is axes near all =
+    subst (λ (xs : List ℤ). IsBelow (2 ^ 30) (at xs k)) (controls_row rows axis)
+    (subst (λ (curves : List (Bez 8)). IsBelow (2 ^ 30) (at (controls curves axis) k)) (sym is)
+    (below_at (2 ^ 30) (controls diff axis) k (omega arith) (all axis (record { b = [] }) (omega (arith, axes, near)))))
+
+-- the point of numbers of rows in whole steps
+pub point_of_rows : (rows : List (List ℤ)) (diff : List (Bez 8)) (k : ℕ) (x y z : ℤ) → curves_of rows ≡ diff →
+    IsFloor 14 (at (get_or rows 0 []) k) x → IsFloor 14 (at (get_or rows 1 []) k) y → IsFloor 14 (at (get_or rows 2 []) k) z → IsPoint (record { place = root; part = diff }) k (record { x = x; y = y; z = z })
+point_of_rows rows diff k x y z is first second third =
+    subst (λ (curves : List (Bez 8)). IsPoint (record { place = root; part = curves }) k (record { x = x; y = y; z = z })) is record {
+      x = subst (λ (xs : List ℤ). IsFloor 14 (at xs k) x) (sym (controls_row rows 0)) first;
+      y = subst (λ (xs : List ℤ). IsFloor 14 (at xs k) y) (sym (controls_row rows 1)) second;
+      z = subst (λ (xs : List ℤ). IsFloor 14 (at xs k) z) (sym (controls_row rows 2)) third;
+    }

@@ -47,7 +47,7 @@ pub use Rattle.pair_search.specs.Lanes.{AreLanes, IsFloor, IsLane, IsLowAt, IsPo
 pub use Rattle.pair_search.specs.Opposites.{AreOpposites, AreSmallHighs, CancelAt, IsHigh, IsHighAt, IsSmallHigh}
 unfoldable pub use Rattle.pair_search.specs.Search.{blocked_place, first_direction}
 pub use Rattle.pair_search.specs.Search.{HasDirection, IsClear, SearchGives, best_tree, first_by, first_without, place_at, split_of}
-pub use Rattle.pair_search.specs.Steps.{CountGives, FindsAmong, FindsCount, FindsFrom, FindsOne, IsPairFar, NeitherAt, NeitherFrom, NoneFrom, WalkGives, blocked_slot, does_separate, marked, node_for}
+pub use Rattle.pair_search.specs.Steps.{CountGives, EachFrom, FindsAmong, FindsBy, FindsCount, FindsOne, IsPairFar, NeitherAt, NeitherFrom, WalkGives, blocked_slot, does_separate, marked, node_for}
 pub use Rattle.pair_search.specs.declared.extents.Extent.{Extent}
 pub use Rattle.pair_search.specs.declared.lanes.Lanes.{Lanes}
 pub use Rattle.pair_search.specs.declared.lanes.Point.{Point}

@@ -31,16 +31,15 @@ node_for first depth place =
 abbrev pub does_separate : Measure → List (Bez 8) → Place → ℕ → Bool
 does_separate m diff place dir = is_none (low_value m.clearance diff place (direction_of m.directions dir))
 
--- none of the directions from one number on and before another separates a place
-abbrev pub NoneFrom : Measure → List (Bez 8) → Place → ℕ → ℕ → Type 0
-NoneFrom m diff place begin past = (k : ℕ) → begin ≤ k → k < past → k < length m.directions →
-    does_separate m diff place k ≡ false
+-- of each number from one on and before another that is below count, `fails` holds
+abbrev pub EachFrom : (ℕ → Type 0) → ℕ → ℕ → ℕ → Type 0
+EachFrom fails count begin past = (k : ℕ) → begin ≤ k → k < past → k < count → fails k
 
--- the first direction among these that separates a place, if one does
-abbrev pub FindsFrom : Measure → List (Bez 8) → Place → ℕ → ℕ → Option ℕ → Type 0
-FindsFrom m diff place begin past None = NoneFrom m diff place begin past
-FindsFrom m diff place begin past (Some dir) = (begin ≤ dir) × (dir < length m.directions)
-    × NoneFrom m diff place begin dir × (does_separate m diff place dir ≡ true)
+-- the first of these for which `holds` holds, where `fails` holds for each before it; none where `fails` holds for each
+abbrev pub FindsBy : (ℕ → Type 0) → (ℕ → Type 0) → ℕ → ℕ → ℕ → Option ℕ → Type 0
+FindsBy fails holds count begin past None = EachFrom fails count begin past
+FindsBy fails holds count begin past (Some dir) = (begin ≤ dir) × (dir < past) × (dir < count)
+    × EachFrom fails count begin dir × holds dir
 
 -- what a walk gives: as a search, but that nodes may be left where it isn't clear
 abbrev pub WalkGives : (Place → Option ℕ) → ℕ → Result Found AllocError → List Node → Type 0

@@ -1,13 +1,13 @@
 //! The first direction that separates a part.
 
-ghost use Rattle.std.specs.Prelude.{◌≡◌, ℕ, ◌+◌, ◌*◌, ◌^◌, ◌≤◌, ◌<◌, pos, ◌<ℤ◌, false, All, IfSome, length};
+ghost use Rattle.std.specs.Prelude.{◌≡◌, ◌⊎◌, ℕ, ◌+◌, ◌-◌, ◌≤◌, ◌<◌, pos, ◌<ℤ◌, true, false, IsTrue, length};
 ghost use Rattle.fleet_math.specs.Bernstein.{at};
 ghost use Rattle.sep_parts.specs.Levels.{IsLevel, root};
-ghost use Rattle.pair_search.specs.Lanes.{AreLanes, IsPoint, IsSmallPoint};
+ghost use Rattle.pair_search.specs.Lanes.{AreLanes, AreSmallLanes, IsLowAt, IsPoint, IsSmallPoint};
 ghost use Rattle.pair_search.specs.Search.{first_by};
-ghost use Rattle.pair_search.specs.Steps.{FindsFrom, does_separate};
+ghost use Rattle.pair_search.specs.Steps.{FindsBy, does_separate};
 
-use crate::lanes::{Lanes, Point, fill, point_at};
+use crate::lanes::{Lanes, Point, fill, point_at, whole_point_at};
 use fleet_curves::Difference;
 use sep_parts::{Level, Ruler};
 
@@ -24,20 +24,42 @@ pub fn first_direction<const M: usize>(
     ensures { result ≡ first_by ruler.now diff.now level.now.place }
 {
     let (p, q) = points_of(diff, level);
-    first_near(diff, level, ruler, lanes, &p, &q)
+    first_near(
+        ruler.count(),
+        lanes,
+        &p,
+        &q,
+        &|dir: usize| -> bool
+            requires level { IsLevel diff.now level.now }
+            requires dir { dir < length ruler.now.directions }
+            ensures { result ≡ does_separate ruler.entry.now diff.entry.now level.entry.now.place dir }
+        { ruler.separates(diff, level, dir) },
+    )
 }
 
 /// The number of the first direction of a ruler that separates the whole cue.
 #[inline(never)]
-pub fn first_of_whole<const M: usize>(diff: &Difference, ruler: &Ruler<M>) -> Option<u8>
+pub fn first_of_whole<const M: usize>(
+    diff: &Difference,
+    ruler: &Ruler<M>,
+    lanes: &Lanes,
+) -> Option<u8>
+    requires lanes { AreLanes ruler.now lanes.now }
     ensures { result ≡ first_by ruler.now diff.now root }
 {
-    for dir in 0..ruler.count() {
-        if ruler.separates_whole(diff, dir) {
-            return Some(dir as u8);
-        }
-    }
-    None
+    diff.raised_law();
+    let p = whole_point_at(diff, 0);
+    let q = whole_point_at(diff, 7);
+    first_near(
+        ruler.count(),
+        lanes,
+        &p,
+        &q,
+        &|dir: usize| -> bool
+            requires { dir < length ruler.now.directions }
+            ensures { result ≡ does_separate ruler.entry.now diff.entry.now root dir }
+        { ruler.separates_whole(diff, dir) },
+    )
 }
 
 // The two ends of a part in whole steps.
@@ -49,26 +71,26 @@ pub(crate) fn points_of(diff: &Difference, level: &Level) -> (Point, Point)
     (point_at(diff, level, 0), point_at(diff, level, 7))
 }
 
-// The same where the ends of the part are these. Lanes are weighed 16 at a time, since the first direction mostly comes
-// early.
-fn first_near<const M: usize>(
-    diff: &Difference,
-    level: &Level,
-    ruler: &Ruler<M>,
+// The first of `count` directions that `asks` answers with yes. One that is too low at an end of the part isn't asked.
+// Lanes are weighed 16 at a time, since the first direction mostly comes early.
+#[inline(always)]
+fn first_near<F: Fn(usize) -> bool>(
+    count: usize,
     lanes: &Lanes,
     p: &Point,
     q: &Point,
+    asks: &F,
 ) -> Option<u8>
-    requires level { IsLevel diff.now level.now }
-    requires lanes { AreLanes ruler.now lanes.now }
-    requires p { IsSmallPoint p.now × IsPoint level.now 0 p.now }
-    requires q { IsSmallPoint q.now × IsPoint level.now 7 q.now }
-    ensures { result ≡ first_by ruler.now diff.now level.now.place }
+    requires count { count ≤ 98 }
+    requires lanes { AreSmallLanes lanes.now }
+    requires p { IsSmallPoint p.now }
+    requires q { IsSmallPoint q.now }
+    requires asks { (dir : ℕ) → dir < count → F.pre asks.now dir }
+    ensures { FindsBy (λ dir. IsLowAt lanes.now p.now q.now dir ⊎ F.post asks.now dir false)
+        (λ dir. F.post asks.now dir true) count 0 112 result }
 {
-    // a ruler has at most 98 directions
-    let _count = ruler.count();
     for group in 0..7 {
-        match first_among(diff, level, ruler, lanes, p, q, 16 * group) {
+        match first_among(count, lanes, p, q, 16 * group, asks) {
             Some(dir) => return Some(dir),
             None => {}
         }
@@ -77,70 +99,64 @@ fn first_near<const M: usize>(
 }
 
 // The same among 16 directions from one on. Where none of them holds at both ends, none is asked.
-fn first_among<const M: usize>(
-    diff: &Difference,
-    level: &Level,
-    ruler: &Ruler<M>,
+#[inline(always)]
+fn first_among<F: Fn(usize) -> bool>(
+    count: usize,
     lanes: &Lanes,
     p: &Point,
     q: &Point,
     begin: usize,
+    asks: &F,
 ) -> Option<u8>
-    requires level { IsLevel diff.now level.now }
-    requires lanes { AreLanes ruler.now lanes.now }
-    requires p { IsSmallPoint p.now × IsPoint level.now 0 p.now }
-    requires q { IsSmallPoint q.now × IsPoint level.now 7 q.now }
+    requires count { count ≤ 98 }
+    requires lanes { AreSmallLanes lanes.now }
+    requires p { IsSmallPoint p.now }
+    requires q { IsSmallPoint q.now }
     requires begin { begin ≤ 96 }
-    ensures { FindsFrom ruler.now diff.now level.now.place begin (begin + 16) result }
+    requires asks { (dir : ℕ) → dir < count → F.pre asks.now dir }
+    ensures { FindsBy (λ dir. IsLowAt lanes.now p.now q.now dir ⊎ F.post asks.now dir false)
+        (λ dir. F.post asks.now dir true) count begin (begin + 16) result }
 {
     let mut near = [0; 16];
     let most = fill(lanes, p, q, begin, &mut near);
     if most < 0 {
         return None;
     }
-    first_from(diff, level, ruler, begin, &near)
+    first_from(count, begin, &near, asks)
 }
 
-// The same with what lanes tell of these directions: one whose `near` is below 0 doesn't separate the part.
-fn first_from<const M: usize>(
-    diff: &Difference,
-    level: &Level,
-    ruler: &Ruler<M>,
+// The same with what lanes tell of these directions: one whose `near` is below 0 isn't asked.
+#[inline(always)]
+fn first_from<F: Fn(usize) -> bool>(
+    count: usize,
     begin: usize,
     near: &[i32; 16],
+    asks: &F,
 ) -> Option<u8>
-    requires level { IsLevel diff.now level.now }
+    requires count { count ≤ 98 }
     requires begin { begin ≤ 96 }
-    requires near { (i : ℕ) → i < 16 → begin + i < length ruler.now.directions → at near.now i <ℤ pos 0
-        → does_separate ruler.now diff.now level.now.place (begin + i) ≡ false }
-    ensures { FindsFrom ruler.now diff.now level.now.place begin (begin + 16) result }
+    requires asks { (dir : ℕ) → dir < count → F.pre asks.now dir }
+    ensures { FindsBy (λ dir. (at near.now (dir - begin) <ℤ pos 0) ⊎ F.post asks.now dir false)
+        (λ dir. F.post asks.now dir true) count begin (begin + 16) result }
 {
-    let count = ruler.count();
     for i in 0..16 {
         let dir = begin + i;
-        if dir < count && holds(diff, level, ruler, dir, near[i]) {
+        if dir < count && holds(near[i], dir, asks) {
             return Some(dir as u8);
         }
     }
     None
 }
 
-// Whether a direction separates a part. It is not asked where `near` is below 0, which says that it doesn't.
+// Whether the answer is yes. It is not asked where `near` is below 0.
 #[inline(always)]
-fn holds<const M: usize>(
-    diff: &Difference,
-    level: &Level,
-    ruler: &Ruler<M>,
-    dir: usize,
-    near: i32,
-) -> bool
-    requires level { IsLevel diff.now level.now }
-    requires dir { dir < length ruler.now.directions }
-    requires near { near <ℤ pos 0 → does_separate ruler.now diff.now level.now.place dir ≡ false }
-    ensures { result ≡ does_separate ruler.now diff.now level.now.place dir }
+fn holds<F: Fn(usize) -> bool>(near: i32, dir: usize, asks: &F) -> bool
+    requires asks { F.pre asks.now dir }
+    ensures yes { IsTrue result → F.post asks.now dir true }
+    ensures no { result ≡ false → (near <ℤ pos 0) ⊎ F.post asks.now dir false }
 {
     if near < 0 {
         return false;
     }
-    ruler.separates(diff, level, dir)
+    asks(dir)
 }

@@ -7,7 +7,7 @@ ghost use Rattle.fleet_math.specs.Numbers.{IsBelow};
 ghost use Rattle.bezier_core.specs.Along.{controls};
 ghost use Rattle.bezier_core.specs.Steps.{IsWithin};
 ghost use Rattle.sep_parts.specs.Directions.{direction_of, threshold, weights};
-ghost use Rattle.sep_parts.specs.Levels.{IsLevel};
+ghost use Rattle.sep_parts.specs.Levels.{IsLevel, root};
 ghost use Rattle.pair_search.specs.Lanes.{AreLanes, AreSmallLanes, IsFloor, IsLowAt, IsPoint, IsSmallPoint, lane_value};
 ghost use Rattle.pair_search.specs.Lanes.{slack_of, slack_on, steps_of};
 
@@ -108,6 +108,21 @@ pub fn point_at(diff: &Difference, level: &Level, k: usize) -> Point
     }
 }
 
+/// The same of the whole cue.
+pub fn whole_point_at(diff: &Difference, k: usize) -> Point
+    requires place { k < 8 }
+    ensures small { IsSmallPoint result }
+    ensures point { IsPoint (record { place = root; part = diff.now }) k result }
+{
+    diff.raised_law();
+    let rows = diff.rows();
+    Point {
+        x: whole_stepped(rows[0][k]),
+        y: whole_stepped(rows[1][k]),
+        z: whole_stepped(rows[2][k]),
+    }
+}
+
 // A law: a level has three curves of eight control values each, whose size its depth bounds.
 fn level_law(diff: &Difference, level: &Level)
     requires level { IsLevel diff.now level.now }
@@ -117,6 +132,15 @@ fn level_law(diff: &Difference, level: &Level)
     ensures values { All (λ curve. All (IsBelow (2 ^ (7 * level.now.place.depth) * 2 ^ 30)) curve.b) level.now.part }
 {
     diff.raised_law();
+}
+
+// A control value of a whole cue in whole steps, rounded down.
+fn whole_stepped(value: i32) -> i32
+    requires value { IsBelow (2 ^ 30) value }
+    ensures floor { IsFloor 14 value result }
+    ensures small { IsWithin (pos 65536) result }
+{
+    value >> 14
 }
 
 // A control value of a part of a depth in whole steps, rounded down. To depth 4 it is a number of 64 bits.

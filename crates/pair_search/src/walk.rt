@@ -105,7 +105,7 @@ fn walk<const M: usize>(
     requires lanes { AreLanes ruler.now lanes.now }
     ensures { WalkGives (first_by ruler.now diff.now) depth result nodes.new.items }
 {
-    match node_of_whole(diff, ruler, depth) {
+    match node_of_whole(diff, ruler, lanes, depth) {
         Some(Node::Leaf { dir }) => {
             nodes.push(Node::Leaf { dir })?;
             Ok(Found::Clear)
@@ -116,10 +116,16 @@ fn walk<const M: usize>(
 }
 
 // The node of a whole cue: a leaf where a direction separates it, else a split where the depth allows one.
-fn node_of_whole<const M: usize>(diff: &Difference, ruler: &Ruler<M>, depth: Depth) -> Option<Node>
+fn node_of_whole<const M: usize>(
+    diff: &Difference,
+    ruler: &Ruler<M>,
+    lanes: &Lanes,
+    depth: Depth,
+) -> Option<Node>
+    requires lanes { AreLanes ruler.now lanes.now }
     ensures { result ≡ node_for (first_by ruler.now diff.now) depth root }
 {
-    match first_of_whole(diff, ruler) {
+    match first_of_whole(diff, ruler, lanes) {
         Some(dir) => Some(Node::Leaf { dir }),
         None if depth.levels() > 0 => Some(Node::Split),
         None => None,
