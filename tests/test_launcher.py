@@ -17,13 +17,13 @@ import unittest
 
 from common import TOP
 from hemtoghai.__main__ import COMMANDS
-from hemtoghai.launching import words as commands
+from hemtoghai.launching import progress, records, words as commands
 from hemtoghai.launching.help import PURPOSES
 
 # As rt does, it keeps others out of the crate's folder and of those below it, refuses a crate whose lower ones aren't
 # proved, builds PROGRAM, and runs a try in a folder of its own below TMPDIR. It notes each call in `calls`. Where SLOW
 # names the crate, or `try`, it starts a prover, notes its process, and waits for it; with STUBBORN it takes its time to
-# end when told to.
+# end when told to. The crate that LATE names takes some seconds.
 FAKE_RT = """#!/usr/bin/env python3
 import fcntl, os, shutil, signal, subprocess, sys, tempfile, time
 crate, home = os.path.basename(os.getcwd()), os.environ["HOME_OF_TEST"]
@@ -42,6 +42,8 @@ def wait_for_prover():
     prover.wait()
 slow = os.environ.get("SLOW")
 if sys.argv[1] == "try":
+    if os.environ.get("UNTRIED"):
+        sys.exit("no try here")
     with tempfile.TemporaryDirectory(dir=home if os.environ.get("HIDES") else None) as room:
         shutil.copy(home + "/program", room + "/tried")
         if slow == "try":
@@ -66,7 +68,7 @@ if crate == slow:
 if crate == os.environ.get("CHANGES"):
     with open(home + "/crates/low/src/lib.rt", "a") as file:
         file.write("// a change meanwhile\\n")
-time.sleep(0.5 if crate in ("middle", "beside") else 0)
+time.sleep(6 if crate == os.environ.get("LATE") else 0.5 if crate in ("middle", "beside") else 0)
 os.makedirs("out/rlib", exist_ok=True)
 if sys.argv[1] == "run":
     shutil.copy("../../program", "out/show_cli")
@@ -178,9 +180,10 @@ class Builds(Place):
             shutil.rmtree(self.path("crates/%s/out" % crate), ignore_errors=True)
         status, said, told = self.show("check", "--depth", "7", "good")
         self.assertEqual((status, said), (0, "['check', '--depth', '7'] 'a\\n'\n"), told)
-        lines = [line for line in told.splitlines() if "proving " in line and " of 4: " in line]
-        self.assertEqual(lines, ["show: proving %d of 4: %s" % row for row in (
-            (1, "low"), (2, "beside"), (3, "middle"), (4, "show_cli"))])
+        lines = re.findall(r"^show: proving (\w+); proof (\d+) %, about (?:a minute|\d+ minutes) left$", told, re.M)
+        self.assertEqual([crate for crate, _ in lines], ["low", "beside", "middle", "show_cli"], told)
+        shares = [int(share) for _, share in lines]
+        self.assertEqual((shares[0], shares), (0, sorted(shares)))
         self.assertEqual(self.leftovers(), [])
         self.assertEqual(self.show("check", text="b"), (0, "['check'] 'b'\n", ""))
 
@@ -326,10 +329,15 @@ class Signals(Processes):
         for number in (signal.SIGTERM, signal.SIGHUP, signal.SIGINT, signal.SIGQUIT):
             for words, slow in ((["check", "good"], "middle"), (["check", "good"], "show_cli"),
                                 (["--unproved", "check", "good"], "try")):
+                with contextlib.suppress(FileNotFoundError):  # what was tried beside a proof
+                    os.remove(self.path("crates/show_cli/out/show_cli.unproved"))
                 self.ended(words, slow, number)
         # What was proved before is kept.
         self.assertTrue(os.path.isdir(self.path("crates/low/out/rlib")))
         self.assertEqual(self.show("check", "good")[:2], (0, GOOD))
+
+    def test_ended_while_it_is_tried(self):
+        self.ended(["check", "good"], "try", signal.SIGTERM, LATE="middle")
 
     def test_told_twice(self):
         self.ended(["check", "good"], "middle", signal.SIGTERM, signal.SIGHUP, STUBBORN="1")
@@ -735,6 +743,89 @@ class Unproved(Place):
             self.assertEqual((status, said), (3, "error 3 line 2 bad-number\n"))
             self.assertIn("nothing is proved in this run", told)
             self.assertIn("show: cure: write whole numbers", told)
+
+
+class Meanwhile(Place):
+    """What the sources answer unproved while they are proved the first time."""
+
+    def test_answer(self):
+        status, said, told = self.show("check", "good", LATE="middle")
+        self.assertEqual((status, said), (0, GOOD), told)
+        so_far = r"^show: so far, unproved: \['check'\] 'a\\n'; proof (\d+) %, about (?:a minute|\d+ minutes) left$"
+        found = re.findall(so_far, told, re.M)
+        self.assertEqual(len(found), 1, told)
+        self.assertLess(int(found[0]), 100)
+        self.assertLess(told.index("so far"), told.index("proving show_cli"))
+        calls = self.calls()
+        self.assertEqual((calls.count("try show_cli"), calls.count("run show_cli"), len(calls)), (1, 1, 5), calls)
+        # It is kept as the program without a proof, and no more: the next build of other sources tries nothing.
+        self.assertEqual(self.show("--unproved", "check", "good")[:2], (0, GOOD))
+        self.assertEqual((self.calls(), self.leftovers()), ([], []))
+        self.file("crates/low/src/lib.rt", "fn f() {}\n")
+        status, said, told = self.show("check", "good")
+        self.assertEqual((status, said, "so far" in told, len(self.calls())), (0, GOOD, False, 4), told)
+
+    def test_refusal(self):
+        status, said, told = self.show("check", "bad", LATE="middle")
+        self.assertEqual((status, said), (3, "error 3 line 2 bad-number\n"), told)
+        self.assertIn("show: so far, unproved: error 3 line 2 bad-number; proof ", told)
+
+    def test_kept(self):
+        # What was tried before is asked again, and not built.
+        self.show("--unproved", "check", "good")
+        self.calls()
+        status, said, told = self.show("check", "good", LATE="middle")
+        self.assertEqual((status, said, "show: so far, unproved: ['check'] 'a\\n'; " in told), (0, GOOD, True), told)
+        self.assertNotIn("try show_cli", self.calls())
+
+    def test_nothing_is_tried(self):
+        # Other commands, standard input and sources that can't be tried: nothing is said, and the proof goes on.
+        for number, (words, text) in enumerate(((("check",), "a\n"), (("compile", "good"), ""))):
+            if number:
+                shutil.rmtree(self.path("crates/show_cli/out"))
+            status, _, told = self.show(*words, text=text)
+            self.assertEqual((status, "so far" in told, "try show_cli" in self.calls()), (0, False, False), told)
+        shutil.rmtree(self.path("crates/show_cli/out"))
+        status, said, told = self.show("check", "good", LATE="middle", UNTRIED="1")
+        self.assertEqual((status, said, "so far" in told), (0, GOOD, False), told)
+
+    def test_failed_proof(self):
+        # An answer without a proof is no answer.
+        status, said, told = self.show("check", "good", LATE="low", FAILS="middle")
+        self.assertEqual((status, said, "so far, unproved: " in told), (70, "", True), told)
+
+
+class Progresses(unittest.TestCase):
+    """Times of four crates: 3, 17, 10 and 29 seconds by the table, the last above the middle two, those above the first."""
+    BELOW = {"listed": [], "halving": ["listed"], "fleet_math": ["listed"], "mm_rounding": ["halving", "fleet_math"]}
+
+    def test_span(self):
+        left = {"listed": 3.0, "halving": 17.0, "fleet_math": 10.0, "mm_rounding": 29.0}
+        for most, wanted in ((1, 59), (2, 49), (8, 49)):
+            self.assertEqual(progress.span(self.BELOW, left, set(), most), wanted)
+        # What was begun goes on first, also where its chain is the shorter one: 10, then 17, then 29.
+        left["listed"] = 0.0
+        self.assertEqual(progress.span(self.BELOW, left, {"fleet_math"}, 1), 56)
+        self.assertEqual(progress.span(self.BELOW, {**left, "halving": 0.0}, {"fleet_math"}, 1), 39)
+        self.assertEqual(progress.span(self.BELOW, dict.fromkeys(left, 0.0), set(), 4), 0)
+
+    def test_words(self):
+        build = progress.Progress(self.BELOW, 2)
+        self.assertEqual(build.cost, {"listed": 3, "halving": 17, "fleet_math": 10, "mm_rounding": 29})
+        self.assertEqual(build.words(), "proof 0 %, about a minute left")
+        # 3 of 59; a machine that took 30 seconds for 3 takes 460 for the 17 and 29 that are left of the longest chain
+        build.took["listed"] = 30.0
+        self.assertEqual(build.words(), "proof 5 %, about 8 minutes left")
+        # A crate that was kept says nothing of the machine.
+        build.took["listed"] = 0.1
+        self.assertEqual(build.words(), "proof 5 %, about a minute left")
+        # One that took 340 seconds for 17, and still goes on, does: 20 by 10 and 29. Of it a twentieth is left.
+        build.begun["halving"] = time.monotonic() - 340
+        self.assertEqual(build.words(), "proof 32 %, about 13 minutes left")
+
+    def test_table(self):
+        # Each crate of the program has its time, and no other crate has one.
+        self.assertEqual(set(progress.SECONDS), set(records.crates_below(records.LAST)))
 
 
 class Proved(Place):

@@ -13,11 +13,11 @@ import sys
 import tempfile
 import time
 from collections.abc import Callable, Iterable
-from typing import Any, Dict, IO, List
+from typing import Any, IO
 
 from hemtoghai.launching.launcher import say, stop
-from hemtoghai.launching.records import (CRATES, crates_below, is_current, LAST, LEFT_OUT, sha256, sources, stamp,
-                                         write_record)
+from hemtoghai.launching.progress import ahead, costs, Crates, Progress
+from hemtoghai.launching.records import CRATES, crates_below, is_current, LAST, LEFT_OUT, sha256, stamp, write_record
 from hemtoghai.launching.running import end_if_told, joined, Noted
 from hemtoghai.program import PROGRAM, RECORD, TOP, UNPROVED
 from hemtoghai.texts import CERTIFICATE, SHOW
@@ -25,9 +25,7 @@ from hemtoghai.texts import CERTIFICATE, SHOW
 LIBRARY = os.path.join("out", "rlib")  # what rt makes of a proved crate
 SPOOLED = SHOW + CERTIFICATE + (1 << 20)  # bytes of two texts, more than any command reads
 USAGE = ["no", "such", "command"], b"error 2 usage\n"  # words that every build of the program refuses, and its answer
-
-Crates = Dict[str, List[str]]  # each with the ones right below it
-
+TRIED = re.compile(r"^run=ended status=\d+ .*proved=no$", re.M)  # what rt says last of a try that came to an answer
 
 def complain(text: str) -> None:
     with contextlib.suppress(OSError):
@@ -78,22 +76,15 @@ def side_by_side() -> int:
 
 
 def in_order(below: Crates) -> list[str]:
-    """The crates, those first that have the most work above them, by the size of their sources."""
-    size = {crate: sum(map(os.path.getsize, sources(crate))) for crate in below}
-    above = {crate: [it for it in below if crate in below[it]] for crate in below}
-    ahead: dict[str, int] = {}
-
-    def work(crate: str) -> int:
-        if crate not in ahead:
-            ahead[crate] = size[crate] + max(map(work, above[crate]), default=0)
-        return ahead[crate]
-    return sorted(below, key=work, reverse=True)
+    """The crates, those first that have the most work above them."""
+    chain = ahead(below, costs(below))
+    return sorted(below, key=lambda crate: chain[crate], reverse=True)
 
 
 def link(source: str, target: str) -> None:
     """A second name of a file, or a copy of it where it can have none."""
     try:
-        os.link(source, target)
+        os.link(os.path.realpath(source), target)
     except OSError:
         shutil.copy2(source, target)
 
@@ -110,64 +101,151 @@ def no_sources(folder: str, names: list[str]) -> list[str]:
     return [name for name in names if name in LEFT_OUT or not os.path.exists(os.path.join(folder, name))]
 
 
+def crate_of(line: str) -> str:
+    """The crate of a line of crates.txt."""
+    words = line.partition("#")[0].partition(":")[0].split()
+    return words[0] if words else ""
+
+
+def lay_out(room: str, crate: str) -> str:
+    """Puts the sources of a crate and of those below it into a folder of their own; the crate's folder there."""
+    below = crates_below(crate)
+    os.makedirs(os.path.join(room, "crates"))
+    with open(os.path.join(TOP, "crates.txt"), encoding="utf-8") as lines:
+        kept = [line for line in lines if crate_of(line) in below]
+    with open(os.path.join(room, "crates.txt"), "w", encoding="utf-8") as file:
+        file.writelines(kept)
+    for it in below:
+        shutil.copytree(os.path.join(CRATES, it), os.path.join(room, "crates", it), ignore=no_sources, copy_function=link)
+    return os.path.join(room, "crates", crate)
+
+
 def begin_in(room: str, crate: str, jobs: int) -> subprocess.Popen[bytes]:
-    """Begins to prove a crate in a folder of its own: a copy of all sources, with the libraries below the crate and
-    what was kept of the crate itself."""
-    shutil.copy(os.path.join(TOP, "crates.txt"), room)
-    copies = os.path.join(room, "crates")
-    shutil.copytree(CRATES, copies, ignore=no_sources)
+    """Begins to prove a crate in a folder of its own, with the libraries below the crate and what was kept of the
+    crate itself."""
+    folder = lay_out(room, crate)
     for it in crates_below(crate):
         library = os.path.join(CRATES, it, LIBRARY)
         if it != crate and os.path.isdir(library):
-            shutil.copytree(library, os.path.join(copies, it, LIBRARY), copy_function=link)
-    folder = os.path.join(copies, crate)
+            shutil.copytree(library, os.path.join(room, "crates", it, LIBRARY), copy_function=link)
     move(os.path.join(CRATES, crate, "out"), os.path.join(folder, "out"))
     with open(os.path.join(room, "log"), "wb") as log:
         return start(["rt", "lib", "--jobs", str(jobs)], folder, stdin=subprocess.DEVNULL, stdout=log, stderr=log)
 
 
-def prove(below: Crates, most: int) -> None:
-    """Proves all crates but the last, lower ones first, side by side, with a line for each that begins. While `rt`
-    works on a crate it keeps others out of its folder and of all below it, so each is proved in a folder of its own."""
+class Glimpse:
+    """What the sources answer without a proof, found while they are proved: words for standard error, and no more."""
+
+    def __init__(self, words: list[str], path: str, rooms: str, below: Crates) -> None:
+        self.room, self.below, self.stamp = os.path.join(rooms, "unproved"), below, stamp(below)
+        self.made, self.seen = os.path.join(self.room, "made"), dict[int, str]()
+        folder, command = lay_out(self.room, LAST), ["rt", "try", "--", *words]
+        if self.is_kept():
+            command = [UNPROVED, *words]
+        os.mkdir(self.made)
+        with open(path, "rb") as source, self.file("said", "wb") as said, self.file("log", "wb") as log:
+            self.process: subprocess.Popen[bytes] | None = start(
+                command, folder, stdin=source, stdout=said, stderr=log, env={**os.environ, "TMPDIR": self.made})
+
+    def file(self, name: str, mode: str) -> IO[Any]:
+        return open(os.path.join(self.room, name), mode)
+
+    def is_kept(self) -> bool:
+        """Whether there is a program without a proof of these sources."""
+        return is_current(self.below, UNPROVED)
+
+    def look(self) -> str | None:
+        """The answer's first line, right after the sources gave it."""
+        if self.process is None:
+            return None
+        link_programs(self.made, self.room, self.seen)
+        if self.process.poll() is None:
+            return None
+        end(self.process)
+        self.process = None
+        with self.file("said", "rb") as said, self.file("log", "rb") as log:
+            line, has_answer = said.readline(200), TRIED.search(log.read().decode(errors="replace"))
+        if has_answer:
+            keep_unproved(self.seen.values(), self.stamp, self.below)
+        return line.decode(errors="replace").strip() if line and (has_answer or self.is_kept()) else None
+
+    def end(self) -> None:
+        if self.process is not None:
+            end(self.process)
+
+
+class Watch:
+    """Tells how far a build is: when a crate begins, each minute, and when the sources have answered unproved."""
+
+    def __init__(self, progress: Progress, glimpse: Glimpse | None) -> None:
+        self.progress, self.glimpse = progress, glimpse
+
+    def begin(self, crate: str) -> None:
+        self.progress.begin(crate)
+        self.progress.told = time.monotonic()
+        say(f"proving {crate}; {self.progress.words()}")
+
+    def look(self) -> None:
+        if self.glimpse and (answer := self.glimpse.look()):
+            say(f"so far, unproved: {answer}; {self.progress.words()}")
+        if self.progress.is_due():
+            say(self.progress.words())
+
+    def wait(self, seconds: float) -> None:
+        """Looks on meanwhile: a program that is tried is there for a moment alone."""
+        until = time.monotonic() + seconds
+        while True:
+            self.look()
+            if time.monotonic() >= until:
+                return
+            time.sleep(0.02 if self.glimpse and self.glimpse.process else seconds)
+
+    def lanes(self, most: int) -> int:
+        """How many crates may be proved beside the try of the sources."""
+        return max(1, most - 1) if self.glimpse and self.glimpse.process else most
+
+
+def prove(below: Crates, most: int, rooms: str, watch: Watch) -> None:
+    """Proves all crates but the last, lower ones first, side by side. While `rt` works on a crate it keeps others out of
+    its folder and of all below it, so each is proved in a folder of its own."""
     waiting, done = [crate for crate in in_order(below) if crate != LAST], set[str]()
     running: dict[str, subprocess.Popen[bytes]] = {}
-    number, total = 0, len(below)
-    with tempfile.TemporaryDirectory(prefix=".proving-", dir=TOP) as rooms:
-        def room_of(crate: str) -> str:
-            return os.path.join(rooms, crate)
 
-        def take_back(crate: str) -> None:
-            move(os.path.join(room_of(crate), "crates", crate, "out"), os.path.join(CRATES, crate, "out"))
-        try:
-            while waiting or running:
-                ready = [crate for crate in waiting if done.issuperset(below[crate])]
-                for crate in ready[:most - len(running)]:
-                    waiting.remove(crate)
-                    number += 1
-                    say("proving %d of %d: %s" % (number, total, crate))
-                    os.mkdir(room_of(crate))
-                    # Few crates are ready at a time near the top, and then each gets more than one processor.
-                    jobs = max(1, most // max(1, len(running) + len(ready)))
-                    running[crate] = begin_in(room_of(crate), crate, jobs)
-                time.sleep(0.2)
-                end_if_told()
-                for crate in [crate for crate in running if running[crate].poll() is not None]:
-                    failed = running.pop(crate).returncode
-                    take_back(crate)
-                    if failed:
-                        with open(os.path.join(room_of(crate), "log"), errors="replace") as log:
-                            complain(log.read())
-                        stop("%s was not proved" % crate)
-                    shutil.rmtree(room_of(crate), ignore_errors=True)
-                    done.add(crate)
-        finally:
-            for crate, process in running.items():
-                end(process)
+    def room_of(crate: str) -> str:
+        return os.path.join(rooms, crate)
+
+    def take_back(crate: str) -> None:
+        move(os.path.join(room_of(crate), "crates", crate, "out"), os.path.join(CRATES, crate, "out"))
+    try:
+        while waiting or running:
+            ready = [crate for crate in waiting if done.issuperset(below[crate])]
+            for crate in ready[:max(0, watch.lanes(most) - len(running))]:
+                waiting.remove(crate)
+                watch.begin(crate)
+                # Few crates are ready at a time near the top, and then each gets more than one processor.
+                jobs = max(1, most // max(1, len(running) + len(ready)))
+                running[crate] = begin_in(room_of(crate), crate, jobs)
+            watch.wait(0.2)
+            end_if_told()
+            for crate in [crate for crate in running if running[crate].poll() is not None]:
+                failed = running.pop(crate).returncode
                 take_back(crate)
+                if failed:
+                    with open(os.path.join(room_of(crate), "log"), errors="replace") as log:
+                        complain(log.read())
+                    stop("%s was not proved" % crate)
+                shutil.rmtree(room_of(crate), ignore_errors=True)
+                watch.progress.end(crate)
+                done.add(crate)
+    finally:
+        for crate, process in running.items():
+            end(process)
+            take_back(crate)
 
 
-def build() -> None:
-    """Proves and builds the program, where it isn't there as these sources make it."""
+def build(words: list[str], files: list[str]) -> None:
+    """Proves and builds the program, where it isn't there as these sources make it. The first time the answer to `check`
+    of a file is told before that, unproved."""
     below = crates_below(LAST)
     if is_current(below):
         return
@@ -180,22 +258,31 @@ def build() -> None:
         fcntl.flock(crates, fcntl.LOCK_EX)  # it then finds the program built
     if not is_current(below):
         with Noted():
-            build_all(below)
+            build_all(below, words, files)
     os.close(crates)
 
 
-def build_all(below: Crates) -> None:
-    most, before = side_by_side(), stamp(below)
+def build_all(below: Crates, words: list[str], files: list[str]) -> None:
+    most, before, is_first = side_by_side(), stamp(below), not os.path.exists(PROGRAM)
     say("proving and building the program; the first time takes many minutes, %d crates at a time" % most)
     for file in (PROGRAM, PROGRAM + RECORD):  # so that the last line of the proof is written, even of one that was kept
         with contextlib.suppress(FileNotFoundError):
             os.remove(file)
-    prove(below, most)
-    say("proving %d of %d: %s" % (len(below), len(below), LAST))
-    # Words that are no command: the program says so, and so the build is seen to have ended well.
-    # Left to itself `rt` reckons with more memory than the last crate takes, and gives it one processor.
-    _, out, said = finished(start(["rt", "run", "--jobs", str(most), "--", *USAGE[0]], os.path.join(CRATES, LAST),
-                                  stdin=subprocess.DEVNULL, stdout=subprocess.PIPE, stderr=subprocess.PIPE))
+    with tempfile.TemporaryDirectory(prefix=".proving-", dir=TOP) as rooms:
+        asks = is_first and words[:1] == ["check"] and len(files) == 1 and os.path.isfile(files[0])
+        glimpse = Glimpse(words, files[0], rooms, below) if asks else None
+        watch = Watch(Progress(below, most), glimpse)
+        try:
+            prove(below, most, rooms, watch)
+            watch.begin(LAST)
+            # Words that are no command: the program says so, and so the build is seen to have ended well.
+            # Left to itself `rt` reckons with more memory than the last crate takes, and gives it one processor.
+            _, out, said = finished(start(["rt", "run", "--jobs", str(most), "--", *USAGE[0]], os.path.join(CRATES, LAST),
+                                          stdin=subprocess.DEVNULL, stdout=subprocess.PIPE, stderr=subprocess.PIPE),
+                                    watch.look)
+        finally:
+            if glimpse:
+                glimpse.end()
     if out != USAGE[1]:
         complain(said)
         stop("the program was not built")
@@ -235,7 +322,7 @@ def try_on(words: list[str], source: int | IO[bytes], below: Crates) -> int:
         status, said, complained = finished(start(
             ["rt", "try", "--", *words], os.path.join(CRATES, LAST), stdin=source, stdout=subprocess.PIPE,
             stderr=subprocess.PIPE, env={**os.environ, "TMPDIR": made}), lambda: link_programs(made, room, seen))
-        if not re.search(r"^run=ended status=\d+ .*proved=no$", complained, re.M):
+        if not TRIED.search(complained):
             complain(complained)
             stop("the sources did not run")
         keep_unproved(seen.values(), before, below)

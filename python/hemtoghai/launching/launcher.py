@@ -10,6 +10,7 @@ import sys
 
 TYPE_CHECKING = False  # of a reader of types, for which `typing` needn't be imported
 if TYPE_CHECKING:
+    from collections.abc import Sequence
     from typing import NoReturn
 
 from hemtoghai import program, streams, texts
@@ -45,8 +46,8 @@ def file_if_current(path: str) -> str | None:
     stop("the program is exchanged while it is started: run it again")
 
 
-def file_for(unproved: bool) -> str | None:
-    """The file that is to run, or None where there is only the sources' own try."""
+def file_for(unproved: bool, words: Sequence[str] = (), files: Sequence[str] = ()) -> str | None:
+    """The file that is to run for these words and files, or None where there is only the sources' own try."""
     is_release = os.path.exists(program.MANIFEST)
     if is_release and not program.demanded[0]:
         if unproved:
@@ -63,7 +64,7 @@ def file_for(unproved: bool) -> str | None:
         return file_if_current(program.UNPROVED)
     if (found := file_if_current(program.PROGRAM)) is None:
         from hemtoghai.launching import building
-        building.build()
+        building.build(list(words), list(files))
         found = file_if_current(program.PROGRAM) or stop("the program that was built isn't that of the sources")
     return found
 
@@ -158,4 +159,4 @@ def main(words: list[str]) -> int:
     if fault:
         from hemtoghai.launching import help
         return help.refuse(words, fault)
-    return answer(file_for(unproved), front, files)
+    return answer(file_for(unproved, front, files), front, files)
