@@ -17,6 +17,3 @@ pub use unit::Counts;
 pub fn quantity_law()
     ensures { QuantityLaw }
 {}
-
-#[cfg(test)]
-mod tests;

@@ -1,4 +1,4 @@
-//! Tests of the crates of the text layer: `choreo_lines`, `choreo_reader`, `cue_grid`, `mm_rounding` and
+//! Tests of the crates of the text layer: `quantities`, `choreo_lines`, `choreo_reader`, `cue_grid`, `mm_rounding` and
 //! `figure_expand`. They stand in a crate of their own so that those crates are proved once. Each call is the public
 //! one that the layers above make.
 #![tactic(auto)]
@@ -13,3 +13,5 @@ mod lines;
 mod rounding;
 #[cfg(test)]
 mod shows;
+#[cfg(test)]
+mod units;

@@ -1,6 +1,6 @@
 //! Words in their places, and words of thousands of digits.
 
-use crate::{Counts, quantity_in, quantity_law};
+use quantities::{Counts, quantity_in, quantity_law};
 use std::test::Fail;
 use text_lines::NumberFault;
 
