@@ -97,7 +97,7 @@ class Bridge(Home):
             if words is None:
                 self.unheard.pop(drone, None)
                 if stage == self.begun:
-                    self.took[drone] = seconds
+                    self.took[drone] = clock.now() - self.moves[drone][1]  # at most: it may have been answered before
             else:
                 self.refusals[drone] = words
             self.director.hear(director.answer(drone, 0 if words is None else MUTE))

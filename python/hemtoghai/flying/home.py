@@ -394,14 +394,14 @@ class Home(Watched):
             up = self.bring_down(list(stage.to), seconds, self.ways.rules.late / 1000)
             self.unheard = {k: before[k] for k in up}
             return ["%s isn't down" % self.names[k] for k in up]
-        self.unheard, begin = before, clock.now()
+        self.unheard = before
 
         def go(drone: int) -> None:
             x, y, z = (v / 1000 for v in stage.to[drone])
             yaw = math.radians(self.ways.yaws[drone] / 10)
             self.fleet.command(drone, firmware.go_to(x, y, z, yaw, seconds), "go back")
             self.unheard.pop(drone, None)
-            self.took[drone] = clock.now() - begin
+            self.took[drone] = clock.now() - self.moves[drone][1]
         mute = [str(why) for why in self.fleet.radio.failures(list(stage.to), go, self.watch.look).values()]
         for words in mute:
             say(words)
