@@ -30,7 +30,7 @@ uint8_t hemtoghai_run(const char *words, size_t words_length, const char *input,
     return *size > room ? 7 : input_length && input[0] > '0' && input[0] <= '9' ? input[0] - '0' : 0;
 }
 """
-SCRIPT = "#!/bin/sh\necho by the program\n"
+SCRIPT = "#!/bin/sh\necho ok drones 1 cues 1 duration_ms 1\n"
 
 
 class Case(common.Folder, unittest.TestCase):
@@ -87,7 +87,8 @@ class Case(common.Folder, unittest.TestCase):
         except hemtoghai.Unusable as why:
             return str(why)
         self.assertEqual((verdict.line, verdict.proved), {
-            "library": ("check --depth 6|", verdict.proof == PROVED), "process": ("by the program", False)}[verdict.by])
+            "library": ("check --depth 6|", verdict.proof == PROVED),
+            "process": ("ok drones 1 cues 1 duration_ms 1", False)}[verdict.by])
         return verdict.by, verdict.proof
 
 

@@ -5,6 +5,7 @@ import hashlib
 import json
 import os
 import re
+import signal
 import subprocess
 import sys
 import tempfile
@@ -205,6 +206,88 @@ class Proof(Case):
         os.remove(self.path)
         with self.assertRaises(program.Unusable):
             hemtoghai.check("")
+
+    def answers(self, text):
+        """Has a program with a record be asked, of this script."""
+        self.write(text)
+        self.record(rests_on=PROVED)
+        self.take(self.path)
+
+    def test_a_file_that_took_its_number(self):
+        # A daemon closes all its files, and what it opens next gets their numbers.
+        self.answers("#!/bin/sh\necho error 5 pair a b cue 1 part 0 of 64\nexit 5\n")
+        for other in ("/bin/true", "/dev/null"):
+            self.assertEqual(hemtoghai.check("").status, 5)
+            file = program.runs()
+            if not file.startswith("/proc/"):
+                self.skipTest("there are no files in memory")
+            with open(other, "rb") as opened:
+                os.dup2(opened.fileno(), int(os.path.basename(file)))
+            verdict = hemtoghai.check("")
+            self.assertEqual((verdict.ok, verdict.status, verdict.proved), (False, 5, True), other)
+
+    def test_one_file_a_program(self):
+        # Exchanged many times, a program takes no more files in memory than there are programs.
+        texts = [self.ANSWERS + "# %d\n" % k for k in range(2)]
+        for text in texts:
+            self.answers(text)
+            self.assertTrue(hemtoghai.check("").ok)
+        before = len(os.listdir("/proc/self/fd"))
+        for text in 4 * texts:
+            self.answers(text)
+            self.assertTrue(hemtoghai.check("").ok)
+        self.assertEqual(len(os.listdir("/proc/self/fd")), before)
+
+    def test_no_answer(self):
+        for said in ("exit 0", "echo", "echo ok", "echo ok drones 1 cues 1", "echo ok drones one cues 1 duration_ms 1",
+                     "echo error 5 pair a b cue 1 part 0 of 64", "printf 'ok drones 1 cues 1 duration_ms 1'",
+                     "echo ok drones 1 cues 1 duration_ms 1; echo more"):
+            self.answers("#!/bin/sh\n%s\n" % said)
+            with self.assertRaises(program.Unusable, msg=said) as refused:
+                hemtoghai.check("")
+            self.assertIn("no answer of `check`", str(refused.exception))
+        self.answers("#!/bin/sh\nexit 0\n")
+        with self.assertRaises(program.Unusable):
+            hemtoghai.compile("")
+
+    def test_a_lost_status(self):
+        # A process that ignores SIGCHLD, as many daemons do, is told no status of those that it started.
+        self.answers("#!/bin/sh\necho error 5 pair a b cue 1 part 0 of 64\nexit 5\n")
+        before = signal.signal(signal.SIGCHLD, signal.SIG_IGN)
+        try:
+            with self.assertRaises(program.Unusable) as refused:
+                hemtoghai.check("")
+        finally:
+            signal.signal(signal.SIGCHLD, before)
+        self.assertIn("status is lost", str(refused.exception))
+
+    def test_a_handler_that_raises(self):
+        class Stop(Exception):
+            pass
+
+        def stop(*_):
+            raise Stop
+        self.answers("#!/bin/sh\nexec sleep 20\n")
+        before = signal.signal(signal.SIGALRM, stop)
+        try:
+            for k in range(30):
+                with self.assertRaises(Stop):
+                    signal.setitimer(signal.ITIMER_REAL, 0.0005 * (k + 1))
+                    hemtoghai.check("")
+        finally:
+            signal.setitimer(signal.ITIMER_REAL, 0)
+            signal.signal(signal.SIGALRM, before)
+        with self.assertRaises(ChildProcessError):  # there is no child, neither running nor ended
+            os.waitpid(-1, os.WNOHANG)
+
+    def test_closed_streams(self):
+        # The numbers of standard streams go to other files, those of the question among them.
+        code = ("import os, sys\nsys.path.insert(0, %r)\nimport hemtoghai\nfrom hemtoghai import answering, program\n"
+                "program.PROGRAM, answering._chosen, left = %r, answering.Process(), os.dup(1)\nos.closerange(0, 3)\n"
+                "verdict = hemtoghai.check('x' * 100000)\nos.write(left, b'%%d %%s' %% (verdict.status, verdict.output))\n")
+        self.answers("#!/bin/sh\nwc -c\nexit 5\n")
+        done = subprocess.run([sys.executable, "-c", code % (common.PYTHON, self.path)], stdout=subprocess.PIPE, timeout=60)
+        self.assertEqual(done.stdout.split(), [b"5", b"100000"])
 
     def test_out_of_memory(self):
         self.write("#!/bin/sh\nexit 1\n")

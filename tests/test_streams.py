@@ -5,11 +5,12 @@ import json
 import os
 import resource
 import shutil
+import signal
 import subprocess
 import tempfile
 import unittest
 
-from common import TOP
+from common import TOP, wants_program
 
 SHOW = "examples/crossing.choreo"
 MEMORY = 700 << 20  # bytes, many times what a tool takes
@@ -60,6 +61,14 @@ class Streams(unittest.TestCase):
                                   stderr=subprocess.PIPE, timeout=300)
             os.close(sink)
             self.assertEqual((done.returncode, b"Traceback" in done.stderr), (141, False), done.stderr)
+
+    @wants_program
+    def test_children_ignored(self):
+        # The status is the program's too where the parent ignored SIGCHLD, which stays so in what it starts.
+        for words in (["check", SHOW], ["why", SHOW], ["check", "--json", SHOW]):
+            done = subprocess.run(["./show", *words], cwd=TOP, stdout=subprocess.PIPE, stderr=subprocess.PIPE, timeout=300,
+                                  preexec_fn=lambda: signal.signal(signal.SIGCHLD, signal.SIG_IGN))
+            self.assertEqual((done.returncode, b"error 5 pair a b" in done.stdout), (5, True), (words, done.stderr))
 
     def test_endless(self):
         for words, wanted in ENDLESS:

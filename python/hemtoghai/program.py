@@ -33,8 +33,10 @@ class Unusable(Exception):
     """Why the program can't be run."""
 
 
-# By a program's path what its file and its record looked like, the file that runs, and the last line of its proof.
+# By a program's path what its file, its record and the file that runs looked like, that file, and the last line of its
+# proof.
 _copies: dict[str, tuple[tuple[tuple[int, ...], ...], str, str | None]] = {}
+_kept: dict[str, tuple[str, tuple[int, ...]]] = {}  # by their SHA-256 the files in memory, and what they looked like
 demanded = [False]  # whether no program runs but the proved one, also in processes that `words_of` starts
 
 
@@ -159,11 +161,21 @@ def proof() -> str | None:
     return _copies[PROGRAM][2] if PROGRAM in _copies else None
 
 
+def kept(data: bytes, digest: str) -> str | None:
+    """The path of the file in memory with these bytes, or None where there are no such files: each is made once, and
+    anew where this process closed it. A file that took its number since then has another inode."""
+    path, looked = _kept.get(digest, ("", ()))
+    if not looked or looks(path) != looked:
+        path = in_memory(data) or ""
+        _kept[digest] = path, looks(path)
+    return path or None
+
+
 def copy_of(path: str) -> tuple[str, str | None]:
     """The file to run for a program that has a record, made where that or the program changed since the last time, and
     the last line of its proof or None; raises Unusable where it isn't the recorded one."""
     seen, copy, proved = _copies.get(path, ((), "", None))
-    if copy and seen == (looks(path), looks(record_path(path))) and os.path.exists(copy):
+    if copy and seen == (looks(path), looks(record_path(path)), looks(copy)):
         return copy, proved
     noted = looks(record_path(path))
     data, read = read_program(path)
@@ -175,8 +187,9 @@ def copy_of(path: str) -> tuple[str, str | None]:
             "unpack the release anew" if record == MANIFEST else "./show check FILE builds it")))
     line = known.get("rests_on")
     proved = line if wanted and isinstance(line, str) and line.startswith("logic=proved ") else None
-    _copies[path] = (read, noted), in_memory(data) or path, proved
-    return _copies[path][1], proved
+    copy = kept(data, digest) or path
+    _copies[path] = (read, noted, looks(copy)), copy, proved
+    return copy, proved
 
 
 def words_of(*words: str) -> list[str]:
@@ -184,18 +197,79 @@ def words_of(*words: str) -> list[str]:
     return [sys.executable, "-IS", os.path.join(PACKAGE, "__main__.py"), *["--proved"] * demanded[0], *words]
 
 
+def is_answer(words: list[str], status: int, output: bytes) -> bool:
+    """Whether a command can give this: none accepts without a byte, and `check` accepts with its own line alone."""
+    if status or words[:1] != ["check"]:
+        return bool(status or output)
+    row = output[:-1].split(b" ")
+    return output[-1:] == b"\n" and len(row) == 7 and all(word.isdigit() for word in row[2::2]) and (
+        row[:1] + row[1::2] == [b"ok", b"drones", b"cues", b"duration_ms"])
+
+
+def status_in(process: int) -> int:
+    """The status of a process that was started here, once it has ended, negative where a signal ended it; raises
+    Unusable where the system doesn't keep it."""
+    try:
+        found = os.waitpid(process, 0)[1]
+    except ChildProcessError:
+        raise Unusable("the program's status is lost: this process ignores SIGCHLD, or waits for all of its children"
+                       ) from None
+    return os.WEXITSTATUS(found) if os.WIFEXITED(found) else -os.WTERMSIG(found)
+
+
+def end(process: int) -> None:
+    """Ends a process that was started here, unless it was waited for already."""
+    try:
+        if os.waitpid(process, os.WNOHANG)[0] == 0:
+            os.kill(process, 9)
+            os.waitpid(process, 0)
+    except ChildProcessError:
+        pass
+
+
+def carried_out(file: str, words: list[str], text: int) -> tuple[int, bytes]:
+    """The status and output of a program over an open file. It is ended where this call is, as by a handler of signals
+    that raises."""
+    import fcntl
+    import functools
+    numbers: list[int] = []
+    started: list[int] = []
+    try:
+        numbers += os.pipe()
+        # The number of a standard stream that this process closed would be taken by another stream of the program.
+        numbers += [fcntl.fcntl(number, fcntl.F_DUPFD_CLOEXEC, 3) for number in (text, numbers[1])]
+        actions = [(os.POSIX_SPAWN_DUP2, numbers[2], 0), (os.POSIX_SPAWN_DUP2, numbers[3], 1),
+                   (os.POSIX_SPAWN_OPEN, 2, os.devnull, os.O_WRONLY, 0)]
+        # By `map` the process is in the list before a signal that came meanwhile is handled.
+        started += map(functools.partial(os.posix_spawn, file, [file, *words], file_actions=actions), [os.environ])
+        while len(numbers) > 1:
+            os.close(numbers.pop())
+        output = b"".join(iter(lambda: os.read(numbers[0], 1 << 16), b""))
+        status = status_in(started[0])
+        started.clear()
+        return status, output
+    finally:
+        for process in started:
+            end(process)
+        while numbers:
+            os.close(numbers.pop())
+
+
 def ask(words: list[str], text: bytes, path: str | None = None) -> tuple[int, bytes]:
     """The status and output of a program on a text; raises Unusable where there is no answer."""
-    import subprocess
     import tempfile
     file = runs(path)
     try:
         with tempfile.TemporaryFile() as source:  # and no pipe: a program that refuses early doesn't read on
             source.write(text)
             source.seek(0)
-            done = subprocess.run([file, *words], stdin=source, stdout=subprocess.PIPE, stderr=subprocess.DEVNULL)
+            status, output = carried_out(file, words, source.fileno())
     except OSError as error:
-        raise Unusable("the program can't be run: %s" % error.strerror) from None
-    if done.returncode < 0:
-        raise Unusable("the program was ended by signal %d" % -done.returncode)
-    return done.returncode, done.stdout
+        raise Unusable(f"the program can't be run: {error.strerror}") from None
+    except ValueError as error:
+        raise Unusable(f"the program can't be run: {error}") from None
+    if status < 0:
+        raise Unusable(f"the program was ended by signal {-status}")
+    if not is_answer(words, status, output):
+        raise Unusable(f"what was run isn't the program: it gave no answer of `{' '.join(words[:1])}`")
+    return status, output

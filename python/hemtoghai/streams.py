@@ -96,5 +96,7 @@ def run(main: Callable[[], int | None], who: str | None = None) -> None:
     fill()
     # A program that has ended breaks its pipe, and what it wrote is still to be read.
     _signal.signal(_signal.SIGPIPE, _signal.SIG_IGN)
+    # Where that is ignored, as its parent may have had it, a process is told no status of those that it starts.
+    _signal.signal(_signal.SIGCHLD, _signal.SIG_DFL)
     status = status_of(main, who or os.path.basename(sys.argv[0]))
     sys.exit(status)
