@@ -46,7 +46,7 @@ class RoundTrips(Case):
     def exported(self, flown, *words):
         """The paths in the .skyc of what is flown, its place, and its bound."""
         path = self.file("o.skyc")
-        status, out, said = self.run_tool("export skyc", *words, self.file("plan", flown.plan()), path)
+        status, out, said = self.run_tool("export skyc", "--force", *words, self.file("plan", flown.plan()), path)
         self.assertEqual(status, 0, said)
         self.assertIn("are their own bytes: nothing is promised of those", out)
         return foreign.read_skyc(path, {}), path, bound_of(out)
@@ -96,7 +96,7 @@ class RoundTrips(Case):
         # A turn of 90 degrees from rest to rest: at half its time 45; what is printed holds at 65 instants.
         text = b"choreo 1\ndrone a 0 0 1000000 0\ncue 2000\na turn 900\nend\n"
         (path,), where, _ = self.exported(choreo.flown_of(text))
-        said = self.run_tool("export skyc", self.file("plan"), where)[1]
+        said = self.run_tool("export skyc", "--force", self.file("plan"), where)[1]
         bound = 10 * Fraction(re.search(r"and (\S+) degrees", said)[1])
         own = [0, 0, 0, 0, 900, 900, 900, 900]
         way = [[Fraction(v)] for v in own]

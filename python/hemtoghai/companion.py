@@ -65,14 +65,6 @@ def read_file(path: str, most: int = texts.LOG) -> bytes:
     return data if len(data) <= most else stop("%s: more than %d bytes" % (path, most))
 
 
-def write_file(path: str, data: bytes) -> None:
-    try:
-        with open(path, "wb") as file:
-            file.write(data)
-    except OSError as error:
-        stop("%s: %s" % (path, error.strerror))
-
-
 def flown_of(path: str) -> tuple[bytes, Flown]:
     """What the drones of a show's file fly; a faulty show ends the tool with the program's status and line."""
     text = read_front(path, choreo.LONGEST_TEXT)

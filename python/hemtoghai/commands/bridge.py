@@ -21,7 +21,7 @@ import sys
 from argparse import ArgumentTypeError, Namespace
 from collections.abc import Callable, Iterator, Sequence
 
-from hemtoghai import program
+from hemtoghai import outputs, program
 from hemtoghai.companion import add_depth, decoded, flown_of, many, no_program, parser, stop
 from hemtoghai.flying import finite, links
 from hemtoghai.flying.uploads import Carrying, ENDS, Traffic, uploaded, wanted_packets
@@ -67,13 +67,7 @@ def end_of(memory: bytearray, offset: int, pieces: int) -> int:
 
 def write_memories(folder: str, names: Sequence[str], drones: Sequence[links.Drone]) -> None:
     """Writes each drone's memory to FOLDER/NAME.memory."""
-    try:
-        os.makedirs(folder, exist_ok=True)
-        for name, drone in zip(names, drones):
-            with open(os.path.join(folder, name + ".memory"), "wb") as file:
-                file.write(drone.memory)
-    except OSError as error:
-        stop("%s: %s" % (error.filename, error.strerror))
+    outputs.write_below(folder, {name + ".memory": bytes(drone.memory) for name, drone in zip(names, drones)})
 
 
 # ---- words
@@ -112,6 +106,7 @@ def options_of(words: list[str]) -> Namespace:
     reader.add_argument("--id", type=finite.option(0, 255, True), metavar="ID",
                        help="the id of the drones' memory; without it the show's")
     reader.add_argument("--memory", metavar="FOLDER", help="write each drone's memory to FOLDER/NAME.memory")
+    outputs.add_force(reader)
     reader.add_argument("--link", metavar="FILE", help="a Python file whose class Link replaces the simulated link")
     reader.add_argument("--radio", metavar="DRONES", help="real drones: a text with a line `NAME URI` for each")
     reader.add_argument("--repeat-starts", action="store_true",
@@ -184,6 +179,9 @@ def print_end(options: Namespace, done: Carrying, ended: int) -> int:
 def main(words: list[str]) -> int:
     options = options_of(words)
     text, flown = flown_of(options.show)
+    if options.memory:
+        outputs.refuse((os.path.join(options.memory, name + ".memory") for name in flown.names), options.force,
+                       [options.show, options.link or "", options.radio or ""])
     if not os.path.isfile(options.program):
         stop("%s is not there: ./show check FILE builds the program" % os.path.relpath(options.program))
     fault = no_program() if options.program == program.PROGRAM else None

@@ -25,7 +25,7 @@ import argparse
 import signal
 from typing import Dict, List, Sequence, Tuple
 
-from hemtoghai import program
+from hemtoghai import outputs, program
 from hemtoghai.companion import ask_check, flown_of, missing, parser, stop
 from hemtoghai.flying import clock, crazyradio, finite, legs
 from hemtoghai.flying.crazyradio import Trouble
@@ -88,6 +88,7 @@ def options_of(words: list[str]) -> argparse.Namespace:
     reader.add_argument("--low", action="store_true", help="let a show below z 0 through")
     reader.add_argument("--yes", action="store_true", help="don't ask before upload, take-off and start")
     reader.add_argument("--log", metavar="FILE", help="write places to this CSV file, for ./show flown")
+    outputs.add_force(reader)
     for name, default, least, most, is_whole, metavar, text in NUMBERS:
         reader.add_argument("--" + name, type=finite.option(least, most, is_whole), default=default, metavar=metavar,
                            help=text if default is None else "%s; %s" % (text, default))
@@ -258,6 +259,8 @@ def show(options: argparse.Namespace, watch: Watch, radios: List[crazyradio.Radi
 
 def main(words: list[str]) -> int:
     options = options_of(words)
+    outputs.refuse(filter(None, [options.log]), options.force,
+                   filter(None, [options.show, options.pads, options.radio]))
     watch = Watch(options.yes)
     radios: List[crazyradio.Radio] = []
     signal.signal(signal.SIGPIPE, signal.SIG_IGN)

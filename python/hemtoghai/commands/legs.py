@@ -20,6 +20,7 @@ answer. NO DRONE EVER FLEW A LEG: take-off, go-to and landing are from memory of
 """
 import os
 
+from hemtoghai import outputs
 from hemtoghai.companion import ask_check, flown_of, many, missing, parser, stop
 from hemtoghai.flying import legs
 from hemtoghai.flying.landings import Landings
@@ -29,19 +30,17 @@ from hemtoghai.program import COMMAND
 NO_WAY = 16
 
 
-def write(leg: Leg, path: str, name: str, show: str, top: int) -> None:
-    """Writes a leg as a show, and its summary; the show's own curves stay below `top`."""
+def summed_up(leg: Leg, path: str, name: str, show: str, top: int) -> bytes:
+    """A leg as a show, whose summary is printed; the show's own curves stay below `top`."""
     words = "judged as a whole" if leg.whole else "judged stage by stage: the next begins when the one before has ended"
-    with open(path, "wb") as file:
-        file.write(leg.text(["# The way %s of %s, by %s legs; %s." % (name, os.path.basename(show), COMMAND, words)]))
-    print("way %s: %s, %.1f s; %s; %s" % (
-        name, many(len(leg.stages), "stage"), leg.milliseconds() / 1000, words, path))
+    print(f"way {name}: {many(len(leg.stages), 'stage')}, {leg.milliseconds() / 1000:.1f} s; {words}; {path}")
     if leg.why_below:
         print("  below the last places, since there is no way to the pads: %s" % leg.why_below)
     for line in leg.lines():
         print(line)
     if leg.top() > top:
         print("  goes up to %.2f m, and the show to %.2f: --ceiling keeps it lower" % (leg.top() / 1000, top / 1000))
+    return leg.text([f"# The way {name} of {os.path.basename(show)}, by {COMMAND} legs; {words}."])
 
 
 def main(words: list[str]) -> int:
@@ -51,9 +50,13 @@ def main(words: list[str]) -> int:
     reader.add_argument("--ceiling", type=int, metavar="MM",
                         help="the greatest height to which a drone is lifted on the ways")
     reader.add_argument("--dry", action="store_true", help="write no files")
+    outputs.add_force(reader)
     reader.add_argument("show", metavar="SHOW", help="a file with a show, or - for standard input")
     reader.add_argument("pads", metavar="PADS", nargs="?", help="a text with a line `NAME X Y Z` for each drone")
     options = reader.parse_args(words)
+    paths = {name: os.devnull if options.dry else os.path.join(options.out, name + ".choreo")
+             for name in ("up", "down")}
+    outputs.refuse(paths.values(), options.force, filter(None, [options.show, options.pads]))
     text, flown = flown_of(options.show)
     answer = ask_check(text)
     if answer is None:
@@ -67,16 +70,15 @@ def main(words: list[str]) -> int:
         stop(str(error))
     rules = legs.Rules(flown.show.settings, ceiling=options.ceiling)
     print("judged with: %s" % rules.words())
-    status = 0
-    for name in ("up", "down"):
+    status, files = 0, {}
+    for name, path in paths.items():
         try:
-            path = os.devnull if options.dry else os.path.join(options.out, name + ".choreo")
-            write(legs.way_of(name, flown, pads, rules, options.below), path, name, options.show, legs.top_of(flown))
+            leg = legs.way_of(name, flown, pads, rules, options.below)
+            files[path] = summed_up(leg, path, name, options.show, legs.top_of(flown))
         except legs.NoWay as why:
             print("no way %s: %s" % (name, why))
             status = NO_WAY
-        except OSError as error:
-            stop(str(error))
+    outputs.write_all(files)
     print("landing of all from the show:")
     for line in Landings(flown, [pad[2] for pad in pads], rules).lines():
         print("  " + line)

@@ -33,8 +33,8 @@ import tarfile
 import tempfile
 from typing import Any, Dict, List, Tuple
 
-from hemtoghai import program
-from hemtoghai.companion import parser, stop, write_file
+from hemtoghai import outputs, program
+from hemtoghai.companion import parser, stop
 from hemtoghai.launching import manual, records
 from hemtoghai.launching.records import git
 
@@ -195,7 +195,7 @@ def main(words: list[str]) -> int:
         os.makedirs(options.out, exist_ok=True)
     except OSError as error:
         stop("%s: %s" % (options.out, error.strerror))
-    write_file(path, data)
+    outputs.write_all({path: data})
     print_made(path, len(contents) + len(links), data)
     release_wheel(record, contents, changed, options.out)
     print("program sha256 %s\ntoolchain %s\nproof: %s" % (record["sha256"], record["toolchain"], record["rests_on"]))

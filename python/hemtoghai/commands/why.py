@@ -10,7 +10,8 @@ from collections.abc import Iterable, Iterator
 from math import hypot
 
 from hemtoghai.companion import (add_depth, ask_check, begins, cue_words, many, missing, parser, place, seconds, stop,
-                                 words_and_show, write_file)
+                                 words_and_show)
+from hemtoghai import outputs
 from hemtoghai.geometry import separation
 from hemtoghai.geometry.separation import is_clear, Meeting, ruler_of
 from hemtoghai.language import choreo
@@ -276,7 +277,7 @@ def write_cured(path: str, text: bytes, deep: int) -> None:
         print("the show lasts %s, before %s" % (seconds(after), seconds(before)))
     if left:
         print("nothing that helps could be written for " + left)
-    write_file(path, new)
+    outputs.write_all({path: new})
     answer = ask_check(new, deep)
     print("%s: %s" % (path, answer[1] if answer else "nothing is blocked" if not left else "still blocked"))
 
@@ -286,7 +287,9 @@ def main(words: list[str]) -> int:
     add_depth(reader)
     reader.add_argument("--most", type=int, default=20, metavar="N", help="show at most N places, without it 20")
     reader.add_argument("--cured", metavar="FILE", help="write the show with remedies to FILE")
+    outputs.add_force(reader)
     options, text, flown = words_and_show(reader, words)
+    outputs.refuse(filter(None, [options.cured]), options.force, [options.show])
     answer = ask_check(text, options.depth)
     print("check: " + answer[1] if answer else missing(), end="\n\n")
     if smallness := small(flown):

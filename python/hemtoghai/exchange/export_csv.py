@@ -14,7 +14,7 @@ from __future__ import annotations
 import os
 from fractions import Fraction
 
-from hemtoghai import texts
+from hemtoghai import outputs, texts
 from hemtoghai.companion import decoded, many, parser, plan_in, read_file, stop
 from hemtoghai.geometry.curves import powers
 from hemtoghai.geometry.paths import PI
@@ -48,24 +48,25 @@ def lines_of(segments: list[Segment]) -> tuple[list[str], Fraction, Fraction]:
 
 def main(words: list[str]) -> int:
     reader = parser(__doc__)
+    outputs.add_force(reader)
     reader.add_argument("plan", metavar="PLAN", help="a file with what ./show compile wrote, or - for standard input")
     reader.add_argument("folder", metavar="FOLDER", help="where the files go; it is made where it isn't there")
     options = reader.parse_args(words)
     drones = plan_in(read_file(options.plan, texts.PLAN), options.plan)
-    try:
-        os.makedirs(options.folder, exist_ok=True)
-        for name, data, pieces in drones:
-            if (trajectory := decoded(data, pieces)) is None:
-                stop("%s: the bytes of %s are no trajectory of %s" % (options.plan, name, many(pieces, "segment")))
-            segments = trajectory[1]
-            lines, places, yaw = lines_of(segments)
-            path = os.path.join(options.folder, name + ".csv")
-            with open(path, "w", newline="\n") as file:
-                file.write("\n".join(lines) + "\n")
-            print("%s: %s, %.3f s; a double may differ by %.1e m on an axis and %.1e rad of yaw" % (
-                path, many(pieces, "segment"), sum(segment[0] for segment in segments) / 1000, places, yaw))
-            if pieces > MOST_PIECES:
-                print("  more than the %d segments that fit into 4,096 bytes as polynomials" % MOST_PIECES)
-    except OSError as error:
-        stop("%s: %s" % (error.filename, error.strerror))
+    outputs.refuse((os.path.join(options.folder, name + ".csv") for name, _, _ in drones), options.force,
+                   [options.plan])
+    files, said = {}, []
+    for name, data, pieces in drones:
+        if (trajectory := decoded(data, pieces)) is None:
+            stop(f"{options.plan}: the bytes of {name} are no trajectory of {many(pieces, 'segment')}")
+        segments = trajectory[1]
+        lines, places, yaw = lines_of(segments)
+        files[name + ".csv"] = ("\n".join(lines) + "\n").encode()
+        lasts = sum(segment[0] for segment in segments) / 1000
+        said.append(f"{os.path.join(options.folder, name)}.csv: {many(pieces, 'segment')}, {lasts:.3f} s; a double may "
+                    f"differ by {float(places):.1e} m on an axis and {float(yaw):.1e} rad of yaw")
+        if pieces > MOST_PIECES:
+            said.append(f"  more than the {MOST_PIECES} segments that fit into 4,096 bytes as polynomials")
+    outputs.write_below(options.folder, files)
+    print("\n".join(said))
     return 0

@@ -21,8 +21,8 @@ from collections.abc import Sequence
 from fractions import Fraction
 from typing import Any, List
 
-from hemtoghai import program, texts
-from hemtoghai.companion import decoded, many, parser, plan_in, read_file, stop, value, write_file
+from hemtoghai import outputs, program, texts
+from hemtoghai.companion import decoded, many, parser, plan_in, read_file, stop, value
 from hemtoghai.geometry import paths
 from hemtoghai.language.choreo import Segment
 
@@ -124,9 +124,11 @@ def main(words: list[str]) -> int:
     reader = parser(__doc__)
     reader.add_argument("--tolerance", type=amount, default=Fraction(1), metavar="MM",
                        help="how far cubics may leave a `move`, 0.001 to 1000; 1")
+    outputs.add_force(reader)
     reader.add_argument("plan", metavar="PLAN|SHOW", help="what ./show compile wrote, or a show; - for standard input")
     reader.add_argument("out", metavar="OUT", help="the .skyc to write")
     options = reader.parse_args(words)
+    outputs.refuse([options.out], options.force, [options.plan])
     drones: list[dict[str, Any]] = []
     count, worst, turned = 0, Fraction(0), Fraction(0)
     for name, data, pieces in drones_of(options.plan):
@@ -139,7 +141,7 @@ def main(words: list[str]) -> int:
     packed = io.BytesIO()
     with zipfile.ZipFile(packed, "w") as archive:
         archive.writestr(zipfile.ZipInfo("show.json"), json.dumps(show), zipfile.ZIP_DEFLATED)
-    write_file(options.out, packed.getvalue())
+    outputs.write_all({options.out: packed.getvalue()})
     print("%s: %s, %s; at any instant at most %.3f mm and %.2f degrees from the plan" % (
         options.out, many(len(drones), "drone"), many(count, "piece"), paths.root_up(worst, 1000),
         paths.root_up(turned / 100)))

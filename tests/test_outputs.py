@@ -1,0 +1,174 @@
+"""What commands write: whole files or none, none over what they read, and none over others without --force."""
+import glob
+import os
+import resource
+import subprocess
+import tempfile
+import unittest
+
+import common
+from common import TOP, wants_program
+from hemtoghai import outputs
+
+CROSSING, CURED = (common.example(name)[0] for name in ("crossing", "crossing_cured"))
+OLD = b"an old file\n"
+# Each with the files that it writes; IN is a show or its plan, OUT the place for what is written.
+WRITES = [(["why", "--cured", "OUT", "IN"], CROSSING, ["OUT"]),
+          (["legs", "--out", "OUT", "IN"], CURED, ["OUT/up.choreo", "OUT/down.choreo"]),
+          (["export", "skyc", "PLAN", "OUT"], CURED, ["OUT"]),
+          (["export", "csv", "PLAN", "OUT"], CURED, ["OUT/a.csv", "OUT/b.csv"]),
+          (["bridge", "--memory", "OUT", "IN"], CURED, ["OUT/a.memory", "OUT/b.memory"]),
+          (["fly", "--simulate", "--yes", "--only", "look", "--log", "OUT", "IN"], CURED, ["OUT"])]
+
+
+def forced(words):
+    at = 2 if words[0] == "export" else 1
+    return [*words[:at], "--force", *words[at:]]
+
+
+@wants_program
+class Commands(common.Folder, unittest.TestCase):
+    def setUp(self):
+        folder = tempfile.TemporaryDirectory()
+        self.addCleanup(folder.cleanup)
+        self.place = folder.name
+
+    def run_tool(self, words, show, most=None):
+        """The status and what a command said, which may write so many bytes to a file."""
+        self.write("in", show)
+        self.write("plan", subprocess.run([common.PROGRAM, "compile"], input=show, stdout=subprocess.PIPE).stdout)
+        for folder in {os.path.dirname(word) for word in words if "OUT/" in word}:
+            os.makedirs(self.there(folder), exist_ok=True)
+        done = subprocess.run([os.path.join(TOP, "show"), *map(self.there, words)], cwd=self.place, stdin=subprocess.DEVNULL,
+                              stdout=subprocess.PIPE, stderr=subprocess.PIPE, timeout=300, preexec_fn=(
+                                  lambda: resource.setrlimit(resource.RLIMIT_FSIZE, (most, most))) if most else None)
+        self.assertNotIn(b"Traceback", done.stderr)
+        return done.returncode, (done.stdout + done.stderr).decode()
+
+    def there(self, word):
+        return word.replace("OUT", self.path("out")).replace("IN", self.path("in")).replace("PLAN", self.path("plan"))
+
+    def read(self, name):
+        with open(self.there(name), "rb") as file:
+            return file.read()
+
+    def found(self):
+        """All files of the folder, hidden ones among them."""
+        return sorted(os.path.relpath(os.path.join(folder, name), self.place)
+                      for folder, _, names in os.walk(self.place) for name in names)
+
+    def clear(self):
+        for name in self.found():
+            os.remove(self.path(name))
+        for folder in glob.glob(self.path("out")):
+            os.rmdir(folder)
+
+    def test_what_is_there(self):
+        for words, show, written in WRITES:
+            if words[0] == "legs":
+                os.mkdir(self.path("out"))
+            status, said = self.run_tool(words, show)
+            self.assertIn(status, (0, 5), (words, said))
+            whole = [self.read(name) for name in written]
+            for name in written:
+                for other in written:
+                    os.remove(self.there(other))
+                self.write(self.there(name), OLD)
+                status, said = self.run_tool(words, show)
+                self.assertEqual((status, self.read(name)), (70, OLD), words)
+                self.assertIn("%s is there already: --force overwrites it, or give another path" % self.there(name), said)
+                for other in written:
+                    self.write(self.there(other), OLD)
+            status, said = self.run_tool(forced(words), show)
+            self.assertIn(status, (0, 5), (words, said))
+            if words[0] != "fly":
+                self.assertEqual([self.read(name) for name in written], whole, words)
+            self.clear()
+
+    def test_what_is_read(self):
+        plan = subprocess.run([common.PROGRAM, "compile"], input=CURED, stdout=subprocess.PIPE).stdout
+        for words, name, data in (
+                (["why", "--cured", "IN", "IN"], "IN", CURED), (["export", "skyc", "IN", "IN"], "IN", CURED),
+                (["export", "csv", "OUT/a.csv", "OUT"], "OUT/a.csv", plan),
+                (["legs", "--out", "OUT", "OUT/up.choreo"], "OUT/up.choreo", CURED),
+                (["legs", "--out", "OUT", "IN", "OUT/down.choreo"], "OUT/down.choreo", b"a 0 0 0\nb 1000000 0 0\n"),
+                (["fly", "--simulate", "--log", "IN", "IN"], "IN", CURED),
+                (["fly", "--simulate", "--pads", "OUT/a", "--log", "OUT/a", "IN"], "OUT/a", b"a 0 0 0\nb 1000000 0 0\n"),
+                (["bridge", "--memory", "OUT", "OUT/a.memory"], "OUT/a.memory", CURED)):
+            for given in (words, forced(words)):
+                self.write(self.there(name), data)
+                status, said = self.run_tool(given, CURED)
+                self.assertEqual((status, self.read(name)), (70, data), (given, said))
+                self.assertIn("%s is what is read: give another path" % self.there(name), said, given)
+            self.clear()
+        self.write("up.choreo", CURED)  # the shortest way to lose a show
+        status, said = self.run_tool(["legs", self.path("up.choreo")], CURED)
+        self.assertEqual((status, self.read(self.path("up.choreo"))), (70, CURED), said)
+
+    def test_a_link_to_what_is_read(self):
+        self.write("in", CURED)
+        os.link(self.path("in"), self.path("out"))
+        status, said = self.run_tool(["export", "skyc", "--force", "IN", "OUT"], CURED)
+        self.assertEqual((status, self.read("IN")), (70, CURED), said)
+
+    def test_no_room(self):
+        # A limit for files ends a write as a full disk does. What is there already stays, and no half file.
+        for words, show, written in WRITES:
+            if words[0] in ("legs", "fly"):  # the program is asked about each leg, by a file as long; a log grows
+                continue
+            long = show + b"# " + b"x" * 6000 + b"\n" if words[0] == "why" else show
+            most = {"why": 6100, "export": 200, "bridge": 4000}[words[0]]
+            status, said = self.run_tool(words, long, most)
+            self.assertEqual(status, 70, (words, said))
+            self.assertIn("%s: File too large\n" % self.there(written[0]), said)
+            self.assertEqual(self.found(), ["in", "plan"], words)
+            self.assertFalse(os.path.exists(self.path("out")), words)
+            for name in written:
+                self.write(self.there(name), OLD)
+            status, said = self.run_tool(forced(words), long, most)
+            self.assertEqual((status, {self.read(name) for name in written}), (70, {OLD}), (words, said))
+            self.assertEqual(len(self.found()), 2 + len(written), self.found())
+            self.clear()
+
+
+class Files(common.Folder, unittest.TestCase):
+    def setUp(self):
+        folder = tempfile.TemporaryDirectory()
+        self.addCleanup(folder.cleanup)
+        self.place = folder.name
+
+    def test_mode_and_links(self):
+        self.write("a", OLD, 0o640)
+        os.symlink("a", self.path("b"))
+        outputs.write_all({self.path("b"): b"new"})
+        self.assertTrue(os.path.islink(self.path("b")))
+        with open(self.path("a"), "rb") as file:
+            self.assertEqual((file.read(), os.stat(self.path("a")).st_mode & 0o777), (b"new", 0o640))
+        before = os.umask(0o027)
+        try:
+            outputs.write_all({self.path("c"): b""})
+        finally:
+            os.umask(before)
+        self.assertEqual(os.stat(self.path("c")).st_mode & 0o777, 0o640)
+
+    def test_devices_and_folders(self):
+        outputs.write_all({os.devnull: b"x"})
+        self.assertIsNone(outputs.fault_of(os.devnull, False, []))
+        for path in ("", "none/a"):
+            with self.assertRaises(SystemExit):
+                outputs.write_all({self.path(path): b"x"})
+        self.assertEqual(os.listdir(self.place), [])
+
+    def test_all_or_none(self):
+        self.write("a", OLD)
+        with self.assertRaises(SystemExit):
+            outputs.write_below(self.path("new/deep"), {"b": b"x", "none/c": b"x"})
+        with self.assertRaises(SystemExit):
+            outputs.write_all({self.path("a"): b"x", self.path("none/c"): b"x"})
+        self.assertEqual(os.listdir(self.place), ["a"])
+        with open(self.path("a"), "rb") as file:
+            self.assertEqual(file.read(), OLD)
+
+
+if __name__ == "__main__":
+    unittest.main()
