@@ -91,6 +91,13 @@ class Causes(unittest.TestCase):
 
 
 class Cures(unittest.TestCase):
+    def test_most_places(self):
+        drones = "".join("drone d%d 0 0 1000000 0\n" % k for k in range(32))
+        text = "choreo 1\n" + drones + "repeat 1000\ncue 1000\nend\nend\n"
+        status, said, told = run("why", "--most", "3", text=text)
+        self.assertEqual((status, said.count("TOO NEAR"), "and 197 more: --most N shows them" in said), (5, 3, True), told)
+        self.assertIn("More may be blocked: these are the place that is named and those of the first cues, at most 200.\n", said)
+
     def cured(self, text):
         """What was said of a show and its cure, and the cured show."""
         with tempfile.TemporaryDirectory() as folder:

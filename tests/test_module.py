@@ -15,6 +15,7 @@ from unittest import mock
 import common
 import hemtoghai
 from hemtoghai import answering, judging, program
+from hemtoghai.geometry import separation
 
 IS_BUILT = os.access(program.PROGRAM, os.X_OK)
 PROVED = "logic=proved functions=3 axioms=1"
@@ -73,6 +74,32 @@ class Verdicts(Case):
         place, = hemtoghai.check(text).blocked
         self.assertEqual((place.touch, place.share), (False, 1.25))
         self.assertIn("`stray 40`", place.cause)
+
+    def test_most_blocked(self):
+        # 32 drones in one place, for 1,000 cues: 496 pairs in each are blocked.
+        drones = "".join("drone d%d 0 0 1000000 0\n" % k for k in range(32))
+        verdict = hemtoghai.check("choreo 1\n" + drones + "repeat 1000\ncue 1000\nend\nend\n")
+        begin = separation.looked[0]
+        self.assertEqual((len(verdict.blocked), verdict.more_blocked, verdict.as_data()["more_blocked"]), (200, True, True))
+        # A part is blocked if its first half is, so there are seven to the first of depth 6.
+        self.assertLessEqual(separation.looked[0] - begin, 7 * 201)
+        self.assertEqual([(it.first, it.second, it.cue) for it in verdict.blocked if it.named], [("d0", "d1", 1)])
+        self.assertEqual({it.cue for it in verdict.blocked}, {1})
+        self.assertEqual((hemtoghai.check(CROSSING).more_blocked, hemtoghai.check(CURED).more_blocked), (False, False))
+
+    def test_named_first(self):
+        # c and d meet in cue 1, a and b in cue 2: the pair a b comes first for `check`.
+        text = ("choreo 1\n" + "".join("drone %s %d 0 1000000 0\n" % (name, 1000000 * k) for k, name in enumerate("abcd")) +
+                "cue 1000\nc line 3000000 0 1000000 0\nend\ncue 1000\nc line 2000000 0 1000000 0\na line 1000000 0 1000000 0\nend\n")
+        verdict = hemtoghai.check(text)
+        self.assertEqual(verdict.line.split(" cue ")[0], "error 5 pair a b")
+        self.assertEqual({(it.first, it.second, it.cue, it.named) for it in verdict.blocked},
+                         {("a", "b", 2, True), ("c", "d", 1, False), ("c", "d", 2, False)})
+        with mock.patch.object(separation, "MOST_PLACES", 1):
+            self.assertEqual([(it.first, it.cue) for it in hemtoghai.check(text).blocked], [("a", 2)])
+        with mock.patch.object(separation, "MOST_PARTS", 0):
+            verdict = hemtoghai.check(text)
+            self.assertEqual(([(it.first, it.cue) for it in verdict.blocked], verdict.more_blocked), ([("a", 2)], True))
 
     def test_faulty(self):
         verdict = hemtoghai.check("choreo 1\ncue 1.5\n")

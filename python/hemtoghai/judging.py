@@ -109,9 +109,20 @@ class Verdict:
         return str(row[-1]) if row else None
 
     @cached_property
+    def places(self) -> tuple[tuple[Blocked, ...], bool]:
+        """The places that are blocked, and whether these are all."""
+        return blocked_of(self.text, self.depth, self.line) if self.status == 5 else ((), True)
+
+    @property
     def blocked(self) -> tuple[Blocked, ...]:
-        """Each pair and cue that is blocked, the nearest first: of a show that is refused with status 5."""
-        return blocked_of(self.text, self.depth) if self.status == 5 else ()
+        """The pairs and cues that are blocked, the nearest first, of a show that is refused with status 5: the one that
+        is named, and at most so many that not even the worst show takes long."""
+        return self.places[0]
+
+    @property
+    def more_blocked(self) -> bool:
+        """Whether more may be blocked than `blocked` has."""
+        return not self.places[1]
 
     @cached_property
     def cautions(self) -> tuple[Caution, ...]:
@@ -121,7 +132,8 @@ class Verdict:
     def as_data(self) -> dict[str, Any]:
         """What is wrong, as values of JSON."""
         return {"status": self.status, "ok": self.ok, "line": self.line, "proved": self.proved, "depth": self.depth,
-                "fault": self.fault, "cure": self.cure, "blocked": [dict(vars(place)) for place in self.blocked]}
+                "fault": self.fault, "cure": self.cure, "blocked": [dict(vars(place)) for place in self.blocked],
+                "more_blocked": self.more_blocked}
 
 
 def is_path(text: bytes) -> bool:
@@ -177,17 +189,19 @@ def place_of(flown: Any, drone: int, cue: int, u: float) -> Place:
     return x, y, z
 
 
-def blocked_of(text: bytes, deep: int) -> tuple[Blocked, ...]:
-    """The places in which drones of a show are blocked, that first in which they come nearest."""
+def blocked_of(text: bytes, deep: int, line: str) -> tuple[tuple[Blocked, ...], bool]:
+    """The places in which drones of a show are blocked that `check` refuses with a line, that first in which they come
+    nearest, and whether these are all."""
     flown, out = choreo.flown_of(text), []
-    for number, found in enumerate(separation.blocked_places(flown, deep)):
+    blocked, are_all = separation.some_places(flown, deep, line)
+    for number, found in enumerate(blocked):
         it = separation.Meeting(flown, deep, *found)
         cue, names = flown.cues[it.cue], (flown.names[it.i], flown.names[it.j])
         lines = {cue.number, *(cue.acts[name][0] for name in names if name in cue.acts)}
         places = place_of(flown, it.i, it.cue, it.near.at), place_of(flown, it.j, it.cue, it.near.at)
         out.append(Blocked(*names, it.cue + 1, it.begin, it.end, it.nearest, places, it.near.share, it.near.touch,
                            it.cause, tuple(sorted(lines)), not number))
-    return tuple(sorted(out, key=lambda place: place.share))
+    return tuple(sorted(out, key=lambda place: place.share)), are_all
 
 
 CAUTION = re.compile(r"line (\d+), (?:cue (\d+)|the end): (\S+) ")

@@ -83,7 +83,9 @@ def by_why(words: list[str]) -> int:
                         help="remedies for at most N places, without it 20")
     options, text, flown = companion.words_and_show(reader, words)
     verdict = verdict_of(text, options.depth)
-    places = [{**vars(place), **(helped(flown, place, options.depth) if number < options.most else {})}
+    begin = separation.looked[0]
+    places = [{**vars(place), **(helped(flown, place, options.depth) if number < options.most and
+                                 separation.looked[0] - begin < why.MOST_TRIED else {})}
               for number, place in enumerate(verdict.blocked)]
     room = [{"drone": name, "bytes": len(data), "room": flown.room(), "pieces": len(segments)}
             for name, data, segments in zip(flown.names, flown.data(), flown.sent)]

@@ -23,8 +23,8 @@ from hemtoghai.companion import add_depth, ask_check, ask_dynamics, missing, par
 from hemtoghai.geometry import separation
 from hemtoghai.language.choreo import Flown
 from hemtoghai.seeing import drawing
-from hemtoghai.seeing.sampling import (blocked_marks, boxes_said, flight_of, regions_of, rows_of_play, shares, step_of,
-                                       worked_out)
+from hemtoghai.seeing.sampling import (blocked_marks, boxes_said, flight_of, Mark, regions_of, rows_of_play, shares,
+                                       step_of, worked_out)
 
 PAGE, VIEW = [os.path.join(program.PACKAGE, "seeing", name) for name in ("picture.html", "view.js")]
 
@@ -50,7 +50,11 @@ def picture_of(options: argparse.Namespace, text: bytes, flown: Flown) -> dict[s
     if status not in (0, 4, 5):
         judge, (status, line) = "this tool", separation.judged(text, options.depth)
         line = line if status else "nothing is refused"
-    step, marks = step_of(flown, options.step), blocked_marks(flown, options.depth) if status == 5 else []
+    step = step_of(flown, options.step)
+    marks: list[Mark] = []
+    if status == 5:
+        marks, are_all = blocked_marks(flown, options.depth, line)
+        line += "" if are_all else f" (more may be blocked than the {len(marks)} places that are marked)"
     rows = rows_of_play(text, options.program, options.depth, step) if status == 0 else None
     regions = regions_of(options.regions) if options.regions else []
     drawn, places = flight_of(flown, step, rows, {round(mark["nearest"]) for mark in marks}, regions)

@@ -22,6 +22,7 @@ from hemtoghai.writing.flyable import small
 from hemtoghai.writing.remedies import ENOUGH, first_of, last_of, lift_all, lifted, remedies, Remedy, written
 
 MOST_CURES = 40
+MOST_TRIED = 20000  # parts of cues that are looked at for remedies, some seconds of work
 
 
 def act_words(flown: Flown, lines: list[bytes], drone: int, cue: int) -> str:
@@ -119,7 +120,8 @@ def print_help(flown: Flown, i: int, j: int, cue: int, deep: int) -> None:
                                           seconds(remedy.takes)))
 
 
-def print_place(flown: Flown, lines: list[bytes], found: Meeting, deep: int, others: list[int]) -> None:
+def print_place(flown: Flown, lines: list[bytes], found: Meeting, deep: int, others: list[int],
+                may_try: bool = True) -> None:
     """Prints what is known of one pair in one cue, and what helps; `others` are later cues with the same."""
     near, i, j, cue, index = found.near, found.i, found.j, found.cue, found.index
     begin, time, parts = begins(flown)[cue], flown.cues[cue].milliseconds, 2 ** deep
@@ -143,7 +145,10 @@ def print_place(flown: Flown, lines: list[bytes], found: Meeting, deep: int, oth
         print("  APART, BUT ALONG NO DIRECTION: none of the 98 directions shows it for a whole part%s"
               % ("; --depth 8 may do" if deep < 8 and not standing(flown, i, j, cue, deep) else ""))
     print("  room enough at this instant: " + more_room(flown, side, up))
-    print_help(flown, i, j, cue, deep)
+    if may_try:
+        print_help(flown, i, j, cue, deep)
+    else:
+        print("  no remedy was tried here: those above took too long")
     print()
 
 
@@ -156,8 +161,11 @@ def alike(flown: Flown, found: list[Meeting]) -> list[list[Meeting]]:
     return list(groups.values())
 
 
-def print_counts(deep: int, found: list[Meeting]) -> None:
+def print_counts(deep: int, found: list[Meeting], are_all: bool) -> None:
     """Prints how many pairs, cues and places are blocked, and how near they are there."""
+    if not are_all:
+        print("More may be blocked: these are the place that is named and those of the first cues, at most %d."
+              % separation.MOST_PLACES)
     touching = sum(it.near.touch for it in found)
     cues = sorted({it.cue + 1 for it in found})
     pairs = len({(it.i, it.j) for it in found})
@@ -171,19 +179,24 @@ def print_counts(deep: int, found: list[Meeting]) -> None:
     print("Cues are counted with repeats and figures written out.\n")
 
 
-def explain_separation(flown: Flown, lines: list[bytes], deep: int, most: int) -> int:
-    """Prints each pair and cue that is blocked, in the order of time; the number of them."""
-    found = [Meeting(flown, deep, *place) for place in separation.blocked_places(flown, deep)]
+def explain_separation(flown: Flown, lines: list[bytes], deep: int, most: int, line: str) -> int:
+    """Prints pairs and cues that are blocked, in the order of time, of a show that `check` refuses with a line; the
+    number of them."""
+    places, are_all = separation.some_places(flown, deep, line)
+    found = [Meeting(flown, deep, *place) for place in places]
     if not found:
-        return 0
-    print_counts(deep, found)
+        return 0 if are_all or line.startswith("ok ") else stop(
+            "nothing is blocked in the first cues, and the program wasn't asked about the rest")
+    print_counts(deep, found, are_all)
     found.sort(key=lambda it: (it.cue, it.near.share))
-    groups = alike(flown, found)
+    groups, begin = alike(flown, found), separation.looked[0]
     for group in groups[:most]:
-        print_place(flown, lines, group[0], deep, [it.cue for it in group[1:]])
+        print_place(flown, lines, group[0], deep, [it.cue for it in group[1:]],
+                    separation.looked[0] - begin < MOST_TRIED)
     if len(groups) > most:
         print("and %d more: --most N shows them" % (len(groups) - most))
-    print_together(flown, groups, deep)
+    if separation.looked[0] - begin < MOST_TRIED:
+        print_together(flown, groups, deep)
     return len(found)
 
 
@@ -249,11 +262,11 @@ def cured(text: bytes, deep: int) -> tuple[bytes, list[str], str | None]:
     done: list[str] = []
     while len(done) < MOST_CURES:
         flown = choreo.flown_of(text)
-        found = list(separation.blocked_places(flown, deep))
+        answer = ask_check(text, deep)
+        found = [] if answer and not answer[0] else separation.first_places(flown, deep)
         if not found:
             return text, done, None
-        cue = min(row[2] for row in found)
-        pairs = [(i, j) for i, j, at, _ in found if at == cue]
+        cue, pairs = found[0][2], [(i, j) for i, j, _, _ in found]
         for remedy in cures_of(flown, cue, pairs, deep):
             if (new := written(text, flown, cue, remedy)) is not None:
                 text = new
@@ -301,7 +314,7 @@ def main(words: list[str]) -> int:
         print(refusal)
         explain_room(flown)
         return 4
-    blocked = explain_separation(flown, lines, options.depth, options.most)
+    blocked = explain_separation(flown, lines, options.depth, options.most, answer[1] if answer else "")
     own = 5 if blocked else 0
     if not blocked:
         print("Nothing is blocked at depth %d: all drones are apart." % options.depth)

@@ -6,6 +6,7 @@ the reader of the language; flights come from there, as control values in millim
 from __future__ import annotations
 
 import heapq
+import re
 from collections.abc import Callable, Iterator
 from itertools import combinations
 from math import comb, gcd, isqrt, lcm
@@ -16,6 +17,7 @@ from hemtoghai.language.choreo import Flown, flown_of, judge_room, Refused, Row
 from hemtoghai.language.lines import line_in
 
 Direction = Tuple[int, int, int]
+Blocked = Tuple[int, int, int, int]  # two drones, a cue, and its first part that is blocked, numbered from 0
 Part = List[Row]  # on x, y and z eight control values
 
 
@@ -102,8 +104,12 @@ class Ruler:
         a, b, c = part
         return all(x * a[k] + y * b[k] + z * c[k] >= least for k in (0, 7, 1, 2, 3, 4, 5, 6))
 
+looked = [0]  # at how many parts of cues: by it what would take too long is left out, the same on every machine
+
+
 def blocked(part: Part, ruler: Ruler, most: int, depth: int = 0, index: int = 0, hint: int = 0) -> int | None:
     """The index of the first part of depth `most` along which no direction separates the two, or None."""
+    looked[0] += 1
     if any(ruler.separates(part, depth, n) for n in (hint, *range(len(ruler.weights)))):
         return None
     if depth == most:
@@ -141,6 +147,52 @@ def blocked_places(flown: Flown, depth: int, version: int = 2) -> Iterator[tuple
         if not are_far(first, second, ruler):
             if (index := blocked(difference(first, second), ruler, depth)) is not None:
                 yield i, j, cue, index
+
+
+MOST_PLACES = 200  # blocked places that are told of
+MOST_PARTS = 20000  # parts that are looked at for them, some seconds of work
+
+
+def named_in(flown: Flown, line: str) -> Blocked | None:
+    """The blocked place that a line of `check` names, or None."""
+    found = re.match(r"error 5 pair (\S+) (\S+) cue (\d+) part (\d+) of \d+$", line)
+    if not found or not {found[1], found[2]} <= {*flown.names} or int(found[3]) > len(flown.cues):
+        return None
+    return flown.names.index(found[1]), flown.names.index(found[2]), int(found[3]) - 1, int(found[4])
+
+
+def some_places(flown: Flown, depth: int, line: str = "") -> tuple[list[Blocked], bool]:
+    """Blocked places, and whether these are all: first the one that the line of `check` names, or else would name if
+    these are all; then as many as are found in time, from the first cue on."""
+    named = named_in(flown, line)
+    found, begin, ruler = [named] if named else [], looked[0], ruler_of(flown)
+    for cue in range(len(flown.cues)):
+        for i, j in combinations(range(len(flown.names)), 2):
+            first, second = flown.by_cue[i][cue][1], flown.by_cue[j][cue][1]
+            if are_far(first, second, ruler) or named and named[:3] == (i, j, cue):
+                continue
+            if looked[0] - begin >= MOST_PARTS:
+                return found, False
+            if (index := blocked(difference(first, second), ruler, depth)) is not None:
+                if len(found) == MOST_PLACES:
+                    return found, False
+                found.append((i, j, cue, index))
+    return found if named else sorted(found), True
+
+
+def first_places(flown: Flown, depth: int) -> list[Blocked]:
+    """All blocked places of the first cue that has one."""
+    ruler = ruler_of(flown)
+    for cue in range(len(flown.cues)):
+        found: list[Blocked] = []
+        for i, j in combinations(range(len(flown.names)), 2):
+            first, second = flown.by_cue[i][cue][1], flown.by_cue[j][cue][1]
+            if not are_far(first, second, ruler):
+                index = blocked(difference(first, second), ruler, depth)
+                found += [] if index is None else [(i, j, cue, index)]
+        if found:
+            return found
+    return []
 
 
 def judge_separation(flown: Flown, depth: int, version: int = 2) -> None:

@@ -112,12 +112,14 @@ def mark_of(flown: choreo.Flown, deep: int, i: int, j: int, cue: int, index: int
             "share": round(100 * it.near.share, 1), "touch": it.near.touch, "cause": it.cause, "named": False}
 
 
-def blocked_marks(flown: choreo.Flown, deep: int) -> list[Mark]:
-    """The places in which two drones are blocked, the nearest first; `named` is the one that `check` names."""
-    marks = [mark_of(flown, deep, *found) for found in separation.blocked_places(flown, deep)]
+def blocked_marks(flown: choreo.Flown, deep: int, line: str) -> tuple[list[Mark], bool]:
+    """Places in which two drones are blocked, the nearest first, and whether these are all; `named` is the one that
+    this line of `check` names."""
+    places, are_all = separation.some_places(flown, deep, line)
+    marks = [mark_of(flown, deep, *found) for found in places]
     for mark in marks[:1]:
         mark["named"] = True
-    return sorted(marks, key=lambda mark: float(mark["share"]))
+    return sorted(marks, key=lambda mark: float(mark["share"])), are_all
 
 
 def regions_of(path: str) -> list[Region]:
