@@ -635,7 +635,7 @@ class Packets(unittest.TestCase):
 
 class Addresses(unittest.TestCase):
     def of(self, text, names=("a",)):
-        with tempfile.NamedTemporaryFile("w", suffix=".txt") as file:
+        with tempfile.NamedTemporaryFile("w", suffix=".txt", encoding="utf-8", errors="surrogateescape") as file:
             file.write(text)
             file.flush()
             return crazyradio.addresses(file.name, names)
@@ -644,9 +644,15 @@ class Addresses(unittest.TestCase):
         x, y = "radio://0/80/2M/E7E7E7E701", "radio://0/80/2M/E7E7E7E702"
         self.assertEqual(self.of("# drones\na %s\nb %s # the new one\n" % (x, y)), [x])
         self.assertEqual(self.of("a radio://0/80/2M/e7E7e7e701\n"), [x])
+        self.assertEqual(self.of("a radio://0/80/2M/E7E7E7E701\nb radio://0/80/1M/E7E7E7E701\n"), [x])
         for text, words in (("a\n", "line 1"), ("a %s\na %s\n" % (x, y), "line 2"), ("a %s\nb %s\n" % (x, x), "line 2"),
                             ("b %s\n" % x, "for a"), ("a usb://0\n", "line 1: usb://0 isn't radio://"),
-                            ("a radio://0/80/2M/E7E7\n", "isn't radio://")):
+                            ("a radio://0/80/2M/E7E7\n", "isn't radio://"),
+                            # The same drone by another dongle, with other zeros, or with small letters.
+                            ("a %s\nb radio://1/080/2M/e7e7e7e701\n" % x, "line 2: b has the channel, rate and address of a"),
+                            ("a radio://0/126/2M/E7E7E7E701\n", "a channel to 125"), ("a radio://100/80/2M/E7E7E7E701\n", "to 99"),
+                            ("a radio://%s/80/2M/E7E7E7E701\n" % ("9" * 5000), "isn't radio://"),
+                            ("#" * (1 << 20) + "\n", "more than 1048576 bytes"), ("a \udcff\n", "UTF-8")):
             with self.assertRaisesRegex(ValueError, words):
                 self.of(text)
 

@@ -1,10 +1,12 @@
 """./show judge: what it takes for a plan of the show, and what it never calls valid. Certificates are by
 hand: `r`, `n` and `a` are words of directions that docs/SEPARATION.md numbers, and docs/COMMANDS.md has these trees."""
 import os
+import resource
+import subprocess
 import tempfile
 import unittest
 
-from common import choreo, example, run
+from common import choreo, example, run, TOP
 
 GOOD = "certificate 6\nr\nn\na\n"
 
@@ -36,6 +38,29 @@ class Judge(unittest.TestCase):
     def test_good(self):
         self.assertEqual(self.judged(), (0, "judge: valid depth 6 trees 3\n"))
         self.assertEqual(self.judged(show=self.show.replace("\n", "\r\n"))[0], 0)
+
+    def test_ends_of_lines(self):
+        # A carriage return before a line feed is none of the tree; one at the end of the text is.
+        self.assertEqual(self.judged(certificate=GOOD.replace("\n", "\r\n"))[0], 0)
+        self.assertEqual(self.judged(certificate=GOOD[:-1])[0], 0)
+        for text, line in ((GOOD[:-1] + "\r", 4), (GOOD + "\n", 5), ("certificate 6\nr\n\na\n", 3), ("", 1), ("\n", 1),
+                           ("certificate 6", None), ("version 2\n", 2), ("certificate 6\n.r\n", 2), ("certificate 6\nrr\n", 2),
+                           ("version 2\ncertificate 6\n5\n", 3), ("version 2\ncertificate 6\n585\n", 3)):
+            wanted = (12, "missing") if line is None else (11, "error 11 line %d\n" % line)
+            status, said = self.judged(certificate=text)
+            self.assertEqual((status, wanted[1] in said), (wanted[0], True), (text, said))
+
+    def test_memory(self):
+        # Each tree of a great certificate takes a few bytes, and a deep one no more than its line.
+        def most():
+            resource.setrlimit(resource.RLIMIT_AS, (1 << 29, 1 << 29))
+        for trees in (b"58\n" * 3000000, b"." * 6000000 + b"58" * 6000001 + b"\n"):
+            path = os.path.join(self.room, "great")
+            with open(path, "wb") as file:
+                file.write(b"version 2\ncertificate 6\n" + trees)
+            done = subprocess.run([os.path.join(TOP, "show"), "judge", self.file("show", self.show), self.file("plan", self.plan), path],
+                                  stdout=subprocess.PIPE, stderr=subprocess.PIPE, preexec_fn=most, timeout=300)
+            self.assertEqual((done.returncode, done.stderr), (12, b""), done.stdout)
 
     def test_half_a_plan(self):
         # The second drone is gone, with and without the plan's end; and the end is gone.

@@ -20,7 +20,9 @@ WORDS = {"why": [SHOW], "deal": ["examples/grid_to_ring.choreo"], "summary": [SH
 ENDLESS = [(["why", "/dev/zero"], 3), (["summary", "/dev/zero"], 3), (["without", "/dev/zero", "a"], 3),
            (["export csv", "/dev/zero", "out"], 70), (["import", "/dev/zero"], 3), (["import", "--judge", "/dev/zero"], 3),
            (["import", "--starts", "/dev/zero", "examples/eight_left.csv"], 3),
-           (["export skyc", "/dev/zero", "out"], 70)]
+           (["export skyc", "/dev/zero", "out"], 70), (["legs --dry", "examples/crossing_cured.choreo", "/dev/zero"], 70),
+           (["bridge --radio /dev/zero", "examples/crossing_cured.choreo"], 70),
+           (["fly --simulate --pads /dev/zero", "examples/crossing_cured.choreo"], 70)]
 
 
 def shell(line, place=TOP, most=None):
@@ -73,7 +75,7 @@ class Streams(unittest.TestCase):
     def test_endless(self):
         for words, wanted in ENDLESS:
             status, said, told = shell("./show " + " ".join(words), most=MEMORY)
-            self.assertEqual((status, said), (wanted, ""), (words, told))
+            self.assertEqual((status, "" if said.startswith("check: ok ") else said), (wanted, ""), (words, told))
             self.assertNotIn("Traceback", told)
 
     def test_missing_and_odd_files(self):

@@ -19,8 +19,9 @@ if __name__ == "__main__" and not sys.flags.isolated:
     sys.path[:1] = []  # Python's own modules alone, whatever lies beside this file
 import os
 import re
-from collections.abc import Iterator, Sequence
-from itertools import combinations, product
+from array import array
+from collections.abc import Iterable, Iterator, Sequence
+from itertools import combinations, islice, product
 from math import comb, gcd, isqrt
 from typing import Dict, List, NamedTuple, NoReturn, Tuple
 
@@ -46,10 +47,10 @@ class Drone(NamedTuple):
 
 
 class Certificate(NamedTuple):
-    """A certificate: its depth, its table of directions by their words, and the lines of its trees."""
+    """A certificate: its depth, its table of directions by their words, and its trees."""
     depth: int
     words: dict[str, Direction]
-    trees: list[str]
+    trees: Trees
     version: int
 
 
@@ -282,34 +283,68 @@ def ruler(n: Direction, r: int, h: int, stray: int, reach: Sequence[int]) -> Rul
                + sum(abs(v) * far for v, far in zip(w, reach)))
 
 
-def tokens(line: str, width: int) -> list[str] | None:
-    """A tree's nodes: `.` and words of a given number of bytes; None where the line isn't one whole tree."""
-    nodes, owed, at = [], 1, 0
-    while at < len(line) and owed:
-        node = line[at:at + 1] if line[at:at + 1] == "." else line[at:at + width]
-        nodes.append(node)
-        at, owed = at + len(node), owed + (1 if node == "." else -1)
-    return nodes if owed == 0 and at == len(line) else None
+class Trees:
+    """The trees of a certificate: its text, and where the line of each begins. A great certificate has tens of millions,
+    so that none of them is kept as a value of its own."""
+
+    def __init__(self, text: str, width: int) -> None:
+        self.text, self.width = text, width
+        self.begins = array("I")
+
+    def __len__(self) -> int:
+        return len(self.begins)
+
+    def add(self, at: int, end: int, words: dict[str, Direction]) -> bool:
+        """Adds the line between two places; whether it is one whole tree: `.` before two trees, and words."""
+        self.begins.append(at)
+        owed, text = 1, self.text
+        while at < end and owed:
+            if text[at] == ".":
+                at, owed = at + 1, owed + 1
+            elif text[at:at + self.width] in words:
+                at, owed = at + self.width, owed - 1
+            else:
+                return False
+        return owed == 0 and at == end
+
+    def nodes(self, number: int) -> Iterator[str]:
+        """The nodes of a tree in order: `.` and words."""
+        at, owed = self.begins[number], 1
+        while owed:
+            node = "." if self.text[at] == "." else self.text[at:at + self.width]
+            at, owed = at + len(node), owed + (1 if node == "." else -1)
+            yield node
+
+
+def lines_in(text: str) -> Iterator[tuple[int, int]]:
+    """Where the lines of a text begin and end, without their line feeds, and carriage returns before these."""
+    at = 0
+    while at < len(text):
+        end = text.find("\n", at)
+        last = len(text) if end < 0 else end
+        yield at, last - (0 <= end and at < end and text[end - 1] == "\r")
+        at = last + 1
 
 
 def certificate_of(path: str) -> Certificate:
-    lines = read(path, "certificate").decode("latin-1").split("\n")
-    lines = [line[:-1] if line.endswith("\r") and k < len(lines) - 1 else line for k, line in enumerate(lines)]
-    lines = lines[:-1] if lines[-1] == "" else lines
-    version = 2 if lines[:1] == ["version 2"] else 1
+    text = read(path, "certificate").decode("latin-1")
+    lines = lines_in(text)
+    first, second = ("".join(text[at:min(end, at + 20)] for at, end in islice(lines, 1)) for _ in range(2))
+    version = 2 if first == "version 2" else 1
     entries = range(-version, version + 1)
     table = [n for n in product(entries, entries, entries) if gcd(*n) == 1]
     words = {chr(97 + k) if version == 1 else "%02d" % k: n for k, n in enumerate(table)}
-    if len(lines) < version or not re.fullmatch("certificate [0-8]", lines[version - 1]):
+    head = (first, second)[version - 1]
+    if not re.fullmatch("certificate [0-8]", head):
         stop("error 11 line %d" % version, 11)
-    for number, line in enumerate(lines[version:], version + 1):
-        nodes = tokens(line, version)
-        if nodes is None or not all(node == "." or node in words for node in nodes):
+    trees = Trees(text, version)
+    for number, (at, end) in enumerate(islice(lines_in(text), version, None), version + 1):
+        if not trees.add(at, end, words):
             stop("error 11 line %d" % number, 11)
-    return Certificate(int(lines[version - 1][-1]), words, lines[version:], version)
+    return Certificate(int(head[-1]), words, trees, version)
 
 
-def is_right(nodes: list[str], first: list[Curve], second: list[Curve], depth: int, rulers: dict[str, Ruler]) -> bool:
+def is_right(nodes: Iterable[str], first: list[Curve], second: list[Curve], depth: int, rulers: dict[str, Ruler]) -> bool:
     """Whether a tree shows two drones to be apart while they fly these curves."""
     stack = [([[v - u for u, v in zip(raised(a), raised(b))] for a, b in zip(first, second)], 0)]
     for node in nodes:
@@ -328,7 +363,7 @@ def is_right(nodes: list[str], first: list[Curve], second: list[Curve], depth: i
 
 def judge(drones: list[Drone], given: Certificate, rulers: dict[str, Ruler]) -> tuple[str, int]:
     """What is said of a certificate, and the status."""
-    depth, _, trees, version = given
+    depth, _, trees, _ = given
     pairs, intervals = list(combinations(range(len(drones)), 2)), intervals_of(drones)
     if not pairs:
         return ("extra: a show of one drone has no tree", 12) if trees else ("valid: one drone", 0)
@@ -342,9 +377,8 @@ def judge(drones: list[Drone], given: Certificate, rulers: dict[str, Ruler]) -> 
             name = "pair %s %s cue %d" % (drones[i].name, drones[j].name, cue + 1)
             if number >= len(trees):
                 return "missing %s" % name, 12
-            nodes = tokens(trees[number], version) or []
             curves = [(k, intervals[k][0][i], intervals[k][0][j]) for k in ahead]
-            ahead = {k for k, first, second in curves if is_right(nodes, first, second, depth, rulers)}
+            ahead = {k for k, first, second in curves if is_right(trees.nodes(number), first, second, depth, rulers)}
             if not ahead:
                 return "refused at tree %d, %s" % (number + 1, name), 12
         reached = ahead

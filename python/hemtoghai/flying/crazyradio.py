@@ -36,7 +36,8 @@ QUIET = 2.0  # seconds without any packet until a drone counts as silent
 LOOK = 0.05  # seconds between two looks at who is silent
 BROADCAST = (0xFF, 0xE7, 0xE7, 0xE7, 0xE7)
 RATES = {"250K": 0, "1M": 1, "2M": 2}
-URI = re.compile("radio://[0-9]+/[0-9]+/(250K|1M|2M)/[0-9A-Fa-f]{10}")
+URI = re.compile("radio://([0-9]{1,9})/([0-9]{1,9})/(250K|1M|2M)/([0-9A-Fa-f]{10})")
+MOST_DONGLES, MOST_CHANNEL = 99, 125  # channels of 1 MHz above 2,400 MHz
 LIMIT = 0.8  # real seconds in which a dongle has sent a broadcast, or counts as gone
 CLOSES = 3.0  # real seconds in which all is closed, or left open
 MANY = 15  # drones of one dongle above which somebody is to know
@@ -51,14 +52,20 @@ Asked = Tuple[int, int, int, Optional[int], int, bytes]  # drone, port, channel,
 def everybody(path: str) -> Dict[str, str]:
     """The drones' URIs by their names, from a text of lines `NAME URI`; raises ValueError where that is none."""
     found: Dict[str, str] = {}
+    known: Dict[Tuple[int, str, str], str] = {}
     for number, (name, *words) in finite.lines_of(path):
-        uri = words[0][:-10] + words[0][-10:].upper() if words else ""
-        if len(words) != 1 or name in found or uri in found.values():
-            raise ValueError("%s, line %d: `NAME URI` is wanted, each once" % (path, number))
-        if not URI.fullmatch(uri):
-            raise ValueError("%s, line %d: %s isn't radio://DONGLE/CHANNEL/RATE/ADDRESS with 250K, 1M or 2M" % (
-                path, number, words[0]))
-        found[name] = uri
+        if len(words) != 1 or name in found:
+            raise ValueError(f"{path}, line {number}: `NAME URI` is wanted, each once")
+        uri = words[0][:-10] + words[0][-10:].upper()
+        parts = URI.fullmatch(uri)
+        if not parts or int(parts[1]) > MOST_DONGLES or int(parts[2]) > MOST_CHANNEL:
+            raise ValueError(f"{path}, line {number}: {words[0][:60]} isn't radio://DONGLE/CHANNEL/RATE/ADDRESS with a "
+                             f"dongle to {MOST_DONGLES}, a channel to {MOST_CHANNEL}, and 250K, 1M or 2M")
+        # Whichever dongle it is heard by, and however its numbers are written, a drone is known by these.
+        own = int(parts[2]), parts[3], parts[4]
+        if own in known:
+            raise ValueError(f"{path}, line {number}: {name} has the channel, rate and address of {known[own]}")
+        known[own], found[name] = name, uri
     return found
 
 
@@ -223,7 +230,12 @@ class Radio:
                 time.sleep(0.05)
             if came is None:
                 continue
-            raw = bytes([came.header]) + bytes(came.data)
+            try:
+                raw = bytes([came.header]) + bytes(came.data)
+            except Exception as error:  # of the library's own packet
+                self.faults[drone] = f"a packet of it can't be read: {error!r}"
+                time.sleep(0.05)
+                continue
             self.last[drone] = clock.now()
             self.hand_on(drone, raw)
             for listener in list(self.listeners):

@@ -1,8 +1,11 @@
 """Numbers from words, files and drones: each is finite and within a range, or is refused where it comes in, so that no
 comparison further on meets one that is none. For ./show fly, ./show flown and ./show legs."""
 import argparse
+import io
 import math
 from typing import Callable, Dict, Iterable, Iterator, List, Sequence, Tuple, TypeVar
+
+from hemtoghai import texts
 
 Value = TypeVar("Value")
 UNSURE = 0.004  # square metres of variance above which an estimate in flight is none: 63 mm
@@ -37,12 +40,20 @@ def is_place(values: Iterable[float]) -> bool:
 
 
 def lines_of(path: str) -> Iterator[Tuple[int, List[str]]]:
-    """The lines of a text that have words before a `#`: their numbers, and these words."""
-    with open(path, encoding="utf-8") as lines:
-        for number, line in enumerate(lines, 1):
-            words = line.partition("#")[0].split()
-            if words:
-                yield number, words
+    """The lines of a text that have words before a `#`: their numbers, and these words. It is read to the limit of a
+    show and no further; raises OSError, and ValueError where it is longer, or isn't UTF-8."""
+    with open(path, "rb") as file:
+        data = texts.from_stream(file, texts.SHOW + 1)
+    if len(data) > texts.SHOW:
+        raise ValueError(f"{path}: more than {texts.SHOW} bytes")
+    try:
+        lines = io.StringIO(data.decode("utf-8"), None)
+    except UnicodeDecodeError as fault:
+        raise ValueError(f"{path}: this isn't UTF-8, at byte {fault.start}") from None
+    for number, line in enumerate(lines, 1):
+        words = line.partition("#")[0].split()
+        if words:
+            yield number, words
 
 
 def in_order(found: Dict[str, Value], names: Sequence[str], path: str, word: str) -> List[Value]:
