@@ -1,5 +1,6 @@
 """The commands in hostile hands: closed and full streams, files without an end, missing files, and a program that isn't
 the one of its record. Each ends with a status that it documents and a line, and none with a traceback."""
+import ast
 import hashlib
 import json
 import os
@@ -7,6 +8,7 @@ import resource
 import shutil
 import signal
 import subprocess
+import sys
 import tempfile
 import unittest
 
@@ -63,6 +65,50 @@ class Streams(unittest.TestCase):
                                   stderr=subprocess.PIPE, timeout=300)
             os.close(sink)
             self.assertEqual((done.returncode, b"Traceback" in done.stderr), (141, False), done.stderr)
+
+    def test_full_standard_error(self):
+        # What is said there is lost, and the command goes on to its status, with its whole output.
+        if os.path.exists("/dev/full"):
+            for tool, words in WORDS.items():
+                line = "./show %s %s" % (tool, " ".join(words))
+                self.assertEqual(shell(line + " 2>/dev/full"), (*shell(line)[:2], ""), tool)
+
+    def test_control_characters(self):
+        # A file's name never moves a cursor or sets a colour.
+        with tempfile.TemporaryDirectory() as room:
+            name = os.path.join(room, "\x1b[31mred\x07\x9b2J")
+            for words in (["why"], ["summary"], ["convert"], ["check"], ["export", "csv"]):
+                done = subprocess.run(["./show", *words, name, *["out"][:words[0] == "export"]], cwd=TOP, stdout=subprocess.PIPE,
+                                      stderr=subprocess.PIPE, timeout=300)
+                said = (done.stdout + done.stderr).decode()
+                self.assertIn(done.returncode, (2, 70), words)
+                self.assertEqual([c for c in said if c != "\n" and not c.isprintable()], [], words)
+                self.assertIn("\\x1b[31mred\\x07\\x9b2J", said)
+
+    @wants_program
+    def test_no_such_judge(self):
+        status, said, told = shell("HEMTOGHAI_BY=evil ./show check --json " + SHOW)
+        self.assertEqual((status, said, told), (70, "", "show: HEMTOGHAI_BY is library or process, and not 'evil'\n"))
+
+    def test_early_interrupt(self):
+        # Ctrl-C while the command is still being imported: no traceback, and the status of the signal.
+        code = ("import builtins, os, signal, sys\nreal = builtins.__import__\n"
+                "def load(name, *more, **named):\n    if name.startswith('hemtoghai.%s'):\n        os.kill(os.getpid(), signal.SIGINT)\n"
+                "    return real(name, *more, **named)\nbuiltins.__import__ = load\nsys.argv = ['show', 'summary', 'examples/solo.choreo']\n"
+                "exec(open('show').read(), {'__name__': '__main__', '__file__': os.path.abspath('show')})\n")
+        for module, wanted in (("__main__", -signal.SIGINT), ("commands", 130)):
+            done = subprocess.run([sys.executable, "-IS", "-c", code % module], cwd=TOP, stdout=subprocess.PIPE,
+                                  stderr=subprocess.PIPE, timeout=300)
+            self.assertEqual((done.returncode, done.stderr), (wanted, b""), module)
+
+    def test_old_python(self):
+        with open(os.path.join(TOP, "show"), encoding="utf-8") as file:
+            text = file.read()
+        ast.parse(text, feature_version=(3, 4))  # an older one reads it
+        code = "import sys\nsys.version_info = (3, 7, 16)\n" + text
+        done = subprocess.run([sys.executable, "-c", code], stdout=subprocess.PIPE, stderr=subprocess.PIPE, timeout=60)
+        self.assertEqual((done.returncode, done.stdout, done.stderr),
+                         (70, b"", b"show: Python 3.9 or later is needed, and this is 3.7\n"))
 
     @wants_program
     def test_children_ignored(self):

@@ -4,16 +4,28 @@ has no answer with 70 and a line, never with a traceback.
 """
 from __future__ import annotations
 
+import io
 import os
 import sys
 
 TYPE_CHECKING = False  # of a reader of types, for which `typing` needn't be imported
 if TYPE_CHECKING:
     from collections.abc import Callable
+    from typing import Any
 
 NO_ANSWER = 70
 INTERRUPTED, NOBODY_READS = 128 + 2, 128 + 13  # as after SIGINT and SIGPIPE
 OPEN_AS = {0: os.O_WRONLY, 1: os.O_RDONLY, 2: os.O_WRONLY}  # a stream that was closed can neither be read nor written
+
+
+class Heard(io.FileIO):
+    """A stream that takes what can't be written too: on a full disk it is lost, and the command goes on."""
+
+    def write(self, data: Any) -> int:
+        try:
+            return super().write(data)
+        except OSError:
+            return len(data)
 
 
 def fill() -> None:
@@ -29,15 +41,21 @@ def fill() -> None:
         sys.stdin = open(0, closefd=False)
     if sys.stdout is None:
         sys.stdout = open(1, "w", closefd=False)
-    if sys.stderr is None:
-        sys.stderr = open(2, "w", errors="backslashreplace", closefd=False)
+    sys.stderr = io.TextIOWrapper(io.BufferedWriter(Heard(2, "w", closefd=False)), line_buffering=True,
+                                  encoding=sys.stderr.encoding if sys.stderr else None, errors="backslashreplace")
+
+
+def shown(text: str) -> str:
+    """A text as a terminal may have it: a control character, as in the name of a file, by its escape."""
+    return text if text.isprintable() else "".join(
+        letter if letter == "\n" or letter.isprintable() else letter.encode("unicode_escape").decode() for letter in text)
 
 
 def tell(who: str, text: str) -> None:
     """Says a line on standard error; where that can't be written nothing is said."""
     try:
         if sys.stderr:
-            print("%s: %s" % (who, text), file=sys.stderr, flush=True)
+            print("%s: %s" % (who, shown(text)), file=sys.stderr, flush=True)
     except (OSError, ValueError):
         pass
 
@@ -47,6 +65,9 @@ def fault_of(error: BaseException) -> str:
         return "%s: %s" % (error.filename, error.strerror) if error.filename is not None else error.strerror
     if isinstance(error, MemoryError):
         return "out of memory"
+    from hemtoghai.program import Unusable
+    if isinstance(error, Unusable):
+        return str(error)
     at = error.__traceback__
     while at and at.tb_next:
         at = at.tb_next
@@ -96,6 +117,8 @@ def run(main: Callable[[], int | None], who: str | None = None) -> None:
     fill()
     # A program that has ended breaks its pipe, and what it wrote is still to be read.
     _signal.signal(_signal.SIGPIPE, _signal.SIG_IGN)
+    if _signal.getsignal(_signal.SIGINT) == _signal.SIG_DFL:  # as ./show has it until now
+        _signal.signal(_signal.SIGINT, _signal.default_int_handler)
     # Where that is ignored, as its parent may have had it, a process is told no status of those that it starts.
     _signal.signal(_signal.SIGCHLD, _signal.SIG_DFL)
     status = status_of(main, who or os.path.basename(sys.argv[0]))
