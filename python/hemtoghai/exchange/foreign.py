@@ -138,6 +138,15 @@ def place_of(node: object, where: str) -> Row:
     return [v * 1000000 for v in numbers_of(node, 3, where, "a place isn't three numbers")]
 
 
+def once(pairs: list[tuple[str, object]]) -> dict[str, object]:
+    """A JSON object whose keys stand once each: of two, readers differ in which one counts."""
+    found = dict(pairs)
+    if len(found) < len(pairs):
+        key = next(key for k, (key, _) in enumerate(pairs) if key in dict(pairs[:k]))
+        raise ValueError(f"the key {key:.60} stands twice in an object")
+    return found
+
+
 class Archive:
     """A zip with JSON texts that refer to one another."""
 
@@ -150,6 +159,9 @@ class Archive:
             self.file = zipfile.ZipFile(io.BytesIO(data))
         except (ValueError, NotImplementedError, OverflowError, struct.error, zipfile.BadZipFile, OSError) as error:
             raise Unreadable("no zip: %s" % error)
+        names = self.file.namelist()
+        if len(set(names)) < len(names):
+            raise Unreadable(f"the archive has two members {next(it for it in names if names.count(it) > 1):.60}")
 
     def names(self) -> list[str]:
         """The names of the members, those of folders left out."""
@@ -176,7 +188,8 @@ class Archive:
             try:
                 text = self.data(where).decode("utf-8")
                 read = self.counter.number
-                self.texts[where] = json.loads(text, parse_float=read, parse_int=read, parse_constant=read)
+                self.texts[where] = json.loads(text, parse_float=read, parse_int=read, parse_constant=read,
+                                               object_pairs_hook=once)
             except (ValueError, RecursionError) as error:
                 raise Unreadable("%.60s is damaged: %s" % (where, error or type(error).__name__))
         return self.texts[where]
