@@ -22,7 +22,7 @@ use Rattle.flight_model.specs.declared.events.Frame.TheVariants.{To, Noted}
 use Rattle.flight_model.specs.declared.flights.Condition.{Condition}
 use Rattle.flight_model.specs.declared.flights.Flight.{Flight}
 use Rattle.flight_model.specs.declared.states.Track.{Track}
-use Rattle.flight_model.specs.Directors.{all_fit, first_unfit, aged, frames_from, has_risen, land_order}
+use Rattle.flight_model.specs.Directors.{all_fit, all_down, is_down, first_unfit, aged, frames_from, has_risen, land_order}
 
 -- conditions with no track left
 all_fit-none : (silence : ℕ) (ws : List Condition) (d : ℕ) → d < length ws → all_fit silence (drop d ws) [] ≡ false
@@ -37,6 +37,26 @@ all_fit-short silence (w ∷ ws) [] (suc d) l m = all_fit-none silence ws d (ome
 all_fit-short silence (w ∷ ws) (t ∷ ts) zero l m = absurd (omega arith)
 all_fit-short silence (w ∷ ws) (t ∷ ts) (suc d) l m = all_fit-short silence ws ts d (omega arith) (omega arith)
 
+-- the same of pads and drones that are down
+all_down-none : (f : Flight) (still : Bool) (ts : List Track) (d : ℕ) → d < length ts → all_down f still [] (drop d ts) ≡ false
+all_down-none f still [] d l = absurd (omega arith)
+all_down-none f still (t ∷ ts) zero l = refl
+all_down-none f still (t ∷ ts) (suc d) l = all_down-none f still ts d (omega arith)
+
+pub all_down-short : (f : Flight) (still : Bool) (ws : List Condition) (ts : List Track) (d : ℕ) → length ws ≤ d → d < length ts → all_down f still (drop d ws) (drop d ts) ≡ false
+all_down-short f still ws [] d m l = absurd (omega arith)
+all_down-short f still [] (t ∷ ts) zero m l = refl
+all_down-short f still [] (t ∷ ts) (suc d) m l = all_down-none f still ts d (omega arith)
+all_down-short f still (w ∷ ws) (t ∷ ts) zero m l = absurd (omega arith)
+all_down-short f still (w ∷ ws) (t ∷ ts) (suc d) m l = all_down-short f still ws ts d (omega arith) (omega arith)
+
+pub all_down-high : (f : Flight) (still : Bool) (ws : List Condition) (ts : List Track) (d : ℕ) (w : Condition) (t : Track) → d < length ws → d < length ts →
+    is_down f still (get_or ws d w) (get_or ts d t).seen ≡ false → all_down f still (drop d ws) (drop d ts) ≡ false
+all_down-high f still [] ts d w t l m h = absurd (omega arith)
+all_down-high f still (v ∷ ws) [] d w t l m h = absurd (omega arith)
+all_down-high f still (v ∷ ws) (u ∷ ts) zero w t l m h = rw h refl
+all_down-high f still (v ∷ ws) (u ∷ ts) (suc d) w t l m h = all_down-high f still ws ts d w t (omega arith) (omega arith) h
+
 first-none : (silence k : ℕ) (ws : List Condition) → first_unfit silence k ws [] ≡ k
 first-none silence k [] = refl
 first-none silence k (w ∷ ws) = refl
@@ -50,7 +70,7 @@ first_unfit-short silence k [] (t ∷ ts) (suc d) m = refl
 first_unfit-short silence k (w ∷ ws) (t ∷ ts) (suc d) m = first_unfit-short silence k ws ts d (omega arith)
 
 pub age-step : (ms : ℕ) (xs : List Track) (i : ℕ) → i < length xs →
-    set (map (aged ms) (take i xs) ++ drop i xs) i (aged ms (get_or xs i (record { seen = None; off = None }))) ≡ map (aged ms) (take (i + 1) xs) ++ drop (i + 1) xs
+    set (map (aged ms) (take i xs) ++ drop i xs) i (aged ms (get_or xs i (record { seen = None; off = None; unsure = None }))) ≡ map (aged ms) (take (i + 1) xs) ++ drop (i + 1) xs
 age-step ms [] i l = absurd (omega arith)
 age-step ms (x ∷ xs) zero l = refl
 age-step ms (x ∷ xs) (suc i) l =

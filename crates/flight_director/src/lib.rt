@@ -7,11 +7,10 @@
 mod curve;
 mod director;
 mod distance;
+mod down;
 mod fit;
 mod notes;
 mod state;
-#[cfg(test)]
-mod tests;
 mod tracks;
 
 pub use director::Director;

@@ -8,9 +8,11 @@ ghost use Rattle.flight_model.specs.declared.flights.Step.{Step as StepWord};
 ghost use Rattle.flight_model.specs.declared.events.Frame.TheVariants.{Noted, Over};
 ghost use Rattle.flight_model.specs.declared.states.Choice.TheVariants.{Begin};
 ghost use Rattle.flight_model.specs.Directors.{start, drones, in_show, is_off as word_off, track_with as word_track};
+ghost use Rattle.flight_model.specs.Directors.{is_doubtful as word_doubtful};
 ghost use Rattle.flight_model.specs.Directors.{tracks_after, harms as word_harms, heard, fits, next_step};
 ghost use Rattle.flight_model.specs.Directors.{noticed as word_noticed, overdue as word_overdue, notes as word_notes};
 ghost use Rattle.flight_model.specs.Directors.{is_due as word_due, is_due_step, is_late_step, is_grave as word_grave};
+ghost use Rattle.flight_model.specs.Directors.{has_landed as word_landed};
 ghost use Rattle.flight_model.specs.Directors.{is_over as word_over, chosen, has_risen as word_risen, frames_of};
 ghost use Rattle.flight_model.specs.Directors.{landings, done, led, happens, says, is_fault, is_go as word_go};
 ghost use Rattle.flight_model.specs.Directors.{is_land as word_land, is_stop as word_stop, passed as word_passed};
@@ -20,9 +22,10 @@ ghost use Rattle.flight_model.specs.Directors.{State as StateWord};
 ghost use Rattle.flight_director.specs.Held.{IsHeld, AreFew, with_tracks};
 
 use crate::curve::is_kept;
+use crate::down::are_down;
 use crate::fit::{all_fit, first_unfit};
 use crate::notes::{MOST_NOTES, Notes, note_if, note_sample, note_silent};
-use crate::tracks::{age, all_disarmed, all_down, any_silent, later, off_with};
+use crate::tracks::{age, all_disarmed, any_silent, later, off_with};
 use arrayvec::ArrayVec;
 use fleet_math::MOST_DRONES;
 use flight_model::{
@@ -41,6 +44,9 @@ const PATIENCE_MS: u64 = 8000;
 
 const OFF_MS: u32 = 5000;
 
+// For how long drones have to stand that say that they fly, until they are told to disarm.
+const STOOD_MS: u32 = 5000;
+
 /// What the director knows.
 #[derive(Drop)]
 pub struct State {
@@ -48,6 +54,7 @@ pub struct State {
     next: usize,
     waited: u32,
     steady: u32,
+    stood: u32,
     showing: bool,
     kept: bool,
     tracks: ArrayVec<Track, MOST_DRONES>,
@@ -63,6 +70,7 @@ impl Model for State {
       next = s.next;
       waited = s.waited;
       steady = s.steady;
+      stood = s.stood;
       showing = s.showing;
       kept = s.kept;
       tracks = s.tracks.items;
@@ -263,6 +271,7 @@ impl State {
             tracks.push(Track {
                 seen: None,
                 off: None,
+                unsure: None,
             });
         }
         State {
@@ -270,6 +279,7 @@ impl State {
             next: 0,
             waited: 0,
             steady: 0,
+            stood: 0,
             showing: false,
             kept: true,
             tracks,
@@ -290,6 +300,13 @@ impl State {
         self.in_show(f, x) && !is_kept(f, d, self.waited - x.age, x)
     }
 
+    // Whether a sample was taken in the show, and isn't sure.
+    fn is_doubtful(&self, f: &Flight, x: &Sample) -> bool
+        ensures { result ≡ word_doubtful f.now self.now x.now }
+    {
+        self.in_show(f, x) && !x.sure
+    }
+
     fn track_with(&self, f: &Flight, d: usize, t: &Track, x: &Sample) -> Track
         requires { IsHeld f.now }
         ensures { result ≡ word_track f.now self.now d t.now x.now }
@@ -300,6 +317,11 @@ impl State {
                 Some(off_with(&t.off, &t.seen, x))
             } else {
                 None
+            },
+            unsure: if x.sure {
+                None
+            } else {
+                Some(off_with(&t.unsure, &t.seen, x))
             },
         }
     }
@@ -318,7 +340,9 @@ impl State {
                         self.tracks.as_slice(),
                     )
             }
-            Event::Seen { drone, sample } => self.is_off(f, *drone as usize, sample),
+            Event::Seen { drone, sample } => {
+                self.is_off(f, *drone as usize, sample) || self.is_doubtful(f, sample)
+            }
             _ => false,
         }
     }
@@ -366,6 +390,11 @@ impl State {
         self.waited = later(self.waited, passed(e));
         self.steady = if self.fits(f) {
             later(self.steady, passed(e))
+        } else {
+            0
+        };
+        self.stood = if are_down(f, false, self.tracks.as_slice()) {
+            later(self.stood, passed(e))
         } else {
             0
         };
@@ -476,7 +505,7 @@ impl State {
     {
         match fault {
             Fault::Silent => false,
-            Fault::Astray | Fault::Lost => !(self.showing && f.flies_on),
+            Fault::Astray | Fault::Lost | Fault::Unsure => !(self.showing && f.flies_on),
             Fault::Refused | Fault::Late => true,
         }
     }
@@ -496,6 +525,12 @@ impl State {
         ensures { result ≡ word_over f.now self.now }
     {
         all_disarmed(f.silence, self.tracks.as_slice()) || OFF_MS <= self.waited
+    }
+
+    fn has_landed(&self, f: &Flight) -> bool
+        ensures { result ≡ word_landed f.now self.now }
+    {
+        are_down(f, true, self.tracks.as_slice()) || STOOD_MS <= self.stood
     }
 
     // What is done, in a state that has heard an event.
@@ -518,7 +553,7 @@ impl State {
             Phase::Landing => {
                 if is_stop(e) {
                     Choice::Cut
-                } else if all_down(f.silence, self.tracks.as_slice()) {
+                } else if self.has_landed(f) {
                     Choice::Quit
                 } else {
                     Choice::Rest
@@ -590,6 +625,7 @@ impl State {
         self.phase = phase;
         self.waited = 0;
         self.steady = 0;
+        self.stood = 0;
         self.showing = false;
     }
 

@@ -5,8 +5,8 @@ ghost use Rattle.std.specs.List.{list_any};
 ghost use Rattle.flight_model.specs.declared.states.Track.{Track};
 ghost use Rattle.flight_model.specs.Directors.{later as word_later, older as word_older, aged, off_with as word_off};
 ghost use Rattle.flight_model.specs.Directors.{is_silent as word_silent, is_lost as word_lost};
-ghost use Rattle.flight_model.specs.Directors.{is_astray as word_astray, is_down as word_down};
-ghost use Rattle.flight_model.specs.Directors.{is_disarmed as word_disarmed, all_seen};
+ghost use Rattle.flight_model.specs.Directors.{is_astray as word_astray, all_seen};
+ghost use Rattle.flight_model.specs.Directors.{is_disarmed as word_disarmed};
 
 use flight_model::{Sample, Track};
 
@@ -33,16 +33,25 @@ pub fn older(ms: u32, seen: &Option<Sample>) -> Option<Sample>
     }
 }
 
+fn aged_by(ms: u32, t: &Track) -> Track
+    ensures { result ≡ aged ms t.now }
+{
+    Track {
+        seen: older(ms, &t.seen),
+        ..*t
+    }
+}
+
 /// Time passes.
 pub fn age(tracks: &mut [Track], ms: u32)
     ensures { tracks.new ≡ map (aged ms) tracks.old }
 {
     for d in 0..tracks.len() {
-        tracks[d].seen = older(ms, &tracks[d].seen);
+        tracks[d] = aged_by(ms, &tracks[d]);
     }
 }
 
-/// For how long samples have been off the curve, with this one after the last.
+/// For how long samples have been off the curve, or unsure, with this one after the last.
 pub fn off_with(off: &Option<u32>, last: &Option<Sample>, x: &Sample) -> u32
     ensures { result ≡ word_off off.now last.now x.now }
 {
@@ -74,22 +83,13 @@ pub fn is_lost(seen: &Option<Sample>) -> bool
     }
 }
 
-/// Whether samples have been off the curve for 300 ms.
+/// Whether samples have been off the curve, or unsure, for 300 ms.
 pub fn is_astray(off: &Option<u32>) -> bool
     ensures { result ≡ word_astray off.now }
 {
     match off {
         None => false,
         Some(ms) => 300 <= *ms,
-    }
-}
-
-fn is_down(seen: &Option<Sample>) -> bool
-    ensures { result ≡ word_down seen.now }
-{
-    match seen {
-        None => false,
-        Some(x) => x.down,
     }
 }
 
@@ -100,18 +100,6 @@ fn is_disarmed(seen: &Option<Sample>) -> bool
         None => false,
         Some(x) => !x.armed,
     }
-}
-
-/// Whether each drone has been seen down.
-pub fn all_down(silence: u32, tracks: &[Track]) -> bool
-    ensures { result ≡ all_seen silence word_down tracks.now }
-{
-    for t in tracks {
-        if !is_down(&t.seen) || is_silent(silence, &t.seen) {
-            return false;
-        }
-    }
-    true
 }
 
 /// Whether each drone has been seen disarmed.

@@ -1,10 +1,10 @@
 -- Frames lose nothing.
 use Rattle.std.proofs.lemmas.Grind.{common_steps}
 use Rattle.std.proofs.lemmas.List.{append_assoc}
-use Rattle.std.proofs.lemmas.Bool.{lt-leb, leb-false, ltb-false, eqb-true}
+use Rattle.std.proofs.lemmas.Bool.{lt-leb, le-ltb, leb-false, ltb-false, eqb-true}
 use Rattle.std.proofs.Math.Facts.{Fits-of_z, Fits-lt-pow, sfits_to_z}
 use Rattle.std.proofs.lemmas.Int.{to_z-of_z, of_z-to_z}
-use Rattle.std.proofs.Common.{◌≡◌, ℕ, zero, suc, ◌+◌, ◌*◌, ◌^◌, ◌<◌, ◌≤◌, Bool, true, false, cond, nat_le, nat_lt, ◌==◌, List, [], ◌∷◌, ◌++◌, length, drop, slice_index, refl, ap, sym, subst, ◌∙◌, arith, Option, Some, None, Result, Ok, Err, IfOk, ℤ, FitsSigned}
+use Rattle.std.proofs.Common.{◌≡◌, ℕ, zero, suc, ◌+◌, ◌*◌, ◌/◌, ◌%◌, ◌^◌, ◌<◌, ◌≤◌, Bool, true, false, cond, nat_le, nat_lt, ◌==◌, List, [], ◌∷◌, ◌++◌, length, drop, slice_index, refl, ap, sym, subst, ◌∙◌, arith, Option, Some, None, Result, Ok, Err, IfOk, ℤ, FitsSigned}
 use Rattle.std.specs.Int.{w16, cast_signed, cast_unsigned}
 use Rattle.byteorder.specs.Endian.{little_bytes, little_number}
 use Rattle.flight_model.specs.declared.events.Order.{Order}
@@ -14,7 +14,7 @@ use Rattle.flight_model.specs.declared.events.Signal.TheVariants as signal
 use Rattle.flight_model.specs.declared.events.Event.{Event}
 use Rattle.flight_model.specs.declared.events.Event.TheVariants.{Clock, Seen, Answered, Said}
 use Rattle.flight_model.specs.declared.events.Fault.{Fault}
-use Rattle.flight_model.specs.declared.events.Fault.TheVariants.{Silent, Astray, Lost, Refused, Late}
+use Rattle.flight_model.specs.declared.events.Fault.TheVariants.{Silent, Astray, Lost, Refused, Late, Unsure}
 use Rattle.flight_model.specs.declared.events.Frame.{Frame}
 use Rattle.flight_model.specs.declared.events.Frame.TheVariants.{To, ToAll, Noted, Over}
 use Rattle.flight_frames.specs.declared.events.FrameFault.{FrameFault}
@@ -50,78 +50,85 @@ signed-fits n l = sfits_to_z {w = w16} record { fits = l }
 
 -- ---- flags
 
-abbrev flags_of : Bool → Bool → Bool → Bool → ℕ
-flags_of r m l d = bit r + 2 * bit m + 4 * bit l + 8 * bit d
+abbrev flags_of : Bool → Bool → Bool → Bool → Bool → Bool → ℕ
+flags_of r m l d f u = bit r + 2 * bit m + 4 * bit l + 8 * bit d + 16 * bit f + 32 * bit u
 
-record Bits (r m l d : Bool) : Type 0 where
-  ready : bit_at 1 (flags_of r m l d) ≡ r
-  armed : bit_at 2 (flags_of r m l d) ≡ m
-  lost : bit_at 4 (flags_of r m l d) ≡ l
-  down : bit_at 8 (flags_of r m l d) ≡ d
-  few : nat_lt 15 (flags_of r m l d) ≡ false
+bit-small : (b : Bool) → bit b < 2
+bit-small true = omega arith
+bit-small false = omega arith
 
-bits : (r m l d : Bool) → Bits r m l d
-bits true true true true = record { ready = refl; armed = refl; lost = refl; down = refl; few = refl }
-bits true true true false = record { ready = refl; armed = refl; lost = refl; down = refl; few = refl }
-bits true true false true = record { ready = refl; armed = refl; lost = refl; down = refl; few = refl }
-bits true true false false = record { ready = refl; armed = refl; lost = refl; down = refl; few = refl }
-bits true false true true = record { ready = refl; armed = refl; lost = refl; down = refl; few = refl }
-bits true false true false = record { ready = refl; armed = refl; lost = refl; down = refl; few = refl }
-bits true false false true = record { ready = refl; armed = refl; lost = refl; down = refl; few = refl }
-bits true false false false = record { ready = refl; armed = refl; lost = refl; down = refl; few = refl }
-bits false true true true = record { ready = refl; armed = refl; lost = refl; down = refl; few = refl }
-bits false true true false = record { ready = refl; armed = refl; lost = refl; down = refl; few = refl }
-bits false true false true = record { ready = refl; armed = refl; lost = refl; down = refl; few = refl }
-bits false true false false = record { ready = refl; armed = refl; lost = refl; down = refl; few = refl }
-bits false false true true = record { ready = refl; armed = refl; lost = refl; down = refl; few = refl }
-bits false false true false = record { ready = refl; armed = refl; lost = refl; down = refl; few = refl }
-bits false false false true = record { ready = refl; armed = refl; lost = refl; down = refl; few = refl }
-bits false false false false = record { ready = refl; armed = refl; lost = refl; down = refl; few = refl }
+bit-is : (b : Bool) (n : ℕ) → n ≡ bit b → (n == 1) ≡ b
+bit-is true n e = rw e refl
+bit-is false n e = rw e refl
 
-flags-of : (n : ℕ) → n < 16 → flags_of (bit_at 1 n) (bit_at 2 n) (bit_at 4 n) (bit_at 8 n) ≡ n
-flags-of zero l = refl
-flags-of (suc zero) l = refl
-flags-of (suc (suc zero)) l = refl
-flags-of (suc (suc (suc zero))) l = refl
-flags-of (suc (suc (suc (suc zero)))) l = refl
-flags-of (suc (suc (suc (suc (suc zero))))) l = refl
-flags-of (suc (suc (suc (suc (suc (suc zero)))))) l = refl
-flags-of (suc (suc (suc (suc (suc (suc (suc zero))))))) l = refl
-flags-of (suc (suc (suc (suc (suc (suc (suc (suc zero)))))))) l = refl
-flags-of (suc (suc (suc (suc (suc (suc (suc (suc (suc zero))))))))) l = refl
-flags-of (suc (suc (suc (suc (suc (suc (suc (suc (suc (suc zero)))))))))) l = refl
-flags-of (suc (suc (suc (suc (suc (suc (suc (suc (suc (suc (suc zero))))))))))) l = refl
-flags-of (suc (suc (suc (suc (suc (suc (suc (suc (suc (suc (suc (suc zero)))))))))))) l = refl
-flags-of (suc (suc (suc (suc (suc (suc (suc (suc (suc (suc (suc (suc (suc zero))))))))))))) l = refl
-flags-of (suc (suc (suc (suc (suc (suc (suc (suc (suc (suc (suc (suc (suc (suc zero)))))))))))))) l = refl
-flags-of (suc (suc (suc (suc (suc (suc (suc (suc (suc (suc (suc (suc (suc (suc (suc zero))))))))))))))) l = refl
-flags-of (suc (suc (suc (suc (suc (suc (suc (suc (suc (suc (suc (suc (suc (suc (suc (suc n)))))))))))))))) l = absurd (omega (arith, l))
+bit-of : (n : ℕ) → n < 2 → bit (n == 1) ≡ n
+bit-of zero l = refl
+bit-of (suc zero) l = refl
+bit-of (suc (suc n)) l = absurd (omega (arith, l))
+
+record Bits (r m l d f u : Bool) : Type 0 where
+  ready : bit_at 1 (flags_of r m l d f u) ≡ r
+  armed : bit_at 2 (flags_of r m l d f u) ≡ m
+  lost : bit_at 4 (flags_of r m l d f u) ≡ l
+  down : bit_at 8 (flags_of r m l d f u) ≡ d
+  flying : bit_at 16 (flags_of r m l d f u) ≡ f
+  sure : bit_at 32 (flags_of r m l d f u) ≡ u
+  few : nat_lt 63 (flags_of r m l d f u) ≡ false
+
+bits : (r m l d f u : Bool) → Bits r m l d f u
+bits r m l d f u =
+    let a = bit-small r in
+    let b = bit-small m in
+    let c = bit-small l in
+    let e = bit-small d in
+    let g = bit-small f in
+    let h = bit-small u in
+    record {
+      ready = bit-is r ((flags_of r m l d f u / 1) % 2) (omega (arith, a, b, c, e, g, h));
+      armed = bit-is m ((flags_of r m l d f u / 2) % 2) (omega (arith, a, b, c, e, g, h));
+      lost = bit-is l ((flags_of r m l d f u / 4) % 2) (omega (arith, a, b, c, e, g, h));
+      down = bit-is d ((flags_of r m l d f u / 8) % 2) (omega (arith, a, b, c, e, g, h));
+      flying = bit-is f ((flags_of r m l d f u / 16) % 2) (omega (arith, a, b, c, e, g, h));
+      sure = bit-is u ((flags_of r m l d f u / 32) % 2) (omega (arith, a, b, c, e, g, h));
+      few = le-ltb 63 (flags_of r m l d f u) (omega (arith, a, b, c, e, g, h));
+    }
+
+flags-of : (n : ℕ) → n < 64 → flags_of (bit_at 1 n) (bit_at 2 n) (bit_at 4 n) (bit_at 8 n) (bit_at 16 n) (bit_at 32 n) ≡ n
+flags-of n l =
+    let a = bit-of ((n / 1) % 2) (omega arith) in
+    let b = bit-of ((n / 2) % 2) (omega arith) in
+    let c = bit-of ((n / 4) % 2) (omega arith) in
+    let e = bit-of ((n / 8) % 2) (omega arith) in
+    let g = bit-of ((n / 16) % 2) (omega arith) in
+    let h = bit-of ((n / 32) % 2) (omega arith) in
+    omega (arith, a, b, c, e, g, h, l)
 
 -- ---- samples
 
-abbrev sample_of : ℕ → ℤ → ℤ → ℤ → Bool → Bool → Bool → Bool → Sample
-sample_of a x y z r m l d = record { age = a; x = x; y = y; z = z; ready = r; armed = m; lost = l; down = d }
+abbrev sample_of : ℕ → ℤ → ℤ → ℤ → Bool → Bool → Bool → Bool → Bool → Bool → Sample
+sample_of a x y z r m l d f u = record { age = a; x = x; y = y; z = z; ready = r; armed = m; lost = l; down = d; flying = f; sure = u }
 
-same : (a a' : ℕ) (x x' y y' z z' : ℤ) (r r' m m' l l' d d' : Bool) → a ≡ a' → x ≡ x' → y ≡ y' → z ≡ z' → r ≡ r' → m ≡ m' → l ≡ l' → d ≡ d' →
-    sample_of a x y z r m l d ≡ sample_of a' x' y' z' r' m' l' d'
-same a a' x x' y y' z z' r r' m m' l l' d d' ea ex ey ez er em el ed = rw (ea, ex, ey, ez, er, em, el, ed) refl
+same : (a a' : ℕ) (x x' y y' z z' : ℤ) (r r' m m' l l' d d' f f' u u' : Bool) → a ≡ a' → x ≡ x' → y ≡ y' → z ≡ z' → r ≡ r' → m ≡ m' → l ≡ l' → d ≡ d' → f ≡ f' → u ≡ u' →
+    sample_of a x y z r m l d f u ≡ sample_of a' x' y' z' r' m' l' d' f' u'
+same a a' x x' y y' z z' r r' m m' l l' d d' f f' u u' ea ex ey ez er em el ed ef eu = rw (ea, ex, ey, ez, er, em, el, ed, ef, eu) refl
 
 abbrev sample_bytes : ℕ → Sample → List ℕ
 sample_bytes d x = d ∷ (little_bytes 2 x.age ++ (signed x.x ++ (signed x.y ++ (signed x.z ++ flags x ∷ []))))
 
 seen_read : (d : ℕ) (x : Sample) → IsSample x → seen_of (sample_bytes d x) ≡ x
 seen_read d x is =
-    let b = bits x.ready x.armed x.lost x.down in
+    let b = bits x.ready x.armed x.lost x.down x.flying x.sure in
     same (little_number 2 (little_bytes 2 x.age ++ (signed x.x ++ (signed x.y ++ (signed x.z ++ flags x ∷ []))))) x.age
     (cast_signed w16 (little_number 2 (signed x.x ++ (signed x.y ++ (signed x.z ++ flags x ∷ []))))) x.x
     (cast_signed w16 (little_number 2 (signed x.y ++ (signed x.z ++ flags x ∷ [])))) x.y
     (cast_signed w16 (little_number 2 (signed x.z ++ flags x ∷ []))) x.z
     (bit_at 1 (flags x)) x.ready (bit_at 2 (flags x)) x.armed (bit_at 4 (flags x)) x.lost (bit_at 8 (flags x)) x.down
+    (bit_at 16 (flags x)) x.flying (bit_at 32 (flags x)) x.sure
     (two_read x.age (signed x.x ++ (signed x.y ++ (signed x.z ++ flags x ∷ []))) is.age)
     (signed_read x.x (signed x.y ++ (signed x.z ++ flags x ∷ [])) is.x_fits)
     (signed_read x.y (signed x.z ++ flags x ∷ []) is.y_fits)
     (signed_read x.z (flags x ∷ []) is.z_fits)
-    b.ready b.armed b.lost b.down
+    b.ready b.armed b.lost b.down b.flying b.sure
 
 -- an event that was read
 abbrev ok : Event → Result Event FrameFault
@@ -137,8 +144,8 @@ read drones (Said signal.Stop) l = refl
 read drones (Answered d status) l =
     ap (λ b. cond b (Err fault.Drone) (Ok (Answered d status))) (lt-leb drones d l)
 read drones (Seen d x) l =
-    ap (λ b. cond b (Err fault.Drone) (cond (nat_lt 15 (flags x)) (Err fault.Flags) (Ok (Seen d (seen_of (sample_bytes d x)))))) (lt-leb drones d l.0)
-    ∙ (ap (λ b. cond b (Err fault.Flags) (Ok (Seen d (seen_of (sample_bytes d x))))) (bits x.ready x.armed x.lost x.down).few
+    ap (λ b. cond b (Err fault.Drone) (cond (nat_lt 63 (flags x)) (Err fault.Flags) (Ok (Seen d (seen_of (sample_bytes d x)))))) (lt-leb drones d l.0)
+    ∙ (ap (λ b. cond b (Err fault.Flags) (Ok (Seen d (seen_of (sample_bytes d x))))) (bits x.ready x.armed x.lost x.down x.flying x.sure).few
     ∙ ap (λ y. Ok (Seen d y)) (seen_read d x l.1))
 
 -- ---- and bytes that are read as an event are its frame
@@ -169,7 +176,7 @@ answer-only : (drones : ℕ) (rest : List ℕ) (e : Event) → length rest ≡ 2
 answer-only drones (d ∷ s ∷ []) e two l h = frame_of drones (3 ∷ d ∷ s ∷ []) (Answered d s) e h (l, refl)
 answer-only drones rest e two l h = absurd (omega (arith, two))
 
-sample-only : (drones : ℕ) (rest : List ℕ) (e : Event) → AreSmall rest → length rest ≡ 10 → slice_index rest 0 < drones → slice_index rest 9 < 16 →
+sample-only : (drones : ℕ) (rest : List ℕ) (e : Event) → AreSmall rest → length rest ≡ 10 → slice_index rest 0 < drones → slice_index rest 9 < 64 →
     ok (Seen (slice_index rest 0) (seen_of rest)) ≡ Ok e → IsFrameOf drones (2 ∷ rest) e
 sample-only drones (d ∷ a ∷ b ∷ p ∷ q ∷ r ∷ s ∷ t ∷ u ∷ f ∷ []) e small ten l few h =
     frame_of drones (2 ∷ d ∷ a ∷ b ∷ p ∷ q ∷ r ∷ s ∷ t ∷ u ∷ f ∷ []) (Seen d (seen_of (d ∷ a ∷ b ∷ p ∷ q ∷ r ∷ s ∷ t ∷ u ∷ f ∷ []))) e h (
@@ -190,7 +197,7 @@ sample-only drones (d ∷ a ∷ b ∷ p ∷ q ∷ r ∷ s ∷ t ∷ u ∷ f ∷ 
           (signed (cast_signed w16 (little_number 2 (p ∷ q ∷ r ∷ s ∷ t ∷ u ∷ f ∷ []))))
           (signed (cast_signed w16 (little_number 2 (r ∷ s ∷ t ∷ u ∷ f ∷ []))))
           (signed (cast_signed w16 (little_number 2 (t ∷ u ∷ f ∷ []))))
-          (flags_of (bit_at 1 f) (bit_at 2 f) (bit_at 4 f) (bit_at 8 f))
+          (flags_of (bit_at 1 f) (bit_at 2 f) (bit_at 4 f) (bit_at 8 f) (bit_at 16 f) (bit_at 32 f))
           (two_bytes a b (p ∷ q ∷ r ∷ s ∷ t ∷ u ∷ f ∷ []) (small 1) (small 2))
           (signed_bytes p q (r ∷ s ∷ t ∷ u ∷ f ∷ []) (small 3) (small 4))
           (signed_bytes r s (t ∷ u ∷ f ∷ []) (small 5) (small 6))
@@ -229,9 +236,9 @@ module _ (drones : ℕ) (rest : List ℕ) (e : Event) (small : AreSmall rest) wh
   sample-frame h =
       by_cond (IsFrameOf drones (2 ∷ rest) e) (length rest == 10) _ _ (Ok e)
       (λ t g. by_cond (IsFrameOf drones (2 ∷ rest) e) (nat_le drones (slice_index rest 0)) _ _ (Ok e) (λ u k. absurd (cc))
-      (λ u k. by_cond (IsFrameOf drones (2 ∷ rest) e) (nat_lt 15 (slice_index rest 9)) _ _ (Ok e) (λ v m. absurd (cc))
+      (λ u k. by_cond (IsFrameOf drones (2 ∷ rest) e) (nat_lt 63 (slice_index rest 9)) _ _ (Ok e) (λ v m. absurd (cc))
       (λ v m. sample-only drones rest e small (eqb-true (length rest) 10 t) (leb-false drones (slice_index rest 0) u)
-      (let few = ltb-false 15 (slice_index rest 9) v in omega (arith, few)) m) k) g) (λ f g. absurd (cc)) h
+      (let few = ltb-false 63 (slice_index rest 9) v in omega (arith, few)) m) k) g) (λ f g. absurd (cc)) h
 
   said-frame : said_in rest ≡ Ok e → IsFrameOf drones (4 ∷ rest) e
   said-frame h =
@@ -294,6 +301,7 @@ said (Noted n) is = by_fault n.fault where
   by_fault Lost = refl
   by_fault Refused = refl
   by_fault Late = refl
+  by_fault Unsure = refl
 said (Over true true) is = refl
 said (Over true false) is = refl
 said (Over false true) is = refl

@@ -12,7 +12,7 @@ use Rattle.flight_model.specs.declared.events.Signal.TheVariants as signal
 use Rattle.flight_model.specs.declared.events.Event.{Event}
 use Rattle.flight_model.specs.declared.events.Event.TheVariants.{Clock, Seen, Answered, Said}
 use Rattle.flight_model.specs.declared.events.Fault.{Fault}
-use Rattle.flight_model.specs.declared.events.Fault.TheVariants.{Silent, Astray, Lost, Refused, Late}
+use Rattle.flight_model.specs.declared.events.Fault.TheVariants.{Silent, Astray, Lost, Refused, Late, Unsure}
 use Rattle.flight_model.specs.declared.events.Frame.{Frame}
 use Rattle.flight_model.specs.declared.events.Frame.TheVariants.{To, ToAll, Noted, Over}
 use Rattle.flight_frames.specs.declared.events.FrameFault.{FrameFault}
@@ -30,7 +30,8 @@ bit false = 0
 
 -- a sample's flags in one byte
 abbrev pub flags : Sample → ℕ
-flags x = bit x.ready + 2 * bit x.armed + 4 * bit x.lost + 8 * bit x.down
+flags x =
+    bit x.ready + 2 * bit x.armed + 4 * bit x.lost + 8 * bit x.down + 16 * bit x.flying + 32 * bit x.sure
 
 abbrev pub signal_byte : Signal → ℕ
 signal_byte signal.Go = 0
@@ -82,6 +83,8 @@ sample_from age x y z flags = record {
   armed = bit_at 2 flags;
   lost = bit_at 4 flags;
   down = bit_at 8 flags;
+  flying = bit_at 16 flags;
+  sure = bit_at 32 flags;
 }
 
 -- the signed number of two bytes from a place on
@@ -102,7 +105,7 @@ abbrev pub sample_in : ℕ → List ℕ → Result Event FrameFault
 sample_in drones bytes =
     if length bytes == 10
     then (if nat_le drones (slice_index bytes 0) then Err fault.Drone
-    else (if nat_lt 15 (slice_index bytes 9) then Err fault.Flags else Ok (Seen (slice_index bytes 0) (seen_of bytes))))
+    else (if nat_lt 63 (slice_index bytes 9) then Err fault.Flags else Ok (Seen (slice_index bytes 0) (seen_of bytes))))
     else Err fault.Length
 
 abbrev pub answer_in : ℕ → List ℕ → Result Event FrameFault
@@ -151,6 +154,7 @@ fault_byte Astray = 1
 fault_byte Lost = 2
 fault_byte Refused = 3
 fault_byte Late = 4
+fault_byte Unsure = 5
 
 abbrev pub over_byte : Bool → Bool → ℕ
 over_byte flown kept = bit flown + 2 * bit kept
@@ -198,7 +202,8 @@ fault_in byte =
     if byte == 0 then Silent
     else (if byte == 1 then Astray
     else (if byte == 2 then Lost
-    else (if byte == 3 then Refused else Late)))
+    else (if byte == 3 then Refused
+    else (if byte == 4 then Late else Unsure))))
 
 -- what the director said, where the numbers fit their bytes
 abbrev pub IsOutput : Frame → Type 0

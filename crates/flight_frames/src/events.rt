@@ -19,7 +19,7 @@ pub enum FrameFault {
     Length,
     /// The flight has no such drone.
     Drone,
-    /// A sample's flags are more than 15.
+    /// A sample's flags are more than 63.
     Flags,
     /// The operator has no such signal.
     Signal,
@@ -58,6 +58,8 @@ fn sample_from(age: u32, x: i16, y: i16, z: i16, flags: u8) -> Sample
         armed: bit(flags, 2),
         lost: bit(flags, 4),
         down: bit(flags, 8),
+        flying: bit(flags, 16),
+        sure: bit(flags, 32),
     }
 }
 
@@ -111,7 +113,7 @@ fn seen(bytes: &[u8], drones: usize) -> Result<Event, FrameFault>
     if drone as usize >= drones {
         return Err(FrameFault::Drone);
     }
-    if bytes[9] > 15 {
+    if bytes[9] > 63 {
         return Err(FrameFault::Flags);
     }
     Ok(Event::Seen {

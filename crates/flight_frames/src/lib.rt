@@ -8,8 +8,6 @@
 mod events;
 mod law;
 mod outputs;
-#[cfg(test)]
-mod tests;
 
 pub use events::{FrameFault, event_length, read_event};
 pub use law::frame_law;

@@ -104,6 +104,7 @@ fn fault_byte(fault: Fault) -> u8
         Fault::Lost => 2,
         Fault::Refused => 3,
         Fault::Late => 4,
+        Fault::Unsure => 5,
     }
 }
 

@@ -25,8 +25,8 @@ pub record Below (xs ys : List ℕ) : Type 0 where
 not_above : (d m n : ℕ) → m ≤ n → nat_le d n ≡ false → nat_le d m ≡ false
 not_above d m n l t = lt-leb d m (omega (arith, l, leb-false d n t))
 
-not_more : (m n : ℕ) → m ≤ n → nat_lt 15 n ≡ false → nat_lt 15 m ≡ false
-not_more m n l t = let few = ltb-false 15 n t in grind (arith, nat_tests)
+not_more : (m n : ℕ) → m ≤ n → nat_lt 63 n ≡ false → nat_lt 63 m ≡ false
+not_more m n l t = let few = ltb-false 63 n t in grind (arith, nat_tests)
 
 clock_below : (xs ys : List ℕ) (x : Event) → Below xs ys → clock_in xs ≡ Ok x → Reads (clock_in ys)
 clock_below xs ys x b is =
@@ -45,7 +45,7 @@ sample_below : (d : ℕ) (xs ys : List ℕ) (x : Event) → Below xs ys → samp
 sample_below d xs ys x b is =
     by_cond (Reads (sample_in d ys)) (length xs == 10) _ _ (Ok x)
     (λ t h. by_cond (Reads (sample_in d ys)) (nat_le d (slice_index xs 0)) _ _ (Ok x) (λ u g. absurd (cc))
-    (λ u g. by_cond (Reads (sample_in d ys)) (nat_lt 15 (slice_index xs 9)) _ _ (Ok x) (λ v k. absurd (cc))
+    (λ u g. by_cond (Reads (sample_in d ys)) (nat_lt 63 (slice_index xs 9)) _ _ (Ok x) (λ v k. absurd (cc))
     (λ v k. (
       Seen (slice_index ys 0) (seen_of ys),
       rw (ap (λ (n : ℕ). n == 10) b.size ∙ t, not_above d (slice_index ys 0) (slice_index xs 0) (b.each 0) u, not_more (slice_index ys 9) (slice_index xs 9) (b.each 9) v) refl,

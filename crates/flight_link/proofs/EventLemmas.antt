@@ -132,7 +132,7 @@ event_of d (Answered drone status) is =
     by_cond (drone < d) (nat_le d drone) (Err fault.Drone) (Ok (Answered drone status)) (Ok (Answered drone status)) (λ t h. absurd (cc)) (λ t h. leb-false d drone t) is
 event_of d (Seen drone x) is =
     by_cond (IsEvent d (Seen drone x)) (nat_le d drone) _ _ (Ok (Seen drone x)) (λ t h. absurd (cc))
-    (λ t h. by_cond (IsEvent d (Seen drone x)) (nat_lt 15 (flags x)) _ _ (Ok (Seen drone x)) (λ u g. absurd (cc))
+    (λ t h. by_cond (IsEvent d (Seen drone x)) (nat_lt 63 (flags x)) _ _ (Ok (Seen drone x)) (λ u g. absurd (cc))
     (λ u g. (leb-false d drone t, sample_fits drone x (cc))) h) is
 
 -- ---- whether an event stands at the front

@@ -15,8 +15,6 @@ mod exchange;
 mod input;
 mod law;
 mod output;
-#[cfg(test)]
-mod tests;
 
 pub use exchange::{NOT_FLOWN, direct};
 pub use law::{flight_link_law, orders_law};

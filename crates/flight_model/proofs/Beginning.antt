@@ -13,10 +13,10 @@ use Rattle.flight_model.specs.declared.flights.Condition.{Condition}
 use Rattle.flight_model.specs.declared.flights.Step.{Step}
 use Rattle.flight_model.specs.declared.flights.Flight.{Flight}
 unfoldable use Rattle.flight_model.specs.Samples.{is_fit_by}
-use Rattle.flight_model.specs.Samples.{square, is_short, is_fit, is_at}
+use Rattle.flight_model.specs.Samples.{square, is_short, is_fit, is_at, stands_at}
 unfoldable use Rattle.flight_model.specs.Directors.{heard, is_due, choice, done, led, happens, says}
 use Rattle.flight_model.specs.Directors.{Phase, Steps, Landing, Off, Halted, Ended, Track, State, Choice, Rest, Begin, Descend, Cut, Quit, Finish, chosen, is_fault, is_go, land_order, has_risen, drones, next_step, is_due_step, all_fit}
-use Rattle.flight_model.specs.Law.{orders_to, only_if, IsFit, MayBegin, IsOnward, DueLaw}
+use Rattle.flight_model.specs.Law.{orders_to, only_if, IsFit, StandsAt, MayBegin, IsOnward, DueLaw}
 use Rattle.flight_model.proofs.OrdersTo.{orders_to-landing, orders_to-no_landing}
 use Rattle.flight_model.proofs.Choices.{steps-has, landing-has, off-has, halted-has}
 use Rattle.flight_model.proofs.Telling.{orders_to-says}
@@ -29,28 +29,41 @@ int_le-true a b h = omega (arith, ints, h)
 short-true : (most : ℕ) (x y z : ℤ) → is_short most x y z ≡ true → (square x +ℤ square y +ℤ square z) ≤ℤ square (pos most)
 short-true most x y z h = int_le-true (square x +ℤ square y +ℤ square z) (square (pos most)) h
 
-implied : (a b : Bool) → (not a || b) ≡ true → a ≡ true → b ≡ true
+pub implied : (a b : Bool) → (not a || b) ≡ true → a ≡ true → b ≡ true
 implied true b h e = h
 implied false b h e = absurd (cc)
+
+pub stands-true : (height : ℤ) (x : Sample) → stands_at height x ≡ true → StandsAt height x
+stands-true height x h =
+    let p = and_parts x.down (int_le x.z (height +ℤ pos 120) && int_le height (x.z +ℤ pos 120)) h in
+    let q = and_parts (int_le x.z (height +ℤ pos 120)) (int_le height (x.z +ℤ pos 120)) p.1 in
+    record { down = p.0; low = int_le-true x.z (height +ℤ pos 120) q.0; high = int_le-true height (x.z +ℤ pos 120) q.1 }
 
 pub fit-true : (silence : ℕ) (w : Condition) (x : Sample) → is_fit_by silence w x ≡ true → IsFit silence w x
 unfolding is_fit_by
 fit-true silence w x h =
     let fresh = leb x.age silence in
     let there = is_at w.bound w.position x in
+    let sure = x.sure in
     let kept = not x.lost in
     let ready = not w.ready || x.ready in
     let armed = not w.armed || x.armed in
-    let p = and_parts (((fresh && there) && kept) && ready) armed h in
-    let q = and_parts ((fresh && there) && kept) ready p.0 in
-    let r = and_parts (fresh && there) kept q.0 in
-    let s = and_parts fresh there r.0 in
+    let stands = stands_at w.position.z x in
+    let o = and_parts (((((fresh && there) && sure) && kept) && ready) && armed) (not w.down || (stands && not x.flying)) h in
+    let p = and_parts ((((fresh && there) && sure) && kept) && ready) armed o.0 in
+    let q = and_parts (((fresh && there) && sure) && kept) ready p.0 in
+    let r = and_parts ((fresh && there) && sure) kept q.0 in
+    let t = and_parts (fresh && there) sure r.0 in
+    let s = and_parts fresh there t.0 in
     record {
       fresh = leb-true x.age silence s.0;
       near = short-true w.bound (x.x -ℤ w.position.x) (x.y -ℤ w.position.y) (x.z -ℤ w.position.z) s.1;
+      sure = t.1;
       not_lost = not-true x.lost r.1;
       ready = implied w.ready x.ready q.1;
       armed = implied w.armed x.armed p.1;
+      down = λ is. stands-true w.position.z x (and_parts stands (not x.flying) (implied w.down (stands && not x.flying) o.1 is)).0;
+      still = λ is. not-true x.flying (and_parts stands (not x.flying) (implied w.down (stands && not x.flying) o.1 is)).1;
     }
 
 -- the track of a drone that is fit

@@ -2,7 +2,7 @@
 use Rattle.std.proofs.Common.{◌≡◌, ◌||◌, Bool, true, false, cond, refl}
 use Rattle.flight_model.specs.declared.events.Event.{Event}
 use Rattle.flight_model.specs.declared.flights.Flight.{Flight}
-use Rattle.flight_model.specs.Directors.{Steps, Landing, Off, Halted, State, Choice, Rest, Begin, Descend, Cut, Quit, Finish, chosen, is_stop, is_land, is_due, is_over, all_seen, is_down}
+use Rattle.flight_model.specs.Directors.{Steps, Landing, Off, Halted, State, Choice, Rest, Begin, Descend, Cut, Quit, Finish, chosen, is_stop, is_land, is_due, is_over, has_landed}
 
 -- what holds of each choice that may be made
 cond-has : (P : Choice → Type 0) (b : Bool) (x y : Choice) → (b ≡ true → P x) → (b ≡ false → P y) → P (cond b x y)
@@ -22,8 +22,8 @@ steps-has P f h e fault cut descend begin rest =
 pub landing-has : (P : Choice → Type 0) (f : Flight) (h : State) (e : Event) (fault : Bool) →
     (is_stop e ≡ true → P Cut) → (is_stop e ≡ false → P Quit) → (is_stop e ≡ false → P Rest) → P (chosen f h e fault Landing)
 landing-has P f h e fault cut quit rest =
-    cond-has P (is_stop e) Cut (cond (all_seen f.silence is_down h.tracks) Quit Rest) cut
-    (λ go. cond-has P (all_seen f.silence is_down h.tracks) Quit Rest (λ b. quit go) (λ b. rest go))
+    cond-has P (is_stop e) Cut (cond (has_landed f h) Quit Rest) cut
+    (λ go. cond-has P (has_landed f h) Quit Rest (λ b. quit go) (λ b. rest go))
 
 pub off-has : (P : Choice → Type 0) (f : Flight) (h : State) (e : Event) (fault : Bool) →
     (is_stop e ≡ true → P Cut) → (is_stop e ≡ false → P Finish) → (is_stop e ≡ false → P Rest) → P (chosen f h e fault Off)

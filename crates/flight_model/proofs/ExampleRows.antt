@@ -39,7 +39,7 @@ is_calm (Said signal.Stop) = false
 
 is_good : Flight → State → Event → Bool
 is_good f s (Clock ms) = true
-is_good f s (Seen d x) = not x.lost && not (is_off f s d x)
+is_good f s (Seen d x) = (not x.lost && not (is_off f s d x)) && x.sure
 is_good f s (Answered d status) = true
 is_good f s (Said w) = true
 
@@ -67,12 +67,13 @@ unfolding is_calm
 calm-said e h =
     (λ same. let g : false ≡ true = subst (λ a. is_calm a ≡ true) same h in absurd (cc), λ same. let g : false ≡ true = subst (λ a. is_calm a ≡ true) same h in absurd (cc))
 
-good-sample : (f : Flight) (s : State) (e : Event) (d : ℕ) (x : Sample) → is_good f s e ≡ true → e ≡ Seen d x → (x.lost ≡ false) × (is_off f s d x ≡ false)
+good-sample : (f : Flight) (s : State) (e : Event) (d : ℕ) (x : Sample) → is_good f s e ≡ true → e ≡ Seen d x → (x.lost ≡ false) × (is_off f s d x ≡ false) × (x.sure ≡ true)
 unfolding is_good
 good-sample f s e d x h same =
-    let g : not x.lost && not (is_off f s d x) ≡ true = subst (λ a. is_good f s a ≡ true) same h in
-    let p = and_parts (not x.lost) (not (is_off f s d x)) g in
-    (not-true x.lost p.0, not-true (is_off f s d x) p.1)
+    let g : (not x.lost && not (is_off f s d x)) && x.sure ≡ true = subst (λ a. is_good f s a ≡ true) same h in
+    let q = and_parts (not x.lost && not (is_off f s d x)) x.sure g in
+    let p = and_parts (not x.lost) (not (is_off f s d x)) q.0 in
+    (not-true x.lost p.0, not-true (is_off f s d x) p.1, q.1)
 
 prompt-fit : (f : Flight) (slack : ℕ) (h : State) (o : Option Step) (step : Step) → is_prompt f slack h o ≡ true → o ≡ Some step → step.asked ≡ false →
     step.after + slack ≤ h.waited → all_fit f.silence step.conditions h.tracks ≡ true

@@ -1,5 +1,5 @@
 -- Where the end says that the show was kept, it was.
-use Rattle.std.proofs.Common.{◌≡◌, ◌⊎◌, ◌<◌, ◌≤◌, ◌+◌, ◌-◌, ◌∷◌, ◌++◌, ◌∙◌, ◌&&◌, [], List, Bool, true, false, not, min, refl, sym, ap, subst, Some, ℕ, zero, suc, inl, inr, length, leb, ltb, eqb, arith}
+use Rattle.std.proofs.Common.{◌≡◌, ◌⊎◌, ◌<◌, ◌≤◌, ◌+◌, ◌-◌, ◌∷◌, ◌++◌, ◌∙◌, ◌||◌, ◌&&◌, [], List, Bool, true, false, not, min, refl, sym, ap, subst, Some, ℕ, zero, suc, inl, inr, length, leb, ltb, eqb, arith}
 use Rattle.std.proofs.lemmas.Bool.{and_parts, not-true, leb-true, leb-false, le-leb, ltb-true, ltb-false, lt-ltb, eqb-true, ne_eqb}
 use Rattle.std.proofs.lemmas.List.{append-nil, append_assoc}
 use Rattle.std.proofs.lemmas.List.Elements.{All-nil, All-cons, All-contains, Contains-append_cases}
@@ -236,7 +236,7 @@ record Showing (f : Flight) (k : ℕ) (before during : List Event) (s : State) :
   sighted : AreSighted (before ++ Said signal.Go ∷ during) s.tracks
   known : AreKnown (drones f) s.tracks
   at_curve : (earlier since : List Event) (d : ℕ) (x : Sample) → during ≡ earlier ++ Seen d x ∷ since →
-      time earlier ≤ most_ms → x.age ≤ time earlier → time earlier - x.age ≤ f.show_ms → is_kept f d (time earlier - x.age) x ≡ true
+      time earlier ≤ most_ms → x.age ≤ time earlier → time earlier - x.age ≤ f.show_ms → (is_kept f d (time earlier - x.age) x ≡ true) × (x.sure ≡ true)
   heard : (d ms : ℕ) → d < drones f → ms ≤ time during → ms ≤ f.show_ms → IsHeard f.silence (before ++ Said signal.Go ∷ during) d (time before + ms)
   told : (d : ℕ) → orders_to d (sent f (start f) (before ++ Said signal.Go ∷ during)) ≡ orders_to d (sent f (start f) before) ++ order.Start ∷ []
   is : after f (start f) (before ++ Said signal.Go ∷ during) ≡ s
@@ -253,16 +253,17 @@ clock-harmless f s ms on l h =
 
 -- a sample that harms no show
 sample-harmless : (f : Flight) (s : State) (d : ℕ) (x : Sample) → s.showing ≡ true → x.age ≤ s.waited → s.waited - x.age ≤ f.show_ms →
-    is_off f s d x ≡ false → is_kept f d (s.waited - x.age) x ≡ true
+    harms f s (Seen d x) ≡ false → (is_kept f d (s.waited - x.age) x ≡ true) × (x.sure ≡ true)
 sample-harmless f s d x on l m h =
-    by_parts s.showing (leb x.age s.waited) (leb (s.waited - x.age) f.show_ms) (is_kept f d (s.waited - x.age) x)
+    by_parts s.showing (leb x.age s.waited) (leb (s.waited - x.age) f.show_ms) (is_kept f d (s.waited - x.age) x) x.sure
     on (le-leb x.age s.waited l) (le-leb (s.waited - x.age) f.show_ms m) h where
-      by_parts : (a b c k : Bool) → a ≡ true → b ≡ true → c ≡ true → ((a && b) && c) && not k ≡ false → k ≡ true
-      by_parts true true true true p q r h = refl
-      by_parts true true true false p q r h = absurd (cc)
-      by_parts true true false k p q r h = absurd (cc)
-      by_parts true false c k p q r h = absurd (cc)
-      by_parts false b c k p q r h = absurd (cc)
+      by_parts : (a b c k u : Bool) → a ≡ true → b ≡ true → c ≡ true → (((a && b) && c) && not k) || (((a && b) && c) && not u) ≡ false → (k ≡ true) × (u ≡ true)
+      by_parts true true true true true p q r h = (refl, refl)
+      by_parts true true true true false p q r h = absurd (cc)
+      by_parts true true true false u p q r h = absurd (cc)
+      by_parts true true false k u p q r h = absurd (cc)
+      by_parts true false c k u p q r h = absurd (cc)
+      by_parts false b c k u p q r h = absurd (cc)
 
 waited-heard : (f : Flight) (s : State) (e : Event) → (heard f s e).waited ≡ min (s.waited + passed e) most_ms
 unfolding heard
@@ -275,6 +276,14 @@ phase-heard f s e = refl
 next-heard : (f : Flight) (s : State) (e : Event) → (heard f s e).next ≡ s.next
 unfolding heard
 next-heard f s e = refl
+
+led-next : (f : Flight) (h : State) (c : Choice) → c ≡ Begin → (led f h c).next ≡ suc h.next
+unfolding led
+led-next f h c same = rw same refl
+
+happens-next : (f : Flight) (s : State) (e : Event) → choice f s e ≡ Begin → (happens f s e).next ≡ suc s.next
+unfolding happens
+happens-next f s e same = led-next f (heard f s e) (choice f s e) same ∙ ap suc (next-heard f s e)
 
 module _ (f : Flight) (has : HasShow f) (before : List Event) where
   abbrev so_far : List Event → List Event
@@ -318,14 +327,14 @@ module _ (f : Flight) (has : HasShow f) (before : List Event) where
   -- and each sample is at its curve
   curve-on : (during : List Event) (s : State) (e : Event) → Showing f has.number before during s → harms f s e ≡ false →
       (earlier since : List Event) (d : ℕ) (x : Sample) → during ++ e ∷ [] ≡ earlier ++ Seen d x ∷ since →
-      time earlier ≤ most_ms → x.age ≤ time earlier → time earlier - x.age ≤ f.show_ms → is_kept f d (time earlier - x.age) x ≡ true
+      time earlier ≤ most_ms → x.age ≤ time earlier → time earlier - x.age ≤ f.show_ms → (is_kept f d (time earlier - x.age) x ≡ true) × (x.sure ≡ true)
   curve-on during s e sh harmless earlier since d x split short old inside =
       elim (snoc-cases during earlier since e (Seen d x) split) [
         | inl p ↦
             let now : time during ≡ time earlier = ap time p.0 in
             let waited : s.waited ≡ time earlier = let w = sh.waited in omega (arith, w, now, short) in
-            let harm : is_off f s d x ≡ false = subst (λ a. harms f s a ≡ false) p.1 harmless in
-            subst (λ n. is_kept f d (n - x.age) x ≡ true) waited
+            let harm : harms f s (Seen d x) ≡ false = subst (λ a. harms f s a ≡ false) p.1 harmless in
+            subst (λ n. (is_kept f d (n - x.age) x ≡ true) × (x.sure ≡ true)) waited
             (sample-harmless f s d x sh.on (omega (arith, waited, old)) (omega (arith, waited, inside)) harm)
         | inr p ↦ sh.at_curve earlier p.0 d x p.1 short old inside
       ]
@@ -365,7 +374,10 @@ module _ (f : Flight) (has : HasShow f) (before : List Event) where
         are = refl;
         started = sh.told;
         whole = let t = time-snoc during e in omega (arith, t, over);
-        at_curve = sh.at_curve;
+        moves_on = ap (λ (xs : List Event). (after f (start f) xs).next) (sym (so_far-snoc during e))
+            ∙ (ap (λ (t : State). t.next) (after-snoc f (so_far during) s e sh.is)
+            ∙ (happens-next f s e same ∙ ap (λ (t : State). suc t.next) (sym sh.is)));
+        at_curve = curve-on during s e sh harmless;
         heard = λ d ms l inside. heard-to during s e d ms sh harmless l (omega (arith, over, inside)) inside;
       } where
         by_some : (a b : Step) → Some a ≡ Some b → a ≡ b

@@ -7,6 +7,7 @@ mod Beginning
 mod Rises
 mod Turns
 mod Ending
+mod Alarms
 mod Flown
 mod Quiet
 mod Sightings

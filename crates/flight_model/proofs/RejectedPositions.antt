@@ -1,10 +1,11 @@
 -- Positions that are too far for a condition, beside positions that aren't.
-use Rattle.std.proofs.Common.{◌≡◌, true, refl, arith}
+use Rattle.std.proofs.Common.{◌≡◌, true, false, refl, arith}
 use Rattle.std.specs.Prelude.{ℤ, pos, negsuc}
 use Rattle.std.proofs.lemmas.Int.{ints}
 unfoldable use Rattle.flight_model.specs.Samples.{is_fit_by}
+use Rattle.flight_model.specs.declared.events.Sample.{Sample}
 use Rattle.flight_model.specs.Law.{IsFit}
-use Rattle.flight_model.specs.Rejected.{at_origin, standing, NearRows}
+use Rattle.flight_model.specs.Rejected.{at_origin, standing, NearRows, on_its_pad, hanging, turning, DownRows, doubtful, SureRows}
 use Rattle.flight_model.proofs.Beginning.{fit-true}
 
 fit : (x y z : ℤ) → is_fit_by 500 at_origin (standing x y z) ≡ true → IsFit 500 at_origin (standing x y z)
@@ -21,3 +22,23 @@ rows = record {
   in_space = fit (pos 48) (pos 48) (pos 42) refl;
   higher = λ f. let n = f.near in omega (arith, ints, n);
 }
+
+down : (x : Sample) → is_fit_by 500 on_its_pad x ≡ true → IsFit 500 on_its_pad x
+down x h = fit-true 500 on_its_pad x h
+
+pub down_rows : DownRows
+unfolding is_fit_by
+down_rows = record {
+  on_it = down (standing (pos 300) (pos 0) (pos 0)) refl;
+  above = down (standing (pos 0) (pos 0) (pos 120)) refl;
+  higher = λ f. let n = (f.down refl).low in omega (arith, ints, n);
+  below = down (standing (pos 0) (pos 0) (negsuc 119)) refl;
+  deeper = λ f. let n = (f.down refl).high in omega (arith, ints, n);
+  hangs = λ f. let n = (f.down refl).down in absurd (cc);
+  turns = λ f. let n = f.still refl in absurd (cc);
+  unasked = fit-true 500 at_origin turning refl;
+}
+
+pub sure_rows : SureRows
+unfolding is_fit_by
+sure_rows = record { sure = fit (pos 0) (pos 0) (pos 0) refl; unsure = λ f. let n = f.sure in absurd (cc) }

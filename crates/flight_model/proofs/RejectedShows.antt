@@ -1,5 +1,5 @@
 -- Shows that weren't kept, beside one that was.
-use Rattle.std.proofs.Common.{◌≡◌, ◌<◌, ◌≤◌, ◌+◌, ◌∷◌, ◌++◌, ◌∙◌, ◌||◌, ◌&&◌, [], List, Bool, true, false, refl, sym, ap, subst, ℕ, leb, eqb, arith}
+use Rattle.std.proofs.Common.{◌≡◌, ◌<◌, ◌≤◌, ◌+◌, ◌∷◌, ◌++◌, ◌∙◌, ◌||◌, ◌&&◌, [], List, Bool, true, false, refl, sym, ap, subst, ℕ, zero, suc, take, length, leb, eqb, arith}
 use Rattle.std.proofs.lemmas.List.{append_assoc}
 use Rattle.std.proofs.lemmas.Bool.{eq-eqb, le-leb}
 use Rattle.std.specs.Prelude.{pos, Contains}
@@ -18,7 +18,7 @@ unfoldable use Rattle.fleet_math.specs.Moments.{moment}
 unfoldable use Rattle.fleet_math.specs.Bernstein.{bernstein}
 use Rattle.flight_model.specs.Law.{orders_to}
 use Rattle.flight_model.specs.Kept.{HasShow, IsHeard, IsKeptShow, time}
-use Rattle.flight_model.specs.Rejected.{brief, sample_at, heard_at, flown_by, begun, KeptRows}
+use Rattle.flight_model.specs.Rejected.{brief, unhurried, late_news, flown_unsure, sample_at, heard_at, flown_by, begun, KeptRows}
 use Rattle.flight_model.proofs.OrdersTo.{orders_to-append}
 use Rattle.flight_model.proofs.Sightings.{time-append}
 use Rattle.flight_model.proofs.Kept.{kept_law, sent-append}
@@ -155,8 +155,92 @@ astray k =
     let whole = k.whole in
     let part = covers (Clock 500 ∷ []) 0 (sample_at 0 (pos 256) true) (Clock 500 ∷ heard_at 0 (pos 0) true ∷ heard_at 0 (pos 0) false ∷ []) k.during k.last k.rest
     (omega (arith, whole)) tail.1 in
-    let kept = k.at_curve (Clock 500 ∷ []) part.0 0 (sample_at 0 (pos 256) true) part.1 (omega arith) (omega arith) (omega arith) in
+    let split = ap (λ (xs : List Event). xs ++ k.last ∷ []) part.1 in
+    let kept = k.at_curve (Clock 500 ∷ []) (part.0 ++ k.last ∷ []) 0 (sample_at 0 (pos 256) true) split (omega arith) (omega arith) (omega arith) in
+    let on : is_kept brief 0 500 (sample_at 0 (pos 256) true) ≡ true = kept.0 in
     let off = off-computed in
+    absurd (cc)
+
+-- a sample at the curve that isn't sure
+unsure : IsKeptShow brief (begun (flown_unsure ++ flown_by 0 250 (pos 169) 250)) → ⊥
+unfolding has_go
+unsure k =
+    let tail = from_go (flown_unsure ++ flown_by 0 250 (pos 169) 250) k refl in
+    let whole = k.whole in
+    let part = covers (Clock 500 ∷ []) 0 (record (sample_at 0 (pos 225) true) { sure = false }) (flown_by 0 250 (pos 169) 250) k.during k.last k.rest
+    (omega (arith, whole)) tail.1 in
+    let split = ap (λ (xs : List Event). xs ++ k.last ∷ []) part.1 in
+    let kept = k.at_curve (Clock 500 ∷ []) (part.0 ++ k.last ∷ []) 0 (record (sample_at 0 (pos 225) true) { sure = false }) split (omega arith) (omega arith) (omega arith) in
+    let is : false ≡ true = kept.1 in
+    absurd (cc)
+
+-- a sample that is heard after the show
+late_has : HasShow unhurried
+late_has = record {
+  number = 0;
+  starting = _;
+  next = _;
+  is_starting = refl;
+  is_next = refl;
+  starts = refl;
+  asked = refl;
+  each = refl;
+  waits = omega arith;
+  short = omega arith;
+  heard = omega arith;
+}
+
+late-computed : sent unhurried (start unhurried) (begun (late_news (pos 111))) ≡ ToAll order.Start ∷ ToAll order.Disarm ∷ Over true true ∷ []
+unfolding is_fit_by is_kept tracks_after heard is_due notes is_fault choice done led happens says decoded moment bernstein
+late-computed = refl
+
+late_kept : IsKeptShow unhurried (begun (late_news (pos 111)))
+late_kept = kept_law.kept unhurried _ late_has (subst (λ xs. Contains xs (Over true true)) (sym late-computed) last-said)
+
+-- how many steps have begun
+steps_after : List Event → ℕ
+steps_after es = (after unhurried (start unhurried) (hovers ∷ Said signal.Go ∷ es)).next
+
+front : (during : List Event) (last : Event) (rest : List Event) → take (length during) (during ++ last ∷ rest) ≡ during
+front [] last rest = refl
+front (x ∷ xs) last rest = ap (λ ys. x ∷ ys) (front xs last rest)
+
+front-more : (during : List Event) (last : Event) (rest : List Event) → take (suc (length during)) (during ++ last ∷ rest) ≡ during ++ last ∷ []
+front-more [] last rest = refl
+front-more (x ∷ xs) last rest = ap (λ ys. x ∷ ys) (front-more xs last rest)
+
+abbrev before_news : List Event
+before_news = Clock 500 ∷ heard_at 0 (pos 225) true ∷ Clock 500 ∷ heard_at 0 (pos 0) true ∷ Clock 100 ∷ []
+
+-- no step begins before that sample is heard
+with_news : (n : ℕ) → steps_after (take (suc n) (late_news (pos 112))) ≡ suc (steps_after (take n (late_news (pos 112)))) →
+    (since : List Event) × (take (suc n) (late_news (pos 112)) ≡ before_news ++ heard_at 200 (pos 112) true ∷ since)
+unfolding steps_after hovers is_fit_by is_kept tracks_after heard is_due notes is_fault choice done led happens says decoded moment bernstein
+with_news zero h = let e : 1 ≡ 2 = h in absurd (omega (arith, e))
+with_news (suc zero) h = let e : 1 ≡ 2 = h in absurd (omega (arith, e))
+with_news (suc (suc zero)) h = let e : 1 ≡ 2 = h in absurd (omega (arith, e))
+with_news (suc (suc (suc zero))) h = let e : 1 ≡ 2 = h in absurd (omega (arith, e))
+with_news (suc (suc (suc (suc zero)))) h = let e : 1 ≡ 2 = h in absurd (omega (arith, e))
+with_news (suc (suc (suc (suc (suc n))))) h = (take n (Clock 100 ∷ heard_at 0 (pos 0) true ∷ heard_at 0 (pos 0) false ∷ []), refl)
+
+late-off-computed : is_kept unhurried 0 900 (sample_at 200 (pos 112) true) ≡ false
+unfolding is_kept decoded moment bernstein
+late-off-computed = refl
+
+late_astray : IsKeptShow unhurried (begun (late_news (pos 112))) → ⊥
+unfolding has_go hovers steps_after
+late_astray k =
+    let events = late_news (pos 112) in
+    let from = second 0 (sample_at 0 (pos 0) true) events k.before (k.during ++ k.last ∷ k.rest) refl k.are in
+    let some : take (length k.during) events ≡ k.during = ap (λ es. take (length k.during) es) from.1 ∙ front k.during k.last k.rest in
+    let more : take (suc (length k.during)) events ≡ k.during ++ k.last ∷ [] = ap (λ es. take (suc (length k.during)) es) from.1 ∙ front-more k.during k.last k.rest in
+    let moves : steps_after (k.during ++ k.last ∷ []) ≡ suc (steps_after k.during) =
+    subst (λ b. (after unhurried (start unhurried) (b ++ Said signal.Go ∷ (k.during ++ k.last ∷ []))).next ≡ suc (after unhurried (start unhurried) (b ++ Said signal.Go ∷ k.during)).next)
+    from.0 k.moves_on in
+    let news = with_news (length k.during) (ap steps_after more ∙ (moves ∙ ap (λ es. suc (steps_after es)) (sym some))) in
+    let kept = k.at_curve before_news news.0 0 (sample_at 200 (pos 112) true) (sym more ∙ news.1) (omega arith) (omega arith) (omega arith) in
+    let on : is_kept unhurried 0 900 (sample_at 200 (pos 112) true) ≡ true = kept.0 in
+    let off = late-off-computed in
     absurd (cc)
 
 -- at an instant of the show no sample was heard that is fresh there
@@ -215,6 +299,9 @@ pub rows : KeptRows
 rows = record {
   kept = is_kept_show;
   astray = astray;
+  unsure = unsure;
+  late_kept = late_kept;
+  late_astray = late_astray;
   silent = silent;
   leapt = leapt;
   unfinished = unfinished;

@@ -15,7 +15,7 @@ unfoldable use Rattle.flight_model.specs.Samples.{is_fit_by, is_kept}
 use Rattle.flight_model.specs.Samples.{is_fit}
 use Rattle.flight_model.specs.Rejected.{at_origin, standing}
 unfoldable use Rattle.flight_model.specs.Directors.{tracks_after, heard, is_due, notes, is_fault, choice, done, led, happens, says}
-use Rattle.flight_model.specs.Directors.{start, sent, after, State, Track, Steps}
+use Rattle.flight_model.specs.Directors.{start, sent, after, State, Track, Steps, Landing}
 unfoldable use Rattle.fleet_math.specs.Decoded.{decoded}
 unfoldable use Rattle.fleet_math.specs.Moments.{moment}
 unfoldable use Rattle.fleet_math.specs.Bernstein.{bernstein}
@@ -30,7 +30,7 @@ abbrev ready : List Event
 ready = lift_off ++ (Clock 2000 ∷ second (pos 1000) true false)
 
 abbrev seen_at : ℤ → ℤ → Track
-seen_at x z = record { seen = Some (sample x (pos 0) z true false); off = None }
+seen_at x z = record { seen = Some (sample x (pos 0) z true false); off = None; unsure = None }
 
 unfoldable fits : ℤ → ℤ → ℤ → Bool
 fits x y z = is_fit 500 at_origin (Some (standing x y z))
@@ -42,6 +42,7 @@ at_ready = record {
   next = 2;
   waited = 3000;
   steady = 1000;
+  stood = 0;
   showing = false;
   kept = true;
   tracks = seen_at (pos 0) (pos 1000) ∷ seen_at (pos 2000) (pos 1000) ∷ [];
@@ -63,6 +64,22 @@ begun = start (flight true)
 unfoldable plan : ℕ → List Order
 plan d = ordered d (flight true).steps
 
+-- a landing, with both in the air
+abbrev at_landing : State
+at_landing = record at_last { phase = Landing; waited = 0; showing = false }
+
+-- a drone on the floor, z mm high
+abbrev on_floor : ℕ → ℤ → Bool → Bool → Event
+on_floor d z down flying = Seen d (record (sample (pos 0) (pos 0) z true down) { flying = flying })
+
+-- both stand there, and say that they fly
+abbrev turning : List Event
+turning = on_floor 0 (pos 0) true true ∷ on_floor 1 (pos 0) true true ∷ []
+
+-- a drone hovers, and isn't sure where
+abbrev doubts : List Event
+doubts = Seen 0 (record (sample (pos 0) (pos 0) (pos 1000) true false) { sure = false }) ∷ []
+
 abbrev note : ℕ → Fault → Frame
 note d fault = Noted (record { drone = d; fault = fault })
 
@@ -82,6 +99,14 @@ pub record Rows : Type 0 where
   downs : says_all true at_last way_down ≡ To 0 (order.Land (pos 0) 2500) ∷ To 1 (order.Land (pos 0) 2500) ∷ ToAll order.Disarm ∷ Over true true ∷ []
   -- the operator's land in the middle, and stop after it
   lands : says_all true at_last (Said signal.Land ∷ Said signal.Go ∷ Said signal.Stop ∷ Said signal.Land ∷ []) ≡ all_land ++ ToAll order.Halt ∷ []
+  -- disarmed once both are down, on the floor or a pad, and don't say that they fly
+  high : says_all true at_landing (both (pos 0) (pos 121) true true) ≡ []
+  low : says_all true at_landing (both (pos 0) (pos 120) true true) ≡ ToAll order.Disarm ∷ []
+  one_high : says_all true at_landing (on_floor 0 (pos 0) true false ∷ on_floor 1 (pos 121) true false ∷ []) ≡ []
+  -- or five seconds later, whatever they say
+  turns : says_all true at_landing (turning ++ Clock 400 ∷ turning) ≡ []
+  turned : says_all true (record (comes_to at_landing turning) { stood = 4500 }) (Clock 500 ∷ []) ≡ ToAll order.Disarm ∷ []
+  turned_early : says_all true (record (comes_to at_landing turning) { stood = 4500 }) (Clock 499 ∷ turning) ≡ []
   -- too early
   early : says_all true (record at_ready { steady = 999 }) go ≡ []
   -- a drone that is silent is noted, and the show goes on; it isn't kept
@@ -92,6 +117,11 @@ pub record Rows : Type 0 where
   -- one astray: all land after 300 ms of it, where the show doesn't fly on
   astray : says_all false at_ready (go ++ Clock 100 ∷ both (pos 150) (pos 1000) true false ++ Clock 299 ∷ both (pos 150) (pos 1000) true false ++ Clock 1 ∷ both (pos 150) (pos 1000) true false) ≡
       ToAll order.Start ∷ note 0 fault.Astray ∷ all_land
+  -- one that isn't sure of where it is: the same
+  unsure : says_all false at_ready (go ++ doubts ++ Clock 299 ∷ doubts ++ Clock 1 ∷ doubts) ≡ ToAll order.Start ∷ note 0 fault.Unsure ∷ all_land
+  unsure_waiting : says_all true at_ready (doubts ++ go ++ Clock 300 ∷ doubts) ≡ note 0 fault.Unsure ∷ all_land
+  unsure_on : says_all true at_ready (go ++ doubts ++ Clock 300 ∷ doubts) ≡ ToAll order.Start ∷ note 0 fault.Unsure ∷ []
+  unsure_unkept : (comes_to at_ready (go ++ doubts)).kept ≡ false
   -- one that refuses an order: all land
   refuses : says_all true at_ready (Answered 1 5 ∷ []) ≡ note 1 fault.Refused ∷ all_land
   -- one that doesn't come to its place
@@ -112,11 +142,21 @@ rows = record {
   shows = refl;
   downs = refl;
   lands = refl;
+  high = refl;
+  low = refl;
+  one_high = refl;
+  turns = refl;
+  turned = refl;
+  turned_early = refl;
   early = refl;
   silent = refl;
   unkept = refl;
   leapt = refl;
   astray = refl;
+  unsure = refl;
+  unsure_waiting = refl;
+  unsure_on = refl;
+  unsure_unkept = refl;
   refuses = refl;
   lates = refl;
   near = refl;

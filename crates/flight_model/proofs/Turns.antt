@@ -1,8 +1,11 @@
 -- In whose turn each order goes out.
-use Rattle.std.proofs.Common.{◌≡◌, ◌⊎◌, ◌≤◌, ◌∷◌, ◌∙◌, ◌||◌, ◌&&◌, [], List, Bool, true, false, not, cond, refl, sym, ap, subst, None, Some, Option, ℕ, zero, suc, inl, inr, ◌-◌, ltb, arith}
+use Rattle.std.proofs.Common.{◌≡◌, ◌⊎◌, ◌≤◌, ◌∷◌, ◌∙◌, ◌||◌, ◌&&◌, [], List, Bool, true, false, not, cond, refl, sym, ap, subst, None, Some, Option, ℕ, zero, suc, inl, inr, ◌-◌, ◌+◌, ◌<◌, ◌++◌, length, leb, ltb, eqb, arith}
 use Rattle.std.specs.Prelude.{ℤ, map, slice_get, Contains, All}
 use Rattle.std.specs.Option.{option_map}
-use Rattle.std.proofs.lemmas.Bool.{and_parts, not-true, ltb-true, ltb-false}
+use Rattle.std.proofs.lemmas.List.{append_assoc}
+use Rattle.std.specs.List.{flat_map, range_with_len}
+use Rattle.flight_model.specs.Samples.{stands_at}
+use Rattle.std.proofs.lemmas.Bool.{and_parts, not-true, leb-true, ltb-true, ltb-false, ne_eqb}
 use Rattle.traj_codec.specs.declared.traj.Traj.{Traj}
 use Rattle.flight_model.specs.declared.events.Order.{Order}
 use Rattle.flight_model.specs.declared.events.Order.TheVariants as order
@@ -15,15 +18,15 @@ use Rattle.flight_model.specs.declared.flights.Condition.{Condition}
 use Rattle.flight_model.specs.declared.flights.Step.{Step}
 use Rattle.flight_model.specs.declared.flights.Flight.{Flight}
 unfoldable use Rattle.flight_model.specs.Legs.{steps_of}
-use Rattle.flight_model.specs.Legs.{Routes, Leg, legs_of, leg, moves, has_moved, will_move, arm_order, up_order, down_order, way_begins, position_of, leg_count, arm_condition, arm_step, up_condition, start_condition, start_step, last_condition, last_step}
+use Rattle.flight_model.specs.Legs.{Routes, Leg, legs_of, leg, moves, has_moved, will_move, arm_order, up_order, down_order, way_begins, position_of, leg_count, leg_ms, ms_before, up_bound, down_bound, arm_condition, arm_step, down_condition, up_condition, start_condition, start_step, up_step, down_step, lasts, last_condition, last_step}
 unfoldable use Rattle.flight_model.specs.Directors.{heard, choice, done, happens}
-use Rattle.flight_model.specs.Directors.{Phase, Steps, Landing, Off, Halted, Ended, Track, State, Choice, Rest, Begin, Descend, Cut, Quit, Finish, chosen, is_fault, is_stop, is_down, is_silent, all_seen, order_in, says, land_order, has_risen, drones}
-use Rattle.flight_model.specs.Law.{orders_to, only_if, IsNear, MayBegin, IsOnward, Arms, Rises, Starts}
-use Rattle.flight_model.specs.Turns.{MayArm, MayRise, MayStart, AtPads, IsSeenDown, AllDown, TurnLaw}
+use Rattle.flight_model.specs.Directors.{Phase, Steps, Landing, Off, Halted, Ended, Track, State, Choice, Rest, Begin, Descend, Cut, Quit, Finish, chosen, is_fault, is_stop, is_down, all_down, are_down, end_step, has_landed, order_in, says, later, passed, land_order, has_risen, drones}
+use Rattle.flight_model.specs.Law.{orders_to, only_if, IsNear, StandsAt, MayBegin, IsOnward, Arms, Rises, Starts}
+use Rattle.flight_model.specs.Turns.{twice, MayGoOn, MayArm, MayRise, MayStart, AtPads, IsSeenDown, AllDown, TurnLaw}
 use Rattle.flight_model.proofs.OrdersTo.{orders_to-landing, orders_to-no_landing}
 use Rattle.flight_model.proofs.Telling.{orders_to-says}
 use Rattle.flight_model.proofs.Choices.{steps-has, landing-has, off-has, halted-has}
-use Rattle.flight_model.proofs.Beginning.{begin-may, due_law, onward-begins, contains-nil, contains-one}
+use Rattle.flight_model.proofs.Beginning.{implied, stands-true, begin-may, due_law, onward-begins, contains-nil, contains-one}
 use Rattle.flight_model.proofs.Rises.{begins-there, still-sooner, get-leg, get-none, all-steps, all-get, ordered-step, rises-first}
 
 -- ---- which step has an order
@@ -228,6 +231,82 @@ may_start f w steps s e d has =
       | inr is ↦ absurd (cc)
     ]
 
+-- ---- legs after the first
+
+pair-at : (a b : ℕ → Step) (i n k : ℕ) (rest : List Step) → k < n → slice_get (flat_map (λ j. a j ∷ b j ∷ []) (range_with_len i n) ++ rest) (twice k) ≡ Some (a (i + k))
+pair-at a b i zero k rest l = absurd (omega (arith, l))
+pair-at a b i (suc n) zero rest l = let e : i ≡ i + 0 = omega arith in ap (λ j. Some (a j)) e
+pair-at a b i (suc n) (suc k) rest l =
+    pair-at a b (i + 1) n k rest (omega (arith, l)) ∙ (let e : i + 1 + k ≡ i + suc k = omega arith in ap (λ j. Some (a j)) e)
+
+pair-past : (a b : ℕ → Step) (i n j : ℕ) (rest : List Step) → slice_get (flat_map (λ j. a j ∷ b j ∷ []) (range_with_len i n) ++ rest) (twice n + j) ≡ slice_get rest j
+pair-past a b i zero j rest = let e : 0 + j ≡ j = omega arith in ap (λ k. slice_get rest k) e
+pair-past a b i (suc n) j rest =
+    let e : twice (suc n) + j ≡ suc (suc (twice n + j)) = omega arith in
+    ap (λ k. slice_get (flat_map (λ j. a j ∷ b j ∷ []) (range_with_len i (suc n)) ++ rest) k) e ∙ pair-past a b (i + 1) n j rest
+
+map-at : (a : ℕ → Step) (i n k : ℕ) (rest : List Step) → k < n → slice_get (map a (range_with_len i n) ++ rest) k ≡ Some (a (i + k))
+map-at a i zero k rest l = absurd (omega (arith, l))
+map-at a i (suc n) zero rest l = let e : i ≡ i + 0 = omega arith in ap (λ j. Some (a j)) e
+map-at a i (suc n) (suc k) rest l =
+    map-at a (i + 1) n k rest (omega (arith, l)) ∙ (let e : i + 1 + k ≡ i + suc k = omega arith in ap (λ j. Some (a j)) e)
+
+arm-step : (w : Routes) (k : ℕ) → suc k < leg_count (map legs_of w.up) → slice_get (steps_of w) (twice (suc k)) ≡ Some (arm_step w (map legs_of w.up) (suc k))
+unfolding steps_of
+arm-step w k l =
+    pair-at (arm_step w (map legs_of w.up)) (up_step w (map legs_of w.up)) 0 (leg_count (map legs_of w.up)) (suc k) _ l
+    ∙ (let e : 0 + suc k ≡ suc k = omega arith in ap (λ j. Some (arm_step w (map legs_of w.up) j)) e)
+
+down-step : (w : Routes) (k : ℕ) → k < leg_count (map legs_of w.down) →
+    slice_get (steps_of w) (twice (leg_count (map legs_of w.up)) + suc k) ≡ Some (down_step w (lasts w.show) (map legs_of w.down) k)
+unfolding steps_of
+down-step w k l =
+    pair-past (arm_step w (map legs_of w.up)) (up_step w (map legs_of w.up)) 0 (leg_count (map legs_of w.up)) (suc k) _
+    ∙ (map-at (down_step w (lasts w.show) (map legs_of w.down)) 0 (leg_count (map legs_of w.down)) k _ l
+    ∙ (let e : 0 + k ≡ k = omega arith in ap (λ j. Some (down_step w (lasts w.show) (map legs_of w.down) j)) e))
+
+-- the step that begins is the one of its number
+is-step : (f : Flight) (w : Routes) (s : State) (e : Event) (n : ℕ) (step : Step) → f.steps ≡ steps_of w → s.next ≡ n → slice_get (steps_of w) n ≡ Some step → (m : MayBegin f s e) → m.step ≡ step
+is-step f w s e n step steps number is m = by_some m.step step (sym m.is_next ∙ (ap (λ k. slice_get f.steps k) number ∙ (ap (λ (xs : List Step). slice_get xs n) steps ∙ is))) where
+  by_some : (a b : Step) → Some a ≡ Some b → a ≡ b
+  by_some a b h = cc
+
+leg_up : (f : Flight) (w : Routes) → f.steps ≡ steps_of w → (s : State) (e : Event) (k : ℕ) → suc k < leg_count (map legs_of w.up) → s.next ≡ twice (suc k) →
+    ((happens f s e).next ≡ s.next) ⊎ MayGoOn f s e (leg_ms (map legs_of w.up) k) w.up (suc k) (λ legs. up_bound w legs (suc k))
+leg_up f w steps s e k l number = elim (due_law.steps f s e) [
+  | inl same ↦ inl same
+  | inr m ↦ let is = is-step f w s e (twice (suc k)) (arm_step w (map legs_of w.up) (suc k)) steps number (arm-step w k l) m in
+      let other : eqb (suc k) 0 ≡ false = ne_eqb (suc k) 0 (λ same. absurd (omega (arith, same))) in
+      let one : suc k - 1 ≡ k = omega arith in
+      inr (record {
+        over = subst (λ (ms : ℕ). ms ≤ (heard f s e).waited)
+            (ap (λ b. cond b 0 (leg_ms (map legs_of w.up) (suc k - 1))) other ∙ ap (λ j. leg_ms (map legs_of w.up) j) one)
+            (subst (λ (x : Step). x.after ≤ (heard f s e).waited) is m.time);
+        settled = subst (λ (ms : ℕ). ms ≤ (heard f s e).steady) (ap (λ b. cond b 0 1000) other) (subst (λ (x : Step). x.settle ≤ (heard f s e).steady) is m.settled);
+        each = λ d t at_d.
+            (let c = arm_condition w (suc k) (legs_of t) in
+            let fit = m.fit d c (ap (λ (x : Step). slice_get x.conditions d) is ∙ get-leg (arm_condition w (suc k)) w.up d t at_d) in
+            record { sample = fit.1; is_last = record { track = fit.0; is_track = fit.2; is_sample = fit.3 }; near = fit.4.near });
+      })
+]
+
+leg_down : (f : Flight) (w : Routes) → f.steps ≡ steps_of w → (s : State) (e : Event) (k : ℕ) → k < leg_count (map legs_of w.down) →
+    s.next ≡ twice (leg_count (map legs_of w.up)) + suc k →
+    ((happens f s e).next ≡ s.next) ⊎ MayGoOn f s e (ms_before (lasts w.show) (map legs_of w.down) k) w.down k (λ legs. down_bound w legs k)
+leg_down f w steps s e k l number = elim (due_law.steps f s e) [
+  | inl same ↦ inl same
+  | inr m ↦ let n = twice (leg_count (map legs_of w.up)) + suc k in
+      let is = is-step f w s e n (down_step w (lasts w.show) (map legs_of w.down) k) steps number (down-step w k l) m in
+      inr (record {
+        over = subst (λ (x : Step). x.after ≤ (heard f s e).waited) is m.time;
+        settled = subst (λ (x : Step). x.settle ≤ (heard f s e).steady) is m.settled;
+        each = λ d t at_d.
+            (let c = down_condition w k (legs_of t) in
+            let fit = m.fit d c (ap (λ (x : Step). slice_get x.conditions d) is ∙ get-leg (down_condition w k) w.down d t at_d) in
+            record { sample = fit.1; is_last = record { track = fit.0; is_track = fit.2; is_sample = fit.3 }; near = fit.4.near });
+      })
+]
+
 -- ---- disarm and halt
 
 -- an order that no leg and no start has goes out by the last step, by a landing that is over, or at the operator's stop
@@ -273,30 +352,130 @@ landed true a e = absurd (cc)
 landed false true e = refl
 landed false false e = absurd (cc)
 
-quit-lands : (f : Flight) (h : State) (e : Event) (fault : Bool) (p : Phase) → chosen f h e fault p ≡ Quit → (p ≡ Landing) × (all_seen f.silence is_down h.tracks ≡ true)
+quit-lands : (f : Flight) (h : State) (e : Event) (fault : Bool) (p : Phase) → chosen f h e fault p ≡ Quit → (p ≡ Landing) × (has_landed f h ≡ true)
 quit-lands f h e fault Steps same =
-    steps-has (λ c. c ≡ Quit → (Steps ≡ Landing) × (all_seen f.silence is_down h.tracks ≡ true)) f h e fault (λ stop is. absurd (cc)) (λ go land is. absurd (cc)) (λ go on due is. absurd (cc))
+    steps-has (λ c. c ≡ Quit → (Steps ≡ Landing) × (has_landed f h ≡ true)) f h e fault (λ stop is. absurd (cc)) (λ go land is. absurd (cc)) (λ go on due is. absurd (cc))
     (λ is. absurd (cc)) same
-quit-lands f h e fault Landing same = (refl, landed (is_stop e) (all_seen f.silence is_down h.tracks) same)
+quit-lands f h e fault Landing same = (refl, landed (is_stop e) (has_landed f h) same)
 quit-lands f h e fault Off same =
-    off-has (λ c. c ≡ Quit → (Off ≡ Landing) × (all_seen f.silence is_down h.tracks ≡ true)) f h e fault (λ stop is. absurd (cc)) (λ go is. absurd (cc)) (λ go is. absurd (cc)) same
+    off-has (λ c. c ≡ Quit → (Off ≡ Landing) × (has_landed f h ≡ true)) f h e fault (λ stop is. absurd (cc)) (λ go is. absurd (cc)) (λ go is. absurd (cc)) same
 quit-lands f h e fault Halted same =
-    halted-has (λ c. c ≡ Quit → (Halted ≡ Landing) × (all_seen f.silence is_down h.tracks ≡ true)) f h e fault (λ is. absurd (cc)) (λ is. absurd (cc)) same
+    halted-has (λ c. c ≡ Quit → (Halted ≡ Landing) × (has_landed f h ≡ true)) f h e fault (λ is. absurd (cc)) (λ is. absurd (cc)) same
 quit-lands f h e fault Ended same = absurd (cc)
 
-seen_down : (silence : ℕ) (t : Track) (o : Option Sample) → t.seen ≡ o → is_down o ≡ true → is_silent silence o ≡ false → IsSeenDown silence t
-seen_down silence t None is down fresh = absurd (cc)
-seen_down silence t (Some x) is down fresh = record { sample = x; is_sample = is; down = down; fresh = ltb-false silence x.age fresh }
+-- the last step of three ways
+get-after : (xs : List Step) (z : Step) → slice_get (xs ++ z ∷ []) (length xs) ≡ Some z
+get-after [] z = refl
+get-after (x ∷ xs) z = get-after xs z
 
-each_down : (silence : ℕ) (ts : List Track) → all_seen silence is_down ts ≡ true → (k : ℕ) (t : Track) → slice_get ts k ≡ Some t → IsSeenDown silence t
-each_down silence [] all k t e = absurd (cc)
-each_down silence (u ∷ ts) all zero t e =
-    let p = and_parts (is_down u.seen && not (is_silent silence u.seen)) (all_seen silence is_down ts) all in
-    let q = and_parts (is_down u.seen) (not (is_silent silence u.seen)) p.0 in
+length-after : (xs : List Step) (z : Step) → length (xs ++ z ∷ []) ≡ suc (length xs)
+length-after [] z = refl
+length-after (x ∷ xs) z = ap suc (length-after xs z)
+
+last-of : (xs ys : List Step) (z : Step) → slice_get (xs ++ (ys ++ z ∷ [])) (length (xs ++ (ys ++ z ∷ [])) - 1) ≡ Some z
+last-of xs ys z =
+    let long = length-after (xs ++ ys) z in
+    let n : length ((xs ++ ys) ++ z ∷ []) - 1 ≡ length (xs ++ ys) = omega (arith, long) in
+    ap (λ (zs : List Step). slice_get zs (length zs - 1)) (sym (append_assoc xs ys (z ∷ [])))
+    ∙ (ap (λ k. slice_get ((xs ++ ys) ++ z ∷ []) k) n ∙ get-after (xs ++ ys) z)
+
+ends-with : (f : Flight) (w : Routes) → f.steps ≡ steps_of w → end_step f ≡ Some (last_step w (map legs_of w.down))
+unfolding steps_of
+ends-with f w steps =
+    ap (λ (xs : List Step). slice_get xs (length xs - 1)) steps
+    ∙ (last-of (flat_map (λ k. arm_step w (map legs_of w.up) k ∷ up_step w (map legs_of w.up) k ∷ []) (range_with_len 0 (leg_count (map legs_of w.up))))
+    (start_step w (map legs_of w.up) ∷ map (down_step w (lasts w.show) (map legs_of w.down)) (range_with_len 0 (leg_count (map legs_of w.down))))
+    (last_step w (map legs_of w.down)))
+
+or-cases : (a b : Bool) → a || b ≡ true → (a ≡ true) ⊎ (b ≡ true)
+or-cases true b h = inl refl
+or-cases false b h = inr h
+
+-- what a drone says that is down on the floor or at its pad
+stands-where : (floor height : ℤ) (x : Sample) → stands_at floor x || stands_at height x ≡ true → StandsAt floor x ⊎ StandsAt height x
+stands-where floor height x h = elim (or-cases (stands_at floor x) (stands_at height x) h) [
+  | inl low ↦ inl (stands-true floor x low)
+  | inr there ↦ inr (stands-true height x there)
+]
+
+-- in a list of a pad for each drone, each is down
+record IsDownAt (f : Flight) (still : Bool) (w : Condition) (t : Track) : Type 0 where
+  sample : Sample
+  is_sample : t.seen ≡ Some sample
+  fresh : sample.age ≤ f.silence
+  stands : StandsAt f.floor sample ⊎ StandsAt w.position.z sample
+  calm : still ≡ true → sample.flying ≡ false
+
+down-at : (f : Flight) (still : Bool) (w : Condition) (t : Track) (o : Option Sample) → t.seen ≡ o → is_down f still w o ≡ true → IsDownAt f still w t
+down-at f still w t None is down = absurd (cc)
+down-at f still w t (Some x) is down =
+    let p = and_parts (leb x.age f.silence && (stands_at f.floor x || stands_at w.position.z x)) (not still || not x.flying) down in
+    let q = and_parts (leb x.age f.silence) (stands_at f.floor x || stands_at w.position.z x) p.0 in
+    record {
+      sample = x;
+      is_sample = is;
+      fresh = leb-true x.age f.silence q.0;
+      stands = stands-where f.floor w.position.z x q.1;
+      calm = λ quiet. not-true x.flying (implied still (not x.flying) p.1 quiet);
+    }
+
+each_down : (f : Flight) (still : Bool) (ws : List Condition) (ts : List Track) → all_down f still ws ts ≡ true → (k : ℕ) (t : Track) → slice_get ts k ≡ Some t →
+    (w : Condition) × (slice_get ws k ≡ Some w) × IsDownAt f still w t
+each_down f still ws [] all k t e = absurd (cc)
+each_down f still [] (u ∷ ts) all k t e = absurd (cc)
+each_down f still (w ∷ ws) (u ∷ ts) all zero t e =
+    let p = and_parts (is_down f still w u.seen) (all_down f still ws ts) all in
     let same : u ≡ t = cc in
-    subst (IsSeenDown silence) same (seen_down silence u u.seen refl q.0 (not-true (is_silent silence u.seen) q.1))
-each_down silence (u ∷ ts) all (suc k) t e =
-    each_down silence ts (and_parts (is_down u.seen && not (is_silent silence u.seen)) (all_seen silence is_down ts) all).1 k t e
+    (w, refl, subst (IsDownAt f still w) same (down-at f still w u u.seen refl p.0))
+each_down f still (w ∷ ws) (u ∷ ts) all (suc k) t e =
+    each_down f still ws ts (and_parts (is_down f still w u.seen) (all_down f still ws ts) all).1 k t e
+
+map-none : (g : Traj → Condition) (ts : List Traj) (d : ℕ) → slice_get ts d ≡ None → slice_get (map g ts) d ≡ None
+map-none g [] d e = refl
+map-none g (u ∷ us) zero e = absurd (cc)
+map-none g (u ∷ us) (suc d) e = map-none g us d e
+
+-- and so it is at its pad, where none says that it flies or all have stood for long
+seen_down : (f : Flight) (w : Routes) (still : Bool) (stood : ℕ) (ts : List Track) → f.steps ≡ steps_of w → are_down f still (end_step f) ts ≡ true → (still ≡ true) ⊎ (5000 ≤ stood) →
+    (k : ℕ) (t : Track) → slice_get ts k ≡ Some t → (down : Traj) × (slice_get w.down k ≡ Some down) × IsSeenDown f stood down t
+seen_down f w still stood ts steps all calm k t e =
+    let pads = map (last_condition w) w.down in
+    let one = each_down f still pads ts (subst (λ (o : Option Step). are_down f still o ts ≡ true) (ends-with f w steps) all) k t e in
+    by_pad (slice_get w.down k) refl one.0 one.1 one.2 where
+      by_pad : (o : Option Traj) → slice_get w.down k ≡ o → (c : Condition) → slice_get (map (last_condition w) w.down) k ≡ Some c → IsDownAt f still c t →
+          (down : Traj) × (slice_get w.down k ≡ Some down) × IsSeenDown f stood down t
+      by_pad None none c is at = let no = map-none (last_condition w) w.down k none in absurd (cc)
+      by_pad (Some down) some c is at =
+          let same : Some (last_condition w down) ≡ Some c = sym (get-map (last_condition w) w.down k down some) ∙ is in
+          let pad : last_condition w down ≡ c = cc in (
+            down,
+            some,
+            record {
+              sample = at.sample;
+              is_sample = at.is_sample;
+              fresh = at.fresh;
+              stands = subst (λ (v : Condition). StandsAt f.floor at.sample ⊎ StandsAt v.position.z at.sample) (sym pad) at.stands;
+              still = elim calm [ inl quiet ↦ inl (at.calm quiet) | inr long ↦ inr long ];
+            },
+          )
+
+-- who has stood for five seconds stands now
+stood-now : (f : Flight) (s : State) (e : Event) → 5000 ≤ (heard f s e).stood → are_down f false (end_step f) (heard f s e).tracks ≡ true
+unfolding heard
+stood-now f s e long = by_down (are_down f false (end_step f) (heard f s e).tracks) long where
+  by_down : (b : Bool) → 5000 ≤ cond b (later s.stood (passed e)) 0 → b ≡ true
+  by_down true l = refl
+  by_down false l = absurd (omega (arith, l))
+
+all_landed : (f : Flight) (w : Routes) (s : State) (e : Event) → f.steps ≡ steps_of w → s.phase ≡ Landing → has_landed f (heard f s e) ≡ true → AllDown f w s e
+all_landed f w s e steps landing over = record {
+  landing = landing;
+  each = elim (or-cases (are_down f true (end_step f) (heard f s e).tracks) (leb 5000 (heard f s e).stood) over) [
+    | inl down ↦ seen_down f w true (heard f s e).stood (heard f s e).tracks steps down (inl refl)
+    | inr long ↦ let most = leb-true 5000 (heard f s e).stood long in
+        seen_down f w false (heard f s e).stood (heard f s e).tracks steps (stood-now f s e most) (inr most)
+  ];
+}
 
 at_pads : (f : Flight) (w : Routes) (s : State) (e : Event) (m : MayBegin f s e) → m.step ≡ last_step w (map legs_of w.down) → AtPads f w s e
 at_pads f w s e m is = record {
@@ -305,20 +484,26 @@ at_pads f w s e m is = record {
   each = λ k down at_k.
       (let c = last_condition w down in
       let fit = m.fit k c (ap (λ (x : Step). slice_get x.conditions k) is ∙ get-map (last_condition w) w.down k down at_k) in
-      record { sample = fit.1; is_last = record { track = fit.0; is_track = fit.2; is_sample = fit.3 }; near = fit.4.near });
+      record {
+        sample = fit.1;
+        is_last = record { track = fit.0; is_track = fit.2; is_sample = fit.3 };
+        near = fit.4.near;
+        stands = fit.4.down refl;
+        still = fit.4.still refl;
+      });
 }
 
-may_disarm : (f : Flight) (w : Routes) → f.steps ≡ steps_of w → (s : State) (e : Event) (d : ℕ) → Contains (orders_to d (says f s e)) order.Disarm → AllDown f s e ⊎ AtPads f w s e
+may_disarm : (f : Flight) (w : Routes) → f.steps ≡ steps_of w → (s : State) (e : Event) (d : ℕ) → Contains (orders_to d (says f s e)) order.Disarm → AllDown f w s e ⊎ AtPads f w s e
 unfolding choice
 may_disarm f w steps s e d has =
     elim (ends-by f s e d order.Disarm (choice f s e) (subst (λ os. Contains os order.Disarm) (orders_to-says d f s e) has) refl) [
       | inl begins ↦ let m = begin-may f s e begins in
-      elim (begun f w (IsOfNoLeg w d order.Disarm) steps (of_no_leg w d order.Disarm) s e m (ordered-step f s e d order.Disarm m.step begins m.is_next has) refl) [
-        | inl is ↦ absurd (cc)
-        | inr is ↦ inr (at_pads f w s e m is.0)
-      ]
+          elim (begun f w (IsOfNoLeg w d order.Disarm) steps (of_no_leg w d order.Disarm) s e m (ordered-step f s e d order.Disarm m.step begins m.is_next has) refl) [
+            | inl is ↦ absurd (cc)
+            | inr is ↦ inr (at_pads f w s e m is.0)
+          ]
       | inr (inl quits) ↦ let down = quit-lands f (heard f s e) e (is_fault f s e) s.phase quits.0 in
-      inl (record { landing = down.0; each = each_down f.silence (heard f s e).tracks down.1 })
+          inl (all_landed f w s e steps down.0 down.1)
       | inr (inr cuts) ↦ absurd (cc)
     ]
 
@@ -327,13 +512,22 @@ unfolding choice
 may_halt f w steps s e d has =
     elim (ends-by f s e d order.Halt (choice f s e) (subst (λ os. Contains os order.Halt) (orders_to-says d f s e) has) refl) [
       | inl begins ↦ let m = begin-may f s e begins in
-      elim (begun f w (IsOfNoLeg w d order.Halt) steps (of_no_leg w d order.Halt) s e m (ordered-step f s e d order.Halt m.step begins m.is_next has) refl) [
-        | inl is ↦ absurd (cc)
-        | inr is ↦ absurd (cc)
-      ]
+          elim (begun f w (IsOfNoLeg w d order.Halt) steps (of_no_leg w d order.Halt) s e m (ordered-step f s e d order.Halt m.step begins m.is_next has) refl) [
+            | inl is ↦ absurd (cc)
+            | inr is ↦ absurd (cc)
+          ]
       | inr (inl quits) ↦ absurd (cc)
       | inr (inr cuts) ↦ cut-stops f (heard f s e) e (is_fault f s e) s.phase cuts.0
     ]
 
 pub turn_law : TurnLaw
-turn_law = record { first = first_waits; arm = may_arm; rise = may_rise; start = may_start; disarm = may_disarm; halt = may_halt }
+turn_law = record {
+  first = first_waits;
+  arm = may_arm;
+  rise = may_rise;
+  leg_up = leg_up;
+  start = may_start;
+  leg_down = leg_down;
+  disarm = may_disarm;
+  halt = may_halt;
+}

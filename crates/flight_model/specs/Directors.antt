@@ -11,7 +11,7 @@ use Rattle.flight_model.specs.declared.events.Signal.TheVariants as signal
 use Rattle.flight_model.specs.declared.events.Event.{Event}
 use Rattle.flight_model.specs.declared.events.Event.TheVariants.{Clock, Seen, Answered, Said}
 use Rattle.flight_model.specs.declared.events.Fault.{Fault}
-use Rattle.flight_model.specs.declared.events.Fault.TheVariants.{Silent, Astray, Lost, Refused, Late}
+use Rattle.flight_model.specs.declared.events.Fault.TheVariants.{Silent, Astray, Lost, Refused, Late, Unsure}
 use Rattle.flight_model.specs.declared.events.Note.{Note}
 use Rattle.flight_model.specs.declared.events.Frame.{Frame}
 use Rattle.flight_model.specs.declared.events.Frame.TheVariants.{To, ToAll, Noted, Over}
@@ -20,7 +20,7 @@ use Rattle.flight_model.specs.declared.flights.Orders.{Orders}
 use Rattle.flight_model.specs.declared.flights.Orders.TheVariants.{Each, All as ToEach}
 use Rattle.flight_model.specs.declared.flights.Step.{Step}
 use Rattle.flight_model.specs.declared.flights.Flight.{Flight}
-use Rattle.flight_model.specs.Samples.{is_fit, is_kept}
+use Rattle.flight_model.specs.Samples.{is_fit, is_kept, stands_at}
 pub use Rattle.flight_model.specs.declared.states.Phase.{Phase}
 pub use Rattle.flight_model.specs.declared.states.Phase.TheVariants.{Steps, Landing, Off, Halted, Ended}
 pub use Rattle.flight_model.specs.declared.states.Track.{Track}
@@ -38,6 +38,8 @@ pub record State : Type 0 where
   pub waited : ℕ
   -- for how long the drones have met the conditions of the next step
   pub steady : ℕ
+  -- for how long all drones have stood on the floor or on their pads
+  pub stood : ℕ
   -- the last step was the start
   pub showing : Bool
   -- nothing has harmed the show
@@ -55,9 +57,10 @@ start f = record {
   next = 0;
   waited = 0;
   steady = 0;
+  stood = 0;
   showing = false;
   kept = true;
-  tracks = replicate (drones f) (record { seen = None; off = None });
+  tracks = replicate (drones f) (record { seen = None; off = None; unsure = None });
 }
 
 -- times are counted up to twelve days
@@ -86,14 +89,22 @@ in_show f s x = s.showing && nat_le x.age s.waited && nat_le (s.waited - x.age) 
 abbrev pub is_off : Flight → State → ℕ → Sample → Bool
 is_off f s d x = in_show f s x && not (is_kept f d (s.waited - x.age) x)
 
--- for how long samples have been off the curve, with this one after the last
+-- the sample was taken in the show, and isn't sure of where its drone was
+abbrev pub is_doubtful : Flight → State → Sample → Bool
+is_doubtful f s x = in_show f s x && not x.sure
+
+-- for how long samples have been off the curve, or unsure, with this one after the last
 abbrev pub off_with : Option ℕ → Option Sample → Sample → ℕ
 off_with (Some ms) (Some last) x = later ms (last.age - x.age)
 off_with off last x = 0
 
 -- what is known of a drone with this sample after the others
 abbrev pub track_with : Flight → State → ℕ → Track → Sample → Track
-track_with f s d t x = record { seen = Some x; off = if is_off f s d x then Some (off_with t.off t.seen x) else None }
+track_with f s d t x = record {
+  seen = Some x;
+  off = if is_off f s d x then Some (off_with t.off t.seen x) else None;
+  unsure = if x.sure then None else Some (off_with t.unsure t.seen x);
+}
 
 abbrev pub tracked : Flight → State → ℕ → Sample → Option Track → List Track
 tracked f s d x None = s.tracks
@@ -133,12 +144,33 @@ abbrev pub is_silent : ℕ → Option Sample → Bool
 is_silent silence None = false
 is_silent silence (Some x) = nat_lt silence x.age
 
--- what harms a show: a sample off its curve, or a drone that becomes silent before the show's end
+-- the last step: the positions of its conditions are the drones' pads
+abbrev pub end_step : Flight → Option Step
+end_step f = slice_get f.steps (length f.steps - 1)
+
+-- A drone is down if its last sample is fresh, and says that it stands, on the floor or at the height of its pad; and
+-- where it has to be still, only if that doesn't say that it flies.
+abbrev pub is_down : Flight → Bool → Condition → Option Sample → Bool
+is_down f still w None = false
+is_down f still w (Some x) =
+    nat_le x.age f.silence && (stands_at f.floor x || stands_at w.position.z x) && (not still || not x.flying)
+
+-- each drone is down; one that has no pad isn't
+abbrev pub all_down : Flight → Bool → List Condition → List Track → Bool
+all_down f still ws [] = true
+all_down f still [] (t ∷ ts) = false
+all_down f still (w ∷ ws) (t ∷ ts) = is_down f still w t.seen && all_down f still ws ts
+
+abbrev pub are_down : Flight → Bool → Option Step → List Track → Bool
+are_down f still None tracks = false
+are_down f still (Some step) tracks = all_down f still step.conditions tracks
+
+-- what harms a show: a sample off its curve or unsure, or a drone that becomes silent before the show's end
 abbrev pub harms : Flight → State → Event → Bool
 harms f s (Clock ms) =
     s.showing && nat_lt s.waited f.show_ms
     && list_any (λ (t : Track). is_silent f.silence (older (min ms (f.show_ms - s.waited)) t.seen)) s.tracks
-harms f s (Seen d x) = is_off f s d x
+harms f s (Seen d x) = is_off f s d x || is_doubtful f s x
 harms f s (Answered d status) = false
 harms f s (Said w) = false
 
@@ -147,6 +179,7 @@ abbrev pub heard_with : Flight → State → Event → List Track → State
 heard_with f s e tracks = record s {
   waited = later s.waited (passed e);
   steady = if fits f.silence (next_step f s) tracks then later s.steady (passed e) else 0;
+  stood = if are_down f false (end_step f) tracks then later s.stood (passed e) else 0;
   kept = s.kept && not (harms f s e);
   tracks = tracks;
 }
@@ -172,16 +205,17 @@ abbrev pub is_lost : Option Sample → Bool
 is_lost None = false
 is_lost (Some x) = x.lost
 
--- samples have been off the curve for 300 ms
+-- samples have been off the curve, or unsure, for 300 ms
 abbrev pub is_astray : Option ℕ → Bool
 is_astray None = false
 is_astray (Some ms) = nat_le 300 ms
 
--- a drone becomes lost or astray with a sample: its track before and after it
+-- a drone becomes lost, astray or unsure with a sample: its track before and after it
 abbrev pub sample_notes : ℕ → Track → Track → List Note
 sample_notes d t u =
     note_if (not (is_lost t.seen) && is_lost u.seen) d Lost
-    ++ note_if (not (is_astray t.off) && is_astray u.off) d Astray
+    ++ (note_if (not (is_astray t.off) && is_astray u.off) d Astray
+    ++ note_if (not (is_astray t.unsure) && is_astray u.unsure) d Unsure)
 
 abbrev pub seen_notes : Flight → State → ℕ → Sample → Option Track → List Note
 seen_notes f s d x None = []
@@ -249,22 +283,19 @@ unfoldable pub notes : Flight → State → Event → List Note
 notes f s e = noticed f s e ++ overdue f (heard f s e) e
 
 -- A grave fault ends the flight. Silence never is one: a silent drone flies its show on, which was proved to be apart
--- from all others. In a show that flies on neither is a drone that is lost or astray.
+-- from all others. In a show that flies on neither is a drone that is lost, astray or unsure.
 abbrev pub is_grave : Flight → State → Fault → Bool
 is_grave f s Silent = false
 is_grave f s Astray = not (s.showing && f.flies_on)
 is_grave f s Lost = not (s.showing && f.flies_on)
 is_grave f s Refused = true
 is_grave f s Late = true
+is_grave f s Unsure = not (s.showing && f.flies_on)
 
 unfoldable pub is_fault : Flight → State → Event → Bool
 is_fault f s e = list_any (λ (n : Note). is_grave f s n.fault) (notes f s e)
 
 -- ---- what is done
-
-abbrev pub is_down : Option Sample → Bool
-is_down None = false
-is_down (Some x) = x.down
 
 abbrev pub is_disarmed : Option Sample → Bool
 is_disarmed None = false
@@ -273,6 +304,11 @@ is_disarmed (Some x) = not x.armed
 -- each drone has been seen so in a fresh sample
 abbrev pub all_seen : ℕ → (Option Sample → Bool) → List Track → Bool
 all_seen silence p tracks = list_all (λ (t : Track). p t.seen && not (is_silent silence t.seen)) tracks
+
+-- A landing is over where each drone is down and none says that it flies; or where all have been down for five seconds,
+-- whatever they say of flying.
+abbrev pub has_landed : Flight → State → Bool
+has_landed f s = are_down f true (end_step f) s.tracks || nat_le 5000 s.stood
 
 -- each is seen disarmed, or five seconds are over
 abbrev pub is_over : Flight → State → Bool
@@ -288,7 +324,7 @@ on_the_way f s e fault =
 -- and in each phase
 abbrev pub chosen : Flight → State → Event → Bool → Phase → Choice
 chosen f s e fault Steps = on_the_way f s e fault
-chosen f s e fault Landing = if is_stop e then Cut else (if all_seen f.silence is_down s.tracks then Quit else Rest)
+chosen f s e fault Landing = if is_stop e then Cut else (if has_landed f s then Quit else Rest)
 chosen f s e fault Off = if is_stop e then Cut else (if is_over f s then Finish else Rest)
 chosen f s e fault Halted = if is_over f s then Finish else Rest
 chosen f s e fault Ended = Rest
@@ -361,7 +397,7 @@ starts (Some step) = starts_with step.orders
 
 -- a new phase
 abbrev pub into : State → Phase → State
-into s p = record s { phase = p; waited = 0; steady = 0; showing = false }
+into s p = record s { phase = p; waited = 0; steady = 0; stood = 0; showing = false }
 
 unfoldable pub led : Flight → State → Choice → State
 led f s Rest = s

@@ -1,6 +1,6 @@
 -- A small flight from pad to pad: two drones, one leg up, a show of one cue, one leg down. The laws' premises hold of
 -- it.
-use Rattle.std.specs.Prelude.{◌≡◌, Bool, true, false, List, [], ◌∷◌, ◌++◌, ℤ, pos}
+use Rattle.std.specs.Prelude.{◌≡◌, Bool, true, false, not, List, [], ◌∷◌, ◌++◌, ℤ, pos}
 use Rattle.traj_codec.specs.declared.traj.Traj.{Traj}
 use Rattle.traj_codec.specs.declared.traj.Element.{Element}
 use Rattle.traj_codec.specs.declared.traj.Element.TheVariants.{Constant, Cubic, Seven}
@@ -71,7 +71,18 @@ flight flies_on = record {
 
 abbrev pub sample : ℤ → ℤ → ℤ → Bool → Bool → Sample
 sample x y z armed down =
-    record { age = 0; x = x; y = y; z = z; ready = true; armed = armed; lost = false; down = down }
+    record {
+      age = 0;
+      x = x;
+      y = y;
+      z = z;
+      ready = true;
+      armed = armed;
+      lost = false;
+      down = down;
+      flying = not down;
+      sure = true;
+    }
 
 -- both drones are heard, y mm aside and z mm high
 abbrev pub both : ℤ → ℤ → Bool → Bool → List Event

@@ -11,7 +11,7 @@ use Rattle.flight_model.specs.declared.flights.Orders.TheVariants.{All as ToEach
 use Rattle.flight_model.specs.declared.flights.Step.{Step}
 use Rattle.flight_model.specs.declared.flights.Flight.{Flight}
 use Rattle.flight_model.specs.Samples.{is_kept}
-use Rattle.flight_model.specs.Directors.{drones, most_ms, passed, start, sent}
+use Rattle.flight_model.specs.Directors.{drones, most_ms, passed, start, sent, after}
 use Rattle.flight_model.specs.Law.{orders_to}
 use Rattle.flight_model.specs.Legs.{Routes, IsFlight, lasts, steps_of}
 
@@ -30,8 +30,8 @@ pub record IsHeard (silence : ℕ) (events : List Event) (d ms : ℕ) : Type 0 w
   pub by_then : time earlier ≤ ms
   pub fresh : ms + sample.age ≤ time earlier + silence
 
--- The show was flown from the operator's go to its end, each drone was at its curve in every sample, and none was
--- silent.
+-- The show was flown from the operator's go to its end, each drone was at its curve, and sure of that, in every sample
+-- that was taken in it and heard by the next step, and none was silent.
 pub record IsKeptShow (f : Flight) (events : List Event) : Type 0 where
   pub before : List Event
   pub during : List Event
@@ -42,12 +42,16 @@ pub record IsKeptShow (f : Flight) (events : List Event) : Type 0 where
   pub started : (d : ℕ) →
       orders_to d (sent f (start f) (before ++ Said signal.Go ∷ during))
       ≡ orders_to d (sent f (start f) before) ++ order.Start ∷ []
-  -- the next event ends the show, or comes after it
+  -- with the next event the next step begins
+  pub moves_on :
+      (after f (start f) (before ++ Said signal.Go ∷ (during ++ last ∷ []))).next
+      ≡ suc (after f (start f) (before ++ Said signal.Go ∷ during)).next
+  -- that ends the show, or comes after it
   pub whole : f.show_ms ≤ time (during ++ last ∷ [])
-  -- each sample that was taken in the show was at its drone's curve; times are counted up to twelve days
-  pub at_curve : (earlier since : List Event) (d : ℕ) (x : Sample) → during ≡ earlier ++ Seen d x ∷ since →
+  -- each sample that was taken in the show was at its drone's curve, and sure; times are counted up to twelve days
+  pub at_curve : (earlier since : List Event) (d : ℕ) (x : Sample) → during ++ last ∷ [] ≡ earlier ++ Seen d x ∷ since →
       time earlier ≤ most_ms → x.age ≤ time earlier → time earlier - x.age ≤ f.show_ms →
-      is_kept f d (time earlier - x.age) x ≡ true
+      (is_kept f d (time earlier - x.age) x ≡ true) × (x.sure ≡ true)
   -- no drone was silent, from the start to the show's end
   pub heard : (d ms : ℕ) → d < drones f → ms ≤ f.show_ms →
       IsHeard f.silence (before ++ Said signal.Go ∷ during) d (time before + ms)

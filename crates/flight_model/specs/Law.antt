@@ -67,13 +67,23 @@ OnlyLaw = (f : Flight) (events : List Event) (d : ℕ) → OnlyOrders f d (order
 abbrev pub IsNear : ℕ → Position → Sample → Type 0
 IsNear most p x = (square (x.x -ℤ p.x) +ℤ square (x.y -ℤ p.y) +ℤ square (x.z -ℤ p.z)) ≤ℤ square (pos most)
 
--- The sample is fresh and meets the condition: it is within the bound, not lost, ready and armed where asked.
+-- The sample says that its drone stands, and it is at most 120 mm above or below this height.
+pub record StandsAt (height : ℤ) (x : Sample) : Type 0 where
+  pub down : x.down ≡ true
+  pub low : x.z ≤ℤ (height +ℤ pos 120)
+  pub high : height ≤ℤ (x.z +ℤ pos 120)
+
+-- The sample is fresh and meets the condition: it is within the bound and sure of that, not lost, and ready, armed and
+-- down where asked.
 pub record IsFit (silence : ℕ) (w : Condition) (x : Sample) : Type 0 where
   pub fresh : x.age ≤ silence
   pub near : IsNear w.bound w.position x
+  pub sure : x.sure ≡ true
   pub not_lost : x.lost ≡ false
   pub ready : w.ready ≡ true → x.ready ≡ true
   pub armed : w.armed ≡ true → x.armed ≡ true
+  pub down : w.down ≡ true → StandsAt w.position.z x
+  pub still : w.down ≡ true → x.flying ≡ false
 
 -- With the event e the next step of the state s may begin: the flight is on its way; the operator says go, where the
 -- step waits for that; the step before is over; the drones have settled; and each was heard, and meets its condition.
@@ -156,13 +166,14 @@ abbrev pub notes_in : List Frame → List Note
 notes_in frames = flat_map noted_by frames
 
 -- Nothing is wrong at the event e in the state s: an answer is good; the operator says neither land nor stop; a sample
--- is of a drone that isn't lost, and in the show at its curve; no drone is silent; and from `slack` after the end of
--- the step before on, each drone meets its condition for the next one, where that waits for no go.
+-- is of a drone that isn't lost, is sure, and is in the show at its curve; no drone is silent; and from `slack` after the
+-- end of the step before on, each drone meets its condition for the next one, where that waits for no go.
 pub record IsQuiet (f : Flight) (slack : ℕ) (s : State) (e : Event) : Type 0 where
   pub answer : (d status : ℕ) → e ≡ Answered d status → status ≡ 0
   pub no_land : e ≢ Said signal.Land
   pub no_stop : e ≢ Said signal.Stop
-  pub sample : (d : ℕ) (x : Sample) → e ≡ Seen d x → (x.lost ≡ false) × (is_off f s d x ≡ false)
+  pub sample : (d : ℕ) (x : Sample) → e ≡ Seen d x →
+      (x.lost ≡ false) × (is_off f s d x ≡ false) × (x.sure ≡ true)
   pub fresh : list_any (λ (t : Track). is_silent f.silence t.seen) (heard f s e).tracks ≡ false
   pub in_time : (step : Step) → next_step f s ≡ Some step → step.asked ≡ false →
       step.after + slack ≤ (heard f s e).waited →

@@ -189,6 +189,7 @@ arm_condition w k legs =
       bound = up_bound w legs k;
       ready = not (has_moved legs k);
       armed = has_moved legs k;
+      down = false;
     }
 
 -- once they are
@@ -199,6 +200,7 @@ up_condition w k legs =
       bound = up_bound w legs k;
       ready = false;
       armed = has_moved legs (suc k);
+      down = false;
     }
 
 -- the step that arms those that rise in leg k; the first one waits for the operator's go
@@ -223,7 +225,8 @@ up_step w all k = record {
 
 -- the start: each drone at the first position of its show
 abbrev pub start_condition : Routes → ℕ → Traj → Condition
-start_condition w bound t = record { position = position_of (way_begins t); bound = bound; ready = false; armed = true }
+start_condition w bound t =
+    record { position = position_of (way_begins t); bound = bound; ready = false; armed = true; down = false }
 
 -- the show, at the operator's go
 abbrev pub start_step : Routes → List (List Leg) → Step
@@ -243,6 +246,7 @@ down_condition w k legs =
       bound = down_bound w legs k;
       ready = false;
       armed = will_move legs k;
+      down = false;
     }
 
 abbrev pub down_step : Routes → ℕ → List (List Leg) → ℕ → Step
@@ -254,9 +258,10 @@ down_step w show_ms all k = record {
   orders = Each (map (λ legs. down_order legs k) all);
 }
 
--- the end: each drone on its pad
+-- the end: each drone stands on its pad
 abbrev pub last_condition : Routes → Traj → Condition
-last_condition w t = record { position = position_of (way_ends t); bound = w.near; ready = false; armed = false }
+last_condition w t =
+    record { position = position_of (way_ends t); bound = w.near; ready = false; armed = false; down = true }
 
 abbrev pub last_step : Routes → List (List Leg) → Step
 last_step w downs = record {

@@ -2,6 +2,7 @@ pub mod Legs
 pub mod Samples
 pub mod Directors
 pub mod Law
+pub mod Alarms
 pub mod Rises
 pub mod Turns
 pub mod Kept

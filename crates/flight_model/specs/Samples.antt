@@ -23,12 +23,20 @@ is_short most x y z = int_le (square x +ℤ square y +ℤ square z) (square (pos
 abbrev pub is_at : ℕ → Position → Sample → Bool
 is_at bound p x = is_short bound (x.x -ℤ p.x) (x.y -ℤ p.y) (x.z -ℤ p.z)
 
--- The sample meets the condition: it is fresh, at the position, not lost, and ready and armed where the condition asks
--- for that.
+-- the height is at most 120 mm above or below this one
+abbrev pub is_level : ℤ → ℤ → Bool
+is_level height z = int_le z (height +ℤ pos 120) && int_le height (z +ℤ pos 120)
+
+-- the sample says that its drone stands, and it is at this height
+abbrev pub stands_at : ℤ → Sample → Bool
+stands_at height x = x.down && is_level height x.z
+
+-- The sample meets the condition: it is fresh, at the position and sure of that, not lost, and ready, armed and down
+-- where the condition asks for that.
 unfoldable pub is_fit_by : ℕ → Condition → Sample → Bool
 is_fit_by silence w x =
-    nat_le x.age silence && is_at w.bound w.position x && not x.lost && (not w.ready || x.ready)
-    && (not w.armed || x.armed)
+    nat_le x.age silence && is_at w.bound w.position x && x.sure && not x.lost && (not w.ready || x.ready)
+    && (not w.armed || x.armed) && (not w.down || (stands_at w.position.z x && not x.flying))
 
 -- a drone's last sample meets it; without one the drone doesn't
 abbrev pub is_fit : ℕ → Condition → Option Sample → Bool

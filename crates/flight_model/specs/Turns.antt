@@ -1,6 +1,7 @@
 -- In whose turn each order goes out: what the steps of three ways ask before drones are armed, rise, start, are
 -- disarmed or halted. Law.antt says it of the steps of any flight; these laws name the steps.
-use Rattle.std.specs.Prelude.{◌≡◌, ◌⊎◌, ℕ, ◌≤◌, true, map, slice_get, Some, ℤ, Contains}
+use Rattle.std.specs.Prelude.{◌≡◌, ◌⊎◌, ℕ, zero, suc, ◌+◌, ◌<◌, ◌≤◌, true, false, List, map, slice_get, Some, ℤ}
+use Rattle.std.specs.Prelude.{Contains}
 use Rattle.traj_codec.specs.declared.traj.Traj.{Traj}
 use Rattle.flight_model.specs.declared.events.Order.TheVariants as order
 use Rattle.flight_model.specs.declared.events.Sample.{Sample}
@@ -8,9 +9,12 @@ use Rattle.flight_model.specs.declared.events.Signal.TheVariants as signal
 use Rattle.flight_model.specs.declared.events.Event.{Event}
 use Rattle.flight_model.specs.declared.events.Event.TheVariants.{Said}
 use Rattle.flight_model.specs.declared.flights.Flight.{Flight}
-use Rattle.flight_model.specs.Legs.{Routes, legs_of, leg_count, ms_before, way_begins, way_ends, position_of, steps_of}
+use Rattle.flight_model.specs.Legs.{Routes, Leg, legs_of, leg, leg_count, leg_ms, ms_before, lasts, way_begins}
+use Rattle.flight_model.specs.Legs.{way_ends}
+use Rattle.flight_model.specs.Legs.{position_of, up_bound, down_bound, steps_of}
+use Rattle.flight_model.specs.declared.flights.Position.{Position}
 use Rattle.flight_model.specs.Directors.{Track, State, Landing, heard, happens, says}
-use Rattle.flight_model.specs.Law.{orders_to, IsNear}
+use Rattle.flight_model.specs.Law.{orders_to, IsNear, StandsAt}
 
 -- With the event e this is the last sample of drone d.
 pub record IsLastSample (f : Flight) (s : State) (e : Event) (d : ℕ) (x : Sample) : Type 0 where
@@ -45,11 +49,13 @@ pub record MayStart (f : Flight) (w : Routes) (s : State) (e : Event) : Type 0 w
   pub settled : 1000 ≤ (heard f s e).steady
   pub each : (k : ℕ) (show : Traj) → slice_get w.show k ≡ Some show → IsAtShow f w s e k show
 
--- Drone k is within `near` of its pad: where its way down ends.
+-- Drone k stands within `near` of its pad, where its way down ends, and doesn't say that it flies.
 pub record IsAtPad (f : Flight) (w : Routes) (s : State) (e : Event) (k : ℕ) (down : Traj) : Type 0 where
   pub sample : Sample
   pub is_last : IsLastSample f s e k sample
   pub near : IsNear w.near (position_of (way_ends down)) sample
+  pub stands : StandsAt (position_of (way_ends down)).z sample
+  pub still : sample.flying ≡ false
 
 -- The last leg down is over; the drones have been at their pads for a second; and each is.
 pub record AtPads (f : Flight) (w : Routes) (s : State) (e : Event) : Type 0 where
@@ -57,17 +63,39 @@ pub record AtPads (f : Flight) (w : Routes) (s : State) (e : Event) : Type 0 whe
   pub settled : 1000 ≤ (heard f s e).steady
   pub each : (k : ℕ) (down : Traj) → slice_get w.down k ≡ Some down → IsAtPad f w s e k down
 
--- The last sample says that its drone is down, and is fresh.
-pub record IsSeenDown (silence : ℕ) (t : Track) : Type 0 where
+-- The last sample is fresh, and says that its drone stands, on the floor or at the height of its pad. It doesn't say
+-- that the drone flies; or all have stood for five seconds.
+pub record IsSeenDown (f : Flight) (stood : ℕ) (down : Traj) (t : Track) : Type 0 where
   pub sample : Sample
   pub is_sample : t.seen ≡ Some sample
-  pub down : sample.down ≡ true
-  pub fresh : sample.age ≤ silence
+  pub fresh : sample.age ≤ f.silence
+  pub stands : StandsAt f.floor sample ⊎ StandsAt (position_of (way_ends down)).z sample
+  pub still : (sample.flying ≡ false) ⊎ (5000 ≤ stood)
 
--- All have landed after the flight was broken off: each drone is seen down.
-pub record AllDown (f : Flight) (s : State) (e : Event) : Type 0 where
+-- All have landed after the flight was broken off: each drone has a pad, and is seen down.
+pub record AllDown (f : Flight) (w : Routes) (s : State) (e : Event) : Type 0 where
   pub landing : s.phase ≡ Landing
-  pub each : (k : ℕ) (t : Track) → slice_get (heard f s e).tracks k ≡ Some t → IsSeenDown f.silence t
+  pub each : (k : ℕ) (t : Track) → slice_get (heard f s e).tracks k ≡ Some t →
+      (down : Traj) × (slice_get w.down k ≡ Some down) × IsSeenDown f (heard f s e).stood down t
+
+-- Drone d is within `bound` of a position.
+pub record IsThere (f : Flight) (s : State) (e : Event) (d bound : ℕ) (p : Position) : Type 0 where
+  pub sample : Sample
+  pub is_last : IsLastSample f s e d sample
+  pub near : IsNear bound p sample
+
+-- The leg before leg k lasts so long, and is over; the drones have been at their places for a second; and each is
+-- within its bound of where leg k begins.
+pub record MayGoOn (f : Flight) (s : State) (e : Event) (ms : ℕ) (ways : List Traj) (k : ℕ) (bound : List Leg → ℕ)
+    : Type 0 where
+  pub over : ms ≤ (heard f s e).waited
+  pub settled : 1000 ≤ (heard f s e).steady
+  pub each : (d : ℕ) (t : Traj) → slice_get ways d ≡ Some t →
+      IsThere f s e d (bound (legs_of t)) (position_of (leg (legs_of t) k).from)
+
+abbrev pub twice : ℕ → ℕ
+twice zero = 0
+twice (suc n) = suc (suc (twice n))
 
 -- In every state, of every flight whose steps are those of three ways.
 pub record TurnLaw : Type 0 where
@@ -79,11 +107,21 @@ pub record TurnLaw : Type 0 where
   pub rise : (f : Flight) (w : Routes) → f.steps ≡ steps_of w → (s : State) (e : Event) (d : ℕ) (up : Traj) →
       slice_get w.up d ≡ Some up → (z : ℤ) (ms : ℕ) → Contains (orders_to d (says f s e)) (order.Rise z ms) →
       MayRise f s e d
+  -- leg k + 1 of the way up has the steps 2 k + 2, which arms, and 2 k + 3
+  pub leg_up : (f : Flight) (w : Routes) → f.steps ≡ steps_of w → (s : State) (e : Event) (k : ℕ) →
+      suc k < leg_count (map legs_of w.up) → s.next ≡ twice (suc k) →
+      ((happens f s e).next ≡ s.next)
+      ⊎ MayGoOn f s e (leg_ms (map legs_of w.up) k) w.up (suc k) (λ legs. up_bound w legs (suc k))
   pub start : (f : Flight) (w : Routes) → f.steps ≡ steps_of w → (s : State) (e : Event) (d : ℕ) →
       Contains (orders_to d (says f s e)) order.Start → MayStart f w s e
-  -- motors stop where each drone was seen down, or each is at its pad
+  -- after n legs up and the start, leg k of the way down has the step 2 n + 1 + k
+  pub leg_down : (f : Flight) (w : Routes) → f.steps ≡ steps_of w → (s : State) (e : Event) (k : ℕ) →
+      k < leg_count (map legs_of w.down) → s.next ≡ twice (leg_count (map legs_of w.up)) + suc k →
+      ((happens f s e).next ≡ s.next)
+      ⊎ MayGoOn f s e (ms_before (lasts w.show) (map legs_of w.down) k) w.down k (λ legs. down_bound w legs k)
+  -- motors stop where each drone was seen down, or each stands at its pad
   pub disarm : (f : Flight) (w : Routes) → f.steps ≡ steps_of w → (s : State) (e : Event) (d : ℕ) →
-      Contains (orders_to d (says f s e)) order.Disarm → AllDown f s e ⊎ AtPads f w s e
+      Contains (orders_to d (says f s e)) order.Disarm → AllDown f w s e ⊎ AtPads f w s e
   -- or at the operator's stop
   pub halt : (f : Flight) (w : Routes) → f.steps ≡ steps_of w → (s : State) (e : Event) (d : ℕ) →
       Contains (orders_to d (says f s e)) order.Halt → e ≡ Said signal.Stop

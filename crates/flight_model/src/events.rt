@@ -49,6 +49,10 @@ pub struct Sample {
     pub lost: bool,
     /// It stands, with its motors off.
     pub down: bool,
+    /// It says that it flies.
+    pub flying: bool,
+    /// Its estimate is sure of where it is.
+    pub sure: bool,
 }
 
 /// The operator's signals.
@@ -89,6 +93,8 @@ pub enum Fault {
     Refused,
     /// It doesn't meet the next step's condition, 8 seconds after that step's time.
     Late,
+    /// For 300 ms its samples have been unsure of where it is.
+    Unsure,
 }
 
 /// A fault of a drone, as people are told of it.

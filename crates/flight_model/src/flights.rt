@@ -29,6 +29,8 @@ pub struct Condition {
     /// Whether it has to be ready, and armed.
     pub ready: bool,
     pub armed: bool,
+    /// Whether it has to stand at the position's height, and may not say that it flies.
+    pub down: bool,
 }
 
 /// The orders of a step: to each drone its own or none, by number; or one to all at once.
@@ -66,7 +68,7 @@ pub struct Flight {
     pub silence: u32,
     /// The show goes on where a drone is lost or astray.
     pub flies_on: bool,
-    /// Where all land that have risen: at this height, in this time.
+    /// Where all land that have risen: to this height, in this time.
     pub floor: i16,
     pub descent: u32,
 }

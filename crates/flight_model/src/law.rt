@@ -4,6 +4,7 @@ ghost use Rattle.std.specs.Prelude.{◌≡◌};
 ghost use Rattle.flight_model.specs.Plan.{PlanLaw};
 ghost use Rattle.flight_model.specs.Draws.{DrawLaw};
 ghost use Rattle.flight_model.specs.Law.{OnlyLaw, DueLaw, LandLaw, FaultLaw, HaltLaw, OverLaw, QuietLaw};
+ghost use Rattle.flight_model.specs.Alarms.{AlarmLaw};
 ghost use Rattle.flight_model.specs.Rises.{RiseLaw};
 ghost use Rattle.flight_model.specs.Turns.{TurnLaw};
 ghost use Rattle.flight_model.specs.Kept.{KeptLaw};
@@ -25,6 +26,7 @@ pub fn director_law()
     ensures turn { TurnLaw }
     ensures land { LandLaw }
     ensures fault { FaultLaw }
+    ensures alarm { AlarmLaw }
     ensures halt { HaltLaw }
     ensures over { OverLaw }
     ensures kept { KeptLaw }

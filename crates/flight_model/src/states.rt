@@ -17,11 +17,13 @@ pub enum Phase {
     Ended,
 }
 
-/// A drone's last sample, with its age by now; and for how long its samples have been off its curve, if they are.
+/// A drone's last sample, with its age by now; for how long its samples have been off its curve, if they are; and for
+/// how long they have been unsure.
 #[derive(Clone, Copy, Debug, Default, PartialEq, Eq)]
 pub struct Track {
     pub seen: Option<Sample>,
     pub off: Option<u32>,
+    pub unsure: Option<u32>,
 }
 
 /// What the director does at an event.

@@ -55,6 +55,7 @@ pub fn arm_condition(w: &Ways, k: usize, legs: &[Leg]) -> Condition
         bound: up_bound(w, legs, k),
         ready: !moved,
         armed: moved,
+        down: false,
     }
 }
 
@@ -67,6 +68,7 @@ pub fn up_condition(w: &Ways, k: usize, legs: &[Leg]) -> Condition
         bound: up_bound(w, legs, k),
         ready: false,
         armed: has_moved_in(legs, k),
+        down: false,
     }
 }
 
@@ -79,6 +81,7 @@ pub fn down_condition(w: &Ways, k: usize, legs: &[Leg]) -> Condition
         bound: down_bound(w, legs, k),
         ready: false,
         armed: will_move(legs, k),
+        down: false,
     }
 }
 
@@ -91,6 +94,7 @@ pub fn start_condition(w: &Ways, t: &Traj) -> Condition
         bound: w.at_place,
         ready: false,
         armed: true,
+        down: false,
     }
 }
 
@@ -103,5 +107,6 @@ pub fn last_condition(w: &Ways, t: &Traj) -> Condition
         bound: w.near,
         ready: false,
         armed: false,
+        down: true,
     }
 }

@@ -14,8 +14,6 @@ mod lists;
 mod moves;
 mod orders;
 mod steps;
-#[cfg(test)]
-mod tests;
 mod ways;
 
 pub use faults::{FlightFault, Seam, StepsError, Way};

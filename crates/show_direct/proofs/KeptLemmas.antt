@@ -5,7 +5,7 @@ use Rattle.std.proofs.lemmas.List.{length-map}
 use Rattle.std.proofs.lemmas.List.Sums.{sum_by-cons}
 use Rattle.std.specs.List.{sum}
 use Rattle.std.specs.Option.{option_map, option_or}
-use Rattle.choreo_lines.specs.Name.{Name}
+use Rattle.choreo_show.specs.Name.{Name}
 use Rattle.choreo_reader.specs.Laws.{ShowLaw}
 use Rattle.choreo_show.specs.Plain.{PlainShow}
 use Rattle.cue_grid.proofs.Fits.{fit_grid}

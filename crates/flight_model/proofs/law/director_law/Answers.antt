@@ -3,6 +3,7 @@ use Rattle.flight_model.proofs.Beginning as beginning
 use Rattle.flight_model.proofs.Rises as rises
 use Rattle.flight_model.proofs.Turns as turns
 use Rattle.flight_model.proofs.Ending as ending
+use Rattle.flight_model.proofs.Alarms as alarms
 use Rattle.flight_model.proofs.Flown as flown
 use Rattle.flight_model.proofs.Kept as kept
 use Rattle.flight_model.proofs.Quiet as quiet
@@ -25,6 +26,9 @@ returns-clause-land c = ending.land_law
 
 pub returns-clause-fault : goal.returns-clause-fault
 returns-clause-fault c = ending.fault_law
+
+pub returns-clause-alarm : goal.returns-clause-alarm
+returns-clause-alarm c = alarms.alarm_law
 
 pub returns-clause-halt : goal.returns-clause-halt
 returns-clause-halt c = ending.halt_law

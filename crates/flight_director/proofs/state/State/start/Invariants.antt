@@ -2,4 +2,4 @@ use Rattle.std.proofs.Common.{◌≡◌, replicate, None}
 use Rattle.flight_director.proofs.state.State.start.Given as goal
 
 abbrev pub invariant-loop-d : goal.invariant-loop-d
-invariant-loop-d l = l.tracks.items ≡ replicate l.d (record { seen = None; off = None })
+invariant-loop-d l = l.tracks.items ≡ replicate l.d (record { seen = None; off = None; unsure = None })

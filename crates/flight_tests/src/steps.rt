@@ -1,15 +1,13 @@
-//! Crews that aren't the same, or of another size, and the steps of a flight of two drones. All values were computed by hand; those of ways
-//! that are no flight are in specs/Rejected.antt.
+//! Crews that aren't the same, or of another size, and the steps of a flight of two drones. All values were computed by
+//! hand; those of ways that are no flight are in flight_steps's specs/Rejected.antt.
 
 ghost use Rattle.std.specs.Prelude.{◌≡◌, ◌∷◌, [], drop, length, IfOk};
 ghost use Rattle.traj_codec.specs.Positions.{durations};
 ghost use Rattle.flight_model.specs.Legs.{lasts};
 
-use crate::{
-    Crew, Crews, Ellipsoid, FlightFault, Name, Seam, StepsError, Way, Ways, steps_of,
-};
 use arrayvec::ArrayVec;
 use flight_model::{Condition, Order, Orders, Position, Step};
+use flight_steps::{Crew, Crews, Ellipsoid, FlightFault, Name, StepsError, Way, Ways, steps_of};
 use listed::Listed;
 use std::alloc::{AllocError, Global};
 use std::test::Fail;
@@ -104,7 +102,7 @@ fn name(letter: u8) -> Name {
 }
 
 fn crew<'a>(names: &'a [Name], ellipsoid: Ellipsoid) -> Crew<'a>
-    ensures { result.names ≡ names }
+    ensures { result.names.now ≡ names.now }
 {
     Crew { names, ellipsoid }
 }
@@ -191,8 +189,20 @@ fn first_faults_of_ellipsoids(rt: HostRuntime) -> Result<(), Fail> {
     for (up, show, down, other) in BODIES {
         let crews = Crews {
             up: crew(&names, Ellipsoid { r: up[0], h: up[1] }),
-            show: crew(&names, Ellipsoid { r: show[0], h: show[1] }),
-            down: crew(&names, Ellipsoid { r: down[0], h: down[1] }),
+            show: crew(
+                &names,
+                Ellipsoid {
+                    r: show[0],
+                    h: show[1],
+                },
+            ),
+            down: crew(
+                &names,
+                Ellipsoid {
+                    r: down[0],
+                    h: down[1],
+                },
+            ),
         };
         let wanted = other.map(|way| StepsError::Fault {
             fault: FlightFault::OtherEllipsoid { way },
@@ -284,6 +294,7 @@ fn is_step(s: &Step, wanted: &Wanted) -> bool {
         bound,
         ready,
         armed,
+        down: all == Some(Order::Disarm),
     };
     let ordered = match &s.orders {
         Orders::All { order } => all == Some(*order),

@@ -1,151 +1,9 @@
-//! Whole flights of two drones: one leg up, a show of one cue, one leg down. The values are those that
-//! `flight_model`'s rows compute from the definitions.
+//! Whole flights by the director. The values are those that `flight_model`'s rows compute from the definitions.
 
-ghost use Rattle.std.specs.Prelude.{◌≡◌, ◌≤◌, length, IfOk, All};
-ghost use Rattle.traj_codec.specs.declared.traj.Traj.{Traj as TrajWord};
-ghost use Rattle.integer_player.specs.Played.{IsPlayable, duration_of};
-ghost use Rattle.flight_model.specs.declared.flights.Step.{Step as StepWord};
-ghost use Rattle.flight_director.specs.Held.{AreFew, IsHeld};
-
-use crate::{
-    Condition, Director, Event, Fault, Flight, Frame, Note, Order, Orders, Out, Position, Sample,
-    Signal, Step,
-};
-use listed::Listed;
+use crate::flights::{TOP, flight};
+use flight_director::{Director, Event, Fault, Frame, Note, Order, Out, Sample, Signal};
 use std::alloc::{AllocError, Global};
 use std::test::Fail;
-use traj_codec::{Element, Segment, Traj};
-
-// Where a drone hovers at the beginning and the end of the show.
-const TOP: i16 = 1000;
-
-fn position(x: i16, z: i16) -> Position {
-    Position { x, y: 0, z }
-}
-
-fn condition(x: i16, z: i16, bound: u16, ready: bool, armed: bool) -> Condition {
-    Condition {
-        position: position(x, z),
-        bound,
-        ready,
-        armed,
-    }
-}
-
-// Both of two drones, the second two metres aside.
-fn both(
-    alloc: Global,
-    z: i16,
-    bound: u16,
-    ready: bool,
-    armed: bool,
-) -> Result<Listed<Condition>, AllocError>
-    ensures { IfOk result (λ ws. length ws ≡ 2) }
-{
-    let mut conditions = Vec::new(alloc);
-    conditions.push(condition(0, z, bound, ready, armed))?;
-    conditions.push(condition(2000, z, bound, ready, armed))?;
-    Ok(Listed::from_vec(conditions))
-}
-
-fn each(alloc: Global, order: Order) -> Result<Orders, AllocError>
-    ensures { IfOk result (λ d. AreFew d) }
-{
-    let mut orders = Vec::new(alloc);
-    orders.push(Some(order))?;
-    orders.push(Some(order))?;
-    Ok(Orders::Each {
-        orders: Listed::from_vec(orders),
-    })
-}
-
-fn step(asked: bool, after: u32, settle: u32, conditions: Listed<Condition>, orders: Orders) -> Step
-    ensures conditions { result.conditions ≡ conditions }
-    ensures orders { result.orders ≡ orders }
-{
-    Step {
-        asked,
-        after,
-        settle,
-        conditions,
-        orders,
-    }
-}
-
-// Aside by 300 mm control points, and back again.
-fn curve(alloc: Global, x: i16) -> Result<Traj, AllocError>
-    ensures playable { IfOk result (λ t. IsPlayable t) }
-    ensures lasts { IfOk result (λ t. 1000 ≤ duration_of t) }
-{
-    let mut segments = Vec::new(alloc);
-    segments.push(Segment {
-        ms: 1000,
-        elements: [
-            Element::Constant,
-            Element::Cubic { v: [300, 300, 0] },
-            Element::Constant,
-            Element::Constant,
-        ],
-    })?;
-    Ok(Traj {
-        start: [x, 0, TOP, 0],
-        segments: Listed::from_vec(segments),
-    })
-}
-
-fn to_all(order: Order) -> Orders
-    ensures { AreFew result }
-{
-    Orders::All { order }
-}
-
-fn steps(alloc: Global) -> Result<Listed<Step>, AllocError>
-    ensures orders { IfOk result (λ ss. All (λ (s : StepWord). AreFew s.orders) ss) }
-    ensures conditions { IfOk result (λ ss. All (λ (s : StepWord). length s.conditions ≤ 32) ss) }
-{
-    let on_pads = both(alloc, 0, 100, true, false)?;
-    let armed = both(alloc, 0, 100, false, true)?;
-    let at_start = both(alloc, TOP, 50, false, true)?;
-    let at_end = both(alloc, TOP, 50, false, true)?;
-    let back = both(alloc, 0, 100, false, false)?;
-    let arm = each(alloc, Order::Arm)?;
-    let rise = each(alloc, Order::Rise { z: TOP, ms: 2000 })?;
-    let land = each(alloc, Order::Land { z: 0, ms: 2500 })?;
-    let arming = step(true, 0, 0, on_pads, arm);
-    let rising = step(false, 0, 0, armed, rise);
-    let starting = step(true, 2000, 1000, at_start, to_all(Order::Start));
-    let landing = step(false, 1000, 1000, at_end, land);
-    let ending = step(false, 2500, 1000, back, to_all(Order::Disarm));
-    Ok(Listed::from_vec(Vec::from_array(alloc, [arming, rising, starting, landing, ending])?))
-}
-
-fn curves(alloc: Global) -> Result<Listed<Traj>, AllocError>
-    ensures few { IfOk result (λ ts. length ts ≤ 32) }
-    ensures playable { IfOk result (λ ts. All IsPlayable ts) }
-    ensures lasts { IfOk result (λ ts. All (λ (t : TrajWord). 1000 ≤ duration_of t) ts) }
-{
-    let first = curve(alloc, 0)?;
-    let second = curve(alloc, 2000)?;
-    Ok(Listed::from_vec(Vec::from_array(alloc, [first, second])?))
-}
-
-fn flight(alloc: Global, flies_on: bool) -> Result<Flight, AllocError>
-    ensures { IfOk result (λ f. IsHeld f) }
-{
-    let steps = steps(alloc)?;
-    let curves = curves(alloc)?;
-    Ok(Flight {
-        steps,
-        curves,
-        show_ms: 1000,
-        stray: 30,
-        late: 2,
-        silence: 500,
-        flies_on,
-        floor: 0,
-        descent: 4000,
-    })
-}
 
 fn sample(x: i16, y: i16, z: i16, armed: bool, down: bool) -> Sample {
     Sample {
@@ -157,6 +15,8 @@ fn sample(x: i16, y: i16, z: i16, armed: bool, down: bool) -> Sample {
         armed,
         lost: false,
         down,
+        flying: !down,
+        sure: true,
     }
 }
 
@@ -253,7 +113,7 @@ fn told_all(order: Order) -> Frame {
 #[test]
 fn flies_a_whole_flight(rt: HostRuntime) -> Result<(), Fail> {
     let alloc = rt.alloc();
-    let mut d = Director::make(flight(alloc, true)?);
+    let mut d = Director::make(flight(alloc)?);
     let mut all = Vec::new(alloc);
     go_up(&mut d, &mut all)?;
     fly_and_land(&mut d, &mut all)?;
@@ -283,7 +143,7 @@ fn flies_a_whole_flight(rt: HostRuntime) -> Result<(), Fail> {
 
 // How many orders go out at the operator's go, with the first drone so far aside of its pad. 100 mm are allowed.
 fn orders_aside(alloc: Global, x: i16, y: i16, z: i16) -> Result<usize, AllocError> {
-    let mut d = Director::make(flight(alloc, true)?);
+    let mut d = Director::make(flight(alloc)?);
     let mut all = Vec::new(alloc);
     hear_both(&mut d, 0, 0, false, true, &mut all)?;
     hear(
@@ -318,7 +178,7 @@ fn measures_in_a_straight_line(rt: HostRuntime) -> Result<(), Fail> {
 #[test]
 fn lands_and_halts_at_the_word(rt: HostRuntime) -> Result<(), Fail> {
     let alloc = rt.alloc();
-    let mut d = Director::make(flight(alloc, true)?);
+    let mut d = Director::make(flight(alloc)?);
     let mut all = Vec::new(alloc);
     go_up(&mut d, &mut all)?;
     all.clear();
@@ -342,7 +202,7 @@ fn lands_and_halts_at_the_word(rt: HostRuntime) -> Result<(), Fail> {
 #[test]
 fn flies_on_past_a_silent_drone(rt: HostRuntime) -> Result<(), Fail> {
     let alloc = rt.alloc();
-    let mut d = Director::make(flight(alloc, true)?);
+    let mut d = Director::make(flight(alloc)?);
     let mut all = Vec::new(alloc);
     go_up(&mut d, &mut all)?;
     say(&mut d, Signal::Go, &mut all)?;
@@ -368,5 +228,74 @@ fn flies_on_past_a_silent_drone(rt: HostRuntime) -> Result<(), Fail> {
         }]
         .as_slice()
     );
+    Ok(())
+}
+
+// What goes out where both land and are heard so high, both armed.
+fn said_down(alloc: Global, z: i16, flying: bool, times: usize) -> Result<usize, AllocError> {
+    let mut d = Director::make(flight(alloc)?);
+    let mut all = Vec::new(alloc);
+    go_up(&mut d, &mut all)?;
+    say(&mut d, Signal::Land, &mut all)?;
+    all.clear();
+    for _ in 0..times {
+        for drone in 0..2u8 {
+            let sample = Sample {
+                flying,
+                ..sample(0, 0, z, true, true)
+            };
+            hear(&mut d, Event::Seen { drone, sample }, &mut all)?;
+        }
+        hear(&mut d, Event::Clock { ms: 500 }, &mut all)?;
+    }
+    Ok(all.len())
+}
+
+// Motors stop up to 120 mm above or below the floor; where a drone says that it flies, 5 s after all stood.
+#[test]
+fn disarms_who_is_down(rt: HostRuntime) -> Result<(), Fail> {
+    for (z, flying, times, wanted) in [
+        (120, false, 1, 1),
+        (121, false, 1, 0),
+        (-120, false, 1, 1),
+        (-121, false, 1, 0),
+        (0, true, 9, 0),
+        (0, true, 10, 1),
+    ] {
+        assert_eq!(rt;
+            said_down(rt.alloc(), z, flying, times)?,
+            wanted,
+            "{z} {flying} {times}"
+        );
+    }
+    Ok(())
+}
+
+// What goes out where one drone hovers before the show and isn't sure, for so long.
+fn said_unsure(alloc: Global, ms: u32) -> Result<usize, AllocError> {
+    let mut d = Director::make(flight(alloc)?);
+    let mut all = Vec::new(alloc);
+    go_up(&mut d, &mut all)?;
+    all.clear();
+    let unsure = Event::Seen {
+        drone: 0,
+        sample: Sample {
+            sure: false,
+            ..sample(0, 0, TOP, true, false)
+        },
+    };
+    hear(&mut d, unsure, &mut all)?;
+    say(&mut d, Signal::Go, &mut all)?;
+    hear(&mut d, Event::Clock { ms }, &mut all)?;
+    hear(&mut d, unsure, &mut all)?;
+    Ok(all.len())
+}
+
+// It doesn't start, and after 300 ms a note goes out, and all land.
+#[test]
+fn waits_for_who_is_sure(rt: HostRuntime) -> Result<(), Fail> {
+    for (ms, wanted) in [(0, 0), (299, 0), (300, 3)] {
+        assert_eq!(rt; said_unsure(rt.alloc(), ms)?, wanted, "{ms}");
+    }
     Ok(())
 }
