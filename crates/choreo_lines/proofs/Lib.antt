@@ -1,5 +1,4 @@
 mod Prelude
-pub mod Names
 pub mod Collected
 pub mod Reading
 pub mod Saying

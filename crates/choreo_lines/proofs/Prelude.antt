@@ -8,7 +8,7 @@ pub use Rattle.std.specs.Prelude.{IfOk, IsTrue, bytes_eq, codes, nat_abs, nat_le
 pub use Rattle.text_lines.specs.Tokens.{word_in, words_in}
 unfoldable pub use Rattle.choreo_lines.specs.Fields.{act_in, act_line, names_in, row_line, values_in}
 pub use Rattle.choreo_lines.specs.Fields.{Gives, act_by, ccw_in, entry_of, judged, kind_in, line_at, line_in, mirror_in, name_in, quantity_in, smooth_in, value_in, ◌>>=◌}
-pub use Rattle.choreo_lines.specs.Name.{Name, begins_lower, goes_in_name, is_name}
+pub use Rattle.choreo_show.specs.Name.{Name, begins_lower, goes_in_name, is_name}
 pub use Rattle.choreo_lines.specs.Says.{AllHold, Holds, Says, SaysAct, may_say}
 pub use Rattle.choreo_lines.specs.Table.{Row, Word, act_of, act_places, as_read, has_count, may_stand, row_of, word}
 pub use Rattle.choreo_lines.specs.Values.{AllFit, Fits, act_fields, act_with, entry_with, fields_of, keyword_in, name_of}
@@ -16,7 +16,7 @@ pub use Rattle.choreo_lines.specs.declared.line.Entry.{Entry}
 pub use Rattle.choreo_lines.specs.declared.line.Keyword.{Keyword}
 pub use Rattle.choreo_lines.specs.declared.line.LineKind.{LineKind}
 pub use Rattle.choreo_lines.specs.declared.line.Place.{Place}
-pub use Rattle.choreo_lines.specs.declared.parts.Act.{Act}
+pub use Rattle.choreo_show.specs.declared.parts.Act.{Act}
 pub use Rattle.choreo_lines.specs.declared.table.Form.{Form}
 pub use Rattle.choreo_lines.specs.declared.table.Value.{Value}
 pub use Rattle.choreo_lines.specs.declared.table.Want.{Want}

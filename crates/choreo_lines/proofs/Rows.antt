@@ -8,9 +8,9 @@ use Rattle.choreo_lines.specs.declared.table.Form.TheVariants.{Whole, Units}
 use Rattle.choreo_lines.specs.declared.line.LineKind.TheVariants as kind
 use Rattle.choreo_lines.specs.declared.line.Place.TheVariants.{Top, InRepeat, InCue, InFigureCue}
 use Rattle.choreo_lines.specs.declared.line.Entry.TheVariants as entry
-use Rattle.choreo_lines.specs.declared.parts.Act.TheVariants as act
-use Rattle.choreo_lines.specs.declared.parts.Ease.TheVariants as ease
-use Rattle.choreo_lines.specs.declared.parts.Mirror.TheVariants as mirror
+use Rattle.choreo_show.specs.declared.parts.Act.TheVariants as act
+use Rattle.choreo_show.specs.declared.parts.Ease.TheVariants as ease
+use Rattle.choreo_show.specs.declared.parts.Mirror.TheVariants as mirror
 
 -- `memory 3 100`, at top and in a cue
 memory_line : entry_of Whole Top (codes "memory" ∷ codes "3" ∷ codes "100" ∷ []) ≡ Ok (entry.Memory 3 100)

@@ -11,7 +11,7 @@ use Rattle.choreo_lines.proofs.Reading.{two, passed, name_read, acted, Rowed, ro
 use Rattle.choreo_lines.specs.declared.line.LineKind.TheVariants as kind
 use Rattle.choreo_lines.specs.declared.line.Keyword.TheVariants as first
 use Rattle.choreo_lines.specs.declared.line.Entry.TheVariants as entry
-use Rattle.choreo_lines.specs.declared.parts.Mirror.{Mirror}
+use Rattle.choreo_show.specs.declared.parts.Mirror.{Mirror}
 use Rattle.choreo_lines.specs.declared.table.Form.TheVariants.{Whole, Units}
 use Rattle.choreo_lines.specs.declared.table.Want.TheVariants as want
 use Rattle.choreo_lines.specs.declared.table.Value.TheVariants.{Name as Named, Mirror as Mirrored, Smooth, Ccw, Number}

@@ -6,7 +6,7 @@ use Rattle.quantities.specs.Quantities.{quantity_in as quantity_read}
 use Rattle.quantities.specs.declared.unit.Counts.{Counts}
 use Rattle.text_lines.specs.declared.number.NumberFault.{NumberFault}
 use Rattle.text_lines.specs.declared.number.NumberFault.TheVariants.{NotANumber, OutOfRange}
-use Rattle.choreo_lines.specs.Name.{Name, is_name}
+use Rattle.choreo_show.specs.Name.{Name, is_name}
 use Rattle.choreo_lines.specs.FirstWord.{keyword_of}
 use Rattle.choreo_lines.specs.declared.table.Form.{Form}
 use Rattle.choreo_lines.specs.declared.table.Form.TheVariants.{Whole, Units}
@@ -24,9 +24,9 @@ use Rattle.choreo_lines.specs.declared.line.Keyword.TheVariants as first
 use Rattle.choreo_lines.specs.declared.line.Place.{Place}
 use Rattle.choreo_lines.specs.declared.line.Entry.{Entry}
 use Rattle.choreo_lines.specs.declared.line.Entry.TheVariants as entry
-use Rattle.choreo_lines.specs.declared.parts.Act.{Act}
-use Rattle.choreo_lines.specs.declared.parts.Mirror.{Mirror}
-use Rattle.choreo_lines.specs.declared.parts.Mirror.TheVariants as mirror
+use Rattle.choreo_show.specs.declared.parts.Act.{Act}
+use Rattle.choreo_show.specs.declared.parts.Mirror.{Mirror}
+use Rattle.choreo_show.specs.declared.parts.Mirror.TheVariants as mirror
 use Rattle.choreo_lines.specs.Table.{Word, word, row_of, has_count, act_of, act_places, may_stand, as_read}
 pub use Rattle.choreo_lines.specs.Values.{number_at, natural_at, name_at, mirror_at, smooth_at, ccw_at, point_at}
 pub use Rattle.choreo_lines.specs.Values.{triple_at, act_with, entry_with}

@@ -1,4 +1,3 @@
-pub mod Name
 pub mod FirstWord
 pub mod Table
 pub mod Values

@@ -2,7 +2,7 @@
 use Rattle.std.specs.Prelude.{◌≡◌, Bool, true, false, List, [], ◌∷◌, length, Some, codes, IsTrue}
 use Rattle.text_lines.specs.Numbers.{IsNumber}
 use Rattle.quantities.specs.Quantities.{IsQuantityIn}
-use Rattle.choreo_lines.specs.Name.{is_name}
+use Rattle.choreo_show.specs.Name.{is_name}
 use Rattle.choreo_lines.specs.FirstWord.{keyword_of}
 use Rattle.choreo_lines.specs.Table.{row_of, has_count, act_of, act_places}
 use Rattle.choreo_lines.specs.Values.{act_fields, fields_of, keyword_in}
@@ -15,8 +15,8 @@ use Rattle.choreo_lines.specs.declared.table.Value.TheVariants.{Name as Named, M
 use Rattle.choreo_lines.specs.declared.line.Place.{Place}
 use Rattle.choreo_lines.specs.declared.line.Entry.{Entry}
 use Rattle.choreo_lines.specs.declared.line.Entry.TheVariants as entry
-use Rattle.choreo_lines.specs.declared.parts.Act.{Act}
-use Rattle.choreo_lines.specs.declared.parts.Mirror.TheVariants as mirror
+use Rattle.choreo_show.specs.declared.parts.Act.{Act}
+use Rattle.choreo_show.specs.declared.parts.Mirror.TheVariants as mirror
 pub use Rattle.choreo_lines.specs.Table.{Word, word, may_stand}
 
 -- The words of a line, and the values that they are.

@@ -5,10 +5,10 @@ use Rattle.choreo_lines.specs.Fields.{ccw_in, quantity_in, values_in, ◌>>=◌,
 use Rattle.choreo_lines.specs.Table.{Word, word, act_places}
 use Rattle.choreo_lines.specs.declared.table.Form.{Form}
 use Rattle.choreo_lines.specs.declared.line.LineKind.{LineKind}
-use Rattle.choreo_lines.specs.declared.parts.Act.{Act}
-use Rattle.choreo_lines.specs.declared.parts.Act.TheVariants as made
-use Rattle.choreo_lines.specs.declared.parts.Ease.{Ease}
-use Rattle.choreo_lines.specs.declared.parts.Point.{Point}
+use Rattle.choreo_show.specs.declared.parts.Act.{Act}
+use Rattle.choreo_show.specs.declared.parts.Act.TheVariants as made
+use Rattle.choreo_show.specs.declared.parts.Ease.{Ease}
+use Rattle.choreo_show.specs.declared.parts.Point.{Point}
 use Rattle.choreo_lines.specs.declared.table.ActWord.{ActWord}
 
 -- a number that is not negative, and at most this

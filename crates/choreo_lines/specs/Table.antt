@@ -8,7 +8,7 @@ use Rattle.choreo_lines.specs.declared.table.Want.{Want}
 use Rattle.choreo_lines.specs.declared.table.Want.TheVariants as want
 use Rattle.choreo_lines.specs.declared.table.ActWord.{ActWord}
 use Rattle.choreo_lines.specs.declared.table.ActWord.TheVariants as act
-use Rattle.choreo_lines.specs.declared.parts.Ease.TheVariants as ease
+use Rattle.choreo_show.specs.declared.parts.Ease.TheVariants as ease
 use Rattle.choreo_lines.specs.declared.line.Keyword.{Keyword}
 use Rattle.choreo_lines.specs.declared.line.Keyword.TheVariants as first
 use Rattle.choreo_lines.specs.declared.line.Place.{Place}

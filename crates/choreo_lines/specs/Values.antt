@@ -1,6 +1,6 @@
 -- The values of lines: their ranges, their order, and what they denote.
 use Rattle.std.specs.Prelude.{ℕ, ◌+◌, Bool, false, List, [], ◌∷◌, map, get_or, ℤ, pos, nat_abs, ◌≤ℤ◌, IsTrue}
-use Rattle.choreo_lines.specs.Name.{Name, is_name}
+use Rattle.choreo_show.specs.Name.{Name, is_name}
 use Rattle.choreo_lines.specs.declared.table.Want.{Want}
 use Rattle.choreo_lines.specs.declared.table.Want.TheVariants as want
 use Rattle.choreo_lines.specs.declared.table.Value.{Value}
@@ -11,11 +11,11 @@ use Rattle.choreo_lines.specs.declared.line.Keyword.{Keyword}
 use Rattle.choreo_lines.specs.declared.line.Keyword.TheVariants as first
 use Rattle.choreo_lines.specs.declared.line.Entry.{Entry}
 use Rattle.choreo_lines.specs.declared.line.Entry.TheVariants as entry
-use Rattle.choreo_lines.specs.declared.parts.Act.{Act}
-use Rattle.choreo_lines.specs.declared.parts.Act.TheVariants as act
-use Rattle.choreo_lines.specs.declared.parts.Point.{Point}
-use Rattle.choreo_lines.specs.declared.parts.Mirror.{Mirror}
-use Rattle.choreo_lines.specs.declared.parts.Mirror.TheVariants as mirror
+use Rattle.choreo_show.specs.declared.parts.Act.{Act}
+use Rattle.choreo_show.specs.declared.parts.Act.TheVariants as act
+use Rattle.choreo_show.specs.declared.parts.Point.{Point}
+use Rattle.choreo_show.specs.declared.parts.Mirror.{Mirror}
+use Rattle.choreo_show.specs.declared.parts.Mirror.TheVariants as mirror
 
 -- a value that a place which wants this may have
 abbrev pub Fits : Want → Value → Type 0

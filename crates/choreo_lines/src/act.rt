@@ -11,8 +11,8 @@ ghost use Rattle.choreo_lines.specs.Steps.{quarter_in as quarter_in_of};
 
 use crate::field::{ccw, nth, quantity};
 use crate::line::LineKind;
-use crate::parts::{Act, Ease, Point};
 use crate::table::{ActWord, Form};
+use choreo_show::{Act, Ease, Point};
 use quantities::Counts;
 use text_lines::Token;
 

@@ -12,15 +12,14 @@ ghost use Rattle.choreo_lines.specs.Says.{Says, may_say};
 ghost use Rattle.choreo_lines.specs.declared.line.Keyword.TheVariants as by;
 
 use crate::act::act_by;
-use crate::field::{copy_of, name, nth, value};
+use crate::field::{name, nth, value};
 use crate::line::{Entry, Keyword, LineError, LineKind, Place};
-use crate::parts::{Act, Frame, Mirror, Name, Point};
 use crate::table::{
     Form, MOST_PLACES, Value, Want, act_places, act_word, as_read, may_stand, names, places,
 };
 use crate::word::keyword;
 use arrayvec::ArrayVec;
-use listed::Listed;
+use choreo_show::{Act, Frame, Listed, Mirror, Name, Point, copy_of};
 use std::alloc::Global;
 use text_lines::{Token, word_at};
 

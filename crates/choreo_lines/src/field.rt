@@ -6,10 +6,9 @@ ghost use Rattle.choreo_lines.specs.Table.{word};
 ghost use Rattle.choreo_lines.specs.Fields as spec;
 
 use crate::line::LineKind;
-use crate::parts::{Mirror, Name};
 use crate::table::{Form, Value, Want};
 use crate::word::is_name;
-use arrayvec::ArrayVec;
+use choreo_show::{Mirror, Name, name_kept};
 use quantities::{Counts, quantity_in};
 use text_lines::{LARGE, NumberFault, Token, word_at};
 
@@ -52,23 +51,6 @@ pub fn quantity(
         Form::Whole => number(word, low, high),
         Form::Units => judged(quantity_in(counts, word, low, high)),
     }
-}
-
-/// The name of these bytes, which are at most 16.
-pub fn name_kept(word: &[u8]) -> Name
-    requires { length word.now ≤ 16 }
-    ensures { result.items ≡ word.now }
-{
-    let mut name = ArrayVec::new();
-    name.try_extend_from_slice(word).unwrap();
-    name
-}
-
-/// A name once more.
-pub fn copy_of(name: &Name) -> Name
-    ensures { result ≡ name.now }
-{
-    name_kept(name.as_slice())
 }
 
 /// The name that a word is.

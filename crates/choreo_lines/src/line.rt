@@ -1,7 +1,6 @@
 //! What one line of a text says.
 
-use crate::parts::{Act, Frame, Name, Point};
-use listed::Listed;
+use choreo_show::{Act, Frame, Listed, Name, Point};
 use std::alloc::{AllocError, AllocFailed};
 
 /// What is wrong with a line, in the order in which the kinds are judged.
@@ -39,7 +38,7 @@ pub enum LineError {
 }
 
 /// The first word of a line.
-#[derive(Clone, Copy, PartialEq, Eq, Debug)]
+#[derive(Clone, Copy)]
 pub enum Keyword {
     Memory,
     Trajectory,
@@ -59,7 +58,7 @@ pub enum Keyword {
 }
 
 /// Where a line stands: by the innermost open block, and whether a figure is open.
-#[derive(Clone, Copy, PartialEq, Eq, Debug)]
+#[derive(Clone, Copy)]
 pub enum Place {
     Top,
     InFormation,

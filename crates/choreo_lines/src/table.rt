@@ -5,7 +5,7 @@ ghost use Rattle.std.specs.Prelude.{◌≡◌, ◌≤◌, length};
 ghost use Rattle.choreo_lines.specs.Table as spec;
 
 use crate::line::{Keyword, Place};
-use crate::parts::{Ease, Mirror, Name};
+use choreo_show::{Ease, Mirror, Name};
 use fleet_math::MOST_DRONES;
 use quantities::Counts;
 

@@ -3,8 +3,8 @@
 ghost use Rattle.std.specs.Prelude.{◌≡◌, ◌≤◌, length, IsTrue};
 ghost use Rattle.std.specs.List.{list_all};
 ghost use Rattle.choreo_lines.specs.FirstWord.{keyword_of};
-ghost use Rattle.choreo_lines.specs.Name.{is_name as is_name_of, goes_in_name as goes_in_name_of};
-ghost use Rattle.choreo_lines.specs.Name.{begins_lower as begins_lower_of};
+ghost use Rattle.choreo_show.specs.Name.{is_name as is_name_of, goes_in_name as goes_in_name_of};
+ghost use Rattle.choreo_show.specs.Name.{begins_lower as begins_lower_of};
 
 use crate::line::Keyword;
 

@@ -9,7 +9,7 @@ pub use Rattle.std.specs.List.{AllByRecursion, AllZip, flat_map, list_all, list_
 pub use Rattle.std.specs.Prelude.{IfOk, IfSome, IsTrue, codes, count_by, if◌then◌else◌, is_some, nat_le, not, option_to_list, slice_index_or, unwrap_or, ◌&&◌, ◌==◌, ◌||◌}
 pub use Rattle.choreo_lines.proofs.Saying.{held_fit, held_length, holds_fits, says_entry, says_of, says_read}
 pub use Rattle.choreo_lines.specs.Fields.{entry_of, kind_of, or_else}
-pub use Rattle.choreo_lines.specs.Name.{Name}
+pub use Rattle.choreo_show.specs.Name.{Name}
 pub use Rattle.choreo_lines.specs.Says.{Says, SaysAct, may_say}
 pub use Rattle.choreo_lines.specs.Table.{Word, act_places, as_read, has_count, row_of, word}
 pub use Rattle.choreo_lines.specs.Values.{act_fields, fields_of, keyword_in}
@@ -19,7 +19,7 @@ pub use Rattle.choreo_lines.specs.declared.line.LineKind.{LineKind}
 pub use Rattle.choreo_show.proofs.Blocks.{blocks_none, body_assoc, body_done}
 pub use Rattle.choreo_show.specs.Plain.{Body, PlainFigure, PlainShow, has_block, plain, ◌⨾◌}
 pub use Rattle.choreo_show.specs.Shape.{depth, fits_figure, is_filled, names_one}
-pub use Rattle.choreo_show.specs.Valid.{AllAbove, FitActLines, FitDroneLines, FitFigures, FitFormations, FitsAct, FitsBody, FitsLine, FitsSettings, IsName, IsValid, act_lines, all_lines, body_lines, drone_lines, figure_lines, formation_lines, times}
+pub use Rattle.choreo_show.specs.Valid.{AllAbove, FitActLines, FitDroneLines, FitFigures, FitFormations, FitsAct, FitsBody, FitsSettings, IsName, IsValid, act_lines, all_lines, body_lines, drone_lines, figure_lines, formation_lines, times}
 pub use Rattle.choreo_show.specs.declared.show.ActLine.{ActLine}
 pub use Rattle.choreo_show.specs.declared.show.DroneLine.{DroneLine}
 pub use Rattle.choreo_show.specs.declared.show.Formation.{Formation}

@@ -1,5 +1,5 @@
 -- A show that a text stands for is valid.
-use Rattle.choreo_reader.proofs.Prelude.{common_steps, ◌≡◌, ℕ, ◌+◌, ◌<◌, ◌≤◌, Bool, true, false, cond, eqb-true, ne_eqb, List, [], ◌∷◌, ◌++◌, map, Option, Some, None, refl, sym, ap, subst, ◌∙◌, arith, append_assoc, recursion_from_All, ◌==◌, slice_index_or, IfSome, IsTrue, append-nil, FromHash, visible, Line, line_with, numbered, words_of, lines_of, Body, PlainFigure, PlainShow, has_block, ◌⨾◌, Word, row_of, act_places, has_count, act_fields, keyword_in, fields_of, SaysAct, Says, held_fit, held_length, holds_fits, SaidLine, act_said, body_said, Item, Memory, Trajectory, Ellipsoid, Stray, Late, Drone, Formed, Figured, Blocks, item_said, show_of, IsItem, StandsFor, parts_of, is_filled, depth, IsName, FitsAct, FitsLine, FitActLines, FitsBody, FitDroneLines, FitFormations, FitFigures, FitsSettings, act_lines, body_lines, drone_lines, formation_lines, figure_lines, AllAbove, times, all_lines, IsValid, Entry, ActLine, DroneLine, Formation, Form}
+use Rattle.choreo_reader.proofs.Prelude.{common_steps, ◌≡◌, ℕ, ◌+◌, ◌<◌, ◌≤◌, Bool, true, false, cond, eqb-true, ne_eqb, List, [], ◌∷◌, ◌++◌, map, Option, Some, None, refl, sym, ap, subst, ◌∙◌, arith, append_assoc, recursion_from_All, ◌==◌, slice_index_or, IfSome, IsTrue, append-nil, FromHash, visible, Line, line_with, numbered, words_of, lines_of, Body, PlainFigure, PlainShow, has_block, ◌⨾◌, Word, row_of, act_places, has_count, act_fields, keyword_in, fields_of, SaysAct, Says, held_fit, held_length, holds_fits, SaidLine, act_said, body_said, Item, Memory, Trajectory, Ellipsoid, Stray, Late, Drone, Formed, Figured, Blocks, item_said, show_of, IsItem, StandsFor, parts_of, is_filled, depth, IsName, FitsAct, FitActLines, FitsBody, FitDroneLines, FitFormations, FitFigures, FitsSettings, act_lines, body_lines, drone_lines, formation_lines, figure_lines, AllAbove, times, all_lines, IsValid, Entry, ActLine, DroneLine, Formation, Form}
 use Rattle.std.proofs.lemmas.Int.{ints}
 use Rattle.choreo_show.specs.Plain as plain
 use Rattle.choreo_lines.specs.declared.table.Want.TheVariants as want
@@ -7,10 +7,65 @@ use Rattle.choreo_lines.specs.declared.table.Value.TheVariants.{Name as Named}
 use Rattle.choreo_reader.proofs.Items.{closing, place_said, items_said, drones, formations, figures, body, AreItems, AreSaid}
 use Rattle.choreo_reader.proofs.Sound.{filled_then, depth_then}
 use Rattle.choreo_lines.specs.declared.line.Entry.TheVariants as entry
-use Rattle.choreo_lines.specs.declared.parts.Act.{Act}
+use Rattle.std.proofs.lemmas.Bool.{and_parts, leb-true}
+use Rattle.std.proofs.lemmas.List.{length-map}
+use Rattle.std.specs.Prelude.{◌&&◌, nat_le, length}
+use Rattle.choreo_lines.specs.Table.{point}
+use Rattle.choreo_lines.specs.Values.{AllFit, point_fields}
+use Rattle.choreo_show.specs.Name.{Name}
+use Rattle.choreo_show.specs.Valid.{AreNames, FitsFigure, FitsPerform, FitsPoint}
+use Rattle.choreo_show.specs.declared.parts.Act.{Act}
+use Rattle.choreo_show.specs.declared.parts.Act.TheVariants as act
+use Rattle.choreo_show.specs.declared.parts.Frame.{Frame}
+use Rattle.choreo_show.specs.declared.parts.Point.{Point}
 use Rattle.choreo_show.specs.declared.show.ActLine.TheVariants as on
 
 -- The ranges of what a line says.
+
+-- a line with a first word of its own: its values are as its row wants them, and this many names stand after them
+abbrev FitsLine : Entry → Type 0
+FitsLine e =
+    IsTrue (has_count (row_of (keyword_in e)) (length (fields_of e)))
+    × AllFit (row_of (keyword_in e)).places (fields_of e)
+
+point_fits : (p : Point) → AllFit point (point_fields p) → FitsPoint p
+point_fits p h = (h.0, h.1.0, h.1.1.0, h.1.1.1.0)
+
+act_in_ranges : (a : Act) → AllFit (act_places (act_fields a).0) (act_fields a).1 → FitsAct a
+act_in_ranges act.Hold h = tt
+act_in_ranges (act.Line to) h = point_fits to h
+act_in_ranges (act.Move to) h = point_fits to h
+act_in_ranges (act.Turn yaw) h = h.0
+act_in_ranges (act.Arc ccw cx cy yaw) h = (h.1.0, h.1.1.0, h.1.1.1.0)
+act_in_ranges (act.Eased how ccw cx cy yaw) h = (h.1.0, h.1.1.0, h.1.1.1.0)
+act_in_ranges (act.Curve (x1 ∷ y1 ∷ z1 ∷ []) (x2 ∷ y2 ∷ z2 ∷ []) to) h =
+    ((h.0, h.1.0, h.1.1.0), (h.1.1.1.0, h.1.1.1.1.0, h.1.1.1.1.1.0), point_fits to h.1.1.1.1.1.1)
+act_in_ranges (act.Curve p1 p2 to) h = absurd h
+
+are_names : (ns : List Name) → AllFit [] (map Named ns) → AreNames ns
+are_names [] h = tt
+are_names (n ∷ ns) h = (h.0, are_names ns h.1)
+
+-- this many names may stand after the last place
+few_names : (least n count : ℕ) → count ≡ least + n → IsTrue (nat_le (least + 1) count && nat_le count (least + 32)) → (1 ≤ n) × (n ≤ 32)
+few_names least n count is h =
+    let p = and_parts (nat_le (least + 1) count) (nat_le count (least + 32)) h in
+    let more = leb-true (least + 1) count p.0 in
+    let less = leb-true count (least + 32) p.1 in
+    (omega (arith, is, more), omega (arith, is, less))
+
+figure_fits : (name : Name) (roles : List Name) → FitsLine (entry.Figure name roles) → FitsFigure name roles
+figure_fits name roles h =
+    let few = few_names 1 (length roles) (length (fields_of (entry.Figure name roles))) (omega (arith, length-map roles Named)) h.0 in
+    (h.1.0, (few.0, few.1, are_names roles h.1.1))
+
+perform_fits : (figure : Name) (frame : Frame) (ds : List Name) → FitsLine (entry.Perform figure frame ds) → FitsPerform figure frame ds
+perform_fits figure frame ds h =
+    let few = few_names 6 (length ds) (length (fields_of (entry.Perform figure frame ds))) (omega (arith, length-map ds Named)) h.0 in (
+      h.1.0,
+      (omega (arith, ints, h.1.1.1.0.1), h.1.1.1.1.0, h.1.1.1.1.1.0, h.1.1.1.1.1.1.0),
+      (few.0, few.1, are_names ds h.1.1.1.1.1.1.1),
+    )
 
 abbrev FitsEntry : Entry → Type 0
 FitsEntry (entry.One name a) = IsName name × FitsAct a
@@ -18,7 +73,7 @@ FitsEntry e = FitsLine e
 
 act_fits : (form : Form) (ws : List Word) (a : Act) → SaysAct form ws a → FitsAct a
 act_fits form [] a h = absurd h
-act_fits form (w ∷ ws) a h = held_fit form (act_places (act_fields a).0) ws (act_fields a).1 h.1
+act_fits form (w ∷ ws) a h = act_in_ranges a (held_fit form (act_places (act_fields a).0) ws (act_fields a).1 h.1)
 
 says_fits : (form : Form) (ws : List Word) (e : Entry) → Says form ws e → FitsEntry e
 says_fits form [] e h = absurd h
@@ -50,19 +105,19 @@ back_fits (x ∷ xs) ys h = back_fits xs ys h.1
 acts_fit : (acts : List ActLine) → LinesFit (map act_said acts) → FitActLines acts
 acts_fit [] h = tt
 acts_fit (on.One line name a ∷ acts) h = (h.0, acts_fit acts h.1)
-acts_fit (on.Form line formation smooth ∷ acts) h = (h.0, acts_fit acts h.1)
+acts_fit (on.Form line formation smooth ∷ acts) h = (h.0.1.0, acts_fit acts h.1)
 
 places_fit : (ps : List DroneLine) → LinesFit (map place_said ps) → FitDroneLines ps
 places_fit [] h = tt
-places_fit (p ∷ ps) h = (h.0.1.0, h.0.1.1, places_fit ps h.1)
+places_fit (p ∷ ps) h = (h.0.1.0, point_fits p.at h.0.1.1, places_fit ps h.1)
 
 body_fits : (b : Body) → LinesFit (body_said b) → FitsBody b
 body_fits plain.Done h = tt
 body_fits (plain.Cue line ms acts rest) h =
-    (h.0, acts_fit acts (front_fits (map act_said acts) (closing ∷ body_said rest) h.1), body_fits rest (back_fits (map act_said acts) (closing ∷ body_said rest) h.1).1)
+    ((omega (arith, ints, h.0.1.0.0), omega (arith, ints, h.0.1.0.1)), acts_fit acts (front_fits (map act_said acts) (closing ∷ body_said rest) h.1), body_fits rest (back_fits (map act_said acts) (closing ∷ body_said rest) h.1).1)
 body_fits (plain.Repeat line times inside rest) h =
-    (h.0, body_fits inside (front_fits (body_said inside) (closing ∷ body_said rest) h.1), body_fits rest (back_fits (body_said inside) (closing ∷ body_said rest) h.1).1)
-body_fits (plain.Perform line figure frame ds rest) h = (h.0, body_fits rest h.1)
+    ((omega (arith, ints, h.0.1.0.0), omega (arith, ints, h.0.1.0.1)), body_fits inside (front_fits (body_said inside) (closing ∷ body_said rest) h.1), body_fits rest (back_fits (body_said inside) (closing ∷ body_said rest) h.1).1)
+body_fits (plain.Perform line figure frame ds rest) h = (perform_fits figure frame ds h.0, body_fits rest h.1)
 
 then_fits : (a b : Body) → FitsBody a → FitsBody b → FitsBody (a ⨾ b)
 then_fits plain.Done b h k = k
@@ -74,7 +129,7 @@ then_fits (plain.Perform line figure frame ds rest) b h k = (h.0, then_fits rest
 
 drones_fit : (is : List Item) → LinesFit (items_said is) → FitDroneLines (drones is)
 drones_fit [] h = tt
-drones_fit (Drone d ∷ is) h = (h.0.1.0, h.0.1.1, drones_fit is h.1)
+drones_fit (Drone d ∷ is) h = (h.0.1.0, point_fits d.at h.0.1.1, drones_fit is h.1)
 drones_fit (i ∷ is) h = drones_fit is (back_fits (item_said i) (items_said is) h)
 
 formations_fit : (is : List Item) → AreItems is → LinesFit (items_said is) → FitFormations (formations is)
@@ -86,7 +141,7 @@ formations_fit (i ∷ is) k h = formations_fit is k.1 (back_fits (item_said i) (
 figures_fit : (is : List Item) → AreItems is → LinesFit (items_said is) → FitFigures (figures is)
 figures_fit [] k h = tt
 figures_fit (Figured f ∷ is) k h = (
-  h.0,
+  figure_fits f.name f.roles h.0,
   k.0.0,
   k.0.2,
   k.0.3,

@@ -5,7 +5,7 @@ use Rattle.text_lines.specs.Words.{Line}
 use Rattle.choreo_reader.specs.Text.{show_lines}
 use Rattle.choreo_lines.specs.Fields.{entry_of}
 use Rattle.choreo_show.specs.Plain as plain
-use Rattle.choreo_lines.specs.Name.{Name}
+use Rattle.choreo_show.specs.Name.{Name}
 use Rattle.choreo_show.specs.Plain.{Body, PlainFigure, PlainShow, has_block, ◌⨾◌, most_nested}
 use Rattle.choreo_reader.specs.Context.{Context, Opening, OpenFormation, OpenFigure, OpenRepeat, OpenCue, fault_if}
 use Rattle.choreo_reader.specs.Context.{repeats, is_empty_block, place_of, form_of, end_fault}

@@ -28,8 +28,8 @@ ghost use Rattle.choreo_reader.specs.Reading.{finish as finish_of, read_lines, r
 
 use crate::fault::ShowFault;
 use crate::token::{first_bad_line, line_words};
-use choreo_lines::{Entry, Form, LineError, LineKind, Listed, Name, Place, entry_of};
-use choreo_show::{ActLine, Block, DroneLine, Figure, Formation, Settings, Show};
+use choreo_lines::{Entry, Form, LineError, LineKind, Place, entry_of};
+use choreo_show::{ActLine, Block, DroneLine, Figure, Formation, Listed, Name, Settings, Show};
 use fleet_math::MOST_DRONES;
 use std::alloc::{AllocError, Global};
 use text_lines::{Token, split_line, word_at};

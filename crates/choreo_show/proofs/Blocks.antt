@@ -4,14 +4,12 @@ use Rattle.std.specs.Prelude.{◌==◌, not}
 use Rattle.std.proofs.Math.Dec.{eqb-suc-zero}
 use Rattle.choreo_show.specs.Plain as plain
 use Rattle.choreo_show.specs.Plain.{Body, ◌⨾◌, block_of, block_step, blocks_then, body_of, has_block}
-use Rattle.choreo_lines.specs.Name.{Name}
 use Rattle.choreo_show.specs.declared.show.Block.{Block, Block-F}
 use Rattle.choreo_show.specs.declared.show.Block.TheOpen as layer
 use Rattle.choreo_show.specs.declared.show.Block.TheVariants as block
 use Rattle.choreo_show.specs.declared.show.Block.TheViews.{out-Block, roll-Block}
 use Rattle.choreo_show.specs.declared.show.Block.TheFolds.{fold-roll-Block, fold_out-Block, map-Block}
 use Rattle.choreo_show.specs.declared.show.ActLine.{ActLine}
-use Rattle.choreo_lines.specs.declared.parts.Frame.{Frame}
 use Rattle.std.specs.Prelude.{Vec}
 use Rattle.std.specs.declared.alloc.Global.{Global}
 

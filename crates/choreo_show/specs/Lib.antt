@@ -1,3 +1,4 @@
+pub mod Name
 pub mod Plain
 pub mod Shape
 pub mod Valid

@@ -1,13 +1,13 @@
 -- A show without where it lies in memory.
 use Rattle.std.specs.Prelude.{ℕ, Bool, true, false, List, [], ◌∷◌, map}
-use Rattle.choreo_lines.specs.Name.{Name}
+use Rattle.choreo_show.specs.Name.{Name}
 use Rattle.choreo_show.specs.declared.show.Block.{Block, Block-F, fold-Block}
 use Rattle.choreo_show.specs.declared.show.Block.TheOpen as layer
 use Rattle.choreo_show.specs.declared.show.ActLine.{ActLine}
 use Rattle.choreo_show.specs.declared.show.DroneLine.{DroneLine}
 use Rattle.choreo_show.specs.declared.show.Formation.{Formation}
 use Rattle.choreo_show.specs.declared.show.Figure.{Figure}
-use Rattle.choreo_lines.specs.declared.parts.Frame.{Frame}
+use Rattle.choreo_show.specs.declared.parts.Frame.{Frame}
 use Rattle.choreo_show.specs.declared.show.Settings.{Settings}
 use Rattle.choreo_show.specs.declared.show.Show.{Show}
 

@@ -1,20 +1,17 @@
 -- Which shows are valid: those whose lines, names, numbers and counts are as the language lets them be.
-use Rattle.std.specs.Prelude.{ℕ, ◌+◌, ◌==◌, if◌then◌else◌, ◌<◌, ◌≤◌, ℤ, List, [], ◌∷◌, ◌++◌, map, length, IsTrue}
+use Rattle.std.specs.Prelude.{ℕ, ◌+◌, ◌==◌, if◌then◌else◌, ◌<◌, ◌≤◌, ℤ, pos, neg_ℤ, ◌≤ℤ◌, List, [], ◌∷◌, ◌++◌, map}
+use Rattle.std.specs.Prelude.{length, IsTrue}
+use Rattle.fleet_math.specs.Limits.{most_drones}
+use Rattle.choreo_show.specs.Name.{Name, is_name}
 use Rattle.choreo_show.specs.Plain as plain
-use Rattle.choreo_lines.specs.Name.{Name}
 use Rattle.choreo_show.specs.Plain.{Body, PlainFigure, PlainShow, has_block, most_nested}
-use Rattle.choreo_lines.specs.Name.{is_name}
 use Rattle.choreo_show.specs.Shape.{is_filled, depth, fits_figure}
-use Rattle.choreo_lines.specs.declared.parts.Act.{Act}
-use Rattle.choreo_lines.specs.Table.{coordinate, point, row_of, has_count, act_places}
-use Rattle.choreo_lines.specs.Values.{Fits, AllFit, point_fields, act_fields, keyword_in, fields_of}
-use Rattle.choreo_lines.specs.declared.table.Value.TheVariants.{Number}
-use Rattle.choreo_lines.specs.declared.line.Entry.{Entry}
-use Rattle.choreo_lines.specs.declared.line.Entry.TheVariants as entry
+use Rattle.choreo_show.specs.declared.parts.Act.{Act}
+use Rattle.choreo_show.specs.declared.parts.Act.TheVariants as act
+use Rattle.choreo_show.specs.declared.parts.Point.{Point}
+use Rattle.choreo_show.specs.declared.parts.Frame.{Frame}
 use Rattle.choreo_show.specs.declared.show.ActLine.{ActLine}
 use Rattle.choreo_show.specs.declared.show.ActLine.TheVariants as on
-use Rattle.choreo_lines.specs.declared.parts.Point.{Point}
-use Rattle.choreo_lines.specs.declared.parts.Frame.{Frame}
 use Rattle.choreo_show.specs.declared.show.DroneLine.{DroneLine}
 use Rattle.choreo_show.specs.declared.show.Formation.{Formation}
 use Rattle.choreo_show.specs.declared.show.Settings.{Settings}
@@ -23,32 +20,66 @@ use Rattle.choreo_show.specs.declared.show.Settings.{Settings}
 abbrev pub IsName : Name → Type 0
 IsName n = IsTrue (is_name n.items)
 
+-- such names
+abbrev pub AreNames : List Name → Type 0
+AreNames [] = Unit {0}
+AreNames (n ∷ ns) = IsName n × AreNames ns
+
+-- 1 to 32 names
+abbrev pub FitNames : List Name → Type 0
+FitNames ns = (1 ≤ length ns) × (length ns ≤ most_drones) × AreNames ns
+
 -- micrometres in their range
 abbrev pub FitsCoordinate : ℤ → Type 0
-FitsCoordinate v = Fits coordinate (Number v)
+FitsCoordinate v = (neg_ℤ (pos 100000000) ≤ℤ v) × (v ≤ℤ pos 100000000)
+
+-- tenths of a degree in their range
+abbrev pub FitsYaw : ℤ → Type 0
+FitsYaw v = (neg_ℤ (pos 32768) ≤ℤ v) × (v ≤ℤ pos 32767)
 
 -- a point in its ranges
 abbrev pub FitsPoint : Point → Type 0
-FitsPoint p = AllFit point (point_fields p)
+FitsPoint p = FitsCoordinate p.x × FitsCoordinate p.y × FitsCoordinate p.z × FitsYaw p.yaw
 
--- an act in its ranges: its values are as its places want them
+-- three coordinates in their range
+abbrev pub FitsTriple : List ℤ → Type 0
+FitsTriple (x ∷ y ∷ z ∷ []) = FitsCoordinate x × FitsCoordinate y × FitsCoordinate z
+FitsTriple v = ⊥
+
+-- an act in its ranges
 abbrev pub FitsAct : Act → Type 0
-FitsAct a = AllFit (act_places (act_fields a).0) (act_fields a).1
+FitsAct act.Hold = Unit {0}
+FitsAct (act.Line to) = FitsPoint to
+FitsAct (act.Move to) = FitsPoint to
+FitsAct (act.Turn yaw) = FitsYaw yaw
+FitsAct (act.Arc ccw cx cy yaw) = FitsCoordinate cx × FitsCoordinate cy × FitsYaw yaw
+FitsAct (act.Eased how ccw cx cy yaw) = FitsCoordinate cx × FitsCoordinate cy × FitsYaw yaw
+FitsAct (act.Curve p1 p2 to) = FitsTriple p1 × FitsTriple p2 × FitsPoint to
 
 -- a frame in its ranges
 abbrev pub FitsFrame : Frame → Type 0
 FitsFrame f = (f.turns ≤ 3) × FitsCoordinate f.dx × FitsCoordinate f.dy × FitsCoordinate f.dz
 
--- a line with a first word of its own: its values are as its row wants them, and this many names stand after them
-abbrev pub FitsLine : Entry → Type 0
-FitsLine e =
-    IsTrue (has_count (row_of (keyword_in e)) (length (fields_of e)))
-    × AllFit (row_of (keyword_in e)).places (fields_of e)
+-- the milliseconds of a cue
+abbrev pub FitsDuration : ℕ → Type 0
+FitsDuration ms = (1 ≤ ms) × (ms ≤ 65535)
+
+-- how often a repeat repeats
+abbrev pub FitsTimes : ℕ → Type 0
+FitsTimes times = (1 ≤ times) × (times ≤ 1000000000)
+
+-- the name of a figure, and its roles
+abbrev pub FitsFigure : Name → List Name → Type 0
+FitsFigure figure roles = IsName figure × FitNames roles
+
+-- a figure that drones perform in a frame
+abbrev pub FitsPerform : Name → Frame → List Name → Type 0
+FitsPerform figure frame drones = IsName figure × FitsFrame frame × FitNames drones
 
 -- an act line
 abbrev pub FitsActLine : ActLine → Type 0
 FitsActLine (on.One line name a) = IsName name × FitsAct a
-FitsActLine (on.Form line formation smooth) = FitsLine (entry.Form formation smooth)
+FitsActLine (on.Form line formation smooth) = IsName formation
 
 -- act lines
 abbrev pub FitActLines : List ActLine → Type 0
@@ -58,9 +89,9 @@ FitActLines (a ∷ others) = FitsActLine a × FitActLines others
 -- a body: durations, counts, names and numbers
 abbrev pub FitsBody : Body → Type 0
 FitsBody plain.Done = Unit {0}
-FitsBody (plain.Cue line ms acts rest) = FitsLine (entry.Cue ms) × FitActLines acts × FitsBody rest
-FitsBody (plain.Repeat line times inside rest) = FitsLine (entry.Repeat times) × FitsBody inside × FitsBody rest
-FitsBody (plain.Perform line figure frame drones rest) = FitsLine (entry.Perform figure frame drones) × FitsBody rest
+FitsBody (plain.Cue line ms acts rest) = FitsDuration ms × FitActLines acts × FitsBody rest
+FitsBody (plain.Repeat line times inside rest) = FitsTimes times × FitsBody inside × FitsBody rest
+FitsBody (plain.Perform line figure frame drones rest) = FitsPerform figure frame drones × FitsBody rest
 
 -- drones or places
 abbrev pub FitDroneLines : List DroneLine → Type 0
@@ -76,7 +107,7 @@ FitFormations (f ∷ fs) = IsName f.name × (1 ≤ length f.places) × FitDroneL
 abbrev pub FitFigures : List PlainFigure → Type 0
 FitFigures [] = Unit {0}
 FitFigures (f ∷ fs) =
-    FitsLine (entry.Figure f.name f.roles)
+    FitsFigure f.name f.roles
     × IsTrue (has_block f.body) × IsTrue (is_filled f.body) × (depth f.body ≤ most_nested) × IsTrue (fits_figure f.body)
     × FitsBody f.body × FitFigures fs
 

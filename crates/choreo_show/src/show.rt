@@ -1,11 +1,12 @@
 //! What a show is made of. Lines of a text count from 1; a `line` is that on which the thing begins.
 
-use choreo_lines::{Act, Frame, Listed, Name, Point};
+use crate::parts::{Act, Frame, Name, Point};
+use listed::Listed;
 
 /// Where the trajectories go in a drone's memory; how large the drones' ellipsoids are, by half axes in millimetres,
 /// `r` across and `h` upwards; how many millimetres a drone strays from its curve at most, and how many milliseconds
 /// one is late against another.
-#[derive(Clone, Copy, PartialEq, Eq, Debug)]
+#[derive(Clone, Copy, PartialEq, Eq)]
 pub struct Settings {
     pub memory_id: u8,
     pub offset: u16,

@@ -1,5 +1,5 @@
 -- Counts of cues.
-use Rattle.cue_grid.proofs.Prelude.{common_steps, ◌≡◌, ℕ, zero, suc, ◌+◌, ◌*◌, ◌<◌, ◌≤◌, false, List, length, get_or, take, ap, ◌∙◌, arith, ◌⊎◌, inl, inr, min, nat_lt, Vec, take_more, take_all, cases_lt, nat_tests, Name, Body, PlainFigure, ◌⨾◌, block_of, block_step, blocks_then, body_of, body_push, repeat_is, Block, Global, most_cues, count_in}
+use Rattle.cue_grid.proofs.Prelude.{common_steps, ◌≡◌, ℕ, zero, suc, ◌+◌, ◌*◌, ◌<◌, ◌≤◌, false, List, length, get_or, take, ap, ◌∙◌, arith, ◌⊎◌, inl, inr, min, nat_lt, Vec, take_more, take_all, cases_lt, nat_tests, Name, Body, ◌⨾◌, block_of, body_of, body_push, repeat_is, Block, Global, most_cues, count_in}
 use Rattle.choreo_show.specs.Plain as plain
 use Rattle.choreo_show.specs.declared.show.Block.TheVariants as block
 

@@ -1,11 +1,10 @@
 -- The grid of a valid show without a fault is valid.
-use Rattle.cue_grid.proofs.Prelude.{common_steps, ◌≡◌, ℕ, zero, suc, ◌+◌, ◌*◌, ◌≤◌, Bool, true, false, cond, List, [], ◌∷◌, ◌++◌, map, length, drop, Option, Some, None, refl, sym, ap, subst, ◌∙◌, arith, IfSome, ◌&&◌, nat_lt, ◌==◌, IsTrue, neg_ℤ, pos, ◌≤ℤ◌, All, length-append, length-map, nat_tests, Name, Body, PlainFigure, PlainShow, has_block, IsName, FitsCoordinate, FitsPoint, FitsAct, FitsFrame, FitsLine, FitsActLine, FitActLines, FitsBody, FitDroneLines, FitFormations, FitFigures, IsValid, ActLine, Act, DroneLine, Formation, Frame, Point, same_name, formation_named, figure_named, place_named, places_in, names_of, no_frame, Playing, player, job_of, times_over, cues_in, cues_of_figure, cues_of, grid_of, as_written, way_if, act_if, act_by, act_line_number, job_or, nothing_performed, performed_cues, most_cues, most_drones, count_in, none_performed, figure_count, count_of_figure, perform_count, body_count, line_if_over, over_at, line_of, perform_faults, body_faults, drones_faults, formations_faults, figures_faults, show_faults, name_faults, earlier_of, earliest, no_drone, too_many, many_drones, no_cue, many_cues, or_else, grid_fault, GridFault, NoDrone, Job, Cue}
+use Rattle.cue_grid.proofs.Prelude.{common_steps, ◌≡◌, ℕ, zero, suc, ◌+◌, ◌*◌, ◌≤◌, Bool, true, false, cond, List, [], ◌∷◌, ◌++◌, map, length, drop, Option, Some, None, refl, sym, ap, subst, ◌∙◌, arith, IfSome, ◌&&◌, nat_lt, ◌==◌, IsTrue, neg_ℤ, pos, ◌≤ℤ◌, All, length-append, length-map, nat_tests, Name, Body, PlainFigure, PlainShow, has_block, IsName, FitsCoordinate, FitsPoint, FitsAct, FitsFrame, FitsActLine, FitActLines, FitsBody, FitDroneLines, FitFormations, FitFigures, IsValid, ActLine, Act, DroneLine, Formation, Frame, Point, same_name, formation_named, figure_named, place_named, places_in, names_of, no_frame, Playing, player, job_of, times_over, cues_in, cues_of_figure, cues_of, grid_of, as_written, way_if, act_if, act_by, act_line_number, job_or, nothing_performed, performed_cues, most_cues, most_drones, count_in, none_performed, figure_count, count_of_figure, perform_count, body_count, line_if_over, over_at, line_of, perform_faults, body_faults, drones_faults, formations_faults, figures_faults, show_faults, name_faults, earlier_of, earliest, no_drone, too_many, many_drones, no_cue, many_cues, or_else, grid_fault, GridFault, NoDrone, Job, Cue}
 use Rattle.std.proofs.lemmas.List.Elements.{All-nil, All-cons}
 use Rattle.std.proofs.lemmas.Int.{ints}
 use Rattle.choreo_show.specs.Plain as plain
 use Rattle.choreo_show.specs.Shape.{is_filled, fits_figure}
 use Rattle.choreo_show.specs.declared.show.ActLine.TheVariants as on
-use Rattle.choreo_lines.specs.declared.line.Entry.TheVariants as entry
 use Rattle.cue_grid.proofs.Placing.{job_first}
 use Rattle.cue_grid.specs.Grids.{FitsJob, FitJobs, FitCues, IsGrid}
 use Rattle.cue_grid.specs.declared.grid.Grid.{Grid}
@@ -114,7 +113,7 @@ some_in_figure (plain.Cue line ms acts rest) h f g k = omega arith
 some_in_figure (plain.Repeat line times inside rest) h f g k =
     let p = first_two (has_block inside) (is_filled inside) (is_filled rest) f in
     let q = first_two (fits_figure inside) (fits_figure rest) true (kept_true (fits_figure inside) (fits_figure rest) g) in
-    let one = at_least times (figure_count inside) (omega (arith, ints, k.0.1.0.0)) (some_in_figure inside p.0 p.1 q.0 k.1) in
+    let one = at_least times (figure_count inside) (k.0.0) (some_in_figure inside p.0 p.1 q.0 k.1) in
     omega (arith, one)
   where
     kept_true : (a b : Bool) → IsTrue (a && b) → IsTrue (a && b && true)
@@ -152,7 +151,7 @@ some_cue s known (plain.Cue line ms acts rest) v h f k e = omega arith
 some_cue s known (plain.Repeat line times inside rest) v h f k e =
     let p = first_two (has_block inside) (is_filled inside) (is_filled rest) f in
     let none = both_empty (body_faults s known inside) (body_faults s known rest) e in
-    let one = at_least times (body_count s.figures inside) (omega (arith, ints, k.0.1.0.0)) (some_cue s known inside v p.0 p.1 k.1 none.0) in
+    let one = at_least times (body_count s.figures inside) (k.0.0) (some_cue s known inside v p.0 p.1 k.1 none.0) in
     omega (arith, one)
 some_cue s known (plain.Perform line figure frame drones rest) v h f k e = grind (arith, common_steps, both_empty, unknown_figure, figure_fits)
 
@@ -207,20 +206,16 @@ fit_times : (n t : ℕ) (xs : List Cue) → FitCues n xs → FitCues n (times_ov
 fit_times n zero xs h = tt
 fit_times n (suc t) xs h = fit_then n xs (times_over t xs) h (fit_times n t xs h)
 
--- the frame of a perform
-frame_fits : (figure : Name) (frame : Frame) (drones : List Name) → FitsLine (entry.Perform figure frame drones) → FitsFrame frame
-frame_fits figure frame drones h = (omega (arith, ints, h.1.1.1.0.1), h.1.1.1.1.0, h.1.1.1.1.1.0, h.1.1.1.1.1.1.0)
-
 -- each cue of blocks fits where those of their performs do
 cues_fit : (s : PlainShow) (p : Playing) (performed : Name → Frame → List Name → List Cue) → FitFormations s.formations → FitsFrame p.frame → ((figure : Name) (frame : Frame) (drones : List Name) → FitsFrame frame → FitCues (length s.drones) (performed figure frame drones)) → (b : Body) → FitsBody b → FitCues (length s.drones) (cues_in s p performed b)
 cues_fit s p performed v f g plain.Done h = tt
 cues_fit s p performed v f g (plain.Cue line ms acts rest) h =
-    (record { lasts = omega (arith, ints, h.0.1.0.0); short = omega (arith, ints, h.0.1.0.1); count = length-map s.drones (λ d. job_of s.formations p line acts d.name); jobs = jobs_fit s.formations p line acts s.drones v f h.1 }, cues_fit s p performed v f g rest h.2)
+    (record { lasts = h.0.0; short = h.0.1; count = length-map s.drones (λ d. job_of s.formations p line acts d.name); jobs = jobs_fit s.formations p line acts s.drones v f h.1 }, cues_fit s p performed v f g rest h.2)
 cues_fit s p performed v f g (plain.Repeat line times inside rest) h =
     fit_then (length s.drones) (times_over times (cues_in s p performed inside)) (cues_in s p performed rest)
     (fit_times (length s.drones) times (cues_in s p performed inside) (cues_fit s p performed v f g inside h.1)) (cues_fit s p performed v f g rest h.2)
 cues_fit s p performed v f g (plain.Perform line figure frame drones rest) h =
-    fit_then (length s.drones) (performed figure frame drones) (cues_in s p performed rest) (g figure frame drones (frame_fits figure frame drones h.0)) (cues_fit s p performed v f g rest h.1)
+    fit_then (length s.drones) (performed figure frame drones) (cues_in s p performed rest) (g figure frame drones h.0.1) (cues_fit s p performed v f g rest h.1)
 
 figure_cues_fit : (s : PlainShow) (o : Option PlainFigure) (frame : Frame) (drones : List Name) → FitFormations s.formations → IfSome o IsFitFigure → FitsFrame frame → FitCues (length s.drones) (cues_of_figure s o frame drones)
 figure_cues_fit s None frame drones v k f = tt
@@ -276,3 +271,7 @@ answered s o starts cues v h k p q =
 -- the starts of a valid show have names of the language
 pub answered_names : (s : PlainShow) (starts : List DroneLine) → IsValid s → starts ≡ s.drones → All (λ (d : DroneLine). IsName d.name) starts
 answered_names s starts v p = subst (All (λ (d : DroneLine). IsName d.name)) (sym p) (names_fit s.drones v.drones)
+
+-- the starts and the cues of a show are its grid
+pub grid_by : (s : PlainShow) (starts : List DroneLine) (cues : List Cue) → starts ≡ s.drones → cues ≡ cues_of s → grid_with starts cues ≡ grid_of s
+grid_by s starts cues p q = ap (λ x. grid_with x cues) p ∙ ap (grid_with s.drones) q

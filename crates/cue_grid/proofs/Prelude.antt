@@ -10,13 +10,13 @@ pub use Rattle.std.specs.Map.{lookup}
 pub use Rattle.std.specs.Option.{option_copied}
 pub use Rattle.std.specs.Prelude.{IfSome, IsTrue, Vec, min, nat_lt, neg_ℤ, not, pos, ◌&&◌, ◌==◌, ◌||◌, ◌≤ℤ◌}
 pub use Rattle.std.specs.declared.alloc.Global.{Global}
-pub use Rattle.choreo_lines.specs.Name.{Name}
-pub use Rattle.choreo_lines.specs.declared.parts.Act.{Act}
-pub use Rattle.choreo_lines.specs.declared.parts.Frame.{Frame}
-pub use Rattle.choreo_lines.specs.declared.parts.Point.{Point}
+pub use Rattle.choreo_show.specs.Name.{Name}
+pub use Rattle.choreo_show.specs.declared.parts.Act.{Act}
+pub use Rattle.choreo_show.specs.declared.parts.Frame.{Frame}
+pub use Rattle.choreo_show.specs.declared.parts.Point.{Point}
 pub use Rattle.choreo_show.proofs.Blocks.{block_then, blocks_none, body_push, repeat_is}
 pub use Rattle.choreo_show.specs.Plain.{Body, PlainFigure, PlainShow, block_of, block_step, blocks_then, body_of, figure_of, has_block, plain, ◌⨾◌}
-pub use Rattle.choreo_show.specs.Valid.{AllAbove, FitActLines, FitDroneLines, FitFigures, FitFormations, FitsAct, FitsActLine, FitsBody, FitsCoordinate, FitsFrame, FitsLine, FitsPoint, IsName, IsValid, act_lines, body_lines, drone_lines, figure_lines, formation_lines}
+pub use Rattle.choreo_show.specs.Valid.{AllAbove, FitActLines, FitDroneLines, FitFigures, FitFormations, FitsAct, FitsActLine, FitsBody, FitsCoordinate, FitsFrame, FitsPoint, IsName, IsValid, act_lines, body_lines, drone_lines, figure_lines, formation_lines}
 pub use Rattle.choreo_show.specs.declared.show.ActLine.{ActLine}
 pub use Rattle.choreo_show.specs.declared.show.Block.{Block}
 pub use Rattle.choreo_show.specs.declared.show.DroneLine.{DroneLine}

@@ -1,13 +1,13 @@
 -- The cues of a show: its repeats written out, and its figures played by drones.
 use Rattle.std.specs.Prelude.{ℕ, zero, suc, List, [], ◌∷◌, ◌++◌, map, Option, Some, None, if◌then◌else◌}
 use Rattle.choreo_show.specs.Plain as plain
-use Rattle.choreo_lines.specs.Name.{Name}
+use Rattle.choreo_show.specs.Name.{Name}
 use Rattle.choreo_show.specs.Plain.{Body, PlainFigure, PlainShow}
 use Rattle.choreo_show.specs.declared.show.ActLine.{ActLine}
 use Rattle.choreo_show.specs.declared.show.ActLine.TheVariants as on
-use Rattle.choreo_lines.specs.declared.parts.Act.TheVariants as act
+use Rattle.choreo_show.specs.declared.parts.Act.TheVariants as act
 use Rattle.choreo_show.specs.declared.show.Formation.{Formation}
-use Rattle.choreo_lines.specs.declared.parts.Frame.{Frame}
+use Rattle.choreo_show.specs.declared.parts.Frame.{Frame}
 use Rattle.cue_grid.specs.Frames.{no_frame}
 use Rattle.cue_grid.specs.Names.{same_name, formation_named, figure_named, place_named, places_in}
 use Rattle.cue_grid.specs.declared.grid.Job.{Job}

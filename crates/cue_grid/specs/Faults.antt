@@ -4,7 +4,7 @@ use Rattle.std.specs.Prelude.{ℕ, Bool, true, false, not, ◌||◌, List, [], �
 use Rattle.std.specs.Prelude.{◌==◌, nat_lt, if◌then◌else◌}
 use Rattle.fleet_math.specs.Limits.{most_drones}
 use Rattle.choreo_show.specs.Plain as plain
-use Rattle.choreo_lines.specs.Name.{Name}
+use Rattle.choreo_show.specs.Name.{Name}
 use Rattle.choreo_show.specs.Plain.{Body, PlainFigure, PlainShow}
 use Rattle.choreo_show.specs.declared.show.ActLine.{ActLine}
 use Rattle.choreo_show.specs.declared.show.ActLine.TheVariants as on

@@ -1,9 +1,9 @@
 -- What a frame does to a point: its mirror, then its quarter turns, then its shift.
 use Rattle.std.specs.Prelude.{◌≤ℤ◌, ℕ, zero, suc, ℤ, pos, neg_ℤ, ◌+ℤ◌, ◌-ℤ◌}
-use Rattle.choreo_lines.specs.declared.parts.Point.{Point}
-use Rattle.choreo_lines.specs.declared.parts.Frame.{Frame}
-use Rattle.choreo_lines.specs.declared.parts.Mirror.{Mirror}
-use Rattle.choreo_lines.specs.declared.parts.Mirror.TheVariants as mirror
+use Rattle.choreo_show.specs.declared.parts.Point.{Point}
+use Rattle.choreo_show.specs.declared.parts.Frame.{Frame}
+use Rattle.choreo_show.specs.declared.parts.Mirror.{Mirror}
+use Rattle.choreo_show.specs.declared.parts.Mirror.TheVariants as mirror
 
 -- the mirror `x` turns x round, and looks the other way along it (a half turn less the yaw); the mirror `y` turns y
 -- round

@@ -2,7 +2,7 @@
 -- names are kept by themselves.
 use Rattle.std.specs.Prelude.{◌≡◌, ℕ, Bool, true, false, ◌||◌, List, [], ◌∷◌, length, map, get_or, set, Option, Some}
 use Rattle.std.specs.Prelude.{None}
-use Rattle.choreo_lines.specs.Name.{Name}
+use Rattle.choreo_show.specs.Name.{Name}
 use Rattle.choreo_show.specs.declared.show.Formation.{Formation}
 use Rattle.cue_grid.specs.Names.{has_name, names_of}
 use Rattle.cue_grid.specs.Numbers.{number_from}

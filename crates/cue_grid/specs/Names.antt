@@ -1,11 +1,11 @@
 -- The names of a show, and what has a name.
 use Rattle.std.specs.Prelude.{Bool, false, ◌||◌, List, [], ◌∷◌, map, Option, Some, None, bytes_eq, if◌then◌else◌}
 use Rattle.std.specs.List.{list_all, list_any}
-use Rattle.choreo_lines.specs.Name.{Name}
+use Rattle.choreo_show.specs.Name.{Name}
 use Rattle.choreo_show.specs.Plain.{PlainFigure}
 use Rattle.choreo_show.specs.declared.show.DroneLine.{DroneLine}
 use Rattle.choreo_show.specs.declared.show.Formation.{Formation}
-use Rattle.choreo_lines.specs.declared.parts.Point.{Point}
+use Rattle.choreo_show.specs.declared.parts.Point.{Point}
 
 -- whether two names have the same bytes
 abbrev pub same_name : Name → Name → Bool

@@ -1,7 +1,7 @@
 -- Names with their numbers: which place in a list is the first one that has the name.
 use Rattle.std.specs.Prelude.{◌≡◌, ℕ, ◌+◌, Bool, List, [], ◌∷◌, map, Option, Some, None, if◌then◌else◌}
 use Rattle.std.specs.Map.{lookup}
-use Rattle.choreo_lines.specs.Name.{Name}
+use Rattle.choreo_show.specs.Name.{Name}
 use Rattle.choreo_show.specs.declared.show.Formation.{Formation}
 use Rattle.choreo_show.specs.declared.show.Figure.{Figure}
 use Rattle.cue_grid.specs.Names.{same_name}

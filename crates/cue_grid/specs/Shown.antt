@@ -2,7 +2,7 @@
 use Rattle.choreo_show.specs.Plain.{PlainShow, plain}
 use Rattle.cue_grid.specs.Cues.{Playing}
 use Rattle.std.specs.Prelude.{◌≡◌, List, false}
-use Rattle.choreo_lines.specs.Name.{Name}
+use Rattle.choreo_show.specs.Name.{Name}
 use Rattle.cue_grid.specs.Marks.{IsActed}
 use Rattle.cue_grid.specs.Names.{has_double, names_of}
 use Rattle.cue_grid.specs.declared.acted.Acted.{Acted}

@@ -1,8 +1,8 @@
 -- Words of the private steps of unrolling: what one step finds, and what it hands to the next.
 use Rattle.std.specs.Prelude.{ℕ, zero, suc, Bool, false, not, List, [], ◌∷◌, Option, Some, None, if◌then◌else◌}
-use Rattle.choreo_lines.specs.Name.{Name}
-use Rattle.choreo_lines.specs.declared.parts.Act.{Act}
-use Rattle.choreo_lines.specs.declared.parts.Frame.{Frame}
+use Rattle.choreo_show.specs.Name.{Name}
+use Rattle.choreo_show.specs.declared.parts.Act.{Act}
+use Rattle.choreo_show.specs.declared.parts.Frame.{Frame}
 use Rattle.choreo_show.specs.declared.show.ActLine.{ActLine}
 use Rattle.choreo_show.specs.declared.show.ActLine.TheVariants as on
 use Rattle.choreo_show.specs.declared.show.DroneLine.{DroneLine}
@@ -11,8 +11,8 @@ use Rattle.cue_grid.specs.Cues.{Playing, player, cues_in, cues_of_figure}
 use Rattle.cue_grid.specs.Frames.{no_frame}
 use Rattle.cue_grid.specs.Names.{same_name, places_in, formation_named, place_named, figure_named}
 use Rattle.cue_grid.specs.declared.grid.Cue.{Cue}
-use Rattle.choreo_lines.specs.declared.parts.Point.{Point}
-use Rattle.choreo_lines.specs.declared.parts.Act.TheVariants as act
+use Rattle.choreo_show.specs.declared.parts.Point.{Point}
+use Rattle.choreo_show.specs.declared.parts.Act.TheVariants as act
 use Rattle.choreo_show.specs.declared.show.ActLine.TheVariants as on
 use Rattle.cue_grid.specs.declared.grid.Job.{Job}
 use Rattle.choreo_show.specs.Plain as plain

@@ -1,14 +1,13 @@
 //! Who has an act in a cue: the names on `at` lines are marked by their numbers, other names are kept in a set.
 
 ghost use Rattle.std.specs.Prelude.{◌≡◌, ◌++◌, [], ◌∷◌, true, false, get_or, set, OnOk, IfOk, List};
-ghost use Rattle.choreo_lines.specs.Name.{Name};
+ghost use Rattle.choreo_show.specs.Name.{Name};
 ghost use Rattle.cue_grid.specs.Marks.{number_in, has_act, has_mark, marked};
 ghost use Rattle.cue_grid.specs.Faults.{acted_by};
 ghost use Rattle.cue_grid.specs.Shown.{shown, place_names, HaveActs};
 
 use crate::lookup::Lookup;
-use choreo_lines::copy_of;
-use choreo_show::{ActLine, Name};
+use choreo_show::{ActLine, Name, copy_of};
 use indexmap::IndexSet;
 use std::alloc::{AllocError, Global};
 

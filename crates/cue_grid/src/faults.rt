@@ -6,7 +6,7 @@ ghost use Rattle.choreo_show.specs.Plain.{block_of, body_of, figure_of as plain_
 ghost use Rattle.choreo_show.specs.Plain as plain;
 ghost use Rattle.cue_grid.specs.Names.{names_of, has_name, has_double as has_double_of, formation_named, figure_named};
 ghost use Rattle.cue_grid.specs.Numbers.{formation_names, figure_names};
-ghost use Rattle.choreo_lines.specs.Name.{Name as NameOf};
+ghost use Rattle.choreo_show.specs.Name.{Name as NameOf};
 ghost use Rattle.cue_grid.specs.Marks.{number_in, has_act};
 ghost use Rattle.cue_grid.specs.Shown.{shown, place_names, HaveActs};
 ghost use Rattle.cue_grid.specs.Steps.{named_faults, first_of, gives as gives_of, lines_after};
@@ -20,8 +20,7 @@ use crate::acted::{Acted, has_acted, has_some_acted, nobody, put_acted};
 use crate::grid::GridFault;
 use crate::lookup::Lookup;
 use crate::names::{are_drones, has_double, is_drone, is_known, same_name};
-use choreo_lines::copy_of;
-use choreo_show::{ActLine, Block, DroneLine, Figure, Formation, Name};
+use choreo_show::{ActLine, Block, DroneLine, Figure, Formation, Name, copy_of};
 use std::alloc::{AllocError, Global};
 
 /// The fault of names of the earliest line.
@@ -149,14 +148,41 @@ fn cue_fault(
     if distinct && are_in_order(known, acts) {
         return Ok(None);
     }
+    unordered_fault(alloc, show, known, acts)
+}
+
+// The first fault of the lines of a cue in any order, with who has an act so far.
+fn unordered_fault(
+    alloc: Global,
+    show: &Lookup,
+    known: &[Name],
+    acts: &[ActLine],
+) -> Result<Option<GridFault>, AllocError>
+    ensures { IfOk result (λ fault. fault
+        ≡ first_of (act_faults known.now (shown show.now).formations [] acts.now)) }
+{
     let mut acted = nobody(alloc, show)?;
+    fault_after(&mut acted, show, known, acts)
+}
+
+// The same, where nobody has an act yet. It owns nothing, so nothing is let go where a line is at fault or memory ends.
+fn fault_after(
+    acted: &mut Acted,
+    show: &Lookup,
+    known: &[Name],
+    acts: &[ActLine],
+) -> Result<Option<GridFault>, AllocError>
+    requires { HaveActs (place_names show.now) acted.old [] }
+    ensures { IfOk result (λ fault. fault
+        ≡ first_of (act_faults known.now (shown show.now).formations [] acts.now)) }
+{
     for (i, line) in acts.iter().enumerate() {
-        if let Some(fault) = act_line_fault(show, known, &acted, line, i) {
+        if let Some(fault) = act_line_fault(show, known, acted, line, i) {
             return Ok(Some(fault));
         }
         // Who has an act by the last line matters to no line after it.
         if i + 1 < acts.len() {
-            put_acted(&mut acted, show, line)?;
+            put_acted(acted, show, line)?;
         }
     }
     Ok(None)

@@ -4,7 +4,7 @@ use choreo_show::{Act, DroneLine, Frame, Listed};
 use std::alloc::AllocError;
 
 /// What one drone does in a cue.
-#[derive(Clone, Copy, PartialEq, Eq, Debug)]
+#[derive(Clone, Copy, PartialEq, Eq)]
 pub struct Job {
     /// The act line or `form` line that gives the act; for a drone that holds without one, the line of the cue.
     pub line: u32,

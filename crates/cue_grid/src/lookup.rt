@@ -6,8 +6,7 @@ ghost use Rattle.cue_grid.specs.Numbers.{IsNumbered, IsNoted, formation_names, f
 ghost use Rattle.cue_grid.specs.Names.{formation_named, figure_named, has_name, names_of};
 ghost use Rattle.cue_grid.specs.Marks.{number_in, Keeps, HasNumbers, IsPlaced, ArePlaced, AllPlaced};
 
-use choreo_lines::copy_of;
-use choreo_show::{DroneLine, Figure, Formation, Name, Show};
+use choreo_show::{DroneLine, Figure, Formation, Name, Show, copy_of};
 use indexmap::{IndexMap, IndexSet};
 use std::alloc::{AllocError, AllocFailed, Global};
 
@@ -94,6 +93,18 @@ fn place_numbers(
     Ok(all)
 }
 
+// The names on the `at` lines of formations, and the numbers that these lines have.
+fn placed_names(
+    alloc: Global,
+    formations: &[Formation],
+) -> Result<(IndexSet<Name>, Vec<Vec<usize>>), AllocError>
+    ensures { IfOk result (λ placed. ArePlaced vec_items placed.0.keys formations.now placed.1.items) }
+{
+    let mut names = IndexSet::new(alloc);
+    let places = place_numbers(alloc, &mut names, formations)?;
+    Ok((names, places))
+}
+
 /// A show with the numbers of the names of its formations and figures, and of the names on `at` lines.
 /// The tables give each name of a formation or figure the place of the first that has it.
 #[derive(Drop)]
@@ -115,8 +126,7 @@ impl<'a> Lookup<'a> {
     {
         let formations = formation_numbers(alloc, show.formations.as_slice())?;
         let figures = figure_numbers(alloc, show.figures.as_slice())?;
-        let mut names = IndexSet::new(alloc);
-        let places = place_numbers(alloc, &mut names, show.formations.as_slice())?;
+        let (names, places) = placed_names(alloc, show.formations.as_slice())?;
         Ok(Lookup {
             show,
             formations,

@@ -1,11 +1,12 @@
 //! The cues of a show in order, or its first fault.
 
-ghost use Rattle.std.specs.Prelude.{◌≡◌, false, IfOk};
+ghost use Rattle.std.specs.Prelude.{◌≡◌, false, IfOk, None};
 ghost use Rattle.std.specs.List.{All};
 ghost use Rattle.choreo_show.specs.Plain.{plain, body_of};
 ghost use Rattle.choreo_show.specs.Valid.{IsName, IsValid};
 ghost use Rattle.cue_grid.specs.Faults.{no_drone, many_drones, no_cue, many_cues, or_else, grid_fault};
 ghost use Rattle.cue_grid.specs.Counts.{over_at};
+ghost use Rattle.cue_grid.specs.Cues.{grid_of};
 ghost use Rattle.cue_grid.specs.Names.{has_double, names_of};
 ghost use Rattle.cue_grid.specs.Shown.{shown};
 ghost use Rattle.cue_grid.specs.Unrolled.{GridGives};
@@ -16,8 +17,7 @@ use crate::cues::cues_of;
 use crate::faults::name_fault;
 use crate::grid::{Grid, GridFault, UnrollError};
 use crate::lookup::Lookup;
-use choreo_lines::copy_of;
-use choreo_show::{DroneLine, Listed, Show};
+use choreo_show::{DroneLine, Listed, Show, copy_of};
 use fleet_math::MOST_DRONES;
 use std::alloc::{AllocError, Global};
 
@@ -32,15 +32,7 @@ pub fn unroll(alloc: Global, show: &Show) -> Result<Grid, UnrollError>
     ensures distinct { IfOk result (λ g. has_double (names_of g.starts) ≡ false) }
 {
     let lookup = Lookup::of(alloc, show)?;
-    if let Some(fault) = first_fault(alloc, &lookup)? {
-        return Err(UnrollError::Fault { fault });
-    }
-    let starts = copies_of(alloc, show.drones.as_slice())?;
-    let cues = cues_of(alloc, &lookup)?;
-    Ok(Grid {
-        starts: Listed::from_vec(starts),
-        cues: Listed::from_vec(cues),
-    })
+    unrolled(alloc, &lookup)
 }
 
 // The fault of too few or too many drones.
@@ -87,6 +79,33 @@ fn first_fault(alloc: Global, show: &Lookup) -> Result<Option<GridFault>, AllocE
         return Ok(Some(fault));
     }
     Ok(cue_count_fault(show))
+}
+
+// What `unroll` returns, once names are found by maps. Each function here has few values to let go where memory fails.
+fn unrolled(alloc: Global, show: &Lookup) -> Result<Grid, UnrollError>
+    requires { IsValid (shown show.now) }
+    ensures gives { GridGives result (shown show.now) }
+    ensures valid { IfOk result (λ g. IsGrid g) }
+    ensures names { IfOk result (λ g. All (λ (s : DroneLine). IsName s.name) g.starts) }
+    ensures distinct { IfOk result (λ g. has_double (names_of g.starts) ≡ false) }
+{
+    if let Some(fault) = first_fault(alloc, show)? {
+        return Err(UnrollError::Fault { fault });
+    }
+    Ok(whole_grid(alloc, show)?)
+}
+
+// The grid of a show without a fault.
+fn whole_grid(alloc: Global, show: &Lookup) -> Result<Grid, AllocError>
+    requires { grid_fault (shown show.now) ≡ None }
+    ensures { IfOk result (λ g. g ≡ grid_of (shown show.now)) }
+{
+    let starts = copies_of(alloc, show.show.drones.as_slice())?;
+    let cues = cues_of(alloc, show)?;
+    Ok(Grid {
+        starts: Listed::from_vec(starts),
+        cues: Listed::from_vec(cues),
+    })
 }
 
 fn copies_of(alloc: Global, drones: &[DroneLine]) -> Result<Vec<DroneLine>, AllocError>

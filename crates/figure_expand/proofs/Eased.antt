@@ -1,13 +1,13 @@
 -- Eased arcs: they begin where the drone is, and end where `arc` ends.
-use Rattle.figure_expand.proofs.Prelude.{◌≡◌, ℕ, zero, suc, ◌<◌, ◌≤◌, ◌^◌, Bool, All, All-from_recursion, IsUpTo, ℤ, pos, ◌+ℤ◌, ◌-ℤ◌, ◌*ℤ◌, List, [], ◌∷◌, length, map, take, get_or, set, ◌+◌, arith, refl, sym, ap, ◌∙◌, ints, at, Point, controls, Eight, end_of}
+use Rattle.figure_expand.proofs.Prelude.{FitsSigned, of_z, to_z, to_z-of_z, w64, ◌≡◌, ℕ, zero, suc, ◌<◌, ◌≤◌, ◌^◌, Bool, All, All-from_recursion, IsUpTo, ℤ, pos, ◌+ℤ◌, ◌-ℤ◌, ◌*ℤ◌, List, [], ◌∷◌, length, map, take, get_or, set, ◌+◌, arith, refl, sym, ap, ◌∙◌, ints, at, Point, controls, Eight, end_of}
 use Rattle.std.specs.Prelude.{neg_ℤ, negsuc, ◌≤ℤ◌, ◌<ℤ◌}
 use Rattle.std.specs.Int.{int_div_euclid}
 use Rattle.std.proofs.lemmas.List.{take_all}
 use Rattle.fleet_math.proofs.RingLemmas.{le_mul_pos}
 use Rattle.fleet_math.specs.Decoded.{last_value}
-use Rattle.choreo_lines.specs.declared.parts.Act.TheVariants as act
-use Rattle.choreo_lines.specs.declared.parts.Ease.{Ease}
-use Rattle.choreo_lines.specs.declared.parts.Ease.TheVariants as ease
+use Rattle.choreo_show.specs.declared.parts.Act.TheVariants as act
+use Rattle.choreo_show.specs.declared.parts.Ease.{Ease}
+use Rattle.choreo_show.specs.declared.parts.Ease.TheVariants as ease
 use Rattle.figure_expand.specs.Acts.{eased_on, eased_points, millionths, shares}
 use Rattle.figure_expand.specs.Bounds.{AreSmall}
 use Rattle.figure_expand.specs.Controls.{axis_with}
@@ -48,6 +48,56 @@ share_small a s few small =
 pub turn_small : (a : ℕ) (s : ℤ) → a ≤ 65535 → IsUpTo (2 ^ 42) s → IsUpTo (2 ^ 58) (pos a *ℤ s)
 turn_small a s few small =
     (omega (arith, ints, le_mul_pos a (neg_ℤ (pos (2 ^ 42))) s small.0), omega (arith, ints, le_mul_pos a s (pos (2 ^ 42)) small.1))
+
+-- ---- what the program makes of such products
+-- both factors are held in 64 bits
+pub factors_told : (p s : ℤ) (a : ℕ) → p ≡ pos a → a ≤ 2000000 → FitsSigned w64 s → to_z w64 (of_z w64 p) *ℤ to_z w64 (of_z w64 s) ≡ pos a *ℤ s
+factors_told p s a p_is few s_fits =
+    let a_fits : FitsSigned w64 (pos a) = omega (arith, ints) in
+    rw (p_is, to_z-of_z w64 (pos a) a_fits, to_z-of_z w64 s s_fits) refl
+
+pub product_fits : (z : ℤ) → IsUpTo (2 ^ 62) z → FitsSigned w64 z
+product_fits z small = omega (arith, ints)
+
+pub sum_fits : (z : ℤ) (half : ℕ) → IsUpTo (2 ^ 62) z → half ≤ 500000 → FitsSigned w64 (z +ℤ pos half)
+sum_fits z half small few = omega (arith, ints)
+
+pub wide : (z : ℤ) → IsUpTo (2 ^ 58) z → IsUpTo (2 ^ 62) z
+wide z small = (omega (arith, ints), omega (arith, ints))
+
+-- a product with half a divisor, as the program holds it
+pub sum_told : (q z : ℤ) (half : ℕ) → q ≡ z → IsUpTo (2 ^ 62) z → to_z w64 (of_z w64 q) +ℤ pos half ≡ z +ℤ pos half
+sum_told q z half q_is small = rw (q_is, to_z-of_z w64 z (product_fits z small)) refl
+
+-- the rounded quotients are small
+pub million_small : (z q : ℤ) → IsUpTo (2 ^ 62) z → q ≡ int_div_euclid (z +ℤ pos 500000) (pos 1000000) → IsUpTo (2 ^ 43) q
+million_small z q small q_is =
+    let floor = floor_of_million (z +ℤ pos 500000) in
+    rw q_is (omega (arith, ints, floor.0, floor.1), omega (arith, ints, floor.0, floor.1))
+
+pub forty_second_small : (z q : ℤ) → IsUpTo (2 ^ 58) z → q ≡ int_div_euclid (z +ℤ pos 21) (pos 42) → IsUpTo (2 ^ 58) q
+forty_second_small z q small q_is =
+    let floor = floor_of_42 (z +ℤ pos 21) in
+    rw q_is (omega (arith, ints, floor.0, floor.1), omega (arith, ints, floor.0, floor.1))
+
+-- and are what the program holds
+pub million_told : (r w z : ℤ) → IsUpTo (2 ^ 62) z → w ≡ z +ℤ pos 500000 → r ≡ int_div_euclid (to_z w64 (of_z w64 w)) (pos 1000000)
+    → to_z w64 (of_z w64 r) ≡ int_div_euclid (z +ℤ pos 500000) (pos 1000000)
+million_told r w z small w_is r_is =
+    let sum : to_z w64 (of_z w64 w) ≡ z +ℤ pos 500000 = rw w_is (to_z-of_z w64 (z +ℤ pos 500000) (sum_fits z 500000 small (omega arith))) in
+    let r_told : r ≡ int_div_euclid (z +ℤ pos 500000) (pos 1000000) = r_is ∙ ap (λ (x : ℤ). int_div_euclid x (pos 1000000)) sum in
+    let r_small : IsUpTo (2 ^ 43) r = million_small z r small r_told in
+    let r_fits : FitsSigned w64 r = omega (arith, ints, r_small.0, r_small.1) in
+    to_z-of_z w64 r r_fits ∙ r_told
+
+pub forty_second_told : (r w z : ℤ) → IsUpTo (2 ^ 58) z → w ≡ z +ℤ pos 21 → r ≡ int_div_euclid (to_z w64 (of_z w64 w)) (pos 42)
+    → to_z w64 (of_z w64 r) ≡ int_div_euclid (z +ℤ pos 21) (pos 42)
+forty_second_told r w z small w_is r_is =
+    let sum : to_z w64 (of_z w64 w) ≡ z +ℤ pos 21 = rw w_is (to_z-of_z w64 (z +ℤ pos 21) (sum_fits z 21 (wide z small) (omega arith))) in
+    let r_told : r ≡ int_div_euclid (z +ℤ pos 21) (pos 42) = r_is ∙ ap (λ (x : ℤ). int_div_euclid x (pos 42)) sum in
+    let r_small : IsUpTo (2 ^ 58) r = forty_second_small z r small r_told in
+    let r_fits : FitsSigned w64 r = omega (arith, ints, r_small.0, r_small.1) in
+    to_z-of_z w64 r r_fits ∙ r_told
 
 -- the shares in the table are small
 pub shares_small : (how : Ease) → All AreSmall (shares how)

@@ -1,12 +1,12 @@
 -- What the proofs of this crate cite from elsewhere, passed on from one place. Declares nothing.
-pub use Rattle.std.proofs.Common.{Bool, List, None, Option, Some, [], ap, arith, cond, drop, false, get_or, length, map, nat_le, of_z, pos, refl, set, subst, suc, sym, take, to_z, true, w64, zero, ℕ, ℤ, ◌&&◌, ◌*ℤ◌, ◌*◌, ◌++◌, ◌+ℤ◌, ◌+◌, ◌-ℤ◌, ◌<◌, ◌^◌, ◌∙◌, ◌∷◌, ◌≡◌, ◌≤◌}
+pub use Rattle.std.proofs.Common.{Bool, FitsSigned, List, None, Option, Some, [], ap, arith, cond, drop, false, get_or, length, map, nat_le, of_z, pos, refl, set, subst, suc, sym, take, to_z, true, w64, zero, ℕ, ℤ, ◌&&◌, ◌*ℤ◌, ◌*◌, ◌++◌, ◌+ℤ◌, ◌+◌, ◌-ℤ◌, ◌<◌, ◌^◌, ◌∙◌, ◌∷◌, ◌≡◌, ◌≤◌}
 pub use Rattle.std.proofs.lemmas.Grind.{common_steps}
 pub use Rattle.std.proofs.lemmas.Int.{ints, to_z-of_z}
 pub use Rattle.std.proofs.lemmas.List.Elements.{All-append, All-cons, All-from_recursion, All-get_or, All-head, All-nil, All-tail}
 pub use Rattle.std.specs.List.{All, list_all}
-pub use Rattle.choreo_lines.specs.declared.parts.Act.{Act}
-pub use Rattle.choreo_lines.specs.declared.parts.Point.{Point}
-pub use Rattle.choreo_show.specs.Valid.{FitsAct, FitsCoordinate, FitsFrame, FitsPoint}
+pub use Rattle.choreo_show.specs.declared.parts.Act.{Act}
+pub use Rattle.choreo_show.specs.declared.parts.Point.{Point}
+pub use Rattle.choreo_show.specs.Valid.{FitsAct, FitsCoordinate, FitsFrame, FitsPoint, FitsTriple, FitsYaw}
 pub use Rattle.choreo_show.specs.declared.show.DroneLine.{DroneLine}
 pub use Rattle.cue_grid.specs.Frames.{IsPointUpTo, IsShiftUpTo, IsUpTo, mirrored, no_frame, turned, turned_once}
 pub use Rattle.cue_grid.specs.Grids.{FitCues, FitJobs, FitsCue, FitsJob, IsGrid}
@@ -23,7 +23,7 @@ pub use Rattle.mm_rounding.specs.declared.piece.Axis.{Axis}
 pub use Rattle.mm_rounding.specs.declared.piece.Axis.TheVariants.{Eight, Four, One, Two}
 pub use Rattle.mm_rounding.specs.declared.piece.MicroPiece.{MicroPiece}
 pub use Rattle.figure_expand.specs.Acts.{act_in, act_of, handle, on_axis}
-pub use Rattle.figure_expand.specs.Bounds.{AreInReach, FitsTriple, FitsYaw, IsActUpTo, reach}
+pub use Rattle.figure_expand.specs.Bounds.{AreInReach, IsActUpTo, IsTripleUpTo, reach}
 pub use Rattle.figure_expand.specs.Controls.{axes_of, piece_of}
 unfoldable pub use Rattle.figure_expand.specs.Expanded.{expanded, range_fault}
 pub use Rattle.figure_expand.specs.Expanded.{cue_values, expanded_from, first_unfit, fits, fits_axis, job_in, no_job, pieces_from, point_values, points_after, start_points, start_values, values, values_from, values_of, values_on}

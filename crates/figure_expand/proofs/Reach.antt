@@ -1,10 +1,10 @@
 -- How far the numbers of points and acts are from 0.
 use Rattle.figure_expand.proofs.Prelude.{common_steps, ◌≡◌, ℕ, zero, suc, ◌+◌, ◌*◌, ◌^◌, ◌<◌, ◌≤◌, Bool, true, false, ℤ, pos, ◌+ℤ◌, ◌-ℤ◌, List, [], ◌∷◌, length, get_or, to_z, of_z, w64, arith, refl, sym, ap, subst, All, ints, to_z-of_z, All-nil, All-cons, All-get_or, All-tail, at, Point, Act, DroneLine, FitsFrame, FitsPoint, FitsCoordinate, FitsAct, Job, Cue, mirrored, turned_once, turned, IsUpTo, IsPointUpTo, IsShiftUpTo, FitsJob, FitJobs, FitsCue, FitCues, act_in, act_of, end_of, start_points, points_after, FitsYaw, FitsTriple, IsActUpTo, reach, AreInReach}
 use Rattle.fleet_math.specs.Limits.{most_cues}
-use Rattle.choreo_lines.specs.declared.parts.Frame.{Frame}
-use Rattle.choreo_lines.specs.declared.parts.Mirror.{Mirror}
-use Rattle.choreo_lines.specs.declared.parts.Mirror.TheVariants as mirror
-use Rattle.choreo_lines.specs.declared.parts.Act.TheVariants as act
+use Rattle.choreo_show.specs.declared.parts.Frame.{Frame}
+use Rattle.choreo_show.specs.declared.parts.Mirror.{Mirror}
+use Rattle.choreo_show.specs.declared.parts.Mirror.TheVariants as mirror
+use Rattle.choreo_show.specs.declared.parts.Act.TheVariants as act
 use Rattle.figure_expand.proofs.Eased.{ends_as_arc}
 
 -- ---- the points of a show
@@ -37,20 +37,18 @@ ahead : FitsYaw (pos 0)
 ahead = (omega (arith, ints), omega (arith, ints))
 
 pub heading_fits : (yaw : ℤ) → FitsYaw yaw → FitsPoint (record { x = pos 0; y = pos 0; z = pos 0; yaw = yaw })
-heading_fits yaw fits = (no_way, (no_way, (no_way, (fits, tt))))
+heading_fits yaw fits = (no_way, no_way, no_way, fits)
 
 pub centre_fits : (cx cy yaw : ℤ) → FitsCoordinate cx → FitsCoordinate cy → FitsYaw yaw → FitsPoint (record { x = cx; y = cy; z = pos 0; yaw = yaw })
-centre_fits cx cy yaw x y fits = (x, (y, (no_way, (fits, tt))))
+centre_fits cx cy yaw x y fits = (x, y, no_way, fits)
 
 pub triple_fits : (v : List ℤ) → FitsTriple v → FitsPoint (record { x = at v 0; y = at v 1; z = at v 2; yaw = pos 0 })
-triple_fits (x ∷ y ∷ z ∷ []) fits = (fits.0, (fits.1.0, (fits.1.1.0, (ahead, tt))))
-triple_fits v fits = grind (arith, common_steps)
+triple_fits (x ∷ y ∷ z ∷ []) fits = (fits.0, fits.1, fits.2, ahead)
+triple_fits v fits = absurd fits
 
 -- the handles and the end of a curve
 pub curve_fits : (p1 p2 : List ℤ) (to : Point) → FitsAct (act.Curve p1 p2 to) → FitsTriple p1 × FitsTriple p2 × FitsPoint to
-curve_fits (x1 ∷ y1 ∷ z1 ∷ []) (x2 ∷ y2 ∷ z2 ∷ []) to fits =
-    ((fits.0, (fits.1.0, (fits.1.1.0, tt))), (fits.1.1.1.0, (fits.1.1.1.1.0, (fits.1.1.1.1.1.0, tt))), fits.1.1.1.1.1.1)
-curve_fits p1 p2 to fits = absurd fits
+curve_fits p1 p2 to fits = fits
 
 -- ---- acts in the show's frame
 
@@ -76,14 +74,13 @@ act_in_small : (f : Frame) (a : Act) → FitsFrame f → FitsAct a → IsActUpTo
 act_in_small f act.Hold frame fits = tt
 act_in_small f (act.Line to) frame fits = omega (arith, ints, applied_small f to frame fits)
 act_in_small f (act.Move to) frame fits = omega (arith, ints, applied_small f to frame fits)
-act_in_small f (act.Turn yaw) frame fits = omega (arith, ints, applied_small f _ frame (heading_fits yaw fits.0))
+act_in_small f (act.Turn yaw) frame fits = omega (arith, ints, applied_small f _ frame (heading_fits yaw fits))
 act_in_small f (act.Arc ccw cx cy yaw) frame fits =
-    omega (arith, ints, applied_small f _ frame (centre_fits cx cy yaw fits.1.0 fits.1.1.0 fits.1.1.1.0))
+    omega (arith, ints, applied_small f _ frame (centre_fits cx cy yaw fits.0 fits.1 fits.2))
 act_in_small f (act.Eased how ccw cx cy yaw) frame fits =
-    omega (arith, ints, applied_small f _ frame (centre_fits cx cy yaw fits.1.0 fits.1.1.0 fits.1.1.1.0))
+    omega (arith, ints, applied_small f _ frame (centre_fits cx cy yaw fits.0 fits.1 fits.2))
 act_in_small f (act.Curve p1 p2 to) frame fits =
-    let parts = curve_fits p1 p2 to fits in
-    omega (arith, ints, applied_small f _ frame (triple_fits p1 parts.0), applied_small f _ frame (triple_fits p2 parts.1), applied_small f to frame parts.2)
+    omega (arith, ints, applied_small f _ frame (triple_fits p1 fits.0), applied_small f _ frame (triple_fits p2 fits.1), applied_small f to frame fits.2)
 
 -- The numbers of a job's act in the show's frame are small.
 pub act_small : (j : Job) → FitsJob j → IsActUpTo (2 ^ 28) (act_of j)
@@ -104,8 +101,6 @@ end_small n p act.Hold small fits = omega (arith, ints)
 end_small n p (act.Arc ccw cx cy yaw) small fits = arc_end_small n p ccw cx cy yaw small fits
 end_small n p (act.Eased how ccw cx cy yaw) small fits =
     subst (IsPointUpTo (n + 2 ^ 30)) (sym (ends_as_arc p how ccw cx cy yaw)) (arc_end_small n p ccw cx cy yaw small fits)
-end_small n p (act.Curve (x1 ∷ y1 ∷ z1 ∷ []) (x2 ∷ y2 ∷ z2 ∷ []) to) small fits = omega (arith, ints)
-end_small n p (act.Curve p1 p2 to) small fits = absurd fits
 end_small n p a small fits = omega (arith, ints)
 
 -- one cue more

@@ -3,14 +3,14 @@ use Rattle.std.specs.Prelude.{ℕ, zero, suc, Bool, not, List, [], ◌∷◌, ma
 use Rattle.std.specs.Prelude.{if◌then◌else◌}
 use Rattle.std.specs.Int.{int_div_euclid}
 use Rattle.fleet_math.specs.Bernstein.{at}
-use Rattle.choreo_lines.specs.declared.parts.Point.{Point}
-use Rattle.choreo_lines.specs.declared.parts.Frame.{Frame}
-use Rattle.choreo_lines.specs.declared.parts.Mirror.{Mirror}
-use Rattle.choreo_lines.specs.declared.parts.Mirror.TheVariants as mirror
-use Rattle.choreo_lines.specs.declared.parts.Ease.{Ease}
-use Rattle.choreo_lines.specs.declared.parts.Ease.TheVariants as ease
-use Rattle.choreo_lines.specs.declared.parts.Act.{Act}
-use Rattle.choreo_lines.specs.declared.parts.Act.TheVariants as act
+use Rattle.choreo_show.specs.declared.parts.Point.{Point}
+use Rattle.choreo_show.specs.declared.parts.Frame.{Frame}
+use Rattle.choreo_show.specs.declared.parts.Mirror.{Mirror}
+use Rattle.choreo_show.specs.declared.parts.Mirror.TheVariants as mirror
+use Rattle.choreo_show.specs.declared.parts.Ease.{Ease}
+use Rattle.choreo_show.specs.declared.parts.Ease.TheVariants as ease
+use Rattle.choreo_show.specs.declared.parts.Act.{Act}
+use Rattle.choreo_show.specs.declared.parts.Act.TheVariants as act
 use Rattle.cue_grid.specs.Frames.{applied}
 use Rattle.cue_grid.specs.declared.grid.Job.{Job}
 

@@ -1,32 +1,25 @@
 -- How large the numbers of points and acts are, so that no sum leaves 64 bits.
-use Rattle.std.specs.Prelude.{ℕ, ◌≤◌, ◌^◌, ◌+◌, ◌*◌, List, [], ◌∷◌, map, ℤ, pos, neg_ℤ}
+use Rattle.std.specs.Prelude.{ℕ, ◌≤◌, ◌^◌, ◌+◌, ◌*◌, List, [], ◌∷◌, ℤ}
 use Rattle.std.specs.List.{All}
-use Rattle.choreo_lines.specs.Table.{coordinate, yaw, act_places}
-use Rattle.choreo_lines.specs.Values.{Fits, AllFit, act_fields}
-use Rattle.choreo_lines.specs.declared.table.Want.{Want}
-use Rattle.choreo_lines.specs.declared.table.Want.TheVariants as want
-use Rattle.choreo_lines.specs.declared.table.Value.TheVariants.{Number}
-use Rattle.choreo_lines.specs.declared.parts.Point.{Point}
-use Rattle.choreo_lines.specs.declared.parts.Act.{Act}
-use Rattle.cue_grid.specs.Frames.{IsPointUpTo}
+use Rattle.choreo_show.specs.declared.parts.Point.{Point}
+use Rattle.choreo_show.specs.declared.parts.Act.{Act}
+use Rattle.choreo_show.specs.declared.parts.Act.TheVariants as act
+use Rattle.cue_grid.specs.Frames.{IsUpTo, IsPointUpTo}
 
--- tenths of a degree in their range
-abbrev pub FitsYaw : ℤ → Type 0
-FitsYaw v = Fits yaw (Number v)
-
--- three coordinates in their range
-abbrev pub FitsTriple : List ℤ → Type 0
-FitsTriple v = AllFit (coordinate ∷ coordinate ∷ coordinate ∷ []) (map Number v)
-
--- what a place wants, but for the range of a number or a quantity, which is from -n to n
-abbrev pub up_to : ℕ → Want → Want
-up_to n (want.Number low high) = want.Number (neg_ℤ (pos n)) (pos n)
-up_to n (want.Quantity counts low high) = want.Quantity counts (neg_ℤ (pos n)) (pos n)
-up_to n wanted = wanted
+-- three numbers from -n to n
+abbrev pub IsTripleUpTo : ℕ → List ℤ → Type 0
+IsTripleUpTo n (x ∷ y ∷ z ∷ []) = IsUpTo n x × IsUpTo n y × IsUpTo n z
+IsTripleUpTo n v = ⊥
 
 -- each number of an act in the show's frame is from -n to n
 abbrev pub IsActUpTo : ℕ → Act → Type 0
-IsActUpTo n a = AllFit (map (up_to n) (act_places (act_fields a).0)) (act_fields a).1
+IsActUpTo n act.Hold = Unit {0}
+IsActUpTo n (act.Line to) = IsPointUpTo n to
+IsActUpTo n (act.Move to) = IsPointUpTo n to
+IsActUpTo n (act.Turn yaw) = IsUpTo n yaw
+IsActUpTo n (act.Arc ccw cx cy yaw) = IsUpTo n cx × IsUpTo n cy × IsUpTo n yaw
+IsActUpTo n (act.Eased how ccw cx cy yaw) = IsUpTo n cx × IsUpTo n cy × IsUpTo n yaw
+IsActUpTo n (act.Curve p1 p2 to) = IsTripleUpTo n p1 × IsTripleUpTo n p2 × IsPointUpTo n to
 
 -- two shares of at most 2,000,000 millionths each
 abbrev pub AreSmall : ℕ × ℕ → Type 0

@@ -1,9 +1,9 @@
 -- The pieces of a grid, and the first value that no trajectory can hold.
 use Rattle.std.specs.Prelude.{ℕ, ◌+◌, Bool, ◌==◌, List, [], ◌∷◌, ◌++◌, Option, Some, None, ℤ, slice_index_or}
 use Rattle.std.specs.Prelude.{if◌then◌else◌}
-use Rattle.choreo_lines.specs.declared.parts.Point.{Point}
+use Rattle.choreo_show.specs.declared.parts.Point.{Point}
 use Rattle.choreo_show.specs.declared.show.DroneLine.{DroneLine}
-use Rattle.choreo_lines.specs.declared.parts.Act.TheVariants as act
+use Rattle.choreo_show.specs.declared.parts.Act.TheVariants as act
 use Rattle.cue_grid.specs.Frames.{no_frame}
 use Rattle.cue_grid.specs.declared.grid.Job.{Job}
 use Rattle.cue_grid.specs.declared.grid.Cue.{Cue}

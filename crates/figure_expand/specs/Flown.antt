@@ -1,7 +1,7 @@
 -- What a drone flies in a cue of a grid: its piece, and the written position.
 use Rattle.std.specs.Prelude.{◌≡◌, Some, ℕ, ◌<◌, List, [], map, take, ℤ, pos, length, slice_index_or}
 use Rattle.std.specs.List.{All}
-use Rattle.choreo_lines.specs.declared.parts.Point.{Point}
+use Rattle.choreo_show.specs.declared.parts.Point.{Point}
 use Rattle.choreo_show.specs.declared.show.DroneLine.{DroneLine}
 use Rattle.cue_grid.specs.declared.grid.Job.{Job}
 use Rattle.cue_grid.specs.declared.grid.Cue.{Cue}

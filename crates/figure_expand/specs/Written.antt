@@ -5,11 +5,11 @@ use Rattle.std.specs.Int.{int_div_euclid}
 use Rattle.fleet_math.specs.Sums.{power}
 use Rattle.fleet_math.specs.Bernstein.{at}
 use Rattle.fleet_math.specs.Decoded.{last_value}
-use Rattle.choreo_lines.specs.declared.parts.Point.{Point}
-use Rattle.choreo_lines.specs.declared.parts.Ease.{Ease}
-use Rattle.choreo_lines.specs.declared.parts.Ease.TheVariants as ease
-use Rattle.choreo_lines.specs.declared.parts.Act.{Act}
-use Rattle.choreo_lines.specs.declared.parts.Act.TheVariants as act
+use Rattle.choreo_show.specs.declared.parts.Point.{Point}
+use Rattle.choreo_show.specs.declared.parts.Ease.{Ease}
+use Rattle.choreo_show.specs.declared.parts.Ease.TheVariants as ease
+use Rattle.choreo_show.specs.declared.parts.Act.{Act}
+use Rattle.choreo_show.specs.declared.parts.Act.TheVariants as act
 use Rattle.mm_rounding.specs.Near.{position}
 use Rattle.cue_grid.specs.declared.grid.Job.{Job}
 use Rattle.figure_expand.specs.Acts.{act_of, arc_on, eased_on, on_axis}

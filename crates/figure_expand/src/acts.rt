@@ -1,13 +1,13 @@
 //! Acts in the show's own frame.
 
 ghost use Rattle.std.specs.Prelude.{◌≡◌, ◌^◌, pos, IsTrue};
-ghost use Rattle.choreo_show.specs.Valid.{FitsFrame, FitsPoint, FitsCoordinate, FitsAct};
+ghost use Rattle.choreo_show.specs.Valid.{FitsFrame, FitsPoint, FitsCoordinate, FitsYaw, FitsTriple, FitsAct};
 ghost use Rattle.cue_grid.specs.Frames.{applied, no_frame};
 ghost use Rattle.cue_grid.specs.Grids.{FitsJob};
 ghost use Rattle.figure_expand.specs.Acts.{act_in, act_of, sense_in, control_in};
-ghost use Rattle.figure_expand.specs.Bounds.{FitsYaw, FitsTriple, IsActUpTo};
+ghost use Rattle.figure_expand.specs.Bounds.{IsActUpTo};
 
-use choreo_lines::{Act, Frame, Mirror, Point};
+use choreo_show::{Act, Frame, Mirror, Point};
 use cue_grid::{Job, apply};
 
 // Where the frame puts a point of a show.

@@ -10,7 +10,7 @@ ghost use Rattle.figure_expand.specs.Expanded.{job_in};
 
 use crate::acts::act_of;
 use crate::shapes::{axes, end_of};
-use choreo_lines::Point;
+use choreo_show::Point;
 use cue_grid::Cue;
 use mm_rounding::MicroPiece;
 

@@ -1,7 +1,7 @@
 //! What holds of all grids.
 
 ghost use Rattle.std.specs.Prelude.{ℕ, None, ◌≡◌, ◌<◌};
-ghost use Rattle.choreo_lines.specs.declared.parts.Point.{Point};
+ghost use Rattle.choreo_show.specs.declared.parts.Point.{Point};
 ghost use Rattle.cue_grid.specs.declared.grid.Job.{Job};
 ghost use Rattle.cue_grid.specs.declared.grid.Grid.{Grid};
 ghost use Rattle.cue_grid.specs.Grids.{IsGrid};

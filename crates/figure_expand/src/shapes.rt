@@ -3,7 +3,7 @@
 ghost use Rattle.std.specs.Prelude.{◌≡◌, ◌≤◌, ◌^◌, ◌+ℤ◌, ◌-ℤ◌, neg_ℤ, ◌∷◌, [], map, if◌then◌else◌};
 ghost use Rattle.std.specs.List.{All};
 ghost use Rattle.mm_rounding.specs.declared.piece.Axis.TheVariants.{One, Two, Four, Eight};
-ghost use Rattle.choreo_lines.specs.declared.parts.Act.TheVariants as act;
+ghost use Rattle.choreo_show.specs.declared.parts.Act.TheVariants as act;
 ghost use Rattle.cue_grid.specs.Frames.{IsUpTo, IsPointUpTo};
 ghost use Rattle.figure_expand.specs.Acts.{handle, arc_points, arc_on, shares, millionths, eased_point, eased_points};
 ghost use Rattle.figure_expand.specs.Acts.{eased_on};
@@ -12,7 +12,7 @@ ghost use Rattle.figure_expand.specs.Written.{from_rest, forty_seconds, squares,
 ghost use Rattle.figure_expand.specs.Written.{eased_yaw, end_of};
 ghost use Rattle.figure_expand.specs.Bounds.{IsActUpTo, AreSmall};
 
-use choreo_lines::{Act, Ease, Point};
+use choreo_show::{Act, Ease, Point};
 use mm_rounding::Axis;
 
 // The handles of a quarter arc are 0.552285 times as long as its radius; in millionths.
@@ -143,7 +143,6 @@ fn shares(ease: Ease) -> &'static [(u32, u32); 8]
 }
 
 // Millionths of a number, rounded to the nearest whole number.
-#[tactic(auto, using(crate::proofs::Eased::share_small))]
 fn millionths(share: u32, s: i64) -> i64
     requires share { share ≤ 2_000_000 }
     requires number { IsUpTo (2 ^ 41) s }
@@ -240,7 +239,6 @@ fn squares_left() -> &'static [u16; 8]
 }
 
 // Forty-seconds of a number, rounded to the nearest whole number.
-#[tactic(auto, using(crate::proofs::Eased::turn_small))]
 fn forty_seconds(n: u16, s: i64) -> i64
     requires { IsUpTo (2 ^ 42) s }
     ensures value { result ≡ forty_seconds n s }

@@ -1,5 +1,5 @@
 -- The differences of raised curves.
-use Rattle.fleet_curves.proofs.Prelude.{◌≡◌, ℕ, zero, suc, ◌^◌, ◌<◌, ◌≤◌, ◌-◌, ℤ, pos, ◌-ℤ◌, arith, refl, ◌∙◌, ap, List, [], ◌∷◌, length, get_or, All, lit<, ints, All-from_get_or, at, Bez, IsBelow, controls, eight, at-eight, controls_below, less}
+use Rattle.fleet_curves.proofs.Prelude.{◌≡◌, ℕ, zero, suc, ◌^◌, ◌<◌, ◌≤◌, ℤ, pos, ◌-ℤ◌, arith, refl, ◌∙◌, ap, List, [], ◌∷◌, length, get_or, All, lit<, ints, All-from_get_or, at, Bez, IsBelow, controls, eight, at-eight, controls_below}
 
 below_less : (x y : ℤ) → IsBelow (2 ^ 28) x → IsBelow (2 ^ 28) y → IsBelow (2 ^ 30) (x -ℤ y)
 below_less x y first second = (omega (arith, ints), omega (arith, ints))

@@ -1,5 +1,5 @@
 -- Curves that are kept as rows of control values.
-use Rattle.fleet_curves.proofs.Prelude.{◌≡◌, ◌≢◌, ℕ, zero, suc, ◌+◌, ◌≤◌, ◌<◌, ℤ, ◌-ℤ◌, ◌^◌, arith, below_more, get_or-set_other, get_or-set_same, slice_set, refl, sym, ◌∙◌, ap, subst, All, List, [], ◌∷◌, ◌++◌, length, take, get_or, map, length-map, map-append, take_all, All-get_or, at, IsBelow, Bez, controls, eight, AreRaised, curves_of, less, AreSmallCurves, all_curves}
+use Rattle.fleet_curves.proofs.Prelude.{common_steps, set, ◌≡◌, ◌≢◌, ℕ, zero, suc, ◌+◌, ◌≤◌, ◌<◌, ℤ, ◌-ℤ◌, ◌^◌, arith, below_more, get_or-set_other, get_or-set_same, slice_set, refl, sym, ◌∙◌, ap, subst, All, List, [], ◌∷◌, ◌++◌, length, take, get_or, map, length-map, map-append, take_all, All-get_or, at, IsBelow, Bez, controls, eight, AreRaised, curves_of, less, AreSmallCurves, all_curves}
 use Rattle.fleet_curves.proofs.Differences.{same_default}
 
 -- what holds of the entries so far and of the new one
@@ -83,3 +83,10 @@ three_curves (x ∷ []) e = absurd (omega arith)
 three_curves (x ∷ y ∷ []) e = absurd (omega arith)
 three_curves (x ∷ y ∷ z ∷ []) e = refl
 three_curves (x ∷ y ∷ z ∷ v ∷ xs) e = absurd (omega arith)
+
+-- one entry more of a list that is copied entry by entry
+pub copied_more : (n k : ℕ) (xs ys : List ℤ) (v : ℤ) → length xs ≡ n → k < n → length ys ≡ n → v ≡ at ys k → take k xs ≡ take k ys → take (k + 1) (set xs k v) ≡ take (k + 1) ys
+copied_more n k xs ys v xs_len inside ys_len v_is done = grind (arith, common_steps)
+
+pub copied_len : (n k : ℕ) (xs : List ℤ) (v : ℤ) → length xs ≡ n → length (set xs k v) ≡ n
+copied_len n k xs v xs_len = grind (arith, common_steps)

@@ -29,3 +29,7 @@ told_less g x y upper lower is =
 -- numbers below 2^28 are below 2^30
 pub wider : (xs : List ℤ) → All (IsBelow (2 ^ 28)) xs → All (IsBelow (2 ^ 30)) xs
 wider xs small k d inside = let here = small k d inside in (omega (arith, ints, here.0), omega (arith, ints, here.1))
+
+-- a number below 2^30 fits 32 bits
+pub narrow_fits : (x : ℤ) → IsBelow (2 ^ 30) x → FitsSigned w32 x
+narrow_fits x below = omega (arith, ints)

@@ -251,6 +251,9 @@ impl Parts {
         add(bytes, start, byte)?;
         let waiting = self.waiting();
         let run = line_len(waiting).min(most - bytes.len());
+        if run == 0 {
+            return Ok(()); // after the line feed of an empty line, say: a copy of nothing costs as much as one of bytes
+        }
         bytes.extend_from_slice(&waiting[..run])?;
         self.skip(run);
         Ok(())

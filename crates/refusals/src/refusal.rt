@@ -3,7 +3,8 @@
 ghost use Rattle.std.specs.Prelude.{◌≡◌};
 ghost use Rattle.refusals.specs.Refusals.{status_of};
 
-use choreo_lines::{LineKind, Name};
+use choreo_lines::LineKind;
+use choreo_show::Name;
 use cue_grid::GridFault;
 use fleet_io::status::{
     BLOCKED, DIFFERS, ENDED, ENTERS, FAULTY, GAVE_UP, NO_ROOM, NO_SHOW, NOT_VALID, READ_FAILED,

@@ -1,5 +1,5 @@
 -- How large thresholds are.
-use Rattle.sep_parts.proofs.Prelude.{common_steps, ◌≡◌, ℕ, zero, suc, ◌*◌, ◌^◌, ◌≤◌, ◌<◌, ℤ, pos, negsuc, neg_ℤ, ◌+ℤ◌, ◌-ℤ◌, ◌*ℤ◌, ◌≤ℤ◌, ◌<ℤ◌, Bool, true, false, cond, int_lt, unsigned_abs, arith, ◌∙◌, FitsSigned, to_z, of_z, refl, ap, List, map, length, get_or, [], All, ints, to_z-of_z, unsigned_abs-mul, mul-le, All-get_or, All-from_get_or, w128, get_or-map, length-map, at, linear, le_mul_ℤ, by_lt, IsBelow, Clearance, AreSmall, IsAxis, IsClearance, IsSquare, for_ellipsoids, for_reach, for_strays, length_squared, limit_along, root_from, root_above, stray_limit, threshold, weights}
+use Rattle.sep_parts.proofs.Prelude.{common_steps, ◌≡◌, ℕ, zero, suc, ◌*◌, ◌^◌, ◌≤◌, ◌<◌, ℤ, pos, negsuc, neg_ℤ, ◌+ℤ◌, ◌-ℤ◌, ◌*ℤ◌, ◌≤ℤ◌, ◌<ℤ◌, Bool, true, false, cond, int_lt, unsigned_abs, arith, ◌∙◌, FitsSigned, to_z, of_z, refl, to_z_pos, ap, List, map, length, get_or, [], All, ints, to_z-of_z, unsigned_abs-mul, mul-le, All-get_or, All-from_get_or, w128, get_or-map, length-map, at, linear, le_mul_ℤ, by_lt, IsBelow, Clearance, AreSmall, IsAxis, IsClearance, IsSquare, for_ellipsoids, for_reach, for_strays, length_squared, limit_along, root_from, root_above, stray_limit, threshold, weights}
 use Rattle.sep_parts.proofs.Cauchy.{square_positive}
 
 root_from-least : (v : ℤ) (n k s : ℕ) → k ≤ s → v <ℤ pos (s * s) → root_from v n k ≤ s
@@ -134,3 +134,43 @@ pub threshold_told : (c : Clearance) (ts : List ℤ) (dirs : List (List ℤ)) (d
 threshold_told c ts dirs dir clear small are inside =
     stays (at ts dir) (threshold c (get_or dirs dir [])) (threshold_at (threshold c) ts dirs dir are inside) (threshold_low c (get_or dirs dir []))
     (threshold_small c (get_or dirs dir []) clear (All-get_or AreSmall dirs dir [] inside small))
+
+-- ---- products that the program makes
+pub weight_fits : (x : ℤ) → IsBelow 4001 x → FitsSigned w128 x
+weight_fits x below = omega (arith, ints)
+
+-- a number up to 2^50 times one up to 2^70
+pub product_small : (f x : ℤ) → pos 0 ≤ℤ f → f ≤ℤ pos (2 ^ 50) → pos 0 ≤ℤ x → x ≤ℤ pos (2 ^ 70) → (pos 0 ≤ℤ (f *ℤ x)) × ((f *ℤ x) ≤ℤ pos (2 ^ 50 * 2 ^ 70))
+product_small (pos f) (pos x) f_low f_high x_low x_high =
+    let m : f * x ≤ 2 ^ 50 * 2 ^ 70 = mul-le f x (2 ^ 50) (2 ^ 70) (omega (arith, ints)) (omega (arith, ints)) in
+    (omega (arith, ints), omega (arith, ints, m))
+product_small (negsuc f) x f_low f_high x_low x_high = absurd (omega (arith, ints))
+product_small (pos f) (negsuc x) f_low f_high x_low x_high = absurd (omega (arith, ints))
+
+pub product_fits : (f x : ℤ) → pos 0 ≤ℤ f → f ≤ℤ pos (2 ^ 50) → pos 0 ≤ℤ x → x ≤ℤ pos (2 ^ 70) → FitsSigned w128 (f *ℤ x)
+product_fits f x f_low f_high x_low x_high =
+    let small = product_small f x f_low f_high x_low x_high in
+    omega (arith, ints, small.0, small.1)
+
+-- a product that the program holds, of a number and one that it holds
+pub product_told : (p v x : ℤ) (f a : ℕ) → f ≡ a → v ≡ x → pos 0 ≤ℤ v → v ≤ℤ pos (2 ^ 26) → p ≡ pos f *ℤ to_z w128 (of_z w128 v)
+    → pos 0 ≤ℤ p → p <ℤ pos (2 ^ 100) → to_z w128 (of_z w128 p) ≡ pos a *ℤ x
+product_told p v x f a f_is v_is v_low v_high p_is p_low p_high =
+    let p_fits : FitsSigned w128 p = omega (arith, ints) in
+    let v_fits : FitsSigned w128 v = omega (arith, ints) in
+    rw (to_z-of_z w128 p p_fits, p_is, to_z-of_z w128 v v_fits, f_is, v_is) refl
+
+-- a factor that the program reads from its bits, times a number that it holds
+pub factor_told : (f : ℕ) (x : ℤ) → f ≤ 2 ^ 50 → pos 0 ≤ℤ x → x ≤ℤ pos (2 ^ 26) → to_z w128 f *ℤ to_z w128 (of_z w128 x) ≡ pos f *ℤ x
+factor_told f x small low high =
+    let x_fits : FitsSigned w128 x = omega (arith, ints) in
+    rw (to_z_pos w128 f (omega arith), to_z-of_z w128 x x_fits) refl
+
+pub factor_small : (f : ℕ) (x : ℤ) → f ≤ 2 ^ 50 → pos 0 ≤ℤ x → x ≤ℤ pos (2 ^ 26) → (pos 0 ≤ℤ (pos f *ℤ x)) × ((pos f *ℤ x) <ℤ pos (2 ^ 100))
+factor_small f (pos x) small low high =
+    let m : f * x ≤ 2 ^ 50 * 2 ^ 26 = mul-le f x (2 ^ 50) (2 ^ 26) small (omega (arith, ints)) in
+    (omega (arith, ints), omega (arith, ints, m))
+factor_small f (negsuc x) small low high = absurd (omega (arith, ints))
+
+pub factor_fits : (f : ℕ) (x : ℤ) → f ≤ 2 ^ 50 → pos 0 ≤ℤ x → x ≤ℤ pos (2 ^ 26) → FitsSigned w128 (pos f *ℤ x)
+factor_fits f x small low high = let within = factor_small f x small low high in omega (arith, ints, within.0, within.1)

@@ -1,5 +1,5 @@
 -- What fits into 64 bits of a part that is halved at most twice.
-use Rattle.sep_parts.proofs.Prelude.{common_steps, true, ◌≡◌, ℕ, ◌*◌, ◌^◌, zero, suc, ◌≤◌, ℤ, pos, ◌≤ℤ◌, ◌<ℤ◌, ◌+ℤ◌, ◌*ℤ◌, unsigned_abs, FitsSigned, to_z, of_z, arith, ints, unsigned_abs-mul, to_z-of_z, mul-le, w32, w64, w128, IsBelow, least_value}
+use Rattle.sep_parts.proofs.Prelude.{common_steps, true, ◌≡◌, ℕ, ◌*◌, ◌^◌, zero, suc, ◌≤◌, ℤ, pos, ◌≤ℤ◌, ◌<ℤ◌, ◌+ℤ◌, ◌*ℤ◌, unsigned_abs, FitsSigned, to_z, of_z, arith, ints, unsigned_abs-mul, to_z-of_z, mul-le, refl, w8, w32, w64, w128, IsAxis, IsBelow, least_value}
 use Rattle.std.specs.Int.Signed.{le_z}
 
 -- a weight up to 4,000 times a value below 2^46 is below 2^58
@@ -71,3 +71,28 @@ short_told p q w x p_is q_is small below =
 -- three such products and their sum fit
 pub short_sum : (x y z : ℤ) → IsBelow (2 ^ 70) x → IsBelow (2 ^ 70) y → IsBelow (2 ^ 70) z → FitsSigned w128 (x +ℤ y) × FitsSigned w128 (x +ℤ y +ℤ z)
 short_sum x y z p q r = (omega (arith, ints), omega (arith, ints))
+
+-- ---- a weight: an entry of a direction times a half axis
+pub entry_product : (entry : ℤ) (axis : ℕ) → IsBelow 3 entry → IsAxis axis → IsBelow 4001 (entry *ℤ pos axis)
+entry_product entry axis small is_axis =
+    let m : unsigned_abs (entry *ℤ pos axis) ≤ 2 * 2000 = rw (unsigned_abs-mul entry (pos axis)) (mul-le (unsigned_abs entry) axis 2 2000 (omega (arith, ints)) (omega (arith, ints))) in
+    (omega (arith, ints), omega (arith, ints))
+
+-- the two numbers of the program are those that it was given
+pub entry_told : (p q entry : ℤ) (axis : ℕ) → p ≡ to_z w8 (of_z w8 entry) → q ≡ pos axis → IsBelow 3 entry → IsAxis axis
+    → to_z w64 (of_z w64 p) *ℤ to_z w64 (of_z w64 q) ≡ entry *ℤ pos axis
+entry_told p q entry axis p_is q_is small is_axis =
+    let entry_8 : FitsSigned w8 entry = omega (arith, ints) in
+    let entry_64 : FitsSigned w64 entry = omega (arith, ints) in
+    let axis_64 : FitsSigned w64 (pos axis) = omega (arith, ints) in
+    rw (p_is, q_is, to_z-of_z w8 entry entry_8, to_z-of_z w64 entry entry_64, to_z-of_z w64 (pos axis) axis_64) refl
+
+-- the product before it is read back fits as well
+pub short_product_fits : (p q w x : ℤ) → p ≡ w → q ≡ x → IsBelow 4001 w → IsBelow (2 ^ 58) x → FitsSigned w128 (to_z w128 (of_z w128 p) *ℤ to_z w128 (of_z w128 q))
+short_product_fits p q w x p_is q_is small below =
+    let w_fits : FitsSigned w128 w = omega (arith, ints) in
+    rw (p_is, q_is, to_z-of_z w128 w w_fits, to_z-of_z w128 x (short_value_fits x below)) (short_fits (w *ℤ x) (short_product w x small below))
+
+-- a value of 64 bits, told by 128
+pub value_told : (x : ℤ) → IsBelow (2 ^ 58) x → to_z w64 (of_z w64 (to_z w128 (of_z w128 x))) ≡ x
+value_told x below = rw (to_z-of_z w128 x (short_value_fits x below)) (to_z-of_z w64 x (short_value x below))

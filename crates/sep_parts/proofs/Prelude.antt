@@ -3,7 +3,7 @@ pub use Rattle.std.proofs.Common.{All, Bool, FitsSigned, IsTrue, List, None, Opt
 pub use Rattle.std.proofs.Math.Nat.{pow-le-pow_right, pow-suc}
 pub use Rattle.std.proofs.lemmas.Bool.Decides.{nat_tests}
 pub use Rattle.std.proofs.lemmas.Grind.{common_steps}
-pub use Rattle.std.proofs.lemmas.Int.{by_lt_z, ints, to_z-of_z, unsigned_abs-mul}
+pub use Rattle.std.proofs.lemmas.Int.{by_lt_z, ints, to_z-of_z, to_z_pos, unsigned_abs-mul}
 pub use Rattle.std.proofs.lemmas.List.{drop-append-le, drop-drop, get_or-map, length-append, length-drop, length-map, take-append-le, take_all}
 pub use Rattle.std.proofs.lemmas.List.Elements.{All-append, All-cons, All-from_get_or, All-get_or, All-head, All-nil, All-tail}
 pub use Rattle.std.proofs.lemmas.Nat.{mul-le, pow-add, pow_pos}

@@ -1,12 +1,13 @@
 -- What a ruler tells of a part.
-use Rattle.sep_parts.proofs.Prelude.{◌≡◌, ℕ, ◌^◌, ◌≤◌, ◌<◌, ℤ, pos, ◌≤ℤ◌, ◌<ℤ◌, ◌↔◌, IsTrue, Bool, true, false, refl, sym, ◌∙◌, ap, List, [], length, get_or, Option, Some, None, is_none, to_z, of_z, All-get_or, w128, at, Bez, along_value, Level, Clearance, threshold, weights, AreSmall, first_low, least_value, low_value, IsLevel}
+use Rattle.sep_parts.proofs.Prelude.{arith, length-map, ◌≡◌, ℕ, ◌^◌, ◌≤◌, ◌<◌, ℤ, pos, ◌≤ℤ◌, ◌<ℤ◌, ◌↔◌, IsTrue, Bool, true, false, refl, sym, ◌∙◌, ap, List, [], length, get_or, Option, Some, None, is_none, to_z, of_z, All-get_or, w128, at, Bez, along_value, Level, Clearance, threshold, weights, AreSmall, first_low, least_value, low_value, IsLevel}
 use Rattle.sep_parts.specs.Rulers.{IsRuler}
 use Rattle.sep_parts.proofs.Parts.{low-along}
 use Rattle.sep_parts.proofs.Lows.{first_low-none, first_low-values}
 use Rattle.sep_parts.proofs.Limits.{threshold_told, threshold_low, threshold_small}
 
 module _ (dirs : List (List ℤ)) (ts : List ℤ) (c : Clearance) (dir : ℕ) (ruler : IsRuler dirs ts c) (inside : dir < length dirs) where
-  told : to_z w128 (of_z w128 (at ts dir)) ≡ threshold c (get_or dirs dir [])
+  -- a kept threshold is that of its direction
+  pub told : to_z w128 (of_z w128 (at ts dir)) ≡ threshold c (get_or dirs dir [])
   told = threshold_told c ts dirs dir ruler.clear ruler.entries ruler.reached inside
 
   -- a kept threshold is not negative
@@ -16,6 +17,16 @@ module _ (dirs : List (List ℤ)) (ts : List ℤ) (c : Clearance) (dir : ℕ) (r
   -- and below 2^30
   pub small : to_z w128 (of_z w128 (at ts dir)) <ℤ pos (2 ^ 30)
   small = rw told (threshold_small c (get_or dirs dir []) ruler.clear (All-get_or AreSmall dirs dir [] inside ruler.entries))
+
+  -- each direction has a threshold, its entries are small, and there are few
+  pub reaches : dir < length ts
+  reaches = let same : length ts ≡ length dirs = rw ruler.reached (length-map dirs (threshold c)) in omega (arith, inside, same)
+
+  pub entries : AreSmall (get_or dirs dir [])
+  entries = All-get_or AreSmall dirs dir [] inside ruler.entries
+
+  pub few : dir < 98
+  few = omega (arith, inside, ruler.few)
 
   -- the first low control value of a part, by the kept threshold
   pub low : (diff : List (Bez 8)) (level : Level) → IsLevel diff level →

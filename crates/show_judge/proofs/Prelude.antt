@@ -6,7 +6,7 @@ pub use Rattle.std.proofs.lemmas.List.Elements.{All-append, All-cons, All-get_or
 pub use Rattle.std.specs.Io.KnownBytes.{Appends}
 pub use Rattle.std.specs.Option.{option_map, option_or}
 pub use Rattle.std.specs.declared.alloc.AllocError.{AllocError}
-pub use Rattle.choreo_lines.specs.Name.{Name}
+pub use Rattle.choreo_show.specs.Name.{Name}
 pub use Rattle.choreo_reader.specs.Context.{fault}
 pub use Rattle.choreo_reader.specs.Grammar.{StandsFor}
 pub use Rattle.choreo_reader.specs.Laws.{ShowLaw}

@@ -1,7 +1,7 @@
 -- Why a show, or the text after it, is refused.
 use Rattle.std.specs.Prelude.{◌≢◌, ℕ, nat_lt, List, length, Option, Some, None, Result, Ok, Err, if◌then◌else◌}
 use Rattle.std.specs.Option.{option_map, option_or}
-use Rattle.choreo_lines.specs.Name.{Name}
+use Rattle.choreo_show.specs.Name.{Name}
 use Rattle.choreo_show.specs.Plain.{PlainShow}
 use Rattle.choreo_reader.specs.Context.{fault}
 use Rattle.choreo_reader.specs.Text.{Fault}

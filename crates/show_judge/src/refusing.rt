@@ -16,8 +16,8 @@ ghost use Rattle.show_judge.specs.Shows.{Cut, marker_number, name_at, names_of};
 
 use crate::input::Text;
 use crate::ways::Ways;
-use choreo_lines::copy_of;
 use choreo_reader::{Name, Show};
+use choreo_show::copy_of;
 use fleet_io::Part;
 use fleet_math::Depth;
 use refusals::{Pair, Refusal};

@@ -2,7 +2,7 @@
 pub use Rattle.std.proofs.Common.{All, Err, IfOk, List, Ok, Option, Result, Some, [], ap, arith, codes, decimal, length, map, refl, subst, sum, sym, take, ℕ, ◌*◌, ◌+◌, ◌∙◌, ◌∷◌, ◌≡◌, ◌≤◌}
 pub use Rattle.std.proofs.lemmas.Grind.{common_steps}
 pub use Rattle.std.proofs.lemmas.List.Elements.{All-cons, All-head, All-nil, All-tail}
-pub use Rattle.choreo_lines.specs.Name.{Name}
+pub use Rattle.choreo_show.specs.Name.{Name}
 pub use Rattle.choreo_show.specs.Plain.{PlainShow}
 pub use Rattle.crtp_packets.specs.Chunks.{chunk_count_of}
 pub use Rattle.drill_show.specs.Drill.{drill_text}

@@ -1,6 +1,6 @@
 //! `play`: the positions of a show in whole numbers.
 ghost use Rattle.std.specs.Prelude.{◌≤◌, ℕ, List, map, IfOk};
-ghost use Rattle.choreo_lines.specs.Name.{Name};
+ghost use Rattle.choreo_show.specs.Name.{Name};
 ghost use Rattle.fleet_io.specs.Told.{Gives, IsInput};
 ghost use Rattle.integer_player.specs.Played.{play_text};
 ghost use Rattle.show_plan.specs.Fitting.{IsValidFitted};

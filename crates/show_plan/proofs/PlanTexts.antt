@@ -7,7 +7,7 @@ use Rattle.std.proofs.lemmas.Fmt.{decimal_injective, decimal_is_IsNumeral}
 use Rattle.std.proofs.lemmas.Str.Parse.{digit_from_value}
 use Rattle.std.specs.Str.Parse.{AllDigits}
 use Rattle.fleet_io.specs.Words.{hex_digit}
-use Rattle.choreo_lines.specs.Name.{begins_lower, goes_in_name}
+use Rattle.choreo_show.specs.Name.{begins_lower, goes_in_name}
 use Rattle.traj_codec.specs.Spelling.{SpellingLaw}
 use Rattle.show_plan.specs.Texts.{IsPlan, PlanLaw}
 

@@ -6,8 +6,8 @@ pub use Rattle.std.proofs.lemmas.List.Elements.{All-append, All-cons, All-from_g
 pub use Rattle.std.specs.List.{flat_map, list_all, range_with_len}
 pub use Rattle.std.specs.Option.{option_and_then, option_map, option_or}
 pub use Rattle.std.specs.Prelude.{MatchOption, if◌then◌else◌, nat_lt, ℤ, ◌&&◌, ◌==◌}
-pub use Rattle.choreo_lines.specs.Name.{Name, is_name}
-pub use Rattle.choreo_lines.specs.declared.parts.Point.{Point}
+pub use Rattle.choreo_show.specs.Name.{Name, is_name}
+pub use Rattle.choreo_show.specs.declared.parts.Point.{Point}
 pub use Rattle.choreo_show.specs.Plain.{PlainShow, plain}
 pub use Rattle.choreo_show.specs.Valid.{FitDroneLines, FitsSettings}
 pub use Rattle.choreo_show.specs.declared.show.DroneLine.{DroneLine}

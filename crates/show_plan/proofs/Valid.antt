@@ -1,7 +1,7 @@
 -- What fits is valid.
 use Rattle.show_plan.proofs.Prelude.{common_steps, ◌≡◌, ℕ, suc, ◌+◌, ◌-◌, ◌≤◌, true, Option, Some, None, IfOk, Ok, Err, Result, List, [], ◌∷◌, ◌++◌, map, length, eqb, arith, refl, sym, ap, ◌∙◌, subst, All, get_or_default, All-head, All-tail, All-nil, All-cons, All-from_get_or, IsWord, Name, is_name, DroneLine, Settings, PlainShow, FitDroneLines, FitsSettings, Grid, grid_of, grid_fault, IsGrid, Traj, durations, joined, ending, IsEncoding, IsTrajectory, range_fault, Fitted, FitError, PlanFault, by_cue, sent, cue_times, no_trajectory, StandsAsWord, size, room, first_unsendable, unsendable, in_order, IsFitted, IsSendable, FitGives, IsValidFitted}
 use Rattle.crtp_packets.specs.declared.chunks.TheConstants.{MEMORY_BYTES}
-use Rattle.choreo_lines.proofs.Names.{name_has_bytes, name_has_no_line_feed}
+use Rattle.choreo_show.proofs.Names.{name_has_bytes, name_has_no_line_feed}
 use Rattle.choreo_show.specs.Valid.{IsValid}
 use Rattle.cue_grid.specs.declared.grid.GridFault.{GridFault}
 use Rattle.cue_grid.specs.Names.{has_double}

@@ -6,7 +6,7 @@ use Rattle.std.specs.List.{sum, All}
 use Rattle.fleet_math.specs.Limits.{most_segments, most_cues, most_drones}
 use Rattle.crtp_packets.specs.declared.chunks.TheConstants.{MEMORY_BYTES}
 use Rattle.fleet_io.specs.Words.{IsWord}
-use Rattle.choreo_lines.specs.Name.{Name, is_name}
+use Rattle.choreo_show.specs.Name.{Name, is_name}
 use Rattle.choreo_show.specs.declared.show.DroneLine.{DroneLine}
 use Rattle.choreo_show.specs.Plain.{PlainShow}
 use Rattle.choreo_show.specs.Valid.{FitsSettings}

@@ -1,6 +1,6 @@
 -- The trajectories of a grid: each drone's start and each of its pieces rounded.
 use Rattle.std.specs.Prelude.{ℕ, ℤ, List, [], ◌∷◌, map}
-use Rattle.choreo_lines.specs.declared.parts.Point.{Point}
+use Rattle.choreo_show.specs.declared.parts.Point.{Point}
 use Rattle.choreo_show.specs.declared.show.DroneLine.{DroneLine}
 use Rattle.cue_grid.specs.declared.grid.Cue.{Cue}
 use Rattle.cue_grid.specs.declared.grid.Grid.{Grid}

@@ -22,8 +22,7 @@ ghost use Rattle.show_plan.specs.Fitting.{IsFlown, first_unsendable, send_fault}
 ghost use Rattle.show_plan.specs.Fitting.{FitGives, IsValidFitted};
 
 use crate::fitted::{FitError, Fitted, PlanFault};
-use choreo_lines::copy_of;
-use choreo_show::{DroneLine, Listed, Name, Point, Show};
+use choreo_show::{DroneLine, Listed, Name, Point, Show, copy_of};
 use crtp_packets::MEMORY_BYTES;
 use cue_grid::{Cue, Grid, UnrollError, unroll};
 use figure_expand::{expansion_law, range_fault, step};

@@ -8,7 +8,7 @@ pub use Rattle.std.specs.Io.KnownBytes.{Appends}
 pub use Rattle.std.specs.Option.{option_map, option_or}
 pub use Rattle.std.specs.Prelude.{MatchOption, slice_get}
 pub use Rattle.std.specs.declared.alloc.AllocError.{AllocError}
-pub use Rattle.choreo_lines.specs.Name.{Name}
+pub use Rattle.choreo_show.specs.Name.{Name}
 pub use Rattle.choreo_show.specs.Plain.{PlainShow}
 pub use Rattle.dynamics_bound.specs.Lines.{motion_line}
 pub use Rattle.dynamics_bound.specs.Motions.{KeepsMotion, extremes_of, greater, motion}

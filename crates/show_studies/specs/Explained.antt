@@ -1,7 +1,7 @@
 -- What `explain` gives: where two drones of a show come close.
 use Rattle.std.specs.Prelude.{◌≡◌, ℕ, List, [], ◌++◌, length, Option, Some, None, MatchOption}
 use Rattle.std.specs.Io.KnownBytes.{Appends}
-use Rattle.choreo_lines.specs.Name.{Name}
+use Rattle.choreo_show.specs.Name.{Name}
 use Rattle.choreo_reader.specs.Grammar.{StandsFor}
 use Rattle.choreo_show.specs.Plain.{PlainShow}
 use Rattle.show_plan.specs.declared.separation.BlockedPart.{BlockedPart}

@@ -16,8 +16,8 @@ ghost use Rattle.show_studies.specs.Dynamics.{dynamics_text, dynamics_verb, exce
 ghost use Rattle.show_studies.specs.Dynamics.{limits_of, refusal_as, times_of};
 ghost use Rattle.show_studies.specs.Speeds.{refused_or};
 
-use choreo_lines::copy_of;
 use choreo_reader::Name;
+use choreo_show::copy_of;
 use dynamics_bound::{
     Extremes, Kind, Limits, cue_of, first_above, motion_of, put_extremes, put_motion,
 };

@@ -18,8 +18,8 @@ ghost use Rattle.show_judge.specs.Runs.{Does};
 ghost use Rattle.show_judge.specs.Shows.{Cut, sent_of};
 ghost use Rattle.show_judge.specs.Verb.{during};
 
-use choreo_lines::copy_of;
 use choreo_reader::Name;
+use choreo_show::copy_of;
 use fleet_io::{Lines, Sink, Source};
 use fleet_math::Depth;
 use refusals::Refusal;

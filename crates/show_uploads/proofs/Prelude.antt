@@ -4,7 +4,7 @@ pub use Rattle.std.proofs.lemmas.Grind.{common_steps}
 pub use Rattle.std.proofs.lemmas.List.{append_cancel_left, append_cancel_right, length-map, length-replicate}
 pub use Rattle.std.proofs.lemmas.List.Elements.{All-cons, All-contains, All-head, All-map, All-nil, All-tail, All-weaker}
 pub use Rattle.std.specs.Option.{option_map, option_or}
-pub use Rattle.choreo_lines.specs.Name.{Name}
+pub use Rattle.choreo_show.specs.Name.{Name}
 pub use Rattle.choreo_show.specs.Plain.{PlainShow}
 pub use Rattle.choreo_show.specs.declared.show.Settings.{Settings}
 pub use Rattle.cue_grid.specs.Cues.{grid_of}

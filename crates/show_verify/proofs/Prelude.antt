@@ -4,7 +4,7 @@ pub use Rattle.std.proofs.lemmas.List.{length-take-le, take_more}
 pub use Rattle.std.specs.Io.KnownBytes.{IsAtEnd, prepend_known}
 pub use Rattle.std.specs.Prelude.{IsTrue}
 pub use Rattle.std.specs.Str.Lines.{lines}
-pub use Rattle.choreo_lines.specs.Name.{Name}
+pub use Rattle.choreo_show.specs.Name.{Name}
 pub use Rattle.choreo_show.specs.Plain.{PlainShow}
 pub use Rattle.fleet_curves.specs.Raised.{CurvesStandFor, Raised, raised_of}
 pub use Rattle.fleet_io.proofs.TakenLemmas.{TakesFront-none, TakesFront-trans}

@@ -6,7 +6,7 @@ use Rattle.text_lines.specs.Lines.{between_feeds}
 use Rattle.text_lines.specs.Marker.{has_marker, part_of, rest_of}
 use Rattle.fleet_io.specs.PartBytes.{is_marked_left, part_left, rest_left}
 use Rattle.fleet_io.specs.Parts.{TakesFewAfter}
-use Rattle.choreo_lines.specs.Name.{Name}
+use Rattle.choreo_show.specs.Name.{Name}
 use Rattle.choreo_show.specs.Plain.{PlainShow}
 use Rattle.fleet_curves.specs.Raised.{Raised}
 use Rattle.sep_certificate.specs.Texts.{bad_line}

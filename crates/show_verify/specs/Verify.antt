@@ -1,7 +1,7 @@
 -- What `verify` gives.
 use Rattle.std.specs.Prelude.{◌≡◌, ℕ, List, [], ◌∷◌, length, codes, decimal, Option, Some, None}
 use Rattle.std.specs.Str.Lines.{lines}
-use Rattle.choreo_lines.specs.Name.{Name}
+use Rattle.choreo_show.specs.Name.{Name}
 use Rattle.choreo_show.specs.Plain.{PlainShow}
 use Rattle.fleet_curves.specs.Raised.{raised_of}
 use Rattle.fleet_io.specs.Words.{line}

@@ -1,6 +1,6 @@
-use Rattle.fleet_curves.proofs.Prelude.{rules, ◌≡◌, ◌^◌, length, arith, FitsSigned, lit<, w128, at, below_at}
-use Rattle.fleet_curves.proofs.Small.{kept}
-use Rattle.fleet_curves.proofs.Rows.{copied}
+use Rattle.fleet_curves.proofs.Prelude.{rules, of_z, to_z, to_z-of_z, w32, ◌∙◌, ◌≡◌, ◌^◌, length, arith, FitsSigned, lit<, w128, at, below_at}
+use Rattle.fleet_curves.proofs.Small.{kept, narrow_fits}
+use Rattle.fleet_curves.proofs.Rows.{copied, copied_len, copied_more}
 use Rattle.fleet_curves.proofs.widths.narrowed.Goals as goal
 
 pub returns : goal.returns
@@ -12,3 +12,16 @@ pub narrow-requires : goal.narrow-requires
 narrow-requires c =
     let fits : FitsSigned w128 (at c.args.curve.now.b c.loop-k.k) = search rules in
     kept (2 ^ 30) (at c.args.curve.now.b c.loop-k.k) fits (below_at (2 ^ 30) c.args.curve.now.b c.loop-k.k (lit< tt) c.requires)
+
+pub loop-k-preserved : goal.loop-k-preserved
+loop-k-preserved c =
+    let b = c.args.curve.now.b in
+    let len : length b ≡ 8 = search rules in
+    let fits : FitsSigned w128 (at b c.loop-k.k) = search rules in
+    let short : FitsSigned w32 (at b c.loop-k.k) = narrow_fits (at b c.loop-k.k) (below_at (2 ^ 30) b c.loop-k.k (lit< tt) c.requires) in
+    let value : c.narrow.result ≡ at b c.loop-k.k = c.narrow.ensures ∙ to_z-of_z w128 (at b c.loop-k.k) fits in
+    let told : to_z w32 (of_z w32 c.narrow.result) ≡ at b c.loop-k.k = rw value (to_z-of_z w32 (at b c.loop-k.k) short) in
+    record {
+      same_length = copied_len 8 c.loop-k.k c.loop-k.row _ c.loop-k.invariant.same_length;
+      done = copied_more 8 c.loop-k.k c.loop-k.row b _ c.loop-k.invariant.same_length (omega arith) len told c.loop-k.invariant.done;
+    }

@@ -1,4 +1,4 @@
-use Rattle.sep_parts.proofs.Prelude.{◌≡◌, ℕ, ℤ, List, [], ◌∷◌, All, arith, ints, pos, ap, sym, ◌∙◌, subst, lit<, FitsSigned, to_z, of_z, to_z-of_z, w64, w128, IsBelow, at, below_at, weights}
+use Rattle.sep_parts.proofs.Prelude.{◌≡◌, ℕ, ℤ, List, [], ◌∷◌, All, arith, ints, ap, sym, ◌∙◌, subst, lit<, FitsSigned, to_z, of_z, to_z-of_z, w64, w128, IsBelow, at, below_at, weights}
 use Rattle.sep_parts.proofs.NarrowLemmas.{narrow_weight_fits}
 use Rattle.sep_parts.proofs.part.long_weights.Goals as goal
 

@@ -5,6 +5,18 @@ use Rattle.sep_parts.proofs.short.reaches_by_short_sum.Goals as goal
 value : (diff : List (Bez 8)) (axis k : ℕ) → All (λ (curve : Bez 8). All (IsBelow (2 ^ 46)) curve.b) diff → IsBelow (2 ^ 46) (at (controls diff axis) k)
 value diff axis k small = controls_below (2 ^ 46) diff axis k (lit< tt) small
 
+pub overflow_cast-diff : goal.overflow_cast-diff
+overflow_cast-diff c = let small = value c.args.diff.now 0 c.args.k c.requires.values in rw (to_z-of_z w128 _ (narrow_value_fits _ small)) (narrow_value _ small)
+
+pub overflow_cast-diff-2 : goal.overflow_cast-diff-2
+overflow_cast-diff-2 c = let small = value c.args.diff.now 1 c.args.k c.requires.values in rw (to_z-of_z w128 _ (narrow_value_fits _ small)) (narrow_value _ small)
+
+pub overflow_cast-diff-3 : goal.overflow_cast-diff-3
+overflow_cast-diff-3 c = let small = value c.args.diff.now 2 c.args.k c.requires.values in rw (to_z-of_z w128 _ (narrow_value_fits _ small)) (narrow_value _ small)
+
+pub sum_reaches-requires-clause-weights : goal.sum_reaches-requires-clause-weights
+sum_reaches-requires-clause-weights c = c.requires.weights
+
 pub sum_reaches-requires-clause-x : goal.sum_reaches-requires-clause-x
 sum_reaches-requires-clause-x c = let small = value c.args.diff.now 0 c.args.k c.requires.values in rw (narrow_told _ small) small
 

@@ -1,10 +1,22 @@
-use Rattle.sep_parts.proofs.Prelude.{common_steps, ◌≡◌, ◌^◌, ℕ, ℤ, List, All, ◌+ℤ◌, ◌*ℤ◌, FitsSigned, lit<, arith, to_z-of_z, at, IsBelow, below_at, w64}
+use Rattle.sep_parts.proofs.Prelude.{◌≡◌, ◌^◌, ℕ, ℤ, List, All, ◌+ℤ◌, ◌*ℤ◌, FitsSigned, lit<, to_z-of_z, at, IsBelow, below_at, w64}
 use Rattle.sep_parts.proofs.NarrowLemmas.{narrow_fits, narrow_kept, narrow_sum, narrow_value, narrow_weight_fits, reach_told}
 use Rattle.sep_parts.proofs.short.sum_reaches.Goals as goal
 
 -- a weight is small
 weight : (w : List ℤ) (i : ℕ) → All (IsBelow 4001) w → IsBelow 4001 (at w i)
 weight w i small = below_at 4001 w i (lit< tt) small
+
+pub short_product-a-requires : goal.short_product-a-requires
+short_product-a-requires c = record {
+  weight = narrow_kept 4001 _ (narrow_weight_fits _ (weight c.args.w 0 c.requires.weights)) (weight c.args.w 0 c.requires.weights);
+  value = narrow_kept (2 ^ 46) _ (narrow_value _ c.requires.x) c.requires.x;
+}
+
+pub short_product-b-requires : goal.short_product-b-requires
+short_product-b-requires c = record {
+  weight = narrow_kept 4001 _ (narrow_weight_fits _ (weight c.args.w 1 c.requires.weights)) (weight c.args.w 1 c.requires.weights);
+  value = narrow_kept (2 ^ 46) _ (narrow_value _ c.requires.y) c.requires.y;
+}
 
 pub short_product-c-requires : goal.short_product-c-requires
 short_product-c-requires c = record {
@@ -13,7 +25,11 @@ short_product-c-requires c = record {
 }
 
 pub overflow_add-result : goal.overflow_add-result
-overflow_add-result c = grind (arith, common_steps, narrow_fits, to_z-of_z, narrow_sum)
+overflow_add-result c =
+    let x_fit : FitsSigned w64 c.short_product-a.result = narrow_fits _ c.short_product-a.ensures.small in
+    let y_fit : FitsSigned w64 c.short_product-b.result = narrow_fits _ c.short_product-b.ensures.small in
+    let fits = narrow_sum _ _ _ c.short_product-a.ensures.small c.short_product-b.ensures.small c.short_product-c.ensures.small in
+    simp to_z-of_z fits.0
 
 pub overflow_add-result-2 : goal.overflow_add-result-2
 overflow_add-result-2 c =

@@ -1,6 +1,6 @@
 use Rattle.cue_grid.proofs.Prelude.{◌≡◌, ◌<◌, [], drop, length, take, shown, place_names, HaveActs, first_of, act_faults}
 use Rattle.cue_grid.proofs.Marking.{acted_all}
-use Rattle.cue_grid.proofs.faults.cue_fault.Given as goal
+use Rattle.cue_grid.proofs.faults.fault_after.Given as goal
 
 -- no fault so far, and after the last line it doesn't matter who has an act
 abbrev pub invariant-loop-i : goal.invariant-loop-i

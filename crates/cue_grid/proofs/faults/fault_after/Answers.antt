@@ -1,7 +1,7 @@
 use Rattle.cue_grid.proofs.Prelude.{sym, subst, ◌∙◌, arith, take, ◌+◌, shown, place_names, HaveActs}
 use Rattle.cue_grid.proofs.Marking.{acted_all, acted_more, line_here, line_later}
-use Rattle.cue_grid.proofs.faults.cue_fault.Goals.{then-i-acts+in_ok-put_acted, else-i-acts}
-use Rattle.cue_grid.proofs.faults.cue_fault.Goals as goal
+use Rattle.cue_grid.proofs.faults.fault_after.Goals.{then-i-acts+in_ok-put_acted, else-i-acts}
+use Rattle.cue_grid.proofs.faults.fault_after.Goals as goal
 
 pub returns-in-Some : goal.returns-in-Some
 returns-in-Some c =

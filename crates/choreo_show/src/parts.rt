@@ -1,4 +1,6 @@
-//! What the words of a line say: names, places, frames and acts.
+//! Names, places, frames and acts.
+
+ghost use Rattle.std.specs.Prelude.{◌≡◌, ◌≤◌, length};
 
 use arrayvec::ArrayVec;
 
@@ -6,7 +8,7 @@ use arrayvec::ArrayVec;
 pub type Name = ArrayVec<u8, 16>;
 
 /// A place and a yaw: x, y and z in micrometres, yaw in tenths of a degree.
-#[derive(Clone, Copy, PartialEq, Eq, Debug)]
+#[derive(Clone, Copy, PartialEq, Eq)]
 pub struct Point {
     pub x: i64,
     pub y: i64,
@@ -15,7 +17,7 @@ pub struct Point {
 }
 
 /// The axis along which a figure is mirrored, if it is.
-#[derive(Clone, Copy, PartialEq, Eq, Debug)]
+#[derive(Clone, Copy, PartialEq, Eq)]
 pub enum Mirror {
     None,
     X,
@@ -23,7 +25,7 @@ pub enum Mirror {
 }
 
 /// How a figure is put into the show: a mirror, then quarter turns counter-clockwise, then a shift in micrometres.
-#[derive(Clone, Copy, PartialEq, Eq, Debug)]
+#[derive(Clone, Copy, PartialEq, Eq)]
 pub struct Frame {
     pub mirror: Mirror,
     pub turns: u8,
@@ -33,7 +35,7 @@ pub struct Frame {
 }
 
 /// The ends of a quarter circle at which it rests.
-#[derive(Clone, Copy, PartialEq, Eq, Debug)]
+#[derive(Clone, Copy, PartialEq, Eq)]
 pub enum Ease {
     /// From rest to rest.
     InOut,
@@ -44,7 +46,7 @@ pub enum Ease {
 }
 
 /// What a drone does in a cue. Coordinates are in micrometres, yaws in tenths of a degree.
-#[derive(Clone, Copy, PartialEq, Eq, Debug)]
+#[derive(Clone, Copy, PartialEq, Eq)]
 pub enum Act {
     /// It stays.
     Hold,
@@ -81,4 +83,23 @@ pub enum Act {
         p2: [i64; 3],
         to: Point,
     },
+}
+
+/// The name of these bytes, which are at most 16.
+// Each line of a show has one.
+#[inline]
+pub fn name_kept(word: &[u8]) -> Name
+    requires { length word.now ≤ 16 }
+    ensures { result.items ≡ word.now }
+{
+    let mut name = ArrayVec::new();
+    name.try_extend_from_slice(word).unwrap();
+    name
+}
+
+/// A name once more.
+pub fn copy_of(name: &Name) -> Name
+    ensures { result ≡ name.now }
+{
+    name_kept(name.as_slice())
 }

@@ -1,9 +1,12 @@
 -- A name is a word: it has a byte, and no byte of it is a blank or a line feed.
-use Rattle.choreo_lines.proofs.Prelude.{common_steps, ◌≡◌, ℕ, ◌<◌, ◌≤◌, true, false, List, [], ◌∷◌, length, get_or, arith, and_parts, cases_Bool, goes_in_name, begins_lower, is_name}
+use Rattle.std.proofs.Common.{◌≡◌, ℕ, ◌<◌, ◌≤◌, true, false, List, [], ◌∷◌, length, get_or, arith}
+use Rattle.std.proofs.lemmas.Bool.{and_parts, cases_Bool}
+use Rattle.std.proofs.lemmas.Grind.{common_steps}
+use Rattle.std.specs.Prelude.{◌==◌}
+use Rattle.choreo_show.specs.Name.{goes_in_name, begins_lower, is_name}
 use Rattle.std.specs.List.{list_all}
 use Rattle.std.proofs.lemmas.Bool.Decides.{nat_tests}
 use Rattle.std.proofs.lemmas.List.Folds.{list_all_at}
-use Rattle.text_lines.specs.Lines.{is_line_feed}
 
 -- a name begins with a letter, and all its bytes go in a name
 name_parts : (word : List ℕ) → is_name word ≡ true → (begins_lower word ≡ true) × (list_all goes_in_name word ≡ true)
@@ -17,12 +20,12 @@ name_has_bytes (b ∷ word) named = omega arith
 above_blanks : (b : ℕ) → goes_in_name b ≡ true → 33 ≤ b
 above_blanks b h = grind (arith, nat_tests)
 
-no_line_feed : (b : ℕ) → 33 ≤ b → is_line_feed b ≡ false
+no_line_feed : (b : ℕ) → 33 ≤ b → (b == 10) ≡ false
 no_line_feed b h = grind (arith, nat_tests)
 
 byte_goes : (word : List ℕ) (i : ℕ) → is_name word ≡ true → i < length word → goes_in_name (get_or word i 0) ≡ true
 byte_goes word i named lt = grind (arith, common_steps, cases_Bool, list_all_at, name_parts)
 
 -- no byte of a name ends a line
-pub name_has_no_line_feed : (word : List ℕ) (i : ℕ) → is_name word ≡ true → i < length word → is_line_feed (get_or word i 0) ≡ false
+pub name_has_no_line_feed : (word : List ℕ) (i : ℕ) → is_name word ≡ true → i < length word → (get_or word i 0 == 10) ≡ false
 name_has_no_line_feed word i named lt = no_line_feed (get_or word i 0) (above_blanks (get_or word i 0) (byte_goes word i named lt))

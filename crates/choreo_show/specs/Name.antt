@@ -2,7 +2,6 @@
 use Rattle.std.specs.Prelude.{ℕ, Bool, false, not, ◌&&◌, ◌||◌, ◌==◌, List, [], ◌∷◌, length, nat_le, bytes_eq, codes}
 use Rattle.std.specs.List.{list_all}
 use Rattle.arrayvec.specs.ArrayVec.{ArrayVec}
-use Rattle.text_lines.specs.Numbers.{is_digit}
 
 -- the bytes of a name
 abbrev pub Name : Type 0
@@ -10,7 +9,7 @@ Name = ArrayVec ℕ
 
 -- what may stand in a name after its first byte: a lower-case letter, a digit or `_`
 abbrev pub goes_in_name : ℕ → Bool
-goes_in_name b = (nat_le 97 b && nat_le b 122) || is_digit b || b == 95
+goes_in_name b = (nat_le 97 b && nat_le b 122) || (nat_le 48 b && nat_le b 57) || b == 95
 
 -- bytes of which the first is a lower-case letter
 abbrev pub begins_lower : List ℕ → Bool
