@@ -78,7 +78,7 @@ is_grid = record {
   some_start = omega arith;
   few_starts = omega arith;
   starts = All-cons (λ (s : DroneLine). FitsPoint s.at) only []
-      ((omega arith, omega arith), ((omega arith, omega arith), ((omega arith, omega arith), ((omega arith, omega arith), tt)))) (All-nil (λ (s : DroneLine). FitsPoint s.at));
+      ((omega arith, omega arith), (omega arith, omega arith), (omega arith, omega arith), (omega arith, omega arith)) (All-nil (λ (s : DroneLine). FitsPoint s.at));
   some_cue = omega arith;
   few_cues = omega arith;
   cues = (

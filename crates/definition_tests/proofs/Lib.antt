@@ -1,3 +1,4 @@
+mod Prelude
 pub mod Counting
 pub mod KeptRows
 pub mod ApartRows
@@ -29,3 +30,8 @@ pub mod DepthRows
 pub mod GridRows
 pub mod BlockedRows
 pub mod CalledRows
+pub mod RadiusCoefficients
+pub mod RadiusHalves
+pub mod Radii
+pub mod RadiusRounding
+pub mod RadiusRows

@@ -16,7 +16,7 @@ is_grid = record {
   some_start = omega arith;
   few_starts = omega arith;
   starts = All-cons (λ (s : DroneLine). FitsPoint s.at) (begins_at (spot (pos 500) (negsuc 499) (pos 0) (pos 7))) []
-      ((omega arith, omega arith), ((omega arith, omega arith), ((omega arith, omega arith), ((omega arith, omega arith), tt)))) (All-nil (λ (s : DroneLine). FitsPoint s.at));
+      ((omega arith, omega arith), (omega arith, omega arith), (omega arith, omega arith), (omega arith, omega arith)) (All-nil (λ (s : DroneLine). FitsPoint s.at));
   some_cue = omega arith;
   few_cues = omega arith;
   cues = (

@@ -1,18 +1,17 @@
 -- Small bodies, computed.
 use Rattle.std.proofs.Common.{◌≡◌, ◌≤◌, ◌+◌, ℕ, zero, suc, false, true, arith, refl}
-use Rattle.choreo_lines.specs.declared.line.Entry.TheVariants as entry
-use Rattle.choreo_show.specs.Valid.{FitsBody, FitsLine}
+use Rattle.choreo_show.specs.Valid.{FitsBody, FitsDuration, FitsFigure, FitsTimes}
 use Rattle.definition_tests.specs.Shapes.{FigureRows, FilledRows, NestingRows, figure_of, nested, one_cue}
 
 -- the line of figure `g` fits, as do those of its cue and of its repeats
-figure_fits : FitsLine (entry.Figure (figure_of one_cue).name (figure_of one_cue).roles)
-figure_fits = (refl, (refl, (refl, tt)))
+figure_fits : FitsFigure (figure_of one_cue).name (figure_of one_cue).roles
+figure_fits = (refl, (omega arith, omega arith, (refl, tt)))
 
-cue_fits : FitsLine (entry.Cue 10)
-cue_fits = (refl, ((omega arith, omega arith), tt))
+cue_fits : FitsDuration 10
+cue_fits = (omega arith, omega arith)
 
-repeat_fits : FitsLine (entry.Repeat 2)
-repeat_fits = (refl, ((omega arith, omega arith), tt))
+repeat_fits : FitsTimes 2
+repeat_fits = (omega arith, omega arith)
 
 nested_fits : (n line : ℕ) → FitsBody (nested line n)
 nested_fits zero line = (cue_fits, tt, tt)

@@ -7,7 +7,7 @@ use Rattle.std.specs.Fmt.{digits}
 use Rattle.crtp_packets.specs.declared.chunks.TheConstants.{MEMORY_BYTES}
 use Rattle.traj_codec.specs.declared.traj.Traj.{Traj}
 use Rattle.traj_codec.specs.Spelling.{HasDuration, IsTrajectory}
-use Rattle.choreo_lines.specs.Name.{Name, is_name}
+use Rattle.choreo_show.specs.Name.{Name, is_name}
 use Rattle.choreo_show.specs.Plain.{PlainShow}
 use Rattle.choreo_show.specs.Valid.{FitsSettings}
 use Rattle.choreo_show.specs.declared.show.Settings.{Settings}

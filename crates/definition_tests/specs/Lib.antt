@@ -27,3 +27,4 @@ pub mod Depths
 pub mod Grids
 pub mod Blocked
 pub mod Called
+pub mod Radius

@@ -1,7 +1,7 @@
 -- What the definitions of near flights say of small ones.
 use Rattle.std.specs.Prelude.{ℕ, ℤ, pos, negsuc, [], ◌∷◌}
-use Rattle.choreo_lines.specs.declared.parts.Point.{Point}
-use Rattle.choreo_lines.specs.declared.parts.Act.TheVariants as act
+use Rattle.choreo_show.specs.declared.parts.Point.{Point}
+use Rattle.choreo_show.specs.declared.parts.Act.TheVariants as act
 use Rattle.choreo_show.specs.declared.show.DroneLine.{DroneLine}
 use Rattle.cue_grid.specs.declared.grid.Grid.{Grid}
 use Rattle.figure_expand.specs.Expanded.{no_job}

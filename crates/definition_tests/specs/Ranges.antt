@@ -1,12 +1,12 @@
 -- What the definitions of names and of numbers in a show say at the ends of their ranges.
 use Rattle.std.specs.Prelude.{◌≡◌, ℕ, zero, suc, ℤ, pos, negsuc, true, false, List, [], ◌∷◌, codes}
-use Rattle.choreo_lines.specs.Name.{Name, is_name}
-use Rattle.choreo_lines.specs.declared.line.Entry.TheVariants as entry
-use Rattle.choreo_lines.specs.declared.parts.Act.TheVariants as act
-use Rattle.choreo_lines.specs.declared.parts.Frame.{Frame}
-use Rattle.choreo_lines.specs.declared.parts.Mirror.TheVariants as mirror
-use Rattle.choreo_lines.specs.declared.parts.Point.{Point}
-use Rattle.choreo_show.specs.Valid.{FitDroneLines, FitFormations, FitsAct, FitsFrame, FitsLine, FitsPoint, FitsSettings}
+use Rattle.choreo_show.specs.Name.{Name, is_name}
+use Rattle.choreo_show.specs.declared.parts.Act.TheVariants as act
+use Rattle.choreo_show.specs.declared.parts.Frame.{Frame}
+use Rattle.choreo_show.specs.declared.parts.Mirror.TheVariants as mirror
+use Rattle.choreo_show.specs.declared.parts.Point.{Point}
+use Rattle.choreo_show.specs.Valid.{FitDroneLines, FitFormations, FitsAct, FitsDuration, FitsFigure, FitsFrame, FitsPerform}
+use Rattle.choreo_show.specs.Valid.{FitsPoint, FitsSettings, FitsTimes}
 use Rattle.choreo_show.specs.declared.show.DroneLine.{DroneLine}
 use Rattle.choreo_show.specs.declared.show.Formation.{Formation}
 use Rattle.choreo_show.specs.declared.show.Settings.{Settings}
@@ -48,8 +48,8 @@ pub record NameRows : Type 0 where
   pub drones : FitDroneLines (drone (codes "abcdefghijklmno9") ∷ drone (codes "b") ∷ [])
   pub long_drone : FitDroneLines (drone (codes "b") ∷ drone (codes "abcdefghijklmnop9") ∷ []) → ⊥
   pub nameless_drone : FitDroneLines (drone [] ∷ []) → ⊥
-  pub long_role : FitsLine (entry.Figure (called (codes "g")) (called (codes "abcdefghijklmnop9") ∷ [])) → ⊥
-  pub long_figure : FitsLine (entry.Figure (called (codes "abcdefghijklmnop9")) (called (codes "a") ∷ [])) → ⊥
+  pub long_role : FitsFigure (called (codes "g")) (called (codes "abcdefghijklmnop9") ∷ []) → ⊥
+  pub long_figure : FitsFigure (called (codes "abcdefghijklmnop9")) (called (codes "a") ∷ []) → ⊥
 
 -- settings but for the memory's number
 abbrev pub settings : ℕ → ℕ → ℕ → ℕ → ℕ → ℕ → Settings
@@ -90,20 +90,20 @@ pub record NumberRows : Type 0 where
   pub frames : FitsFrame (frame 3 (negsuc 99999999))
   pub full_turn : FitsFrame (frame 4 (pos 0)) → ⊥
   pub shift : FitsFrame (frame 0 (pos 100000001)) → ⊥
-  pub short : FitsLine (entry.Cue 1)
-  pub long : FitsLine (entry.Cue 65535)
-  pub no_time : FitsLine (entry.Cue 0) → ⊥
-  pub longer : FitsLine (entry.Cue 65536) → ⊥
-  pub once : FitsLine (entry.Repeat 1)
-  pub often : FitsLine (entry.Repeat 1000000000)
-  pub never : FitsLine (entry.Repeat 0) → ⊥
-  pub oftener : FitsLine (entry.Repeat 1000000001) → ⊥
-  pub one_role : FitsLine (entry.Figure (called (codes "g")) (roles 1))
-  pub no_role : FitsLine (entry.Figure (called (codes "g")) []) → ⊥
-  pub many_roles : FitsLine (entry.Figure (called (codes "g")) (roles 33)) → ⊥
-  pub performed : FitsLine (entry.Perform (called (codes "g")) (frame 3 (pos 0)) (roles 32))
-  pub by_nobody : FitsLine (entry.Perform (called (codes "g")) (frame 3 (pos 0)) []) → ⊥
-  pub by_many : FitsLine (entry.Perform (called (codes "g")) (frame 3 (pos 0)) (roles 33)) → ⊥
-  pub turned_once_too_often : FitsLine (entry.Perform (called (codes "g")) (frame 4 (pos 0)) (roles 1)) → ⊥
+  pub short : FitsDuration 1
+  pub long : FitsDuration 65535
+  pub no_time : FitsDuration 0 → ⊥
+  pub longer : FitsDuration 65536 → ⊥
+  pub once : FitsTimes 1
+  pub often : FitsTimes 1000000000
+  pub never : FitsTimes 0 → ⊥
+  pub oftener : FitsTimes 1000000001 → ⊥
+  pub one_role : FitsFigure (called (codes "g")) (roles 1)
+  pub no_role : FitsFigure (called (codes "g")) [] → ⊥
+  pub many_roles : FitsFigure (called (codes "g")) (roles 33) → ⊥
+  pub performed : FitsPerform (called (codes "g")) (frame 3 (pos 0)) (roles 32)
+  pub by_nobody : FitsPerform (called (codes "g")) (frame 3 (pos 0)) [] → ⊥
+  pub by_many : FitsPerform (called (codes "g")) (frame 3 (pos 0)) (roles 33) → ⊥
+  pub turned_once_too_often : FitsPerform (called (codes "g")) (frame 4 (pos 0)) (roles 1) → ⊥
   pub one_place : FitFormations (formation (drone (codes "a") ∷ []) ∷ [])
   pub no_place : FitFormations (formation [] ∷ []) → ⊥

@@ -1,8 +1,8 @@
 -- What the definitions of a show's shape say of small bodies.
 use Rattle.std.specs.Prelude.{◌≡◌, ℕ, zero, suc, ◌+◌, pos, true, false, List, [], ◌∷◌, codes}
-use Rattle.choreo_lines.specs.Name.{Name}
-use Rattle.choreo_lines.specs.declared.parts.Act.TheVariants as act
-use Rattle.choreo_lines.specs.declared.parts.Mirror.TheVariants as mirror
+use Rattle.choreo_show.specs.Name.{Name}
+use Rattle.choreo_show.specs.declared.parts.Act.TheVariants as act
+use Rattle.choreo_show.specs.declared.parts.Mirror.TheVariants as mirror
 use Rattle.choreo_show.specs.Plain as plain
 use Rattle.choreo_show.specs.Plain.{Body, PlainFigure, PlainShow}
 use Rattle.choreo_show.specs.Shape.{depth, fits_figure, is_filled}

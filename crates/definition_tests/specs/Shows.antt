@@ -1,11 +1,11 @@
 -- What the definitions of a show's text, of its cues and of its plan say of a show that has each line of the language.
 use Rattle.std.specs.Prelude.{◌≡◌, ℕ, false, true, pos, negsuc, List, [], ◌∷◌, ◌++◌, codes}
 use Rattle.traj_codec.specs.declared.traj.Traj.{Traj}
-use Rattle.choreo_lines.specs.Name.{Name}
-use Rattle.choreo_lines.specs.declared.parts.Act.TheVariants as act
-use Rattle.choreo_lines.specs.declared.parts.Ease.TheVariants as ease
-use Rattle.choreo_lines.specs.declared.parts.Frame.{Frame}
-use Rattle.choreo_lines.specs.declared.parts.Mirror.TheVariants as mirror
+use Rattle.choreo_show.specs.Name.{Name}
+use Rattle.choreo_show.specs.declared.parts.Act.TheVariants as act
+use Rattle.choreo_show.specs.declared.parts.Ease.TheVariants as ease
+use Rattle.choreo_show.specs.declared.parts.Frame.{Frame}
+use Rattle.choreo_show.specs.declared.parts.Mirror.TheVariants as mirror
 use Rattle.choreo_show.specs.declared.show.ActLine.{ActLine}
 use Rattle.choreo_show.specs.declared.show.ActLine.TheVariants as on
 use Rattle.choreo_show.specs.declared.show.Formation.{Formation}

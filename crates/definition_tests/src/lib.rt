@@ -1,7 +1,8 @@
 //! The definitions of the main theorems at small values: what each has to refuse it refuses, and what stands beside
 //! that it accepts. So none of them can be weakened without a proof that breaks: a lateness, a stray, a half millimetre
 //! or an ending that a definition no longer asks for is refuted here (docs/PROMISES.md, "What is only tested, and what
-//! is neither"). The functions are laws, whose contracts are rows of specs/; nothing calls them.
+//! is neither"). The functions are laws, whose contracts are rows of specs/; nothing calls them. One law is no row:
+//! `radius_law` says how well the quarter circles of a show keep to their circle (docs/TRAJECTORY.md).
 #![tactic(auto)]
 
 ghost use Rattle.definition_tests.specs.Apart.{ApartRows, LateRows, MarginRows, StrayRows, TouchRows};
@@ -22,6 +23,7 @@ ghost use Rattle.definition_tests.specs.Halves.{HalfRows};
 ghost use Rattle.definition_tests.specs.Meetings.{ExplainRows, MeetRows};
 ghost use Rattle.definition_tests.specs.Near.{ShowRows};
 ghost use Rattle.definition_tests.specs.Pairs.{BothReadRows, PairRows, UploadsRows};
+ghost use Rattle.definition_tests.specs.Radius.{RadiusLaw};
 ghost use Rattle.definition_tests.specs.Ranges.{NameRows, NumberRows, SettingRows};
 ghost use Rattle.definition_tests.specs.Regions.{RegionRows};
 ghost use Rattle.definition_tests.specs.Rights.{RightRows};
@@ -399,4 +401,11 @@ pub fn blocked_rows()
 #[tactic(auto, using(crate::proofs::CalledRows::called))]
 pub fn called_rows()
     ensures { CalledRows }
+{}
+
+/// A law. At every instant `arc` is 1 to 1.00028 radii away from its centre, `swing` 0.99906 to 1.00094, and `arc_in`
+/// and `arc_out` 0.99995 to 1.00005, before their control points are rounded to whole micrometres. Rounding moves a
+/// control point by at most a micrometre on each axis.
+pub fn radius_law()
+    ensures { RadiusLaw }
 {}

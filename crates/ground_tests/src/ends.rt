@@ -69,16 +69,17 @@ fn a_full_writer_fails(rt: HostRuntime) {
     assert!(rt; first && second);
 }
 
+// The room, the number of the write that fails, whether all went out, and what did.
+const WRITES: [(usize, u64, bool, &[u8]); 3] = [
+    (9, 0, true, b"forwards"),
+    (9, 2, false, b"for"),
+    (7, 0, false, b"forward"),
+];
+
 #[test]
 fn writes(rt: HostRuntime) -> Result<(), Fail> {
     let alloc = rt.alloc();
-    // The room, the number of the write that fails, whether all went out, and what did.
-    let cases: [(usize, u64, bool, &[u8]); 3] = [
-        (9, 0, true, b"forwards"),
-        (9, 2, false, b"for"),
-        (7, 0, false, b"forward"),
-    ];
-    for (room, fails, done, written) in cases {
+    for (room, fails, done, written) in WRITES {
         let mut sink = MemSink::make(alloc, room, 3, Vec::from_slice(alloc, &[fails])?)?;
         let is_done = write_whole(&mut sink, b"forwards").is_ok();
         assert!(rt; is_done == done && sink.written() == written);

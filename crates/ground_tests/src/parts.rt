@@ -13,25 +13,26 @@ fn source_of(alloc: Global, input: &[u8], cut: usize, fails: u64) -> Result<MemS
     Ok(MemSource::make(bytes, cut.max(1), Vec::from_slice(alloc, &[fails])?))
 }
 
+// An input; its first part, whether a marker line ends that, and its second part.
+const PARTS_UNDER_ANY_CUT: [(&[u8], &[u8], bool, &[u8]); 8] = [
+    (b"", b"", false, b""),
+    (b"a\nb", b"a\nb", false, b""),
+    (b"a\n%%\nb\n", b"a\n", true, b"b\n"),
+    (b"a\n%%\r\n\nb", b"a\n", true, b"\nb"),
+    (b"a\n%%", b"a\n", true, b""),
+    (b"%%\r", b"", true, b""),
+    (
+        b" %%\n%% \n%%#\n%%\r\r\n%\n",
+        b" %%\n%% \n%%#\n%%\r\r\n%\n",
+        false,
+        b"",
+    ),
+    (b"%%\n%%\n", b"", true, b""),
+];
+
 #[test]
 fn parts_under_any_cut(rt: HostRuntime) -> Result<(), Fail> {
-    // An input; its first part, whether a marker line ends that, and its second part.
-    let cases: [(&[u8], &[u8], bool, &[u8]); 8] = [
-        (b"", b"", false, b""),
-        (b"a\nb", b"a\nb", false, b""),
-        (b"a\n%%\nb\n", b"a\n", true, b"b\n"),
-        (b"a\n%%\r\n\nb", b"a\n", true, b"\nb"),
-        (b"a\n%%", b"a\n", true, b""),
-        (b"%%\r", b"", true, b""),
-        (
-            b" %%\n%% \n%%#\n%%\r\r\n%\n",
-            b" %%\n%% \n%%#\n%%\r\r\n%\n",
-            false,
-            b"",
-        ),
-        (b"%%\n%%\n", b"", true, b""),
-    ];
-    for (input, wanted, marker, rest) in cases {
+    for (input, wanted, marker, rest) in PARTS_UNDER_ANY_CUT {
         for cut in [1, 2, 3, 5, 100] {
             let mut source = source_of(rt.alloc(), input, cut, 0)?;
             let Ok((first, second)) = two_parts(rt.alloc(), &mut source) else {
@@ -57,17 +58,18 @@ fn first_part(
     Ok((part, parts.sound()))
 }
 
+// The input, its limit, the number of the read that fails, and the fault or the part.
+const REFUSALS: [(&[u8], usize, u64, Result<&[u8], IoFault>); 5] = [
+    (b"abc\n%%\n", 3, 0, Err(IoFault::TooLong)),
+    (b"abcd", 3, 0, Err(IoFault::TooLong)),
+    (b"abc\n%%\n", 9, 2, Err(IoFault::Read)),
+    (b"abc", 9, 3, Err(IoFault::Read)),
+    (b"abc\n%%\n", 4, 0, Ok(b"abc\n")),
+];
+
 #[test]
 fn refusals(rt: HostRuntime) -> Result<(), Fail> {
-    // The input, its limit, the number of the read that fails, and the fault or the part.
-    let cases: [(&[u8], usize, u64, Result<&[u8], IoFault>); 5] = [
-        (b"abc\n%%\n", 3, 0, Err(IoFault::TooLong)),
-        (b"abcd", 3, 0, Err(IoFault::TooLong)),
-        (b"abc\n%%\n", 9, 2, Err(IoFault::Read)),
-        (b"abc", 9, 3, Err(IoFault::Read)),
-        (b"abc\n%%\n", 4, 0, Ok(b"abc\n")),
-    ];
-    for (input, limit, fails, wanted) in cases {
+    for (input, limit, fails, wanted) in REFUSALS {
         let (part, sound) = first_part(rt.alloc(), input, limit, fails)?;
         let is_wanted = match (&part, wanted) {
             (Ok(part), Ok(bytes)) => sound && part.bytes.as_slice() == bytes,
@@ -135,20 +137,21 @@ fn asked(alloc: Global, input: &[u8], cut: usize, fails: u64) -> Result<Vec<u8>,
     Ok(given)
 }
 
+const PARTS_BYTE_BY_BYTE: [(&[u8], &[u8]); 9] = [
+    (b"", b""),
+    (b"%", b"%"),
+    (b"%%", b"^"),
+    (b"\n%%\r", b"\n^"),
+    (b"%%\r\r\n", b"%%\r\r\n"),
+    (b" %%\n%% \n%%#\n", b" %%\n%% \n%%#\n"),
+    (b"%%\n%%\n", b"^^"),
+    (b"a\n%%\nb%%\n%%\r\n%%a\n%%", b"a\n^b%%\n^%%a\n^"),
+    (b"%%%\n%\n%%\n", b"%%%\n%\n^"),
+];
+
 #[test]
 fn parts_byte_by_byte(rt: HostRuntime) -> Result<(), Fail> {
-    let cases: [(&[u8], &[u8]); 9] = [
-        (b"", b""),
-        (b"%", b"%"),
-        (b"%%", b"^"),
-        (b"\n%%\r", b"\n^"),
-        (b"%%\r\r\n", b"%%\r\r\n"),
-        (b" %%\n%% \n%%#\n", b" %%\n%% \n%%#\n"),
-        (b"%%\n%%\n", b"^^"),
-        (b"a\n%%\nb%%\n%%\r\n%%a\n%%", b"a\n^b%%\n^%%a\n^"),
-        (b"%%%\n%\n%%\n", b"%%%\n%\n^"),
-    ];
-    for (input, wanted) in cases {
+    for (input, wanted) in PARTS_BYTE_BY_BYTE {
         for cut in [1, 2, 3, 5, 100] {
             let given = asked(rt.alloc(), input, cut, 0);
             assert!(rt; matches!(&given, Ok(bytes) if bytes.as_slice() == wanted));
@@ -174,17 +177,18 @@ fn marker_line_across_the_buffer(rt: HostRuntime) -> Result<(), Fail> {
     Ok(())
 }
 
+// The first bytes of the input, the fault, and the bytes that are left: one read of 4,096 bytes.
+const READS_LITTLE: [(&[u8], Option<IoFault>, usize); 3] = [
+    (b"a\n%%\n", None, 15909),
+    (b"aaaaaaaaaaa", Some(IoFault::TooLong), 15915),
+    (b"aaaaaaaaaa\n%%\n", Some(IoFault::TooLong), 15918),
+];
+
 // How many bytes of 20,000 a reader takes for a part of at most 10 bytes.
 #[test]
 fn reads_little(rt: HostRuntime) -> Result<(), Fail> {
     let alloc = rt.alloc();
-    // The first bytes of the input, the fault, and the bytes that are left: one read of 4,096 bytes.
-    let cases: [(&[u8], Option<IoFault>, usize); 3] = [
-        (b"a\n%%\n", None, 15909),
-        (b"aaaaaaaaaaa", Some(IoFault::TooLong), 15915),
-        (b"aaaaaaaaaa\n%%\n", Some(IoFault::TooLong), 15918),
-    ];
-    for (front, wanted, left) in cases {
+    for (front, wanted, left) in READS_LITTLE {
         let mut bytes = Vec::from_slice(alloc, front)?;
         bytes.extend_from_slice(&[b'x'; 20000])?;
         let mut source = MemSource::make(bytes, 20100, Vec::new(alloc));

@@ -133,6 +133,3 @@ pub extern "C" fn hemtoghai_version() -> u32
 {
     0x00_02_00
 }
-
-#[cfg(test)]
-mod tests;

@@ -2,8 +2,8 @@
 //! certificates, and rehearses and carries their uploads.
 //!
 //! `run` of `show_run` is the program over any source and any sink, and has its contract. `main` is the trusted edge:
-//! it hands in the words and standard input and output, and ends with the status. The tests of the whole program stand
-//! here.
+//! it hands in the words and standard input and output, and ends with the status. `.ci/program` runs it over cases, and
+//! `run_tests` has the tests of ends that fail.
 #![tactic(auto)]
 
 use fleet_io::status::{NO_MEMORY, NO_WORDS};
@@ -28,18 +28,3 @@ fn main(rt: HostRuntime) -> ExitCode {
     let mut sink = StdSink::make(io::writer(&rt));
     ExitCode::from(run(rt.alloc(), &words, &mut source, &mut sink))
 }
-
-#[cfg(test)]
-mod direct_tests;
-#[cfg(test)]
-mod failing_tests;
-#[cfg(test)]
-mod readback_tests;
-#[cfg(test)]
-mod rehearse_tests;
-#[cfg(test)]
-mod study_tests;
-#[cfg(test)]
-mod tests;
-#[cfg(test)]
-mod upload_tests;

@@ -1,8 +1,7 @@
 //! Lines by the tables of docs/LANGUAGE.md: what they say where they stand, or what is wrong with them.
 
-use choreo_lines::{
-    Act, Ease, Entry, Form, Frame, LineError, LineKind, Mirror, Place, Point, entry_of,
-};
+use choreo_lines::{Entry, Form, LineError, LineKind, Place, entry_of};
+use choreo_show::{Act, Ease, Frame, Mirror, Point};
 use std::alloc::Global;
 use text_lines::{Comments, tokens};
 

@@ -41,8 +41,35 @@ const FIRST_REFUSED: &[u8] = b"\x50\x01\x07\x4E\x02\x00\x00\x00\x00\x05";
 // A packet of another port, which acknowledges nothing.
 const OTHER: &[u8] = b"\x50\x01\x03\x00\x48\x69";
 
-// A host for the path to one drone, with read-back or without.
-fn host_of(alloc: Global, readback: bool, start: bool) -> Result<Host, AllocError>
+// Whether memories are read back, and drones started.
+#[derive(Clone, Copy)]
+struct Asked {
+    readback: bool,
+    start: bool,
+}
+
+const LOAD: Asked = Asked {
+    readback: false,
+    start: false,
+};
+
+const FLY: Asked = Asked {
+    readback: false,
+    start: true,
+};
+
+const READ_BACK: Asked = Asked {
+    readback: true,
+    start: false,
+};
+
+const FLY_READ: Asked = Asked {
+    readback: true,
+    start: true,
+};
+
+// A host for the path to one drone.
+fn host_of(alloc: Global, asked: Asked) -> Result<Host, AllocError>
     ensures { IfOk result (λ host. HostStandsFor (view_of host) []) }
 {
     let mut loads = Vec::new(alloc);
@@ -57,7 +84,7 @@ fn host_of(alloc: Global, readback: bool, start: bool) -> Result<Host, AllocErro
     };
     Host::make(
         alloc,
-        Session::make(alloc, settings, &loads, readback, start)?,
+        Session::make(alloc, settings, &loads, asked.readback, asked.start)?,
     )
 }
 
@@ -80,7 +107,7 @@ struct Ran {
 // The source gives at most `cut` bytes a call. The read and the write of these numbers fail.
 fn run(
     alloc: Global,
-    start: bool,
+    asked: Asked,
     bytes: Vec<u8>,
     cut: usize,
     read_fails: u64,
@@ -90,12 +117,7 @@ fn run(
     let fails = Vec::from_slice(alloc, &[write_fails])?;
     let mut sink = MemSink::make(alloc, 4000, 4000, fails)?;
     let mut parts = Parts::make();
-    let status = upload(
-        &mut parts,
-        &mut source,
-        host_of(alloc, false, start)?,
-        &mut sink,
-    );
+    let status = upload(&mut parts, &mut source, host_of(alloc, asked)?, &mut sink);
     Ok(Ran {
         status,
         source,
@@ -107,7 +129,7 @@ fn run(
 // frame.
 fn ends(
     alloc: Global,
-    start: bool,
+    asked: Asked,
     input: &[&[u8]],
     status: u8,
     output: &[&[u8]],
@@ -115,77 +137,12 @@ fn ends(
     let mut wanted = joined(alloc, output)?;
     wanted.extend_from_slice(&[0x45, status])?;
     for cut in [1, 2, 7, 1000] {
-        let ran = run(alloc, start, joined(alloc, input)?, cut, 0, 0)?;
+        let ran = run(alloc, asked, joined(alloc, input)?, cut, 0, 0)?;
         if ran.status != status || ran.sink.written() != wanted.as_slice() {
             return Ok(false);
         }
     }
     Ok(true)
-}
-
-// Whether the drone is started, what comes in, the status, and what goes out before the end frame.
-type Row<'a> = (bool, &'a [&'a [u8]], u8, &'a [&'a [u8]]);
-
-#[test]
-fn uploads_that_are_done(rt: HostRuntime) -> Result<(), Fail> {
-    let all: &[&[u8]] = &[WROTE_FIRST, WROTE_SECOND, DEFINED, STARTED];
-    let again: &[u8] = b"\x50\x01\x0A\x4E\x02\x18\x00\x00\x00\x03\x00\x00\x00";
-    let rows: [Row; 6] = [
-        (false, &all[..3], 0, &[FIRST, DEFINE]),
-        (true, all, 0, &[FIRST, DEFINE, START]),
-        // An answer to what isn't in flight doesn't count.
-        (
-            true,
-            &[STARTED, WROTE_FIRST, WROTE_SECOND, DEFINED, STARTED],
-            0,
-            &[FIRST, DEFINE, START],
-        ),
-        (
-            false,
-            &[DEFINED, WROTE_FIRST, WROTE_SECOND, DEFINED],
-            0,
-            &[FIRST, DEFINE],
-        ),
-        // The example of docs/RADIO.md, "Link frames".
-        (
-            false,
-            &[WROTE_FIRST, b"T", WROTE_SECOND, DEFINED],
-            0,
-            &[FIRST, again, DEFINE],
-        ),
-        // After the end no byte is judged.
-        (
-            false,
-            &[WROTE_FIRST, WROTE_SECOND, DEFINED, b"\x51"],
-            0,
-            &[FIRST, DEFINE],
-        ),
-    ];
-    for (start, input, status, output) in rows {
-        assert!(rt; ends(rt.alloc(), start, input, status, output)?);
-    }
-    Ok(())
-}
-
-#[test]
-fn uploads_that_are_refused(rt: HostRuntime) -> Result<(), Fail> {
-    let rows: [Row; 4] = [
-        // The answer to a start that wasn't sent is one.
-        (true, &[b"\x50\x01\x05\x8C\x05\x00\x00\x05"], 10, &[FIRST]),
-        (false, &[b"\x50\x01\x05\x8C\x05\x00\x00\x05"], 8, &[FIRST]),
-        (false, &[FIRST_REFUSED, b"\x51"], 10, &[FIRST]),
-        // Bits of the link are of no account.
-        (
-            false,
-            &[b"\x50\x01\x07\x42\x02\x00\x00\x00\x00\x05"],
-            10,
-            &[FIRST],
-        ),
-    ];
-    for (start, input, status, output) in rows {
-        assert!(rt; ends(rt.alloc(), start, input, status, output)?);
-    }
-    Ok(())
 }
 
 // Frames of the greatest length: the answer to the first write with 24 bytes after its status, which are of no account,
@@ -198,79 +155,174 @@ const LONG_REFUSED: &[u8] =
     b"\x50\x01\x1F\x4E\x02\x00\x00\x00\x00\x05\x50\x50\x50\x50\x50\x50\x50\x50\x50\x50\x50\x50\x50\x50\x50\x50\x50\x50\
     \x50\x50\x50\x50\x50\x50";
 
-// The longest frame comes first of all, whole in one read or in pieces.
-#[test]
-fn the_longest_frame_comes_first(rt: HostRuntime) -> Result<(), Fail> {
-    assert_eq!(rt; LONG_WROTE.len(), 34);
-    assert_eq!(rt; LONG_REFUSED.len(), 34);
-    let rows: [Row; 4] = [
-        (false, &[LONG_WROTE], 8, &[FIRST]),
-        (
-            false,
-            &[LONG_WROTE, WROTE_SECOND, DEFINED],
-            0,
-            &[FIRST, DEFINE],
-        ),
-        (false, &[LONG_REFUSED], 10, &[FIRST]),
-        (false, &[&LONG_WROTE[..33]], 11, &[FIRST]),
-    ];
-    for (start, input, status, output) in rows {
-        assert!(rt; ends(rt.alloc(), start, input, status, output)?);
-    }
-    Ok(())
-}
+// The first of them without its last byte.
+const LONG_CUT: &[u8] =
+    b"\x50\x01\x1F\x4E\x02\x00\x00\x00\x00\x00\x54\x54\x54\x54\x54\x54\x54\x54\x54\x54\x54\x54\x54\x54\x54\x54\x54\x54\
+    \x54\x54\x54\x54\x54";
+
+// The frames of the two reads.
+const READS: &[u8] =
+    b"\x50\x01\x07\x4D\x02\x00\x00\x00\x00\x14\x50\x01\x07\x4D\x02\x14\x00\x00\x00\x08";
+
+// Frames that come in: the answers to the reads, and to the second one with another byte at its third place.
+const READ_FIRST: &[u8] =
+    b"\x50\x01\x1B\x4D\x02\x00\x00\x00\x00\x00\x00\x00\x00\x00\xE8\x03\x00\x00\x03\xD0\x07\x00\x00\x00\x00\x00\x00\xE8\
+    \x03\xE8";
+
+const READ_SECOND: &[u8] =
+    b"\x50\x01\x0F\x4D\x02\x14\x00\x00\x00\x00\x03\xE8\x03\xE8\x03\x00\x00\x00";
+
+const READ_OTHER: &[u8] =
+    b"\x50\x01\x0F\x4D\x02\x14\x00\x00\x00\x00\x03\xE8\x04\xE8\x03\x00\x00\x00";
+
+// What is asked for, what comes in, the status, and what goes out before the end frame.
+type Row<'a> = (Asked, &'a [&'a [u8]], u8, &'a [&'a [u8]]);
+
+// The frame of the second write, once more.
+const AGAIN: &[u8] = b"\x50\x01\x0A\x4E\x02\x18\x00\x00\x00\x03\x00\x00\x00";
+
+// Of a drone that isn't there.
+const STRANGER: &[u8] = b"\x50\x20\x07\x4E\x02\x00\x00\x00\x00\x05";
+
+const ENDS: [Row; 30] = [
+    // Uploads that are done.
+    (
+        LOAD,
+        &[WROTE_FIRST, WROTE_SECOND, DEFINED],
+        0,
+        &[FIRST, DEFINE],
+    ),
+    (
+        FLY,
+        &[WROTE_FIRST, WROTE_SECOND, DEFINED, STARTED],
+        0,
+        &[FIRST, DEFINE, START],
+    ),
+    // An answer to what isn't in flight doesn't count.
+    (
+        FLY,
+        &[STARTED, WROTE_FIRST, WROTE_SECOND, DEFINED, STARTED],
+        0,
+        &[FIRST, DEFINE, START],
+    ),
+    (
+        LOAD,
+        &[DEFINED, WROTE_FIRST, WROTE_SECOND, DEFINED],
+        0,
+        &[FIRST, DEFINE],
+    ),
+    // The example of docs/RADIO.md, "Link frames".
+    (
+        LOAD,
+        &[WROTE_FIRST, b"T", WROTE_SECOND, DEFINED],
+        0,
+        &[FIRST, AGAIN, DEFINE],
+    ),
+    // After the end no byte is judged.
+    (
+        LOAD,
+        &[WROTE_FIRST, WROTE_SECOND, DEFINED, b"\x51"],
+        0,
+        &[FIRST, DEFINE],
+    ),
+    // Uploads that are refused. The answer to a start that wasn't sent is one.
+    (FLY, &[b"\x50\x01\x05\x8C\x05\x00\x00\x05"], 10, &[FIRST]),
+    (LOAD, &[b"\x50\x01\x05\x8C\x05\x00\x00\x05"], 8, &[FIRST]),
+    (LOAD, &[FIRST_REFUSED, b"\x51"], 10, &[FIRST]),
+    // Bits of the link are of no account.
+    (
+        LOAD,
+        &[b"\x50\x01\x07\x42\x02\x00\x00\x00\x00\x05"],
+        10,
+        &[FIRST],
+    ),
+    // The longest frame comes first of all, whole in one read or in pieces.
+    (LOAD, &[LONG_WROTE], 8, &[FIRST]),
+    (
+        LOAD,
+        &[LONG_WROTE, WROTE_SECOND, DEFINED],
+        0,
+        &[FIRST, DEFINE],
+    ),
+    (LOAD, &[LONG_REFUSED], 10, &[FIRST]),
+    (LOAD, &[LONG_CUT], 11, &[FIRST]),
+    // Inputs that end early.
+    (LOAD, &[], 8, &[FIRST]),
+    // The answers to the start and to the define come before these are sent.
+    (
+        FLY,
+        &[STARTED, WROTE_FIRST, WROTE_SECOND, DEFINED],
+        8,
+        &[FIRST, DEFINE, START],
+    ),
+    (
+        LOAD,
+        &[DEFINED, WROTE_FIRST, WROTE_SECOND],
+        8,
+        &[FIRST, DEFINE],
+    ),
+    // The same answer twice acknowledges once.
+    (LOAD, &[WROTE_FIRST, WROTE_FIRST], 8, &[FIRST]),
+    (LOAD, &[STRANGER], 8, &[FIRST]),
+    // A tick sends what is in flight.
+    (LOAD, &[b"T", WROTE_FIRST, b"T"], 8, &[FIRST, FIRST, AGAIN]),
+    // The input ends in a frame.
+    (LOAD, &[b"\x50"], 11, &[FIRST]),
+    (LOAD, &[b"\x50\x01"], 11, &[FIRST]),
+    (LOAD, &[b"\x50\x01\x07"], 11, &[FIRST]),
+    (
+        LOAD,
+        &[b"\x50\x01\x07\x4E\x02\x00\x00\x00\x00"],
+        11,
+        &[FIRST],
+    ),
+    // A byte has no place.
+    (LOAD, &[WROTE_FIRST, b"%%\n"], 11, &[FIRST]),
+    (
+        LOAD,
+        &[WROTE_FIRST, WROTE_SECOND, b"TT\x50\x01\x20", DEFINED],
+        11,
+        &[FIRST, DEFINE, DEFINE, DEFINE],
+    ),
+    // Memories are read back.
+    (
+        READ_BACK,
+        &[WROTE_FIRST, WROTE_SECOND, DEFINED, READ_SECOND, READ_FIRST],
+        0,
+        &[FIRST, DEFINE, READS],
+    ),
+    (
+        FLY_READ,
+        &[
+            WROTE_FIRST,
+            WROTE_SECOND,
+            DEFINED,
+            READ_SECOND,
+            READ_FIRST,
+            STARTED,
+        ],
+        0,
+        &[FIRST, DEFINE, READS, START],
+    ),
+    (
+        FLY_READ,
+        &[WROTE_FIRST, WROTE_SECOND, DEFINED, READ_OTHER],
+        14,
+        &[FIRST, DEFINE, READS],
+    ),
+    (
+        FLY_READ,
+        &[WROTE_FIRST, WROTE_SECOND, DEFINED],
+        8,
+        &[FIRST, DEFINE, READS],
+    ),
+];
 
 #[test]
-fn inputs_that_end_early(rt: HostRuntime) -> Result<(), Fail> {
-    let again: &[u8] = b"\x50\x01\x0A\x4E\x02\x18\x00\x00\x00\x03\x00\x00\x00";
-    let stranger: &[u8] = b"\x50\x20\x07\x4E\x02\x00\x00\x00\x00\x05";
-    let rows: [Row; 6] = [
-        (false, &[], 8, &[FIRST]),
-        // The answers to the start and to the define come before these are sent.
-        (
-            true,
-            &[STARTED, WROTE_FIRST, WROTE_SECOND, DEFINED],
-            8,
-            &[FIRST, DEFINE, START],
-        ),
-        (
-            false,
-            &[DEFINED, WROTE_FIRST, WROTE_SECOND],
-            8,
-            &[FIRST, DEFINE],
-        ),
-        // The same answer twice acknowledges once.
-        (false, &[WROTE_FIRST, WROTE_FIRST], 8, &[FIRST]),
-        // A drone that isn't there.
-        (false, &[stranger], 8, &[FIRST]),
-        // A tick sends what is in flight.
-        (false, &[b"T", WROTE_FIRST, b"T"], 8, &[FIRST, FIRST, again]),
-    ];
-    for (start, input, status, output) in rows {
-        assert!(rt; ends(rt.alloc(), start, input, status, output)?);
-    }
-    Ok(())
-}
-
-#[test]
-fn faulty_inputs(rt: HostRuntime) -> Result<(), Fail> {
-    let rows: [Row; 6] = [
-        // The input ends in a frame.
-        (false, &[b"\x50"], 11, &[FIRST]),
-        (false, &[b"\x50\x01"], 11, &[FIRST]),
-        (false, &[b"\x50\x01\x07"], 11, &[FIRST]),
-        (false, &[&WROTE_FIRST[..9]], 11, &[FIRST]),
-        // A byte has no place.
-        (false, &[WROTE_FIRST, b"%%\n"], 11, &[FIRST]),
-        (
-            false,
-            &[WROTE_FIRST, WROTE_SECOND, b"TT\x50\x01\x20", DEFINED],
-            11,
-            &[FIRST, DEFINE, DEFINE, DEFINE],
-        ),
-    ];
-    for (start, input, status, output) in rows {
-        assert!(rt; ends(rt.alloc(), start, input, status, output)?);
+fn each_end(rt: HostRuntime) -> Result<(), Fail> {
+    assert_eq!(rt; (LONG_WROTE.len(), LONG_REFUSED.len()), (34, 34));
+    for (asked, input, status, output) in ENDS {
+        assert!(rt; ends(rt.alloc(), asked, input, status, output)?);
     }
     Ok(())
 }
@@ -278,46 +330,35 @@ fn faulty_inputs(rt: HostRuntime) -> Result<(), Fail> {
 #[test]
 fn the_twentieth_tick_gives_up(rt: HostRuntime) -> Result<(), Fail> {
     let alloc = rt.alloc();
-    let ran = run(
-        alloc,
-        false,
-        joined(alloc, &[b"TTTTTTTTTTTTTTTTTTTTT"])?,
-        1,
-        0,
-        0,
-    )?;
-    assert_eq!(rt; ran.status, 9);
-    assert_eq!(rt; ran.sink.written().len(), 922);
-    let ran = run(
-        alloc,
-        false,
-        joined(alloc, &[b"TTTTTTTTTTTTTTTTTTT"])?,
-        1,
-        0,
-        0,
-    )?;
-    assert_eq!(rt; ran.status, 8);
-    assert_eq!(rt; ran.sink.written().len(), 922);
+    for (ticks, status) in [
+        (b"TTTTTTTTTTTTTTTTTTTTT".as_slice(), 9),
+        (b"TTTTTTTTTTTTTTTTTTT", 8),
+    ] {
+        let ran = run(alloc, LOAD, joined(alloc, &[ticks])?, 1, 0, 0)?;
+        assert_eq!(rt; ran.status, status);
+        assert_eq!(rt; ran.sink.written().len(), 922);
+    }
     Ok(())
 }
+
+const NO_READ_AFTER_THE_END: [(&[u8], u8); 6] = [
+    (b"\x50\x00", 11),
+    (b"\x50\x21", 11),
+    (b"\x50\x01\x00", 11),
+    (b"\x50\x01\x20", 11),
+    (b"\x51", 11),
+    (FIRST_REFUSED, 10),
+];
 
 // A byte without a place and the last answer are judged before the next read.
 #[test]
 fn no_read_after_the_end(rt: HostRuntime) -> Result<(), Fail> {
     let alloc = rt.alloc();
-    let rows: [(&[u8], u8); 6] = [
-        (b"\x50\x00", 11),
-        (b"\x50\x21", 11),
-        (b"\x50\x01\x00", 11),
-        (b"\x50\x01\x20", 11),
-        (b"\x51", 11),
-        (FIRST_REFUSED, 10),
-    ];
-    for (input, status) in rows {
+    for (input, status) in NO_READ_AFTER_THE_END {
         let count = u64::try_from(input.len()).unwrap_or(0);
         let mut ran = run(
             alloc,
-            false,
+            LOAD,
             joined(alloc, &[input])?,
             1,
             count.saturating_add(1),
@@ -330,39 +371,34 @@ fn no_read_after_the_end(rt: HostRuntime) -> Result<(), Fail> {
     Ok(())
 }
 
-// Each read and each write fails in turn.
+// What comes in, the read and the write that fail, the most bytes of a read, the status, and what is written.
+type Failure<'a> = (&'a [&'a [u8]], u64, u64, usize, u8, &'a [&'a [u8]]);
+
+const ALL: &[&[u8]] = &[WROTE_FIRST, WROTE_SECOND, DEFINED];
+
+const NOT_READ: &[u8] = b"\x45\x06";
+
+const FAILURES: [Failure; 10] = [
+    (ALL, 1, 0, 1, 6, &[FIRST, NOT_READ]),
+    (ALL, 11, 0, 1, 6, &[FIRST, NOT_READ]),
+    (ALL, 21, 0, 1, 6, &[FIRST, DEFINE, NOT_READ]),
+    (ALL, 29, 0, 1, 0, &[FIRST, DEFINE, b"\x45\x00"]),
+    (ALL, 0, 1, 100, 7, &[]),
+    (ALL, 0, 2, 100, 7, &[FIRST]),
+    (ALL, 0, 3, 100, 7, &[FIRST, DEFINE]),
+    // No read is made after a failed write; and after a failed read the end frame may fail too.
+    (&[WROTE_FIRST], 1, 1, 100, 7, &[]),
+    (&[WROTE_FIRST], 1, 2, 100, 7, &[FIRST]),
+    (&[WROTE_FIRST], 2, 2, 100, 7, &[FIRST]),
+];
+
+// Each read and each write fails in turn, and both in the same upload.
 #[test]
 fn failing_ends(rt: HostRuntime) -> Result<(), Fail> {
     let alloc = rt.alloc();
-    let outputs: [&[&[u8]]; 4] = [
-        &[FIRST, b"\x45\x06"],
-        &[FIRST, b"\x45\x06"],
-        &[FIRST, DEFINE, b"\x45\x06"],
-        &[FIRST, DEFINE, b"\x45\x00"],
-    ];
-    for (fails, output) in [1, 11, 21, 29].into_iter().zip(outputs) {
-        let ran = run(
-            alloc,
-            false,
-            joined(alloc, &[WROTE_FIRST, WROTE_SECOND, DEFINED])?,
-            1,
-            fails,
-            0,
-        )?;
-        assert_eq!(rt; ran.status, if fails == 29 { 0 } else { 6 });
-        assert_eq!(rt; ran.sink.written(), joined(alloc, output)?.as_slice());
-    }
-    let written: [&[&[u8]]; 3] = [&[], &[FIRST], &[FIRST, DEFINE]];
-    for (fails, output) in [1, 2, 3].into_iter().zip(written) {
-        let ran = run(
-            alloc,
-            false,
-            joined(alloc, &[WROTE_FIRST, WROTE_SECOND, DEFINED])?,
-            100,
-            0,
-            fails,
-        )?;
-        assert_eq!(rt; ran.status, 7);
+    for (input, read, write, cut, status, output) in FAILURES {
+        let ran = run(alloc, LOAD, joined(alloc, input)?, cut, read, write)?;
+        assert_eq!(rt; ran.status, status);
         assert_eq!(rt; ran.sink.written(), joined(alloc, output)?.as_slice());
     }
     Ok(())
@@ -376,7 +412,7 @@ fn frames_wait_for_answers(rt: HostRuntime) -> Result<(), Fail> {
     for _ in 0..1000 {
         bytes.extend_from_slice(OTHER)?;
     }
-    let mut ran = run(alloc, false, bytes, 100, 0, 1)?;
+    let mut ran = run(alloc, LOAD, bytes, 100, 0, 1)?;
     assert_eq!(rt; ran.status, 7);
     assert_eq!(rt; ran.sink.written().len(), 0);
     let mut left = 0;
@@ -400,22 +436,23 @@ fn many(alloc: Global, count: u32, behind: &[u8]) -> Result<Vec<u8>, AllocError>
     Ok(bytes)
 }
 
+const FOUR_MILLION_FRAMES: [(u32, &[&[u8]], u8, &[&[u8]]); 3] = [
+    (4_000_000, &[b"\x51"], 13, &[FIRST, b"\x45\x0D"]),
+    (3_999_999, &[b"\x51"], 11, &[FIRST, b"\x45\x0B"]),
+    (
+        3_999_997,
+        &[WROTE_FIRST, WROTE_SECOND, DEFINED, b"\x51"],
+        0,
+        &[FIRST, DEFINE, b"\x45\x00"],
+    ),
+];
+
 #[test]
 fn four_million_frames(rt: HostRuntime) -> Result<(), Fail> {
     let alloc = rt.alloc();
-    let rows: [(u32, &[&[u8]], u8, &[&[u8]]); 3] = [
-        (4_000_000, &[b"\x51"], 13, &[FIRST, b"\x45\x0D"]),
-        (3_999_999, &[b"\x51"], 11, &[FIRST, b"\x45\x0B"]),
-        (
-            3_999_997,
-            &[WROTE_FIRST, WROTE_SECOND, DEFINED, b"\x51"],
-            0,
-            &[FIRST, DEFINE, b"\x45\x00"],
-        ),
-    ];
-    for (count, behind, status, output) in rows {
+    for (count, behind, status, output) in FOUR_MILLION_FRAMES {
         let input = many(alloc, count, joined(alloc, behind)?.as_slice())?;
-        let ran = run(alloc, false, input, 4096, 0, 0)?;
+        let ran = run(alloc, LOAD, input, 4096, 0, 0)?;
         assert_eq!(rt; ran.status, status);
         assert_eq!(rt; ran.sink.written(), joined(alloc, output)?.as_slice());
     }
@@ -490,93 +527,11 @@ fn ends_share_a_count(rt: HostRuntime) -> Result<(), Fail> {
     let status = upload(
         &mut parts,
         &mut source,
-        host_of(rt.alloc(), false, false)?,
+        host_of(rt.alloc(), LOAD)?,
         &mut sink,
     );
     assert_eq!(rt; status, 0);
     assert_eq!(rt; given.get(), 4);
     assert_eq!(rt; sent.get(), 74);
-    Ok(())
-}
-
-// A read and a write fail in the same upload.
-#[test]
-fn both_ends_fail(rt: HostRuntime) -> Result<(), Fail> {
-    let alloc = rt.alloc();
-    // No read is made after a failed write; and after a failed read the end frame may fail too.
-    let rows: [(u64, u64, &[u8]); 3] = [(1, 1, b""), (1, 2, FIRST), (2, 2, FIRST)];
-    for (read, write, output) in rows {
-        let ran = run(
-            alloc,
-            false,
-            joined(alloc, &[WROTE_FIRST])?,
-            100,
-            read,
-            write,
-        )?;
-        assert_eq!(rt; ran.status, 7);
-        assert_eq!(rt; ran.sink.written(), output);
-    }
-    Ok(())
-}
-
-// The frames of the two reads.
-const READS: &[u8] =
-    b"\x50\x01\x07\x4D\x02\x00\x00\x00\x00\x14\x50\x01\x07\x4D\x02\x14\x00\x00\x00\x08";
-
-// Frames that come in: the answers to the reads, and to the second one with another byte at its third place.
-const READ_FIRST: &[u8] =
-    b"\x50\x01\x1B\x4D\x02\x00\x00\x00\x00\x00\x00\x00\x00\x00\xE8\x03\x00\x00\x03\xD0\x07\x00\x00\x00\x00\x00\x00\xE8\
-    \x03\xE8";
-
-const READ_SECOND: &[u8] =
-    b"\x50\x01\x0F\x4D\x02\x14\x00\x00\x00\x00\x03\xE8\x03\xE8\x03\x00\x00\x00";
-
-const READ_OTHER: &[u8] =
-    b"\x50\x01\x0F\x4D\x02\x14\x00\x00\x00\x00\x03\xE8\x04\xE8\x03\x00\x00\x00";
-
-// Whether an upload of this input with read-back ends with this status, after this output and the end frame.
-fn ends_with_readback(
-    alloc: Global,
-    start: bool,
-    input: &[&[u8]],
-    status: u8,
-    output: &[&[u8]],
-) -> Result<bool, AllocError> {
-    let mut wanted = joined(alloc, output)?;
-    wanted.extend_from_slice(&[0x45, status])?;
-    let mut source = MemSource::make(joined(alloc, input)?, 7, Vec::from_slice(alloc, &[0])?);
-    let mut sink = MemSink::make(alloc, 4000, 4000, Vec::from_slice(alloc, &[0])?)?;
-    let mut parts = Parts::make();
-    let ended = upload(
-        &mut parts,
-        &mut source,
-        host_of(alloc, true, start)?,
-        &mut sink,
-    );
-    Ok(ended == status && sink.written() == wanted.as_slice())
-}
-
-#[test]
-fn memories_are_read_back(rt: HostRuntime) -> Result<(), Fail> {
-    let loaded: [&[u8]; 3] = [WROTE_FIRST, WROTE_SECOND, DEFINED];
-    let all: [&[u8]; 6] = [
-        WROTE_FIRST,
-        WROTE_SECOND,
-        DEFINED,
-        READ_SECOND,
-        READ_FIRST,
-        STARTED,
-    ];
-    let other: [&[u8]; 4] = [WROTE_FIRST, WROTE_SECOND, DEFINED, READ_OTHER];
-    let rows: [Row; 4] = [
-        (false, &all[..5], 0, &[FIRST, DEFINE, READS]),
-        (true, &all, 0, &[FIRST, DEFINE, READS, START]),
-        (true, &other, 14, &[FIRST, DEFINE, READS]),
-        (true, &loaded, 8, &[FIRST, DEFINE, READS]),
-    ];
-    for (start, input, status, output) in rows {
-        assert!(rt; ends_with_readback(rt.alloc(), start, input, status, output)?);
-    }
     Ok(())
 }

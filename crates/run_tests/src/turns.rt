@@ -1,13 +1,31 @@
 //! Each failure once: the row of each command over ends that cut to 16 bytes, with each read failing in turn, and with
 //! each write. What is written then is the line of a failed read, or a prefix of the row's output by arithmetic.
-use crate::tests::{
-    APART, CROSSING, FINE, HELP, Manner, PLAN, ROWS, SHOW, START, VERSION, run_over,
-};
-use crate::upload_tests::{ANSWERS, DEFINE_AND_END, FIRST};
+use crate::ends::{ANSWERS, APART, DEFINE_AND_END, FIRST, Manner, PLAN, SHOW, run_over};
 use std::alloc::{AllocError, Global};
 use std::test::Fail;
 
 const CUT: usize = 16;
+
+const START: &[u8] = b"choreo 1\ndrone solo 0 0 1000000 0\n";
+
+// Two drones that change places at one height.
+const CROSSING: &[u8] =
+    b"choreo 1\nellipsoid 120 300\ndrone a 0 0 1000000 0\ndrone b 1000000 0 1000000 0\n\
+cue 3000\na move 1000000 0 1000000 0\nb move 0 0 1000000 0\nend\n";
+
+const HELP: &[u8] = b"help\ncheck [--depth D]\ncompile [--depth D]\ncertify [--depth D]\n\
+play [--depth D] [--step MS]\nreport [--depth D]\nverify\nrehearse [--depth D] [--start] [--readback]\n\
+upload [--depth D] [--start] [--readback]\n\
+direct [--depth D] [--near MM] [--at MM] [--silence MS] [--floor MM] [--descent MS] [--then land|fly]\n\
+drill N [--depth D]\n\
+boxes [--depth D]\nspeed [--depth D] [--limit V]\nexplain [--depth D] [--fine E]\n\
+dynamics [--depth D] [--accel A] [--jump J]\nversion\n";
+
+const VERSION: &[u8] = b"hemtoghai 0.2.0\n";
+
+// A drone that moves a metre along x in two seconds: its first, middle and last instants.
+const ROWS: &[u8] =
+    b"0 solo 0 0 1000000 0\n1000 solo 500000 0 1000000 0\n2000 solo 1000000 0 1000000 0\n";
 
 // Words, the input in two halves, the status, and what is written, piece by piece as it goes out.
 type Row<'a> = (&'a [&'a str], &'a [u8], &'a [u8], u8, &'a [&'a [u8]]);
@@ -187,22 +205,39 @@ fn each_read_fails(rt: HostRuntime) -> Result<(), Fail> {
     Ok(())
 }
 
-// Five reads bring the show and the marker line, two the three answers, and after them the upload is done.
+// Five reads bring the show and the marker line, two the three answers, and after them the upload is done: the read
+// that fails, the status, and what is written, in two halves.
+const READS_OF_AN_UPLOAD: [(u64, u8, &[u8], &[u8]); 8] = [
+    (1, 6, b"", NOT_READ),
+    (2, 6, b"", NOT_READ),
+    (3, 6, b"", NOT_READ),
+    (4, 6, b"", NOT_READ),
+    (5, 6, b"", NOT_READ),
+    (6, 6, FIRST, NOT_READ),
+    (7, 6, FIRST, NOT_READ),
+    (8, 0, FIRST, DEFINE_AND_END),
+];
+
+const NOT_READ: &[u8] = b"\x45\x06";
+
+// Whether the upload ends so where this read fails.
+fn uploads_so(
+    alloc: Global,
+    read: u64,
+    status: u8,
+    begun: &[u8],
+    end: &[u8],
+) -> Result<bool, AllocError> {
+    let mut wanted = Vec::from_slice(alloc, begun)?;
+    wanted.extend_from_slice(end)?;
+    is_met(alloc, &OTHERS[2], read, 0, status, wanted.as_slice())
+}
+
 #[test]
 fn each_read_of_an_upload_fails(rt: HostRuntime) -> Result<(), Fail> {
-    let alloc = rt.alloc();
-    let row = &OTHERS[2];
-    let mut begun = Vec::from_slice(alloc, FIRST)?;
-    begun.extend_from_slice(b"\x45\x06")?;
-    for call in 1..6 {
-        assert!(rt; is_met(alloc, row, call, 0, 6, b"\x45\x06")?);
+    for (read, status, begun, end) in READS_OF_AN_UPLOAD {
+        assert!(rt; uploads_so(rt.alloc(), read, status, begun, end)?);
     }
-    for call in 6..8 {
-        assert!(rt; is_met(alloc, row, call, 0, 6, begun.as_slice())?);
-    }
-    let mut done = Vec::from_slice(alloc, FIRST)?;
-    done.extend_from_slice(DEFINE_AND_END)?;
-    assert!(rt; is_met(alloc, row, 8, 0, 0, done.as_slice())?);
     Ok(())
 }
 

@@ -1,0 +1,1 @@
+"""The cases that .ci/program runs, a file for each kind of command."""
