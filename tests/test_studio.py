@@ -1,6 +1,7 @@
 """./show studio over HTTP: who may ask, what is judged and in which order, saving, watching, cures, sizes and faults.
 How the page behaves is tested in tests/test_studio_page.py."""
 import hashlib
+import base64
 import http.client
 import json
 import os
@@ -158,12 +159,16 @@ class WhoAsks(Case):
         status, heads, body = self.studio.ask("GET", "", Origin=None)
         self.assertEqual(status, 200)
         nonce = re.search("script-src 'nonce-([^']+)'", heads["Content-Security-Policy"])[1]
-        self.assertIn(('<script nonce="%s">' % nonce).encode(), body)
+        self.assertIn(('<script type="module" nonce="%s">' % nonce).encode(), body)
         self.assertIn(b"default-src 'none'", heads["Content-Security-Policy"].encode())
-        self.assertNotIn(b"/*VIEW*/", body)
-        self.assertNotIn(b"NONCE", body)
-        # The page needs nothing else.
-        self.assertFalse(re.search(rb"(src|href)=|https?://(?!www\.w3\.org/2000/svg)", body))
+        for mark in (b"MODULES", b"STYLE", b"GIVEN", b"NONCE"):
+            self.assertNotIn(b"/*%s*/" % mark, body)
+        # The page needs nothing else, and its modules are in it, each once.
+        whole = re.sub(rb"data:text/javascript;base64,([A-Za-z0-9+/=]+)", lambda it: base64.b64decode(it[1]), body)
+        self.assertGreater(len(whole), 100000)
+        self.assertFalse(re.search(rb"(src|href)=|https?://(?!www\.w3\.org/2000/svg)", whole))
+        wanted = set(re.findall(rb'^(?:import|[^"\n]* from) "page/([a-z_]+\.js)";$', whole, re.M))
+        self.assertEqual(sorted(wanted), sorted(re.findall(rb"^//# sourceURL=(.*)$", whole, re.M)))
         self.assertEqual((heads["Cache-Control"], heads["Referrer-Policy"]), ("no-store", "no-referrer"))
 
     def test_token(self):
@@ -242,7 +247,8 @@ class Judging(Case):
 
     def test_faults(self):
         found = self.studio.stages(GOOD.replace("2000", "2.5s"))
-        self.assertEqual(set(found), {"verdict", "margins"})
+        # The flight is that of the lines before the faulty one: the drones, without a cue.
+        self.assertEqual(set(found), {"verdict", "margins", "lines", "flight"})
         fault = found["verdict"]["fault"]
         self.assertEqual((fault["line"], fault["word"], fault["text"]), (4, "bad-number", "cue 2.5s"))
         self.assertIn("whole numbers", fault["row"][2])
@@ -558,29 +564,31 @@ class Watching(Case):
 class Buttons(Case):
     def test_cure(self):
         status, made = self.studio.post("cure", text=NEAR)
-        self.assertEqual((status, made["changed"]), (200, True))
+        self.assertEqual((status, len(made["choices"]) > 1), (200, True))
         self.assertIn("cured in cue 1", made["said"])
-        self.assertEqual(self.studio.stages(made["text"])["verdict"]["status"], 0)
-        self.assertTrue(any(kind == "+" and "move" in words for kind, words in made["diff"]))
-        self.assertFalse(self.studio.post("cure", text=GOOD)[1]["changed"])
-        second = self.studio.post("cure", text=in_units(NEAR))[1]["text"]
-        self.assertEqual((choreo.form_of(second.encode()), in_whole_numbers(second)), (2, made["text"]))
+        for choice in made["choices"]:
+            self.assertEqual(self.studio.stages(choice["text"])["verdict"]["status"], 0)
+            self.assertTrue(any(kind == "+" and "move" in words for kind, words in choice["diff"]))
+        self.assertEqual(len({choice["text"] for choice in made["choices"]}), len(made["choices"]))
+        self.assertEqual(self.studio.post("cure", text=GOOD)[1]["choices"], [])
+        second = self.studio.post("cure", text=in_units(NEAR))[1]["choices"][0]["text"]
+        self.assertEqual((choreo.form_of(second.encode()), in_whole_numbers(second)), (2, made["choices"][0]["text"]))
 
     def test_deal(self):
         status, made = self.studio.post("deal", text=example("grid_to_ring"))
-        self.assertEqual((status, made["status"], made["changed"]), (200, 0, True))
+        self.assertEqual((status, made["status"], made["choices"][0]["words"]), (200, 0, "all formations"))
         self.assertIn("dealt anew", made["said"])
-        second = self.studio.post("deal", text=in_units(example("grid_to_ring")))[1]["text"]
-        self.assertEqual((choreo.form_of(second.encode()), in_whole_numbers(second)), (2, made["text"]))
+        second = self.studio.post("deal", text=in_units(example("grid_to_ring")))[1]["choices"][0]["text"]
+        self.assertEqual((choreo.form_of(second.encode()), in_whole_numbers(second)), (2, made["choices"][0]["text"]))
         status, made = self.studio.post("deal", text=GOOD)
-        self.assertEqual((made["changed"], "no formation" in made["said"]), (False, True))
+        self.assertEqual((made["choices"], "no formation" in made["said"]), ([], True))
         self.assertEqual(self.studio.read(), GOOD.encode())
 
     @wants_program
     def test_fly(self):
         """A flight with simulated drones, as docs/TOOLS.md says it of ./show fly."""
         status, made = self.studio.post("fly", text=GOOD)
-        self.assertEqual((status, made["changed"]), (200, False))
+        self.assertEqual((status, made["choices"]), (200, []))
         self.assertIn("landed", made["said"])
         self.assertIn("a at (0.00, 0.00, 0.00) m, disarmed, 1 start", made["said"])
 

@@ -3,6 +3,7 @@ import hashlib
 import json
 import os
 import re
+import shutil
 import sys
 import tempfile
 import unittest
@@ -152,7 +153,11 @@ class Bar(Flight):
     def setUp(self):
         folder = tempfile.TemporaryDirectory()
         self.addCleanup(folder.cleanup)
-        self.folder, self.program = folder.name, PROGRAM
+        self.folder = folder.name
+        # CI's program has no record: a copy of it gets one, with its own SHA-256.
+        self.program = shutil.copy(PROGRAM, self.folder)
+        with open(self.program, "rb") as program, open(self.program + ".built", "w") as record:
+            json.dump({"sha256": hashlib.sha256(program.read()).hexdigest(), "rests_on": "logic=proved in another place"}, record)
         self.regions = os.path.join(self.folder, "of.regions")
         with open(self.regions, "w") as file:
             file.write(REGIONS)
@@ -477,9 +482,9 @@ class Drag(Flight):
         self.assertEqual(self.browser.faults(), [])
 
     def test_not_there(self):
-        """Between ends, of a drone without a line, at the end of an arc and in a turned view a drag turns the view."""
+        """Between ends, at the end of an arc and in a turned view a drag turns the view."""
         self.begin(PLACED, 2000)
-        for ms, view, k in ((2000, "from above", 0), (4000, "from above", 2), (12000, "from above", 0), (4000, "in space", 0)):
+        for ms, view, k in ((2000, "from above", 0), (12000, "from above", 0), (4000, "in space", 0)):
             self.turn(ms, view)
             before = self.browser.run("return turn")
             self.carry(k, 0.5, 0.1)
@@ -487,8 +492,8 @@ class Drag(Flight):
             self.assertNotEqual(self.browser.run("return turn"), before)
 
     def test_several(self):
-        """Chosen drones go together, by as much as the one that is dragged, in one step of undo. One that has no place
-        there stays."""
+        """Chosen drones go together, by as much as the one that is dragged, in one step of undo. One that has no line
+        in the cue gets one."""
         self.begin(PLACED, 4000)
         for k in (0, 1, 2):
             x, y, _ = self.drone(k)
@@ -499,7 +504,7 @@ class Drag(Flight):
                 {"type": "key", "id": "keys", "actions": [{"type": "keyUp", "value": SHIFT}]}]})
         self.assertEqual(self.browser.run("return [...chosen]"), [0, 1, 2])
         self.carry(1, 0.3, 0.4)
-        both = (("0 1.04m 1m 0  #", "0.3m 1.44m 1m 0  #"), ("1m 1m 1.5m 0", "1.3m 1.4m 1.5m 0"))
+        both = (("0 1.04m 1m 0  #", "0.3m 1.44m 1m 0  #"), ("1m 1m 1.5m 0\n", "1.3m 1.4m 1.5m 0\nc move 2.3m 0.4m 1m 0\n"))
         self.is_text(*both)
         self.says("3 drones, 3 cues")
         self.assertEqual(self.browser.run("return [...chosen]"), [0, 1, 2])

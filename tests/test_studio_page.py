@@ -27,6 +27,22 @@ CONTROL, DELETE, TAB = "\uE009", "\uE017", "\uE004"
 SOON = 5.0  # seconds in which a key has to be on the screen, on a machine that has much else to do
 
 
+# A page's modules are reached by its import map; they were read by the page itself, so that no policy forbids it.
+INSIDE = """
+const words = arguments, work = function () { with (window.inside || {}) { %s } };
+const map = !window.inside && document.querySelector("script[type=importmap]");
+if (!map) return work.apply(null, words);
+const names = Object.keys(JSON.parse(map.textContent).imports);
+return Promise.all(names.map(name => import(name))).then(modules => {
+  const {set, state} = modules[names.indexOf("page/state.js")], homes = [state, ...modules];
+  const home = key => homes.find(it => typeof key === "string" && key in it);
+  window.inside = new Proxy({}, {has: (_, key) => Boolean(home(key)), get: (_, key) => home(key) && home(key)[key],
+                                 set: (_, key, value) => { set({[key]: value}); return true; }});
+  return work.apply(null, words);
+});
+"""
+
+
 def large_show():
     """32 drones and 1,000 cues; in each cue four of them fly half a metre there or back."""
     lines = ["choreo 1", "memory 2 0"]
@@ -82,8 +98,8 @@ class Browser:
         return value
 
     def run(self, script, *words):
-        """What a script returns."""
-        return self.ask("POST", "/execute/sync", {"script": script, "args": list(words)})
+        """What a script returns. In it what the page's modules export, and what its state has, are known by name."""
+        return self.ask("POST", "/execute/sync", {"script": INSIDE % script, "args": list(words)})
 
     def size(self, width, height):
         """Sets the size of the page."""

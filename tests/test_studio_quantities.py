@@ -8,6 +8,7 @@ import os
 import random
 import shutil
 import subprocess
+import tempfile
 import unittest
 
 import common
@@ -16,7 +17,8 @@ from hemtoghai.seeing.studio_words import COUNTS, words_of_language
 from test_quantities import ROWS, WRITTEN
 
 NODE = shutil.which("node") or shutil.which("nodejs")
-FILE = os.path.join(common.PYTHON, "hemtoghai", "seeing", "studio_quantities.js")
+FOLDER = os.path.join(common.PYTHON, "hemtoghai", "seeing")
+MODULES = ("given.js", "studio_quantities.js")
 MOST = 999999999  # of a number that the page writes
 UNIT_OF = {counts.name: unit for unit, counts in COUNTS.items()}
 
@@ -60,12 +62,20 @@ BOTH = """[words.map(([unit, word]) => quantityOf(unit, word)),
 class SameRule(unittest.TestCase):
     def test_table(self):
         words, numbers = table()
-        with open(FILE) as file:
-            script = 'const given = {language: %s};\n%s\nconst [words, numbers] = JSON.parse(' \
-                     'require("fs").readFileSync(0, "utf8"));\nconsole.log(JSON.stringify(%s));\n' % (
-                         json.dumps(words_of_language()), file.read(), BOTH)
-        done = subprocess.run([NODE, "-e", script], input=json.dumps([words, numbers]), stdout=subprocess.PIPE,
-                              universal_newlines=True, timeout=60, check=True)
+        page = {"language": words_of_language()}
+        script = 'globalThis.document = {getElementById: () => ({textContent: %s})};\n' \
+                 'const {quantityOf, quantityWord} = await import("./studio_quantities.js");\n' \
+                 'const {readFileSync} = await import("fs");\n' \
+                 'const [words, numbers] = JSON.parse(readFileSync(0, "utf8"));\nconsole.log(JSON.stringify(%s));\n' % (
+                     json.dumps(json.dumps(page)), BOTH)
+        with tempfile.TemporaryDirectory() as folder:  # in which files are modules
+            for name, words_of_file in (("package.json", '{"type": "module"}'), ("main.js", script)):
+                with open(os.path.join(folder, name), "w") as file:
+                    file.write(words_of_file)
+            for name in MODULES:
+                shutil.copy(os.path.join(FOLDER, name), folder)
+            done = subprocess.run([NODE, os.path.join(folder, "main.js")], input=json.dumps([words, numbers]),
+                                  stdout=subprocess.PIPE, universal_newlines=True, timeout=60, check=True)
         came_read, came_written = json.loads(done.stdout)
         for word, mine, theirs in zip(words, read(words), came_read):
             self.assertEqual(theirs, mine, word)

@@ -319,8 +319,11 @@ class Window(page.Led):
     def test_lines_are_sent(self):
         """A request has the lines alone that changed, and a verdict of another text isn't shown."""
         self.begin()
-        self.browser.run("window.bodies = []; const own = fetch; window.fetch = (path, words) => {"
-                         "if (path === 'judge') bodies.push(words.body); return own(path, words); }")
+        self.browser.run("window.bodies = []; window.loses = false; const own = fetch; window.fetch = (path, words) => {"
+                         "if (path === 'judge') bodies.push(words.body);"
+                         "if (path === 'judge' && loses) { const it = JSON.parse(words.body); loses = false;"
+                         "it.put = ['# note of some text']; it.length += it.put[0].length - lines[it.line - 1].length;"
+                         "words.body = JSON.stringify(it); } return own(path, words); }")
         self.put_cursor("# note 2000 of")
         for key in "xyz":
             self.browser.type(key)
@@ -328,8 +331,7 @@ class Window(page.Led):
         bodies = self.browser.run("return bodies")
         self.assertTrue(bodies and max(map(len, bodies)) < 300, [len(body) for body in bodies])
         # A page that loses count: the studio has another text then, and says so by its SHA-256.
-        self.browser.run("const own = carried; carried = () => { const it = own(); it.put = ['# note of some text']; "
-                         "it.length += it.put[0].length - lines[it.line - 1].length; carried = own; return it; }")
+        self.browser.run("window.loses = true")
         self.browser.type("w")
         self.wait(lambda: "another text was judged" in self.verdict(), "it doesn't say so")
         self.browser.type("v")
@@ -346,7 +348,7 @@ class Window(page.Led):
             text = text.replace(before, before + " # typed\n# and typed")
             self.browser.run("keep()")
         self.assertEqual(self.text(), text)
-        sizes = self.browser.run("return [file.key, keptRun()].map(name => localStorage.getItem(name).length)")
+        sizes = self.browser.run("return [file.key, `${file.key} lines`].map(name => localStorage.getItem(name).length)")
         self.assertTrue(sizes[0] > 200000 > sizes[1], sizes)
         self.browser.ask("POST", "/refresh", {})
         self.wait(lambda: "wasn't saved" in self.words("told"), "not kept")

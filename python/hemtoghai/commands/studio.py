@@ -27,6 +27,7 @@ from hemtoghai import program
 from hemtoghai.companion import add_depth, parser, read_file, stop, tool_name
 from hemtoghai.language import choreo
 from hemtoghai.language.cures import cure_of, shown
+from hemtoghai.seeing.page import page_of, read
 from hemtoghai.seeing.sampling import regions_of
 from hemtoghai.seeing.showfile import MOST_TEXT, ShowFile, stamp_of, text_of
 from hemtoghai.seeing.studio_program import answer, Answer, begin, end, Job, Program
@@ -34,12 +35,6 @@ from hemtoghai.seeing.studio_server import Server
 from hemtoghai.seeing.studio_texts import digest_of, Texts
 from hemtoghai.seeing.studio_words import words_of_language
 
-PARTS = {"/*STYLE*/": "studio.css", "/*VIEW*/": "view.js", "/*LINES*/": "studio_lines.js",
-         "/*FIELD*/": "studio_field.js", "/*PAPER*/": "studio_paper.js", "/*FIND*/": "studio_find.js",
-         "/*TEXT*/": "studio_text.js", "/*KEPT*/": "studio_kept.js", "/*QUANTITIES*/": "studio_quantities.js",
-         "/*EDIT*/": "studio_edit.js", "/*DRAG*/": "studio_drag.js", "/*FOUND*/": "studio_found.js",
-         "/*MAIN*/": "studio.js"}
-FOLDER = os.path.join(program.PACKAGE, "seeing")  # of the page's files
 MOST_JOBS = 8  # that run at a time, of all pages together
 MOST_PAGES = 64  # whose newest text is remembered
 MARKER = ["a line `%%` ends a show's text, and nothing may stand after it here", "", "take the line out"]
@@ -94,7 +89,11 @@ class Studio:
         return job.adopt(ready)
 
     def new_worker(self) -> subprocess.Popen[bytes]:
-        return begin(program.words_of("studio_work", str(self.depth), *self.regions))
+        return begin(self.worker_words())
+
+    def worker_words(self) -> list[str]:
+        """The words by which a worker is begun."""
+        return program.words_of("studio_work", str(self.depth), *self.regions)
 
     def make_ready(self) -> None:
         """Starts the worker of the next text."""
@@ -130,13 +129,10 @@ class Studio:
     def page(self, nonce: str) -> bytes:
         """The page, with what it has to know at first."""
         given = {"name": self.file.name, "watch": self.watch, "most": choreo.LONGEST_TEXT, "depth": self.depth,
-                 "regions": bool(self.regions), "language": words_of_language()}
-        page = read_file(os.path.join(FOLDER, "studio.html")).decode()
-        for mark, name in PARTS.items():
-            page = page.replace(mark, read_file(os.path.join(FOLDER, name)).decode())
+                 "regions": bool(self.regions), "drones": choreo.MOST_DRONES, "language": words_of_language()}
         words = json.dumps(given).replace("<", "\\u003C")  # in a script `<` could begin an end tag
-        page = page.replace("./show ", program.COMMAND + " ")
-        return page.replace("/*GIVEN*/", words).replace("NONCE", nonce).encode()
+        page = page_of("studio.html").replace("/*STYLE*/", read("studio.css"))
+        return page.replace("/*NONCE*/", nonce).replace("/*GIVEN*/", words).encode()
 
     def text(self) -> dict[str, object]:
         """The file as the page begins with it; OSError where it can't be read."""

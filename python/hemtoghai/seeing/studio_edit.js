@@ -2,22 +2,34 @@
 // cues and acts with the numbers of where each drone is, cues that are dragged longer or shorter, and a drone's lines.
 // A number is kept whole, in the unit of `choreo 1`, and written in the form of the text.
 
+import {byId, element} from "./elements.js";
+import {cueAt} from "./flight.js";
+import {given} from "./given.js";
+import {press} from "./player.js";
+import {ABOVE, cursorLine, field, LEFT, LINE, redo, scrollToLines, select, selectionFrom, undo, writeAside,
+  writeText} from "./studio_field.js";
+import {readStages} from "./studio_judge.js";
+import {draw} from "./studio_layout.js";
+import {offsetOf, textBetween, textLength} from "./studio_lines.js";
+import {quantityOf, quantityWord} from "./studio_quantities.js";
+import {markLines, post, tell} from "./studio_text.js";
+import {renewTool} from "./studio_tools.js";
+import {set, state} from "./state.js";
+
 // By the unit of a whole number: how many of it are one of the unit that is shown, its name, and a step.
 const UNITS = {um: [1000000, "m", 100000], mm: [1000, "m", 10], ms: [1000, "s", 100], deg10: [10, "°", 100]};
-const MOST_SHOWN = 999999999;
-const OPENING = ["formation", "figure", "cue", "repeat"];  // what a line may open
+export const MOST_SHOWN = 999999999;
 
 // ---- the number under the cursor
 
 let target = null;  // that number: from and to in the text, its line, its place among the words, unit, name, value
-let writing = false;  // while a number of the field is written, the field isn't left
-const wordsOf = line => [...line.replace(/#.*/, "").matchAll(/\S+/g)].map(it => ({at: it.index, text: it[0]}));
+export const wordsOf = line => [...line.replace(/#.*/, "").matchAll(/\S+/g)].map(it => ({at: it.index, text: it[0]}));
 // A whole number as a word of the text, and the whole number that a word of it is, or null.
-const numberWord = (unit, value) => textForm === 2 ? quantityWord(unit, value) : `${value}`;
-const numberOf = (unit, word) => textForm === 2 ? quantityOf(unit, word) :
-  textForm === 1 && /^-?[0-9]{1,9}$/.test(word) ? Number(word) : null;
+export const numberWord = (unit, value) => state.textForm === 2 ? quantityWord(unit, value) : `${value}`;
+const numberOf = (unit, word) => state.textForm === 2 ? quantityOf(unit, word) :
+  state.textForm === 1 && /^-?[0-9]{1,9}$/.test(word) ? Number(word) : null;
 // What the words of a line after its first ones are, with the name of the drone, or null.
-function slotsOf(words) {
+export function slotsOf(words) {
   const {acts, lines: kinds} = given.language;
   if (words.length > 1 && Object.hasOwn(acts, words[1].text)) {
     return {slots: acts[words[1].text], first: 2, name: words[0].text};
@@ -27,8 +39,8 @@ function slotsOf(words) {
   return {slots: kinds[words[0].text], first: 1, name: named ? words[1].text : words[0].text};
 }
 // The number that stands at an offset of a line, or null.
-function numberAt(line, column) {
-  const words = wordsOf(lines[line - 1] || ""), row = slotsOf(words);
+export function numberAt(line, column) {
+  const words = wordsOf(state.lines[line - 1] || ""), row = slotsOf(words);
   const place = words.findIndex(word => word.at <= column && column <= word.at + word.text.length);
   if (!row || place < row.first) return null;
   const slot = row.slots[place - row.first], text = words[place].text;
@@ -44,9 +56,9 @@ const asShown = (value, unit) => {
 };
 // Shows the number of the cursor. While somebody writes into the field itself its letters stay: on the way to -0.5 they
 // are -0, which isn't 0.
-function showNumber(force) {
+export function showNumber(force) {
   const input = byId("number-value");
-  if ((writing || document.activeElement === input) && !force) return;
+  if ((state.isWriting || document.activeElement === input) && !force) return;
   const line = cursorLine();
   target = given.watch ? null : numberAt(line, selectionFrom() - offsetOf(line));
   byId("number").hidden = target === null;
@@ -59,13 +71,13 @@ function showNumber(force) {
 // Writes a number of the field into the text, where the text still has the one that is shown; whether it was written.
 function writeNumber(value) {
   if (!target || !Number.isFinite(value) || Math.abs(value) > MOST_SHOWN) return false;
-  const input = byId("number-value"), text = value === target.value ? target.text : numberWord(target.unit, value);
+  const text = value === target.value ? target.text : numberWord(target.unit, value);
   if (textBetween(target.from, target.to) !== target.text) return false;
   if (text !== target.text) {
-    writing = true;
+    set({isWriting: true});
     writeAside(target.from, target.to, text, true);
     target = {...target, to: target.from + text.length, text, value};
-    writing = false;
+    set({isWriting: false});
   }
   return true;
 }
@@ -75,7 +87,7 @@ function numberOfField() {
   if (/[a-z]$/.test(words)) return quantityOf(target.unit, words) ?? NaN;
   return /^-?([0-9]+\.?[0-9]*|\.[0-9]+)$/.test(words) ? Math.round(Number(words) * UNITS[target.unit][0]) : NaN;
 }
-function onNumber() {
+export function onNumber() {
   if (target) sayNumber(writeNumber(numberOfField()));
 }
 // Says whether the field has a number for its place.
@@ -83,7 +95,7 @@ function sayNumber(isOne) {
   byId("number-value").setCustomValidity(isOne ? "" : "no number");
   byId("no-number").textContent = isOne ? "" : "no number";
 }
-function onNumberKey(event) {
+export function onNumberKey(event) {
   const step = {ArrowUp: 1, ArrowDown: -1}[event.key];
   if (event.key === "Escape") {
     event.preventDefault();
@@ -103,13 +115,13 @@ function onNumberKey(event) {
   }
 }
 // The number can be written over at once, in metres or seconds.
-function selectNumber() {
+export function selectNumber() {
   byId("number-value").focus();
   byId("number-value").select();
 }
 // Goes to the next number of the line, and after the last one back to the text.
 function nextNumber() {
-  const words = wordsOf(lines[target.line - 1] || "");
+  const words = wordsOf(state.lines[target.line - 1] || "");
   for (let place = target.place + 1; place < words.length; place += 1) {
     const next = numberAt(target.line, words[place].at);
     if (!next) continue;
@@ -133,24 +145,24 @@ const ACT_WORDS = {hold: "stay", line: "straight, at one speed", move: "straight
 // beginning, else after it; and never before the first line with words, which says that this is a show.
 function chooseLine() {
   const line = cursorLine(), column = selectionFrom() - offsetOf(line);
-  const header = lines.findIndex(text => text.replace(/#.*/, "").trim()) + 1;
-  menuReplaces = line > header && !lines[line - 1].trim();
+  const header = state.lines.findIndex(text => text.replace(/#.*/, "").trim()) + 1;
+  menuReplaces = line > header && !state.lines[line - 1].trim();
   menuLine = Math.max(header + 1, menuReplaces || column === 0 ? line : line + 1);
-  menuVersion = version;
+  menuVersion = state.version;
 }
-async function openMenu() {
-  if (given.watch || !file) return;
+export async function openMenu() {
+  if (given.watch || !state.file) return;
   chooseLine();
   placeMenu();
   byId("menu").replaceChildren(element("p", "Looking where the drones are"));
   byId("menu").hidden = false;
-  byId("insert").setAttribute("aria-expanded", true);
+  byId("insert").setAttribute("aria-expanded", "true");
   try {
     const answer = await post("places", {line: menuLine});
     if (!answer.ok) throw new Error(await answer.text());
     let places = null;
     await readStages(answer, stage => { if (stage.stage === "places") places = stage; }, () => false);
-    if (menuVersion === version && places && !byId("menu").hidden) fillMenu(places);
+    if (menuVersion === state.version && places && !byId("menu").hidden) fillMenu(places);
     else closeMenu(false);
   } catch (error) {
     closeMenu(false);
@@ -161,38 +173,40 @@ async function openMenu() {
 function placeMenu() {
   const line = cursorLine();
   scrollToLines(line, line);
-  const menu = byId("menu"), below = ABOVE + LINE * line - viewTop, high = viewHeight;
+  const menu = byId("menu"), below = ABOVE + LINE * line - state.viewTop, high = state.viewHeight;
   menu.style.left = `${LEFT + 12}px`;
   const above = below > high / 2;
   menu.style.top = above ? "auto" : `${Math.max(4, below + 2)}px`;
   menu.style.bottom = above ? `${Math.max(4, byId("editor").clientHeight - below + LINE + 2)}px` : "auto";
   menu.style.maxHeight = `${Math.max(120, above ? below - LINE - 10 : high - below - 8)}px`;
 }
-function closeMenu(back) {
+export function closeMenu(back) {
   byId("menu").hidden = true;
-  byId("insert").setAttribute("aria-expanded", false);
+  byId("insert").setAttribute("aria-expanded", "false");
   if (back) field.focus({preventScroll: true});
 }
 function menuButton(words, work) {
   const button = element("button", words, byId("menu"));
   button.type = "button";
-  button.onclick = () => { closeMenu(true); if (menuVersion === version) work(); };
+  button.onclick = () => { closeMenu(true); if (menuVersion === state.version) work(); };
 }
-function onMenuKey(event) {
+export function onMenuKey(event) {
   const step = {ArrowDown: 1, ArrowUp: -1}[event.key];
   if (event.key === "Escape") {
     event.stopPropagation();
     closeMenu(true);
   } else if (step && event.target.tagName === "BUTTON") {
     event.preventDefault();
-    const buttons = [...byId("menu").querySelectorAll("button")], at = buttons.indexOf(document.activeElement);
+    const buttons = [...byId("menu").querySelectorAll("button")];
+    const at = buttons.findIndex(it => it === document.activeElement);
     buttons[(at + step + buttons.length) % buttons.length].focus();
   }
 }
 function fillMenu(places) {
   const menu = byId("menu"), inCue = places.where === "cue";
   const free = places.drones.filter(row => !places.acted.includes(row[0]));
-  menuIndent = places.where === "top" ? "" : (lines[menuLine - 1] || lines[menuLine - 2] || "").match(/^\s*/)[0];
+  const beside = state.lines[menuLine - 1] || state.lines[menuLine - 2] || "";
+  menuIndent = places.where === "top" ? "" : beside.match(/^\s*/)[0];
   menu.replaceChildren();
   if (!places.exact) {
     element("p", "The text before this line isn't right yet: the numbers are those of the starts.", menu);
@@ -240,7 +254,7 @@ function fillPlaces(free) {
   for (const row of free) menuButton(`place of ${row[0]}`, () => insert(placeLine("at", row)));
 }
 // A line of a name with a place and a yaw.
-function placeLine(word, [name, x, y, z, yaw]) {
+export function placeLine(word, /** @type {any[]} */ [name, x, y, z, yaw]) {
   return [word, name, ...[x, y, z].map(it => numberWord("um", it)), numberWord("deg10", yaw)].join(" ");
 }
 function fillBlocks(places) {
@@ -264,7 +278,7 @@ function middleOf(rows) {
   return [1, 2].map(k => 1000 * Math.round(mean(k) / 1000));
 }
 // A line with an act of a drone that leaves it where it is, or turns it by a quarter around the middle.
-function actLine([name, x, y, z, yaw], [cx, cy]) {
+function actLine(/** @type {any[]} */ [name, x, y, z, yaw], /** @type {number[]} */ [cx, cy]) {
   const [act, sense] = actKind.split(" ");
   const own = {x, y, z, "centre x": cx, "centre y": cy, yaw: act === "turn" ? yaw + 900 : yaw};
   const numbers = given.language.acts[act].map(slot => {
@@ -280,7 +294,7 @@ function droneLine(rows) {
   const x = Math.max(...rows.map(row => row[1]), last[1]) + 500000;
   return placeLine("drone", [nextName(names), x, ...last.slice(2)]);
 }
-function nextName(names) {
+export function nextName(names) {
   const letters = [..."abcdefghijklmnopqrstuvwxyz"], last = names[names.length - 1] || "";
   if (names.every(name => /^[a-z]$/.test(name))) {
     const free = letters.filter(letter => !names.includes(letter));
@@ -296,14 +310,14 @@ function freeName(front, names, from = 1) {
 }
 // Writes lines at the menu's line, and selects their first number.
 function insert(words) {
-  const isAfterLast = menuLine > lines.length;
+  const isAfterLast = menuLine > state.lines.length;
   const block = words.split("\n").map(line => line && menuIndent + line).join("\n");
   const from = isAfterLast ? textLength() : offsetOf(menuLine);
   if (isAfterLast) writeText(from, from, `\n${block}`);
   else if (!menuReplaces) writeText(from, from, `${block}\n`);
-  else writeText(from, from + lines[menuLine - 1].length, menuLine === lines.length ? `${block}\n` : block);
+  else writeText(from, from + state.lines[menuLine - 1].length, menuLine === state.lines.length ? `${block}\n` : block);
   const last = menuLine + words.split("\n").length - 1, number = firstNumber(menuLine, last);
-  const end = offsetOf(menuLine) + lines[menuLine - 1].length;
+  const end = offsetOf(menuLine) + state.lines[menuLine - 1].length;
   scrollToLines(menuLine, last);
   select(number ? number.from : end, number ? number.to : end);
   showNumber(true);
@@ -311,12 +325,12 @@ function insert(words) {
 }
 // A block at top stands apart from the one above it.
 function insertBlock(words) {
-  const above = menuLine > 1 ? lines[menuLine - 2] : "";
+  const above = menuLine > 1 ? state.lines[menuLine - 2] : "";
   insert(above.trim() && !menuIndent ? `\n${words}` : words);
 }
 function firstNumber(first, last) {
   for (let k = first; k <= last; k += 1) {
-    for (const word of wordsOf(lines[k - 1] || "")) {
+    for (const word of wordsOf(state.lines[k - 1] || "")) {
       const number = numberAt(k, word.at);
       if (number) return number;
     }
@@ -327,9 +341,9 @@ function firstNumber(first, last) {
 // ---- a cue that is dragged longer or shorter
 
 // Writes the length of a cue into the text, where the flight that is drawn is that of the text.
-function stretchCue(cue, milliseconds) {
-  if (given.watch || flightVersion !== version || !flight.lines) return;
-  const line = flight.lines[cue][0][0], words = wordsOf(lines[line - 1] || "");
+export function stretchCue(cue, milliseconds) {
+  if (given.watch || state.flightVersion !== state.version || !state.flight.lines) return;
+  const line = state.flight.lines[cue][0][0], words = wordsOf(state.lines[line - 1] || "");
   if (words.length < 2 || words[0].text !== "cue") return;
   const number = numberAt(line, words[1].at), length = Math.max(1, Math.min(65535, Math.round(milliseconds)));
   if (!number || length === number.value) return;
@@ -344,21 +358,24 @@ function stretchCue(cue, milliseconds) {
 
 let picked = null;  // the name of the drone that was clicked in space
 // All lines of that drone: where it is declared, where formations place it, its acts.
-function pickedLines() {
-  const k = flight && picked !== null && flightVersion === version ? flight.names.indexOf(picked) : -1;
-  if (k < 0 || !found.lines) return [];
-  return new Set([found.lines.drones[k], ...found.lines.acts[k]].filter(Boolean));
+export function pickedLines() {
+  const isDrawn = state.flight && picked !== null && state.flightVersion === state.version;
+  const k = isDrawn ? state.flight.names.indexOf(picked) : -1;
+  if (k < 0 || !state.found.lines) return [];
+  return new Set([state.found.lines.drones[k], ...state.found.lines.acts[k]].filter(Boolean));
 }
 // Marks the lines of a drone, and shows the one that it flies at this instant; null takes the marks away. With others
 // it is chosen beside those that are.
-function pickDrone(k, withOthers) {
-  const others = withOthers ? [...chosen].filter(it => it !== k) : [], wasChosen = withOthers && chosen.has(k);
-  picked = k === null || wasChosen ? null : flight.names[k];
-  [chosen, isChosenByMark] = [new Set(k === null || wasChosen ? others : [...others, k]), false];
+export function pickDrone(k, withOthers) {
+  const others = withOthers ? [...state.chosen].filter(it => it !== k) : [];
+  const wasChosen = withOthers && state.chosen.has(k);
+  picked = k === null || wasChosen ? null : state.flight.names[k];
+  set({chosen: new Set(k === null || wasChosen ? others : [...others, k]), isChosenByMark: false});
   press();
   draw();
+  renewTool();
   markLines();
-  if (k === null || !found.lines || flightVersion !== version) return;
-  const line = found.lines.acts[k][cueAt(now)] || found.lines.drones[k];
+  if (k === null || !state.found.lines || state.flightVersion !== state.version) return;
+  const line = state.found.lines.acts[k][cueAt(state.now)] || state.found.lines.drones[k];
   if (!given.watch) scrollToLines(line, line);
 }

@@ -1,5 +1,14 @@
 // Finding words in the text of ./show studio: of the whole text, of which the field of the browser has a part.
 
+import {byId} from "./elements.js";
+import {given} from "./given.js";
+import {field, placeSelection, readSelection, scrollToLines, select, selectionFrom,
+  selectionTo} from "./studio_field.js";
+import {grouped} from "./studio_found.js";
+import {lineAt, textBetween, wholeText} from "./studio_lines.js";
+import {drawPaper} from "./studio_paper.js";
+import {state} from "./state.js";
+
 const MOST_HITS = 100000;  // places that are counted
 const FIND_PAUSE = 150;  // milliseconds without a key until they are found anew
 let hits = [], hitLength = 0;  // where in the text each place begins, and how many letters it has
@@ -9,7 +18,7 @@ const findWords = () => byId("find").hidden ? "" : byId("find-words").value;
 // All places of the words in the text, whether they are written large or small.
 function findAll() {
   const wanted = findWords(), pattern = new RegExp(wanted.replace(/[.*+?^${}()|[\]\\]/g, "\\$&"), "gi");
-  [hits, hitLength, hitsVersion, shownHit] = [[], wanted.length, version, -1];
+  [hits, hitLength, hitsVersion, shownHit] = [[], wanted.length, state.version, -1];
   if (!wanted) return;
   for (const it of wholeText().matchAll(pattern)) {
     hits.push(it.index);
@@ -26,12 +35,12 @@ function hitFrom(offset) {
   return low;
 }
 // The places in a line, as [from, to, whether it is the one that is shown].
-function hitsOf(k) {
+export function hitsOf(k) {
   const out = [];
-  if (byId("find").hidden || hitsVersion !== version || !hits.length) return out;
-  const begin = starts[k], end = begin + lines[k].length;
-  for (let at_ = hitFrom(begin); at_ < hits.length && hits[at_] < end; at_ += 1) {
-    out.push([hits[at_] - begin, hits[at_] - begin + hitLength, at_ === shownHit]);
+  if (byId("find").hidden || hitsVersion !== state.version || !hits.length) return out;
+  const begin = state.starts[k], end = begin + state.lines[k].length;
+  for (let next = hitFrom(begin); next < hits.length && hits[next] < end; next += 1) {
+    out.push([hits[next] - begin, hits[next] - begin + hitLength, next === shownHit]);
   }
   return out;
 }
@@ -51,9 +60,9 @@ function showHit(number) {
   drawPaper();
 }
 // Goes to the next place after the selection, or to the one before it; at the end it begins anew.
-function goHit(isBack) {
+export function goHit(isBack) {
   if (byId("find").hidden) return openFind();
-  if (hitsVersion !== version) findAll();
+  if (hitsVersion !== state.version) findAll();
   if (!hits.length) return showHit(-1);
   readSelection();
   const next = isBack ? hitFrom(selectionFrom()) - 1 : hitFrom(Math.max(selectionTo(), selectionFrom() + 1));
@@ -63,7 +72,7 @@ function onFindWords() {
   findAll();
   showHit(hits.length ? hitFrom(findOrigin) % hits.length : -1);
 }
-function openFind() {
+export function openFind() {
   if (given.watch) return;
   readSelection();
   const chosenWords = textBetween(selectionFrom(), selectionTo());
@@ -81,7 +90,7 @@ function closeFind() {
   drawPaper();
 }
 // After a change the places are found anew, once nobody types; where they were isn't shown meanwhile.
-function findSoon() {
+export function findSoon() {
   clearTimeout(finding);
   if (byId("find").hidden) return;
   finding = setTimeout(() => { findAll(); sayHits(); drawPaper(); }, FIND_PAUSE);
@@ -95,7 +104,7 @@ function onFindKey(event) {
     closeFind();
   }
 }
-function bindFind() {
+export function bindFind() {
   byId("find-words").addEventListener("input", onFindWords);
   byId("find").addEventListener("keydown", onFindKey);
   byId("find-back").onclick = () => goHit(true);

@@ -1,6 +1,13 @@
 // The lines of the text of ./show studio as they are seen: with numbers, colours and marks. The field's own letters are
 // clear, and the lines are drawn below it, those alone that can be seen or nearly so.
 
+import {byId, element} from "./elements.js";
+import {cueAt} from "./flight.js";
+import {given} from "./given.js";
+import {ABOVE, LINE, linesInView, within} from "./studio_field.js";
+import {hitsOf} from "./studio_find.js";
+import {state} from "./state.js";
+
 const SPARE = 12;  // lines that are drawn above and below those in view, for the next step of a scroll
 const TINTED = 4000;  // letters of a line that have colours
 const WORDS = new Set(given.language.words);
@@ -8,11 +15,12 @@ const NUMBERS = {1: /^-?[0-9]+$/, 2: /^-?[0-9]+(\.[0-9]+)?(m|cm|mm|um|s|ms|deg)?
 let rows = new Map();  // by line, from 0, what is drawn: how it was made, and its element
 
 // Draws the lines in view. A line that is as it was stays as it is.
-function drawPaper() {
+export function drawPaper() {
   if (given.watch) return;
   const [first, last] = linesInView(), next = new Map(), paper = byId("paper");
-  const playing = flight && flight.lines && flightLines === lines.length ? flight.lines[cueAt(now)][0] : null;
-  for (let k = Math.max(0, first - SPARE); k < Math.min(lines.length, last + SPARE); k += 1) {
+  const isDrawn = state.flight && state.flight.lines && state.flightLines === state.lines.length;
+  const playing = isDrawn ? state.flight.lines[cueAt(state.now)][0] : null;
+  for (let k = Math.max(0, first - SPARE); k < Math.min(state.lines.length, last + SPARE); k += 1) {
     const how = howRow(k, playing), old = rows.get(k);
     next.set(k, old && old.how === how ? old : {how, row: paperRow(k, playing)});
   }
@@ -28,17 +36,17 @@ function drawPaper() {
 const isPlaying = (k, playing) => playing !== null && playing[0] <= k + 1 && k + 1 <= playing[1];
 // All that a row is made of, in one word.
 function howRow(k, playing) {
-  const {kind = "", say = ""} = marked.get(k + 1) || {};
-  return [kind, say, isPlaying(k, playing), textForm, hitsOf(k), lines[k]].join("|");
+  const {kind = "", say = ""} = state.marked.get(k + 1) || {};
+  return [kind, say, isPlaying(k, playing), state.textForm, hitsOf(k), state.lines[k]].join("|");
 }
 function paperRow(k, playing) {
-  const row = document.createElement("div"), mark = marked.get(k + 1);
+  const row = document.createElement("div"), mark = state.marked.get(k + 1);
   row.className = mark ? mark.kind : "";
   if (isPlaying(k, playing)) row.classList.add("playing");
   element("span", k + 1, row).className = "number";
   const shownWords = element("span", "", row);
   shownWords.className = "words";
-  for (const [part, kind] of markHits(coloured(lines[k]), hitsOf(k))) {
+  for (const [part, kind] of markHits(coloured(state.lines[k]), hitsOf(k))) {
     if (kind) element("span", part, shownWords).className = kind;
     else shownWords.append(part);
   }
@@ -50,7 +58,7 @@ function coloured(line) {
   const front = line.slice(0, TINTED), hash = front.indexOf("#"), out = [];
   const code = hash < 0 ? front : front.slice(0, hash);
   for (const part of code.split(/([^\s]+)/)) {
-    if (part) out.push([part, WORDS.has(part) ? "k" : NUMBERS[textForm || 1].test(part) ? "n" : ""]);
+    if (part) out.push([part, WORDS.has(part) ? "k" : NUMBERS[state.textForm || 1].test(part) ? "n" : ""]);
   }
   if (hash >= 0) out.push([line.slice(hash), "c"]);
   else if (line.length > TINTED) out.push([line.slice(TINTED), ""]);
@@ -60,18 +68,18 @@ function coloured(line) {
 function markHits(parts, hits) {
   if (!hits.length) return parts;
   const out = [];
-  let at_ = 0;
+  let begun = 0;
   for (const [part, kind] of parts) {
     let from = 0;
     for (const [begin, end, isShown] of hits) {
-      const a = within(begin - at_, from, part.length), b = within(end - at_, from, part.length);
+      const a = within(begin - begun, from, part.length), b = within(end - begun, from, part.length);
       if (a === b) continue;
       if (a > from) out.push([part.slice(from, a), kind]);
       out.push([part.slice(a, b), `${kind} hit${isShown ? " shown" : ""}`]);
       from = b;
     }
     if (from < part.length) out.push([part.slice(from), kind]);
-    at_ += part.length;
+    begun += part.length;
   }
   return out;
 }

@@ -1,5 +1,7 @@
-// Quantities in ./show studio: the numbers of a text in `choreo 2`, exact, by the rules of docs/LANGUAGE.md, Quantities.
-// The same as language/quantities.py; tests/test_studio_quantities.py compares both.
+// Quantities in ./show studio: the numbers of a text in `choreo 2`, exact, by the rules of docs/LANGUAGE.md,
+// Quantities. The same as language/quantities.py; tests/test_studio_quantities.py compares both.
+
+import {given} from "./given.js";
 
 // By the unit of whole numbers what a place counts: the kind, the unit in which it is written, and the powers of ten.
 const COUNTS = given.language.counts;
@@ -11,7 +13,7 @@ function movedDigits(digits, places) {
 }
 // The quantity that a word is, in whole numbers of what its place counts, or null where it is none there; one of more
 // than twelve digits is beyond every range.
-function quantityOf(unit, word) {
+export function quantityOf(unit, word) {
   const {units} = COUNTS[unit];
   if (/^-?0+$/.test(word)) return 0;
   const found = /^(-?)([0-9]+)(?:\.([0-9]+))?([a-z]+)$/.exec(word);
@@ -22,7 +24,7 @@ function quantityOf(unit, word) {
   return found[1] && number ? -number : number;
 }
 // A whole number of what a place counts, as a word of `choreo 2` with no digit more than it takes.
-function quantityWord(unit, value) {
+export function quantityWord(unit, value) {
   if (value === 0) return "0";
   const {kind, usual, units} = COUNTS[unit], isShort = kind === "time" && Math.abs(value) < 1000;
   const name = isShort ? "ms" : usual, places = units[name], digits = `${Math.abs(value)}`.padStart(places + 1, "0");

@@ -22,7 +22,7 @@ from typing import Any, Dict, TYPE_CHECKING
 from urllib.parse import urlsplit
 
 from hemtoghai import program
-from hemtoghai.companion import tool_name
+from hemtoghai.companion import seconds, tool_name
 from hemtoghai.language import choreo
 from hemtoghai.seeing.showfile import bytes_of, difference, MOST_TEXT, stamp_of, text_of
 from hemtoghai.seeing.studio_opening import Opening
@@ -39,6 +39,7 @@ MOST_LISTENERS = 32  # pages that are told when the file changes
 SETTLE = 0.12  # seconds without a newer text until the flight is worked out; the verdict comes at once
 FLIGHT, FASTER = 8, 40  # seconds that a simulated flight is to take, and how many times faster than real at most
 LOOK = 0.3  # seconds from one look at the file to the next
+MOST_ALONE = 6  # formations that are dealt alone, for the choice
 QUIET = 10  # seconds after which a page that listens is sent a word, which fails where it is gone
 
 
@@ -97,7 +98,7 @@ class Handler(BaseHTTPRequestHandler):
 
     def do_POST(self) -> None:
         works: dict[str, Callable[[Asked], None]] = {
-            "judge": self.judge, "places": self.places, "save": self.save, "cure": self.cure, "deal": self.deal,
+            "judge": self.judge, "places": self.places, "preview": self.preview, "save": self.save, "cure": self.cure, "deal": self.deal,
             "fly": self.fly, "end": self.end, "compile": lambda asked: self.download("compile", asked),
             "certify": lambda asked: self.download("certify", asked)}
         self.route({name: partial(self.with_body, work) for name, work in works.items()})
@@ -294,6 +295,16 @@ class Handler(BaseHTTPRequestHandler):
             finally:
                 job.cancel()
 
+    def preview(self, asked: Asked) -> None:
+        """What another text would fly; it is judged by nobody."""
+        job = Job()
+        with self.studio.slots:
+            try:
+                self.head(200, "application/x-ndjson")
+                self.from_worker(job, self.studio.head(want="preview") + asked["text"], asked["text"])
+            finally:
+                job.cancel()
+
     # -- the buttons
 
     def save(self, asked: Asked) -> None:
@@ -319,12 +330,15 @@ class Handler(BaseHTTPRequestHandler):
         with self.studio.slots:
             return answer(Job(), [*program.words_of(*words), *options, "-"], text)
 
-    def offer(self, status: int | None, old: bytes, new: bytes, said: str, more: str = "") -> None:
-        """Sends a new text, if there is one, with what changed."""
-        before, after = (text.decode("utf-8", "surrogateescape") for text in (old, new))
-        changed = new not in (b"", old)
-        self.send_data({"status": status, "text": after, "said": said, "more": more, "changed": changed,
-                        "diff": difference(before, after) if changed else []})
+    def offer(self, status: int | None, old: bytes, texts: dict[str, bytes], said: str, more: str = "") -> None:
+        """Sends new texts by words that say what each is, those that are none left out, with what changed."""
+        before, choices, known = old.decode("utf-8", "surrogateescape"), [], {b"", old}
+        for words, new in texts.items():
+            if new not in known:
+                known.add(new)
+                after = new.decode("utf-8", "surrogateescape")
+                choices.append({"words": words, "text": after, "diff": difference(before, after)})
+        self.send_data({"status": status, "said": said, "more": more, "choices": choices})
 
     def cure(self, asked: Asked) -> None:
         with tempfile.TemporaryDirectory() as folder:
@@ -335,11 +349,27 @@ class Handler(BaseHTTPRequestHandler):
                     new = file.read()
         lines = (said + told).decode(errors="replace").strip().replace(out + ": ", "the new text: ").split("\n")
         short = [line for line in lines if re.match("cured in|the show lasts|nothing that helps|the new text: ", line)]
-        self.offer(status, asked["text"], new, "\n".join(short), "\n".join(line for line in lines if line not in short))
+        texts = {"every place that is blocked, each by what takes least time": new}
+        for stage in self.worked(asked["text"], want="remedies"):
+            words = "cue %d alone: %s (%s more)" % (stage["cue"] + 1, stage["words"], seconds(stage["takes"]))
+            texts[words] = bytes_of(stage["text"])
+        self.offer(status, asked["text"], texts, "\n".join(short), "\n".join(line for line in lines if line not in short))
+
+    def worked(self, text: bytes, **more: object) -> list[dict[str, Any]]:
+        """The stages that a worker writes of a text."""
+        with self.studio.slots:
+            said = answer(Job(), self.studio.worker_words(), self.studio.head(**more) + text).said
+        return [json.loads(line) for line in said.splitlines()]
 
     def deal(self, asked: Asked) -> None:
+        """What deal writes of all formations, and where there are several also of each alone."""
         status, new, told = self.made(["deal"], asked["text"])
-        self.offer(status, asked["text"], new, told.decode(errors="replace").strip().replace("deal: ", ""))
+        texts, depth = {"all formations": new}, ["--depth", str(self.studio.depth)]
+        formed = [stage["name"] for stage in self.worked(asked["text"], want="formed")][:MOST_ALONE]
+        for name in formed if len(formed) > 1 else []:
+            others = [word for other in formed if other != name for word in ("--keep", other)]
+            texts["%s alone" % name] = self.made(["deal", *others], asked["text"], *depth)[1]
+        self.offer(status, asked["text"], texts, told.decode(errors="replace").strip().replace("deal: ", ""))
 
     def fly(self, asked: Asked) -> None:
         """What ./show fly writes of a flight with simulated drones."""
@@ -348,7 +378,7 @@ class Handler(BaseHTTPRequestHandler):
         speed = min(FASTER, max(1, int(found[1]) // (1000 * FLIGHT))) if found else 20
         status, said, told = self.made(["fly"], asked["text"], "--simulate", "--yes", "--sim", "speed=%d" % speed)
         words = (said + told).decode(errors="replace").strip()
-        self.offer(status, asked["text"], b"", "%s\nstatus %s, %d times faster than real time" % (words, status, speed))
+        self.offer(status, asked["text"], {}, "%s\nstatus %s, %d times faster than real time" % (words, status, speed))
 
     def download(self, command: str, asked: Asked) -> None:
         """The plan or the certificate, or the line by which the show is refused."""

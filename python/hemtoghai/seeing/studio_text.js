@@ -1,37 +1,55 @@
 // The text of ./show studio: what follows a change, saving it in the file, and what the page says.
 
-const LONG = 200000;  // letters of a long text
+import {byId, element} from "./elements.js";
+import {endOfCue} from "./flight.js";
+import {given} from "./given.js";
+import {move, playOrStop, stop} from "./player.js";
+import {placingOfKey} from "./studio_drag.js";
+import {openMenu, pickedLines} from "./studio_edit.js";
+import {field, hold, isMac, linesInView, redo, replaceText, undo, windowAt} from "./studio_field.js";
+import {findSoon, goHit, openFind} from "./studio_find.js";
+import {regionFault, setBar} from "./studio_found.js";
+import {isStill, judge, judgeSoon} from "./studio_judge.js";
+import {keep, keepSoon, kept} from "./studio_kept.js";
+import {setContent, textLength, wholeText} from "./studio_lines.js";
+import {closeOffer} from "./studio_offer.js";
+import {drawPaper} from "./studio_paper.js";
+import {leaveTool} from "./studio_tools.js";
+import {set, state} from "./state.js";
+
+export const LONG = 200000;  // letters of a long text
 let saves = 0;  // texts that were saved from here
-let file = null;  // the text as it was read or saved: text, stamp, ends, key
-let marked = new Map(), markedLines = 1;  // by line the mark that it has, and how many lines there were then
-let typed = 0;  // the instant of the last key
+let markedLines = 1;  // how many lines there were when lines were marked
 let saving = false, saveAgain = false;
 const savedStamps = new Set();  // of what was saved from here: that the file has it isn't another program's change
 
 // ---- after a change
 
 // Marks of lines: the fault, the acts of two that are blocked, all lines of a drone that was clicked.
-function markLines() {
-  [marked, markedLines] = [new Map(), lines.length];
-  const fault = found.verdict && found.verdict.fault;
-  for (const number of pickedLines()) marked.set(number, {kind: "own"});
-  for (const number of shown ? shown.lines : []) marked.set(number, {kind: "pair"});
-  for (const number of regionFault() ? regionFault().lines : []) marked.set(number, {kind: "pair"});
-  if (fault) marked.set(fault.line, {kind: "fault", say: fault.word === "marker" ? "a marker line" : fault.word});
+export function markLines() {
+  set({marked: new Map()});
+  markedLines = state.lines.length;
+  const fault = state.found.verdict && state.found.verdict.fault;
+  for (const number of pickedLines()) state.marked.set(number, {kind: "own"});
+  for (const number of state.mark ? state.mark.lines : []) state.marked.set(number, {kind: "pair"});
+  for (const number of regionFault() ? regionFault().lines : []) state.marked.set(number, {kind: "pair"});
+  if (fault) state.marked.set(fault.line, {kind: "fault", say: fault.word === "marker" ? "a marker line" : fault.word});
   drawPaper();
 }
 // Nothing that is known of an older text is taken for this one from here on.
 function newVersion() {
-  version += 1;
-  if (asking) asking.abort();
+  leaveTool();
+  closeOffer();
+  set({version: state.version + 1});
+  if (state.asking) state.asking.abort();
   byId("verdict").classList.add("old");
-  byId("flight").classList.toggle("old", flight !== null);
+  byId("flight").classList.toggle("old", state.flight !== null);
 }
-function afterChange() {
-  typed = performance.now();
-  ghosts = new Map();
+export function afterChange() {
+  set({typedAt: performance.now()});
+  set({ghosts: new Map()});
   newVersion();
-  if (lines.length !== markedLines) marked = new Map();  // they would stand at other lines
+  if (state.lines.length !== markedLines) set({marked: new Map()});  // they would stand at other lines
   drawPaper();
   keepSoon();
   showState();
@@ -44,24 +62,24 @@ const TAKES_KEYS = "textarea, select, button, summary, input:not([type=range])";
 // What a key does to the flight, or null: Space plays and stops, the arrows step; Ctrl-Enter plays from the text, too.
 function flyingOfKey(event) {
   const {key, shiftKey} = event, command = event.ctrlKey || event.metaKey, by = shiftKey ? 10 * STEP : STEP;
-  if (!flight || isStill() || event.altKey || byId("offer").open) return null;
+  if (!state.flight || isStill() || event.altKey || byId("offer").matches(":modal")) return null;
   if (command) return key === "Enter" ? playOrStop : null;
   if (event.target.closest && event.target.closest(TAKES_KEYS)) return null;
-  const ends = [0, ...flight.cues.map((_, k) => endOfCue(k))];
-  if (key === "ArrowUp") return () => { stop(); move(ends.reverse().find(ms => ms < now - 1) ?? 0); };
-  if (key === "ArrowDown") return () => { stop(); move(ends.find(ms => ms > now + 1) ?? flight.end); };
+  const ends = [0, ...state.flight.cues.map((_, k) => endOfCue(k))];
+  if (key === "ArrowUp") return () => { stop(); move(ends.reverse().find(ms => ms < state.now - 1) ?? 0); };
+  if (key === "ArrowDown") return () => { stop(); move(ends.find(ms => ms > state.now + 1) ?? state.flight.end); };
   const step = {ArrowLeft: -by, ArrowRight: by, Home: -Infinity, End: Infinity}[key];
-  if (step) return () => { stop(); move(now + step); };
+  if (step) return () => { stop(); move(state.now + step); };
   return key === " " ? playOrStop : null;
 }
 // Undo reaches the text also from the flight, in which a cue can be dragged.
 function undoOfKey(event) {
   const low = event.key.toLowerCase();
-  if (given.watch || !(event.ctrlKey || event.metaKey) || event.altKey || byId("offer").open) return null;
+  if (given.watch || !(event.ctrlKey || event.metaKey) || event.altKey || byId("offer").matches(":modal")) return null;
   if (event.target === field || event.target.closest && event.target.closest("input:not([type=range])")) return null;
   return low === "z" ? event.shiftKey ? redo : undo : low === "y" && !isMac ? redo : null;
 }
-function onKey(event) {
+export function onKey(event) {
   const command = event.ctrlKey || event.metaKey, isHere = event.target.closest && event.target.closest("#editor");
   const work = placingOfKey(event) || flyingOfKey(event) || undoOfKey(event);
   if (work) {
@@ -84,22 +102,22 @@ function onKey(event) {
 
 // ---- saving it
 
-const isAsFile = () => textLength() === file.text.length && wholeText() === file.text;
-const dirty = () => !given.watch && file !== null && (!isAsFile() || file.new);
-function showState() {
-  const words = given.watch ? "follows the file" : !file ? "" : file.new ? "not written yet" :
+export const isAsFile = () => textLength() === state.file.text.length && wholeText() === state.file.text;
+export const dirty = () => !given.watch && state.file !== null && (!isAsFile() || state.file.new);
+export function showState() {
+  const words = given.watch ? "follows the file" : !state.file ? "" : state.file.new ? "not written yet" :
     dirty() ? "changed, not saved" : "saved";
   byId("state").textContent = words;
   byId("save").disabled = !dirty();
-  [byId("undo").disabled, byId("redo").disabled] = [!done.length, !undone.length];
+  [byId("undo").disabled, byId("redo").disabled] = [!state.steps.length, !state.stepsBack.length];
   document.title = `${dirty() ? "• " : ""}${given.name} · studio`;
-  const verdict = found.verdict, status = verdict ? verdict.status : -1;
+  const verdict = state.found.verdict, status = verdict ? verdict.status : -1;
   byId("cure").disabled = status !== 4 && status !== 5;
-  byId("deal").disabled = ![0, 4, 5].includes(status) || formLines === 0;
-  for (const id of ["fly", "compile", "certify"]) byId(id).disabled = status !== 0 || !verdict.program;
+  byId("deal").disabled = ![0, 4, 5].includes(status) || state.formLines === 0;
+  for (const it of [byId("fly"), byId("compile"), byId("certify")]) it.disabled = status !== 0 || !verdict.program;
 }
 // A line above the page, with buttons for what can be done.
-function tell(words, ...choices) {
+export function tell(words, ...choices) {
   const told = byId("told");
   told.replaceChildren();
   told.hidden = !words;
@@ -109,12 +127,12 @@ function tell(words, ...choices) {
   }
   if (words && !choices.length) element("button", "OK", told).onclick = () => tell("");
 }
-function post(path, more, signal) {
+export function post(path, more, signal) {
   return fetch(path, {method: "POST", signal, body: JSON.stringify({text: wholeText(), ...more})});
 }
 // Saves one text after the other: while one is on its way the next waits, since it has to know the stamp of the first.
-async function save(force) {
-  if (given.watch || !file) return;
+export async function save(force) {
+  if (given.watch || !state.file) return;
   if (saving) {
     saveAgain = true;
     return;
@@ -130,13 +148,13 @@ async function save(force) {
 async function saveOnce(force) {
   const text = wholeText();
   try {
-    const answer = await post("save", {stamp: file.stamp, ends: file.ends, force, text});
+    const answer = await post("save", {stamp: state.file.stamp, ends: state.file.ends, force, text});
     const said = await answer.json();
     if (answer.status === 409) return conflict();
     if (!answer.ok) return tell(`Not saved: ${said.words}. The text stays in this browser.`);
     savedStamps.add(said.stamp);
     saves++;
-    Object.assign(file, {text, stamp: said.stamp, new: false});
+    Object.assign(state.file, {text, stamp: said.stamp, new: false});
     tell("");
   } catch (error) {
     tell("Not saved: the studio doesn't answer. The text stays in this browser.");
@@ -151,7 +169,7 @@ function conflict() {
 async function takeFile() {
   const answer = await fetch("text"), read = await answer.json();
   if (!answer.ok) return tell(`The file can't be read: ${read.words}`);
-  Object.assign(file, read);
+  Object.assign(state.file, read);
   replaceText(read.text);
   keep();
   showState();
@@ -162,27 +180,27 @@ function takeText(text) {
   hold(...windowAt(...linesInView()));
   afterChange();
 }
-async function begin() {
+export async function begin() {
   byId("title").textContent = given.name;
   if (given.watch) return;
   const answer = await fetch("text"), read = await answer.json();
   if (!answer.ok) return tell(`The file can't be read: ${read.words}`);
-  file = read;
+  set({file: read});
   const before = kept();
-  takeText(before && before.text !== file.text ? before.text : file.text);
-  if (before && before.text !== file.text) {
+  takeText(before && before.text !== state.file.text ? before.text : state.file.text);
+  if (before && before.text !== state.file.text) {
     tell(`This text wasn't saved. The browser kept it on ${new Date(before.at).toLocaleString()}.`,
-      ["Keep it", () => {}], ["Take the text of the file", () => replaceText(file.text)]);
-  } else if (file.new) {
+      ["Keep it", () => {}], ["Take the text of the file", () => replaceText(state.file.text)]);
+  } else if (state.file.new) {
     tell(`There is no file ${given.name} yet. This is a template, and Save writes it.`);
-  } else if (file.mixed) {
+  } else if (state.file.mixed) {
     tell("Some lines of the file end with a carriage return. Saved from here, all lines end with a line feed alone.");
   }
 }
 // What the server says of the file, as long as the page is seen. A browser has few connections for all tabs of a studio
 // together, so a tab that isn't seen leaves its own, and asks anew once it is.
 let events = null, lost = false;
-function listen() {
+export function listen() {
   if (document.hidden) {
     if (events) events.close();
     events = null;
@@ -204,22 +222,23 @@ function listen() {
       given.watch ? "start it again" : "the text stays in this browser; start the studio again");
   };
   events.onopen = () => {
-    if (lost && (file || given.watch)) judge();
+    if (lost && (state.file || given.watch)) judge();
     lost = false;
   };
 }
 function warn(said) {
-  if (file && !said.there && !file.new && !saving) {
-    Object.assign(file, {new: true, stamp: said.stamp, gone: file.stamp});
+  if (state.file && !said.there && !state.file.new && !saving) {
+    Object.assign(state.file, {new: true, stamp: said.stamp, gone: state.file.stamp});
     showState();
     return tell("The file isn't there any more. Save writes it anew.");
   }
-  if (file && said.there && file.new && said.stamp === file.gone) {  // it was only away for a moment
-    Object.assign(file, {new: false, stamp: said.stamp});
+  if (state.file && said.there && state.file.new && said.stamp === state.file.gone) {  // it was only away for a moment
+    Object.assign(state.file, {new: false, stamp: said.stamp});
     showState();
     return tell("");
   }
-  if (!file || saving || !said.there || said.stamp === file.stamp || savedStamps.has(said.stamp)) return null;
+  if (!state.file || saving || !said.there) return null;
+  if (said.stamp === state.file.stamp || savedStamps.has(said.stamp)) return null;
   tell("The file was changed by another program.", ["Take its text", takeFile], ["Keep this text", () => {}]);
   return null;
 }

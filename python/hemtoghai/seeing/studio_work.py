@@ -4,7 +4,9 @@ text comes:
     python3 seeing/studio_work.py DEPTH [REGIONS]
 
 Standard input has a line of JSON and then the show's text. The line has the path of the `program` or null, and what
-the page `want`s: "places", with a `line`, is what stands around that line (seeing/studio_places.py); "flight", with the
+the page `want`s: "places", with a `line`, is what stands around that line (seeing/studio_places.py); "preview" is what
+a text would fly that isn't the page's yet; "remedies" is what helps in the first cue in which two are blocked, "formed"
+are the names of formations that are formed; "flight", with the
 status and the words of `check` as `answer`, or null where the tools are to judge, is all the rest. Each line of
 standard output is a stage in JSON, as soon as it is known: `verdict` where the tools judged, `flight`, which is that of
 the longest right beginning where the text is faulty, and then nothing follows, `explained` of a
@@ -14,6 +16,7 @@ for nothing: only what the program says is proved.
 """
 from __future__ import annotations
 
+import itertools
 import json
 import os
 import re
@@ -23,17 +26,22 @@ from collections.abc import Iterator
 from functools import partial
 from typing import Any
 
+from hemtoghai.commands.why import cures_of
 from hemtoghai.companion import ask, ask_dynamics, begins, speeds_in
 from hemtoghai.geometry import separation
 from hemtoghai.language import choreo
 from hemtoghai.seeing.sampling import boxes_said, flight_of, Mark, mark_of, regions_of, rows_of_play, step_of
 from hemtoghai.seeing.studio_places import begun, places_at
+from hemtoghai.writing.dealing import form_lines
 from hemtoghai.writing.flyable import below, MOST as FASTEST, motion_if_known, small
 from hemtoghai.writing.margins import greatest, MOST, with_setting
+from hemtoghai.writing.remedies import written
 
 MOST_PLACES = 32000  # of all drones together: the page has to keep up with typing
+MOST_PREVIEW = 16000  # of a preview, which follows each step of a number
 MOST_MARKS = 200  # that are listed; the others are counted
 MOST_MEASURED = 2000  # of which it is computed how near they are
+MOST_REMEDIES = 6  # that are offered for a cue
 MARK_TIME = 1.0  # seconds from one list of blocked places to the next, while more are looked for
 QUIET = 0.6  # seconds before the margins are looked for, which take many checks
 
@@ -165,6 +173,35 @@ def put_begun(text: bytes, said: str, path: str | None) -> None:
     put("lines", **drone_lines(flown))
 
 
+def put_preview(text: bytes) -> None:
+    """Writes what a text would fly, or the words of what is wrong with it. Nobody judges it."""
+    try:
+        flown = choreo.flown_of(choreo.parts_of(text)[0])
+    except choreo.Refused as refusal:
+        return put("preview", flight=None, words=str(refusal))
+    drawn, _ = flight_of(flown, step_of(flown, None, MOST_PREVIEW), None, (), [])
+    return put("preview", flight={**drawn, "marks": []})
+
+
+def put_remedies(text: bytes, deep: int) -> None:
+    """Writes what helps in the first cue in which two are blocked, each as a text, those first that make the show least
+    longer."""
+    flown = choreo.flown_of(choreo.parts_of(text)[0])
+    if found := separation.first_places(flown, deep):
+        cue, pairs = found[0][2], [(i, j) for i, j, _, _ in found]
+        for remedy in itertools.islice(cures_of(flown, cue, pairs, deep), MOST_REMEDIES):
+            if (new := written(text, flown, cue, remedy)) is not None:
+                put("remedy", cue=cue, words=remedy.words, takes=remedy.takes,
+                    text=new.decode("utf-8", "surrogateescape"))
+
+
+def put_formed(text: bytes) -> None:
+    """Writes the names of the formations that are formed, in their order."""
+    flown = choreo.flown_of(choreo.parts_of(text)[0])
+    for name in dict.fromkeys(line.values[0] for line, _ in form_lines(flown)):
+        put("formed", name=name)
+
+
 def put_flight(text: bytes, deep: int, program: str, answer: list[Any] | None, path: str | None) -> None:
     """Writes all that is known of a text, given what `check` said of it, or null."""
     status, said = answer or judged(text, deep)
@@ -210,6 +247,12 @@ def main(words: list[str]) -> int:
     program = asked["program"] or os.devnull  # which is no program
     if asked["want"] == "places":
         put("places", **places_at(text, asked["line"]))
+    elif asked["want"] == "preview":
+        put_preview(text)
+    elif asked["want"] == "remedies":
+        put_remedies(text, deep)
+    elif asked["want"] == "formed":
+        put_formed(text)
     else:
         put_flight(text, deep, program, asked["answer"], path)
     return 0

@@ -1,0 +1,215 @@
+// The charts over time: heights, and the nearest pair. A page has elements with the ids heights and share.
+
+import {colour, dashes, faint} from "./colours.js";
+import {box, byId, line, node, text} from "./elements.js";
+import {endOfCue, farAt, metres, time} from "./flight.js";
+import {move} from "./player.js";
+import {state} from "./state.js";
+
+function ticks(low, high, most) {
+  let step = 1;
+  for (let k = 0; (high - low) / step > most; k += 1) step *= [2, 2.5, 2][k % 3];
+  const out = [];
+  for (let v = Math.ceil(low / step) * step; v <= high; v += step) out.push(v);
+  return out;
+}
+function timeTicks(most) {
+  const steps = [100, 200, 500, 1000, 2000, 5000, 10000, 15000, 30000, 60000, 120000, 300000, 600000, 1800000, 3600000];
+  const step = steps.find(it => state.flight.end / it <= most) || 7200000, out = [];
+  for (let v = 0; v <= state.flight.end; v += step) out.push(v);
+  return out;
+}
+
+function chart(svg, low, high, marks, words, height) {
+  const width = svg.clientWidth, left = 46, right = 14, [above, below] = state.chartEdges[svg.id] || [24, 34];
+  const floor = height - below, x = ms => left + (width - left - right) * ms / state.flight.end;
+  const y = v => floor - (floor - above) * (v - low) / (high - low);
+  svg.replaceChildren();
+  svg.setAttribute("viewBox", `0 0 ${width} ${height}`);
+  svg.style.height = `${height}px`;
+  for (const mark of [...state.flight.marks, state.broken].filter(Boolean)) {
+    box(svg, [x(mark.from), above, Math.max(x(mark.from) + 3, x(mark.to)), floor], {fill: state.paint.mark});
+  }
+  drawCues(svg, x, above, floor);
+  for (const [v, label] of marks) {
+    line(svg, left, y(v), width - right, y(v), state.paint.grid);
+    text(svg, left - 6, y(v) + 4, label, "end");
+  }
+  for (const ms of timeTicks((width - left - right) / 56)) {
+    line(svg, x(ms), floor, x(ms), floor + Math.min(5, below), state.paint.label);
+    if (below > 20) text(svg, x(ms), floor + 17, time(ms), "middle");
+  }
+  box(svg, [left, above, width - right, floor], {fill: "none", stroke: state.paint.axis});
+  if (above > 20) text(svg, 2, 12, "cue", "start");
+  if (below > 20) text(svg, width - right, height - 3, `time in ${state.unit}`, "end");
+  if (below > 20) text(svg, 2, height - 3, words, "start");
+  else text(svg, left + 5, floor - 5, words, "start", {class: "name"});
+  if (state.flight.marks.length) {
+    const px = x(state.flight.marks[0].nearest);
+    line(svg, px, above - 3, px, floor, state.paint.touch, {"stroke-width": 1.5, "stroke-dasharray": "5 3"});
+  }
+  const cursor = node("line", {y1: above, y2: floor, stroke: state.paint.ink, "stroke-width": 1.3});
+  bindChart(svg, left, width - left - right);
+  if (state.onStretch && above > 20) drawGrips(svg, x, above, floor);
+  const place = () => {
+    for (const end of ["x1", "x2"]) cursor.setAttribute(end, `${x(Math.min(state.flight.end, state.now))}`);
+  };
+  return {x, y, cursor, left, right: width - right, set: place};
+}
+// Every cue, or every second, fifth, tenth .. where they are many.
+function drawCues(svg, x, above, floor) {
+  const each = (x(state.flight.end) - x(0)) / state.flight.cues.length;
+  const stride = room => [1, 2, 5, 10, 20, 50, 100].find(it => it * each >= room) || 200;
+  const lines = stride(5), labels = stride(8 * String(state.flight.cues.length).length + 4);
+  let free = -Infinity;
+  state.flight.cues.forEach(([from], k) => {
+    const middle = (x(from) + x(endOfCue(k))) / 2, half = 4 * String(k + 1).length + 2;
+    if (k % lines === 0) line(svg, x(from), above, x(from), floor, state.paint.grid);
+    if (above > 20 && (k + 1) % labels === 0 && middle - half >= free) {
+      text(svg, middle, above - 8, k + 1, "middle");
+      free = middle + half;
+    }
+  });
+}
+const NEAR_END = 4;  // pixels from the end of a cue at which a click is one on it
+function bindChart(svg, left, wide) {
+  const go = event => {
+    const box = svg.getBoundingClientRect(), ms = (event.clientX - box.left - left) / wide * state.flight.end;
+    const near = NEAR_END * state.flight.end / wide, ends = state.flight.cues.map((_, k) => endOfCue(k));
+    const end = ends.find(it => Math.abs(it - ms) < near);
+    move(end ?? ms);
+  };
+  svg.onpointerdown = go;
+  svg.onpointermove = event => { if (event.buttons) go(event); };
+  svg.onclick = () => { if (state.onPick) state.onPick(state.now); };
+}
+// Pixels at either side of the end of a cue, more for a finger; cues that are narrower than both together have no grip.
+const GRIP = matchMedia("(pointer: coarse)").matches ? 11 : 5;
+// Grips above a chart, by which the end of a cue is dragged.
+function drawGrips(svg, x, above, floor) {
+  state.flight.cues.forEach(([from], k) => {
+    const end = x(endOfCue(k));
+    if (end - x(from) < 2 * GRIP) return;
+    const grip = node("rect", {x: end - GRIP, width: 2 * GRIP, y: 0, height: above, fill: "#0000", class: "grip"});
+    grip.append(node("title", {}, `drag: cue ${k + 1} longer or shorter`));
+    line(svg, end, above - 7, end, above, state.paint.soft, {"stroke-width": 1.5});
+    bindGrip(svg, grip, k, x, above, floor);
+    svg.append(grip);
+  });
+}
+function bindGrip(svg, grip, k, x, above, floor) {
+  const from = state.flight.cues[k][0], length = endOfCue(k) - from;
+  const perPixel = state.flight.end / (x(state.flight.end) - x(0));
+  const snap = [1, 5, 10, 20, 50, 100, 200, 500, 1000].find(it => it >= perPixel) || 1000;
+  const dashed = {"stroke-width": 1.5, "stroke-dasharray": "4 3"};
+  const shown = node("line", {y1: 0, y2: floor, stroke: state.paint.grip, ...dashed});
+  const label = node("text", {y: above + 14, class: "name"});
+  let at = null, begun = 0;
+  grip.onpointerdown = event => {
+    event.stopPropagation();
+    grip.setPointerCapture(event.pointerId);
+    [at, begun] = [length, event.clientX];
+    svg.append(shown, label);
+    drag(event);
+  };
+  const drag = event => {
+    const wanted = length + (event.clientX - begun) * perPixel;
+    at = event.clientX === begun ? length : Math.max(snap, Math.min(65535, Math.round(wanted / snap) * snap));
+    const px = x(from + at), isRight = px > (x(0) + x(state.flight.end)) / 2;
+    for (const end of ["x1", "x2"]) shown.setAttribute(end, px);
+    label.setAttribute("x", px + (isRight ? -6 : 6));
+    label.setAttribute("text-anchor", isRight ? "end" : "start");
+    label.textContent = `cue ${k + 1}: ${(at / 1000).toFixed(2)} s`;
+  };
+  grip.onpointermove = event => { event.stopPropagation(); if (at !== null) drag(event); };
+  grip.onpointerup = grip.onpointercancel = event => {
+    event.stopPropagation();
+    const wanted = at;
+    at = null;
+    shown.remove();
+    label.remove();
+    if (wanted !== null && wanted !== length && event.type === "pointerup") state.onStretch(k, wanted);
+  };
+  grip.onclick = event => event.stopPropagation();
+}
+export const charts = [];
+const tenth = v => Math.round(10 * v) / 10;
+// The points of a line in a chart by the x of each sample, without those inside a level part.
+function graph(xs, height) {
+  const out = [];
+  let before = NaN, here = tenth(height(0));
+  for (let s = 0; s <= state.last; s += 1) {
+    const next = s < state.last ? tenth(height(s + 1)) : NaN;
+    if (here !== before || here !== next) out.push(`${xs[s]},${here}`);
+    [before, here] = [here, next];
+  }
+  return out;
+}
+const chartTicks = (low, high) => ticks(low, high, Math.round(state.chartHeight / 42));
+export function drawHeights() {
+  const svg = byId("heights");
+  const low = Math.min(0, state.lowest[2]), high = state.highest[2] + (state.chosen.size ? state.flight.h : 0) + 200;
+  const it = chart(svg, low, high, chartTicks(low, high).map(v => [v, metres(v)]), "z in m", state.chartHeight);
+  const xs = state.flight.times.map(ms => tenth(it.x(ms)));
+  state.flight.names.forEach((_, k) => {
+    const xyz = state.flight.xyz[k];
+    if (state.chosen.has(k)) {
+      const edge = by => graph(xs, s => it.y(Math.max(low, Math.min(high, xyz[3 * s + 2] + by))));
+      const upper = edge(state.flight.h), lower = edge(-state.flight.h).reverse();
+      svg.append(node("polygon", {points: [...upper, ...lower].join(" "), fill: colour(k), "fill-opacity": 0.12}));
+    }
+    svg.append(node("polyline", {points: graph(xs, s => it.y(xyz[3 * s + 2])).join(" "), fill: "none",
+                                 stroke: colour(k), "stroke-width": 1.8, "stroke-dasharray": dashes(k),
+                                 opacity: faint(k) ? 0.1 : 0.9}));
+  });
+  svg.append(it.cursor);
+  charts.push(it);
+}
+export function drawShares() {
+  const svg = byId("share");
+  let low = Infinity, most = 0;
+  for (const [v] of state.flight.nearest) { low = Math.min(low, v); most = Math.max(most, v); }
+  const high = Math.max(150, Math.min(most + 20, Math.max(state.chartHeight < 200 ? 260 : 400, 1.5 * low)));
+  const it = chart(svg, 0, high, chartTicks(0, high).map(v => [v, `${v} %`]), state.shareWords, state.chartHeight);
+  box(svg, [it.left, it.y(100), it.right, it.y(0)], {fill: state.paint.touch, "fill-opacity": 0.07});
+  line(svg, it.left, it.y(100), it.right, it.y(100), state.paint.touch, {"stroke-width": 1.5});
+  const xs = state.flight.times.map(ms => tenth(it.x(ms)));
+  const points = graph(xs, s => it.y(Math.min(high, state.flight.nearest[s][0])));
+  svg.append(node("polyline", {points: points.join(" "), fill: "none", stroke: state.paint.ink, "stroke-width": 1.8}));
+  nameDips(svg, it, high);
+  const clipped = `what is above ${high.toFixed(0)} % is drawn there`;
+  if (most > high && state.chartHeight > 200) text(svg, it.left + 4, it.y(high) + 14, clipped, "start");
+  svg.append(it.cursor);
+  charts.push(it);
+}
+
+// Whether the nearest pair stays below a share from one sample to another.
+function isLevel(from, to, share) {
+  return state.flight.nearest.slice(Math.min(from, to), Math.max(from, to) + 1).every(([it]) => it < share);
+}
+// Names at the lowest dips, with the distance in metres, as far as they have room.
+function nameDips(svg, it, high) {
+  const dips = [];
+  for (let s = 0; s <= state.last; s += 1) {
+    const v = state.flight.nearest[s][0], falls = s === 0 || v < state.flight.nearest[s - 1][0];
+    if (v < high && falls && (s === state.last || v <= state.flight.nearest[s + 1][0])) dips.push(s);
+  }
+  dips.sort((a, b) => state.flight.nearest[a][0] - state.flight.nearest[b][0]);
+  const taken = [], named = [];
+  for (const s of dips.slice(0, 400)) {
+    if (taken.length === 6) break;
+    const [v, i, j] = state.flight.nearest[s];
+    if (named.some(other => isLevel(other, s, v + 2))) continue;  // no dip of its own, but for rounding
+    const words = `${state.flight.names[i]}, ${state.flight.names[j]} ${v.toFixed(0)} % · ${metres(farAt(i, j, s))} m`;
+    const wide = 7.2 * words.length;
+    const px = it.x(state.flight.times[s]);
+    const middle = Math.max(it.left + wide / 2 + 2, Math.min(it.right - wide / 2 - 2, px));
+    if (taken.some(([m, w]) => Math.abs(m - middle) < (w + wide) / 2 + 6)) continue;
+    taken.push([middle, wide]);
+    named.push(s);
+    let py = it.y(v) + (it.y(v) + 20 > it.y(0) ? -10 : 17);
+    if (Math.abs(py - 4 - it.y(100)) < 10) py = it.y(100) + (py - 4 < it.y(100) && py - 10 > it.y(high) ? -8 : 18);
+    svg.append(node("circle", {cx: px, cy: it.y(v), r: 3, fill: v <= 100 ? state.paint.touch : state.paint.ink}));
+    text(svg, middle, py, words, "middle", {class: "name"});
+  }
+}

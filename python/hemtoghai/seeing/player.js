@@ -1,0 +1,86 @@
+// The slider, playing, and the list of drones. A page has elements with the ids slider, now, go, speed, loop and
+// legend.
+
+import {charts} from "./charts.js";
+import {colour, dashes} from "./colours.js";
+import {byId, element, line, node} from "./elements.js";
+import {cueAt, endOfPlay, farAt, metres, sampleAt, time} from "./flight.js";
+import {moveDrones} from "./view.js";
+import {buildViews} from "./view_hand.js";
+import {set, state} from "./state.js";
+
+export function move(ms) {
+  set({now: Math.max(0, Math.min(endOfPlay(), ms))});
+  byId("slider").value = `${state.now}`;
+  const cue = cueAt(state.now), shown = state.flight.end >= 600000 ? state.now : Math.round(state.now / 10) * 10;
+  let said = `${time(shown)} of ${time(state.flight.end)} ${state.unit}, cue ${cue + 1} of ${state.flight.cues.length}`;
+  said += ` (${state.flight.cues[cue][1]})`;
+  if (state.flight.nearest.length) {
+    const s = sampleAt(state.now), [share, i, j] = state.flight.nearest[s];
+    said += `; nearest: ${state.flight.names[i]} and ${state.flight.names[j]} with ${share.toFixed(0)}\u00a0%, ` +
+      `${metres(farAt(i, j, s))}\u00a0m`;
+  }
+  byId("now").textContent = said;
+  byId("slider").setAttribute("aria-valuetext", `${time(shown)} ${state.unit}, cue ${cue + 1}`);
+  moveDrones();
+  for (const it of charts) it.set();
+  if (state.onMove) state.onMove();
+}
+export function press() {
+  [...byId("legend").children].forEach((it, k) => it.setAttribute("aria-pressed", `${state.chosen.has(k)}`));
+}
+export function buildLegend() {
+  byId("legend").replaceChildren();
+  state.flight.names.forEach((name, k) => {
+    const it = element("button", "", byId("legend")), sample = node("svg", {viewBox: "0 0 26 10"});
+    line(sample, 0, 5, 26, 5, colour(k), {"stroke-width": 3, "stroke-dasharray": dashes(k)});
+    it.append(sample, name);
+    it.onclick = () => {
+      if (!state.chosen.delete(k)) state.chosen.add(k);
+      press();
+      state.onChoose();
+    };
+  });
+  press();
+}
+let before = null;  // the stamp of the frame before, while it plays
+function play(stamp) {
+  if (before === null) return;
+  const ms = state.now + (stamp - before) * Number(byId("speed").value), again = byId("loop").checked;
+  before = stamp;
+  if (ms >= endOfPlay() && !again) {
+    move(endOfPlay());
+    stop();
+    return;
+  }
+  move(ms >= endOfPlay() ? 0 : ms);
+  requestAnimationFrame(play);
+}
+export function stop() {
+  before = null;
+  byId("go").textContent = "Play";
+}
+export function playOrStop() {
+  if (before !== null) return stop();
+  if (state.now >= endOfPlay()) set({now: 0});
+  byId("go").textContent = "Pause";
+  requestAnimationFrame(stamp => { before = stamp; play(stamp); });
+  before = performance.now();
+  return null;
+}
+// Binds the controls of the page; it is called once.
+export function buildControls() {
+  byId("go").onclick = playOrStop;
+  for (const speed of [0.1, 0.25, 0.5, 1, 2, 4, 8]) {
+    const it = element("option", `${speed}`, byId("speed"));
+    it.value = `${speed}`;
+    it.selected = speed === 1;
+  }
+  byId("slider").oninput = () => { stop(); move(Number(byId("slider").value)); };
+  buildViews();
+}
+// Sets the slider to the flight's length.
+export function setSlider() {
+  byId("slider").max = `${endOfPlay()}`;
+  byId("slider").step = `${Math.max(1, Math.round(state.flight.end / 4000))}`;
+}

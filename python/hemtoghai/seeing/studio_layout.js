@@ -1,0 +1,122 @@
+// How ./show studio lays itself out: the flight beside the text, in windows of all sizes, light and dark; and the
+// cursor's cue.
+
+import {charts, drawHeights, drawShares} from "./charts.js";
+import {byId} from "./elements.js";
+import {cueAt} from "./flight.js";
+import {given} from "./given.js";
+import {DARK, LIGHT} from "./palettes.js";
+import {buildLegend, move, stop} from "./player.js";
+import {grab} from "./studio_drag.js";
+import {pickDrone, showNumber, stretchCue} from "./studio_edit.js";
+import {cursorLine, field, pointAt, resizeField, within} from "./studio_field.js";
+import {isStill, rest} from "./studio_judge.js";
+import {drawPaper} from "./studio_paper.js";
+import {renewTool} from "./studio_tools.js";
+import {drawSpace} from "./view.js";
+import {set, state} from "./state.js";
+
+// The charts get their heights first: what is left is that of the view in space.
+function layOut() {
+  charts.length = 0;
+  // cue numbers above both, times below both
+  set({chartEdges: {heights: [22, state.drones > 1 ? 6 : 32], share: [6, 32]}});
+  for (const id of ["heights", "share"]) byId(id).style.height = `${state.chartHeight}px`;
+  byId("alone").hidden = state.drones > 1;
+  byId("share").style.display = state.drones > 1 ? "" : "none";
+}
+const DRAWING = [layOut, () => drawSpace(), () => { if (!isStill()) drawHeights(); },
+  () => { if (state.drones > 1 && !isStill()) drawShares(); }, () => move(state.now)];
+export function draw() {
+  if (state.flight) for (const part of DRAWING) part();
+}
+// The same, with a rest after each part. It goes on also where the text is another one meanwhile: all parts are then of
+// one flight.
+export async function drawInParts() {
+  for (const part of DRAWING) {
+    part();
+    await rest();
+  }
+}
+// As in studio.css: a low window has the charts beside the view in space, a small one is scrolled.
+const isLow = () => innerHeight <= 640 && innerWidth >= 560;
+export const isSmall = () => innerWidth <= 820 || innerWidth <= 1000 && isLow();
+const heightOfSpace = width => isSmall() && !isLow() ? Math.min(340, width) : byId("room").clientHeight;
+let playingCue = -1;
+// The lines of the cue that is flown are marked beside the text.
+function markCue() {
+  const cue = cueAt(state.now);
+  if (cue !== playingCue) {
+    playingCue = cue;
+    drawPaper();
+  }
+}
+// A click into a chart puts the cursor before the cue. The lines that an older text had stand elsewhere in this one.
+function pickCue(ms) {
+  if (state.flightVersion === state.version && state.flight.lines) pointAt(...state.flight.lines[cueAt(ms)][0]);
+}
+function onChosen() {
+  draw();
+  renewTool();
+}
+// What the drawings do in this page.
+export function bindDrawings() {
+  set({shareWords: "nearest two, % of touching distance", spaceHeight: heightOfSpace});
+  set({onMove: markCue, onChoose: onChosen, onPick: pickCue, onDrone: pickDrone});
+  if (!given.watch) set({onGrab: grab, onStretch: stretchCue});
+  for (const id of ["room", "editor"]) watcher.observe(byId(id));
+}
+const BESIDE_CHARTS = 104;  // pixels above, between and below the two charts of a low window
+// The drawings follow the page from light to dark.
+export const dark = matchMedia("(prefers-color-scheme: dark)");
+export function repaint() {
+  set({paint: dark.matches ? DARK : LIGHT});
+  if (state.flight) buildLegend();
+  draw();
+}
+export function resize() {
+  set({chartHeight: isLow() ? within((byId("flight").clientHeight - BESIDE_CHARTS) / 2, 84, 200) :
+    isSmall() || innerHeight > 860 ? 130 : 108});
+  draw();
+  drawPaper();
+}
+// The view in space and the editor get what is left beside the bar and the lists, which grow and shrink.
+const watcher = new ResizeObserver(entries => {
+  for (const {target} of entries) {
+    if (target !== byId("editor")) {
+      if (state.flight) drawSpace();
+    } else if (!given.watch) {
+      resizeField();
+      drawPaper();
+    }
+  }
+});
+// The cues that the line of the cursor stands for, those first in which it is an own line.
+function cuesAt(line) {
+  if (!state.flight || !state.flight.lines || state.flightLines !== state.lines.length) return [];
+  const within = ([from, to]) => from <= line && line <= to;
+  const own = [], other = [];
+  state.flight.lines.forEach((rows, k) => {
+    if (within(rows[0])) own.push(k);
+    else if (rows.some(within)) other.push(k);
+  });
+  return own.length ? own : other;
+}
+let cursorCues = [];
+export function onCursor() {
+  if (given.watch) return;
+  const line = cursorLine();
+  cursorCues = cuesAt(line);
+  const names = cursorCues.slice(0, 6).map(k => k + 1).join(", ") + (cursorCues.length > 6 ? " .." : "");
+  byId("where").textContent = `line ${line}` + (cursorCues.length ? ` · cue ${names}` : "");
+  byId("to-cue").hidden = cursorCues.length === 0;
+  showNumber(false);
+  if (byId("follow").checked && document.activeElement === field && !cursorCues.includes(cueAt(state.now))) toCue();
+}
+// Goes to the cue of the cursor, and at the next call to the next one of a repeat.
+export function toCue() {
+  if (!cursorCues.length) return;
+  const next = cursorCues.find(k => state.flight.cues[k][0] > state.now) ?? cursorCues[0];
+  stop();
+  move(state.flight.cues[next][0] + 1);
+}
