@@ -1,22 +1,40 @@
 """Simulated flights for several tests: all are begun before the first test, some at a time, and each test waits for its
-own. They wait for time most of the time, so several run at once."""
+own. A flight has a clock of its own, so that it is the same on each machine, however busy it is."""
+import atexit
 import concurrent.futures
 import os
-import re
+import shutil
+import subprocess
 import sys
+import tempfile
 import unittest
 
 import common
 
-
-def faster(most):
-    """How many times faster than real a flight may run: on a machine that is busy less, or simulated links are lost."""
-    return max(1, int(most * min(1.0, 2 * os.cpu_count() / max(0.1, os.getloadavg()[0]))))
+ANSWERS = tempfile.mkdtemp()  # what `check` said, for all flights of this run of tests
+atexit.register(shutil.rmtree, ANSWERS, ignore_errors=True)
 
 
-def as_if_idle(out):
-    """An output without the lines that commands and answers were late, as they are on a machine that is busy."""
-    return re.sub("OUTSIDE OF WHAT WAS JUDGED: .*\n", "", out)
+def words_of(*words, more=""):
+    """The words of a process that flies; `more` is a text in Python that is run before."""
+    return [sys.executable, os.path.join(common.TOP, "tests", "flying.py"), ANSWERS, more, *words]
+
+
+def judged(rows, show):
+    """What ./show flown says of a log, and its status."""
+    with tempfile.TemporaryDirectory() as place:
+        room = common.Folder()
+        room.place = place
+        room.write("log.csv", rows)
+        if "\n" in show:
+            room.write("show.choreo", show)
+            show = room.path("show.choreo")
+        return common.run("flown", "--gap", "10000", show, room.path("log.csv"))
+
+
+def script(*rows):
+    """The text of a script: rows of seconds, what is done, and the words after which it is."""
+    return "".join("%g %s %s\n" % row for row in rows)
 
 
 class Flights:

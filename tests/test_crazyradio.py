@@ -2,11 +2,8 @@
 import contextlib
 import io
 import os
-import queue
 import struct
 import tempfile
-import threading
-import time
 import unittest
 import unittest.mock
 
@@ -45,7 +42,7 @@ def opened(flown, where, heard=lambda *it: None, **words):
 
 def upload(flown, text, where, *words, watch=lambda traffic: None):
     """What came of an upload through the program over simulated drones, and the link."""
-    events = queue.Queue()
+    events = clock.Queue()
     radio, link = opened(flown, where, lambda *it: events.put(("heard", *it)))
     host = uploads.Host([common.PROGRAM, "upload", *words], text, events)
     traffic = uploads.Traffic(flown.names, uploads.wanted_packets(flown, "--start" in words, "--readback" in words))
@@ -135,7 +132,7 @@ class Uploads(Closed):
 
     def test_many_and_lossy(self):
         text, flown = show_of(MANY)
-        where = common.world(flown, speed=1, loss=0.4)
+        where = common.world(flown, loss=0.4)
         done, link = upload(flown, text, where, "--readback")
         self.assertEqual((done.status, done.fault), (0, None))
         self.assert_held(flown)
@@ -184,7 +181,7 @@ class Links(Closed):
         # A drone holds the answers of a link that was broken off, and then those of its upload: to all
         # questions of a link, as
         # if they were put now, and to writes. What comes before the answers to this link's own marks is dropped.
-        where = common.world(self.flown, speed=2)
+        where = common.world(self.flown)
         radio = crazyradio.Radio(self.flown.names, where)
         came, one = [], common.drone(self.flown, "b")
         old = [bytes([0x4C, 1, 4]), *(bytes([0x4C, 2, k, kind]) + struct.pack("<I", size) + bytes(8)
@@ -310,20 +307,20 @@ class Links(Closed):
             one.memories[2][1][:len(data)] = data
         first, second = air.WORLD.drones.values()
         first.begin(bytes(START[1:]))  # from now on dongle 0 is gone
-        begin = time.monotonic()
+        begin = clock.now()
         with self.assertRaisesRegex(crazyradio.Dead, "dongle 0 doesn't send"):
             radio.broadcast(START)
-        self.assertLess(time.monotonic() - begin, 5)
+        self.assertLess(clock.now() - begin, 5)
         self.assertEqual((len(first.starts), len(second.starts)), (1, 1))
-        begin = time.monotonic()
+        begin = clock.now()
         with contextlib.redirect_stdout(io.StringIO()) as out:
             radio.close()
-        self.assertLess(time.monotonic() - begin, 8)
+        self.assertLess(clock.now() - begin, 8)
         self.assertIn("closing failed: a dongle doesn't answer", out.getvalue())
-        air.WORLD.blocks = None  # the driver's thread goes on, and ends
-        until = time.monotonic() + 5
-        while radiodriver.OPEN and time.monotonic() < until:
-            time.sleep(0.05)
+        air.WORLD.after.clear()  # the driver's thread goes on, and ends
+        until = clock.now() + 5
+        while radiodriver.OPEN and clock.now() < until:
+            clock.wait(0.05)
 
     def test_questions_that_are_dropped(self):
         # What is asked again and again isn't asked any more once it isn't wanted.
@@ -337,11 +334,10 @@ class Links(Closed):
                 radio.ask(1, firmware.COMMANDER, 0, firmware.group(), 1, seconds=60)
             except crazyradio.Dead as error:
                 failed.append(error)
-        thread = threading.Thread(target=ask)
-        thread.start()
+        task = clock.Task(ask)
         clock.wait(1)
         radio.drop()
-        thread.join(5)
+        task.join(5)
         self.assertEqual(len(failed), 1)
         self.assertLess(clock.now() - begin, 20)
         with self.assertRaises(KeyboardInterrupt):  # what the look raises ends the wait
@@ -456,7 +452,7 @@ class Paces(unittest.TestCase):
 
     def setUp(self):
         self.now = 50.0
-        patch = unittest.mock.patch.object(uploads.time, "monotonic", lambda: self.now)
+        patch = unittest.mock.patch.object(clock, "now", lambda: self.now)
         patch.start()
         self.addCleanup(patch.stop)
         self.traffic = uploads.Traffic(["a", "b"], [9, 9])

@@ -20,6 +20,34 @@ class Clock(unittest.TestCase):
             self.assertEqual(state.is_new, at >= 30.0, at)  # its stamps went back from 14900 to 100
 
 
+class Orders(unittest.TestCase):
+    def test_a_go_to_that_is_said_again(self):
+        # it takes what is left, by 0.3 s less at most, and never less than half; of other orders nothing changes
+        go = firmware.go_to(1.0, 2.0, 3.0, 0.5, 2.0)
+        for passed, seconds in ((0.0, 2.0), (0.25, 1.75), (0.3, 1.7), (1.5, 1.7)):
+            self.assertEqual(firmware.left_of(go, passed, 0.3), firmware.go_to(1.0, 2.0, 3.0, 0.5, seconds))
+        self.assertEqual(firmware.left_of(firmware.go_to(0, 0, 0, 0, 0.5), 1.0, 0.3), firmware.go_to(0, 0, 0, 0, 0.25))
+        for data in (firmware.land(0.0, 2.0), firmware.take_off(1.0, 2.0), firmware.group(4), firmware.start(0)):
+            self.assertEqual(firmware.left_of(data, 1.0, 0.3), data)
+
+    def test_what_is_left(self):
+        # A drone that is deaf for half a second hears then of a go-to of 2 s that the radio has kept, and at once of
+        # those that were said after 0.3 s, which take 1.7 s.
+        flown = common.example("crossing_cured")[1]
+        radio = crazyradio.Radio(flown.names, common.world(flown))
+        it, one, heard = fleet.Fleet(radio, fleet.Log(None, lambda _: None)), common.drone(flown, "a"), []
+        begin, one.commanded = clock.now(), lambda data, at=None: heard.append((clock.now() - begin, data)) or 0
+        one.faults["dead"] = 0
+        task = clock.Task(lambda: it.command(0, firmware.go_to(1.0, 0.0, 1.0, 0.0, 2.0), "go"))
+        clock.wait(0.5)
+        del one.faults["dead"]
+        task.join()
+        clock.wait(0.1)
+        radio.close()
+        self.assertEqual([data for _, data in heard], [firmware.go_to(1.0, 0.0, 1.0, 0.0, seconds) for seconds in (2.0, 1.7)])
+        self.assertTrue(all(0.5 <= at < 0.55 for at, _ in heard), heard)
+
+
 class Last(unittest.TestCase):
     def setUp(self):
         self.said = []
@@ -30,7 +58,7 @@ class Last(unittest.TestCase):
 
     def of(self, faults=(), every=100):
         """A descent of two drones that stand on their pads, armed, and send samples; and the second of them."""
-        where = common.world(self.flown, faults, speed=4)
+        where = common.world(self.flown, faults)
         common.make_ready(self.flown)
         radio = crazyradio.Radio(self.flown.names, where)
         self.addCleanup(radio.close)
@@ -76,7 +104,8 @@ class Last(unittest.TestCase):
     def test_disarmed(self):
         it, _ = self.of()
         it.disarm(it.all)
-        it.account()
+        self.assertTrue(it.finish([]))
+        del self.said[:-2]
         self.assertEqual(self.said, ["end: a: down, it says, at (0.00, 0.00, 0.00) m, disarmed",
                                      "end: b: down, it says, at (1.00, 0.00, 0.00) m, disarmed"])
 
@@ -89,6 +118,9 @@ class Last(unittest.TestCase):
             it.account()
             self.assertEqual("ARMED" in self.said[1], b.armed, self.said)
             self.assertGreater(it.fleet.states[1].measured, it.fleet.told_off[1])
+            self.assertTrue(it.finish([]))
+            it.still_armed = {"b"}  # one that obeys nobody, and doesn't arm by itself
+            self.assertFalse(it.finish([]))
             it.fleet.radio.close()
 
     def test_one_that_says_nothing_any_more(self):
@@ -99,6 +131,7 @@ class Last(unittest.TestCase):
             order(it)
             it.account()
             self.assertRegex(self.said[-1], "end: b: down, it says, .*, and hasn't said since whether it is armed")
+            self.assertFalse(it.finish([]))
             it.fleet.radio.close()
 
 

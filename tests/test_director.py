@@ -1,97 +1,63 @@
 """The flight director as a process: its frames, what `direct` says to a small flight, and flights in which it dies, lies,
 hangs or takes the ways for no flight."""
 import io
-import os
 import struct
 import subprocess
-import sys
 import tempfile
 import types
 import unittest
 
 import common
 import flights
-from flights import as_if_idle, faster
-from hemtoghai.flying import bridge, director, watched, ways
+from hemtoghai.flying import bridge, clock, director, watched, ways
 from hemtoghai.flying.director import Cause, Ended, Noted, Order, Over, To
-from test_fly import HIGH, last_heights
+from test_fly import HIGH, WORDS, last_heights
 from test_fly_hard import ASIDE, STACK
 
 UP = b"choreo 1\nstray 100\ndrone a 0 0 0 0\ncue 2000\na move 0 0 1000000 0\nend\n"
 SHOW = b"choreo 1\nstray 50\nlate 20\ndrone a 0 0 1000000 0\ncue 1000\nend\n"
 DOWN = b"choreo 1\nstray 100\ndrone a 0 0 1000000 0\ncue 2500\na move 0 0 0 0\nend\n"
 # At first down by 100 mm and then up; down to 100 mm below the pad, and then up to it.
-FALLS_FIRST = (UP.replace(b"a move", b"a move 0 0 -100000 0\ncue 2000\na move", 1), SHOW, DOWN)
-RISES_LAST = (UP, SHOW, DOWN.replace(b"a move", b"a move 0 0 -100000 0\ncue 2000\na move", 1))
-# ./show fly with another program in the place of the proved one.
-OTHER = """
-import sys
-sys.path[:0] = sys.argv[1:3]
-from hemtoghai import __main__, program
-program.PROGRAM = sys.argv[3]
-sys.argv[:4] = ["show", "fly"]
-__main__.run()
-"""
-# The proved program, but that its `direct` does something else once some bytes have come from it, and so many seconds
-# have passed.
-SPOILT = """#!%s
-import os, subprocess, sys, threading, time
-REAL, MARK, AFTER, WHAT = %r, %r, %r, %r
-if sys.argv[1:2] != ["direct"]:
-    os.execv(REAL, [REAL, *sys.argv[1:]])
-child, hangs = subprocess.Popen([REAL, *sys.argv[1:]], stdin=subprocess.PIPE, stdout=subprocess.PIPE), threading.Event()
-
-def feed():
-    while not hangs.is_set():
-        data = os.read(0, 4096)
-        if not data:
-            child.stdin.close()
-            return
-        child.stdin.write(data)
-        child.stdin.flush()
-threading.Thread(target=feed, daemon=True).start()
-seen, begun = b"", None
-os.set_blocking(child.stdout.fileno(), False)
-while True:
-    data = child.stdout.read(4096)
-    if data:
-        seen += data
-        os.write(1, data)
-    elif data == b"":
-        os._exit(child.wait())
-    if begun is None and MARK in seen:
-        begun = time.monotonic()
-    if begun is not None and time.monotonic() > begun + AFTER:
-        if WHAT == "lies":
-            os.write(1, b"\\xFF")
-        if WHAT == "hangs":
-            hangs.set()
-            time.sleep(600)
-        child.kill()
-        os._exit(1)
-    time.sleep(0.002)
+FALLS_FIRST = (UP.replace(b"a move", b"a move 0 0 -100000 0\nend\ncue 2000\na move", 1), SHOW, DOWN)
+RISES_LAST = (UP, SHOW, DOWN.replace(b"a move", b"a move 0 0 -100000 0\nend\ncue 2000\na move", 1))
+# What is run before a flight whose director does something else so many seconds after some bytes have come from it.
+SPOILT = """
+import signal
+from hemtoghai.flying import clock, director
+WHAT, MARK, AFTER = %r, %r, %r
+take, seen, tasks = director.Director.take, [], []
+def spoil(it):
+    clock.wait(AFTER)
+    if WHAT == "lies":
+        return take(it, b"\\xFF")
+    it.was_told = True
+    os.kill(it.process.pid, signal.SIGKILL if WHAT == "dies" else signal.SIGSTOP)
+    os.waitid(os.P_PID, it.process.pid, (os.WEXITED if WHAT == "dies" else os.WSTOPPED) | os.WNOWAIT)
+def taken(it, data):
+    seen.append(data)
+    take(it, data)
+    if MARK in b"".join(seen) and not tasks:
+        tasks.append(clock.Task(lambda: spoil(it)))
+director.Director.take = taken
 """
 STARTED, RISEN = b"\x02\x04", b"\x01\x00\x01"
 
 
 def spoilt(what, mark, after, show, pads=None):
-    """A flight whose director dies, lies or hangs so many simulated seconds after bytes of it: the status, the output and
-    the log."""
-    with tempfile.TemporaryDirectory() as room:
-        def file(name, text):
-            with open(os.path.join(room, name), "w") as out:
-                out.write(text)
-            return out.name
-        speed = faster(4)
-        program = file("program", SPOILT % (sys.executable, common.PROGRAM, mark, after / speed, what))
-        os.chmod(program, 0o755)
-        log = os.path.join(room, "log.csv")
-        words = ["--simulate", "--sim", "speed=%d" % speed, "--silence", "3", "--yes", "--log", log]
-        words += ["--pads", file("pads", pads)] if pads else []
-        done = subprocess.run([sys.executable, "-c", OTHER, common.PYTHON, common.SIMULATED, program, *words, file("show.choreo", show)],
-                              cwd=common.TOP, stdin=subprocess.DEVNULL, stdout=subprocess.PIPE, stderr=subprocess.STDOUT,
+    """A flight whose director dies, lies or hangs so many seconds after bytes of it: the status, the output and the
+    log."""
+    with tempfile.TemporaryDirectory() as place:
+        room = common.Folder()
+        room.place = place
+        room.write("show.choreo", show)
+        words = [*WORDS, "--yes", "--log", room.path("log.csv"), room.path("show.choreo")]
+        if pads:
+            room.write("pads", pads)
+            words += ["--pads", room.path("pads")]
+        done = subprocess.run(flights.words_of(*words, more=SPOILT % (what, mark, after)), cwd=common.TOP,
+                              stdin=subprocess.DEVNULL, stdout=subprocess.PIPE, stderr=subprocess.STDOUT,
                               universal_newlines=True, timeout=300)
-        with open(log) as rows:
+        with open(room.path("log.csv")) as rows:
             return done.returncode, done.stdout, rows.read()
 
 
@@ -168,6 +134,9 @@ class Frames(unittest.TestCase):
 
 @common.wants_program
 class Process(unittest.TestCase):
+    def setUp(self):
+        clock.use(clock.REAL)
+
     def said(self, events, texts=(UP, SHOW, DOWN)):
         """What the director says to events, each a list of frames, to its end."""
         words = ["--near", "100", "--at", "50", "--descent", "4001", "--silence", "3000"]
@@ -184,7 +153,7 @@ class Process(unittest.TestCase):
 
     def test_a_flight(self):
         def at(z, flags):
-            return director.sample(0, 0, [0, 0, z], flags)
+            return director.sample(0, 0, [0, 0, z], flags | director.SURE)
         ready, armed, down = director.READY, director.ARMED | director.READY, director.DOWN
         go, clock = director.signal(director.GO), director.clock_frames
         up = [at(0, ready | down), go, at(0, armed | down), clock(2000), at(1000, armed), clock(1000), at(1000, armed), go]
@@ -202,7 +171,7 @@ class Process(unittest.TestCase):
     def test_bounds_are_distances(self):
         # Within --near and --at on each axis, and farther in a straight line: it doesn't arm, and doesn't start.
         def at(z, flags, aside):
-            return director.sample(0, 0, [aside, aside, z + aside], flags)
+            return director.sample(0, 0, [aside, aside, z + aside], flags | director.SURE)
         ready, armed = director.READY | director.DOWN, director.ARMED | director.READY
         go, clock = director.signal(director.GO), director.clock_frames
         risen = [To(0, Order(director.ARM)), To(0, Order(director.RISE, (1000,), 2000))]
@@ -256,7 +225,7 @@ class Spoilt(unittest.TestCase):
         status, out, rows = begun(name).result()
         self.assertEqual(status, 1, out)
         for line in lines:
-            self.assertRegex(as_if_idle(out), line, name)
+            self.assertRegex(out, line, name)
         for line in without:
             self.assertNotIn(line, out, name)
         for drone in "ab":

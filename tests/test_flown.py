@@ -18,13 +18,13 @@ class Flown(unittest.TestCase):
         self.show = os.path.join("examples", "formation_change.choreo")
         self.flown = common.example("formation_change")[1]
 
-    def log(self, late={}, stray=0.0, head="time,drone,x,y,z", stamps=False, also=lambda name, t: (0, 0, 0), every=50, leave=(),
-            along=False, drift={}):
+    def log(self, late={}, stray=0.0, stamps=False, also=lambda name, t: (0, 0, 0), every=50, leave=(), along=False, drift={},
+            variance=lambda name, t: "2e-05"):
         """Writes a log of a flight; its path. A stray is in the plane, by chance, or with `along` by turns with the
         way."""
         path, chance = os.path.join(self.room.name, "log.csv"), random.Random(1)
         with open(path, "w") as file:
-            file.write(head + "\n" if head else "")
+            file.write("time,drone,x,y,z,variance%s\n" % (",stamp" if stamps else ""))
             for k, (name, curve) in enumerate(curves.curves_of(self.flown).items()):
                 for t in range(-500, self.flown.milliseconds + 700, every):
                     if name in leave:
@@ -37,7 +37,7 @@ class Flown(unittest.TestCase):
                     words = ["%.6f" % v for v in at]
                     time = t + (chance.random() * 40 * (k + 1) if stamps else 0)
                     stamp = [str((t + 16770000 + 1000 * k) % 2 ** 24)] if stamps else []
-                    file.write(",".join(["%.4f" % (time / 1000), name, *words, *stamp]) + "\n")
+                    file.write(",".join(["%.4f" % (time / 1000), name, *words, variance(name, t), *stamp]) + "\n")
         return path
 
     def judged(self, path, *words):
@@ -133,20 +133,20 @@ class Flown(unittest.TestCase):
         self.assertIn("the farthest is c, 300.0 mm at 4.00 s", out)
 
     def test_stamps(self):
-        path = self.log(head="time,drone,x,y,z,stamp", stamps=True, every=20)
+        path = self.log(stamps=True, every=20)
         status, rows, out = self.judged(path, "--stray", "8", "--late", "10")
         self.assertEqual(status, 0, out)
         # the stamps begin anew 7.2 s after the start; all samples of 9 s count, and those of up to 0.16 s before that came
         # after the log's zero
         self.assertTrue(all(450 <= int(row[0]) <= 459 for row in rows.values()), out)
-        text = "\n".join(",".join(row.split(",")[:5]) for row in open(path).read().split("\n"))
+        text = "\n".join(",".join(row.split(",")[:6]) for row in open(path).read().split("\n"))
         with open(path, "w") as file:
             file.write(text)
         self.assertEqual(self.judged(path, "--stray", "8", "--late", "10")[0], 1)
 
     def reborn(self, at, off=3.0, back=None):
         """A log with stamps in which b's begin anew at a time, and from then on it is so many metres off."""
-        path = self.log(head="time,drone,x,y,z,stamp", every=50)
+        path = self.log(every=50)
         with open(path) as file:
             before, rows = file.read().split("\n")[1:-1], []
         for row in before:
@@ -156,7 +156,7 @@ class Flown(unittest.TestCase):
             stamp = round(1000 * (t - at)) if is_new else 50000 + round(1000 * t)
             rows.append(",".join([time, name, "%.6f" % (float(x) + off * is_new), *rest, "%d" % stamp]))
         with open(path, "w") as file:
-            file.write("\n".join(["time,drone,x,y,z,stamp", *rows]) + "\n")
+            file.write("\n".join(["time,drone,x,y,z,variance,stamp", *rows]) + "\n")
         return path
 
     def test_a_drone_that_started_anew(self):
@@ -205,25 +205,31 @@ class Flown(unittest.TestCase):
 
     def test_variances(self):
         # sqrt(0.004) is 63 mm: one sample above it, or of no number, and the log isn't kept
-        def with_variances(of):
-            path = self.log()
-            with open(path) as file:
-                rows = file.read().split("\n")
-            with open(path, "w") as file:
-                file.write("\n".join([rows[0] + ",variance", *(row + "," + of(row.split(",")) for row in rows[1:] if row)]) + "\n")
-            return path
-        for word, words, status, said in (("0.004", (), 0, ""), ("", (), 0, ""), ("0.0041", (), 1, "variance up to 0.0041 m^2"),
+        for word, words, status, said in (("0.004", (), 0, ""), ("0.0041", (), 1, "variance up to 0.0041 m^2"),
                                           ("nan", (), 1, "variance up to inf m^2"), ("-1", (), 1, "variance up to inf m^2"),
                                           ("0.0041", ("--unsure", "0.01"), 0, "")):
-            path = with_variances(lambda row, word=word: word if row[:2] == ["4.0000", "c"] else "2e-05")
+            path = self.log(variance=lambda name, t, word=word: word if (t, name) == (4000, "c") else "2e-05")
             came, _, out = self.judged(path, "--stray", "5", "--late", "5", *words)
             self.assertEqual((came, "NOT KNOWN: " in out, said in out), (status, bool(status), True), out)
             self.assertEqual("not sure of their places: c at 1 sample, first at 4.00 s" in out, bool(status), out)
-            self.assertNotIn("has no variances", out)
+            self.assertNotIn("no variance", out)
         # not before the start
-        path = with_variances(lambda row: "1" if row[:2] == ["-0.4000", "c"] else "2e-05")
+        path = self.log(variance=lambda name, t: "1" if (t, name) == (-400, "c") else "2e-05")
         self.assertEqual(self.judged(path, "--stray", "5", "--late", "5")[0], 0)
-        self.assertIn("the log has no variances: how sure drones were of their places isn't known\n", self.judged(self.log())[2])
+
+    def test_no_variances(self):
+        # where nobody knows how sure a drone was, at one sample or at all 181 in 9 s, nothing is kept
+        path = self.log(variance=lambda name, t: "" if (t, name) == (4000, "c") else "2e-05")
+        status, _, out = self.judged(path, "--stray", "5", "--late", "5")
+        self.assertEqual((status, "NOT KNOWN: 724 of 724" in out), (1, True), out)
+        self.assertIn("no variance says how sure they were of their places: c at 1 sample\n", out)
+        with open(path) as file:
+            rows = [row.split(",")[:5] for row in file]
+        with open(path, "w") as file:
+            file.write("".join(",".join(row) + "\n" for row in rows))
+        status, _, out = self.judged(path, "--stray", "5", "--late", "5")
+        self.assertEqual((status, "NOT KNOWN: 724 of 724" in out), (1, True), out)
+        self.assertIn("places: a at 181 samples; b at 181 samples; c at 181 samples; d at 181 samples\n", out)
 
     def test_bad_logs(self):
         for text, said in (("time,drone,x,y,z\n1,a,b,c,d\n", "row 1"), ("", "no sample during the show of a, b, c, d"),
@@ -284,7 +290,7 @@ class Flown(unittest.TestCase):
     def test_strangers(self):
         path = self.log()
         with open(path, "a") as file:
-            file.write("1,who,0,0,0\n")
+            file.write("1,who,0,0,0,0\n")
         status, out, _ = common.run("flown", "--stray", "1", self.show, path)
         self.assertEqual((status, out.split("\n")[0]), (0, "not of the show, and left out: who"))
 

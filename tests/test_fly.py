@@ -1,23 +1,21 @@
-"""./show fly over simulated drones, at many times the speed: whole flights, the fault of each stage, and both Ctrl-C.
+"""./show fly over simulated drones, with a clock of their own: whole flights, the fault of each stage, and both Ctrl-C.
 
-The simulated drones are from the same memory of the firmware as the tool; no drone was ever flown. Flights wait most
-of the time, so several run at once: all are begun before the first test, and each test waits for its own.
+The simulated drones are from the same memory of the firmware as the tool; no drone was ever flown. All flights are
+begun before the first test, and each test waits for its own.
 """
 import os
 import re
-import signal
 import subprocess
 import tempfile
-import time
 import unittest
 
 import common
 import flights
-from flights import as_if_idle, faster
 
 SHOW = os.path.join("examples", "crossing_cured.choreo")
-AT_ONCE = 6
-WORDS = ["--simulate", "--sim", "speed=%d" % faster(4), "--silence", "3"]
+AT_ONCE = 3
+# Take-off waits for no landings beside a drone that may not hear: there are many of them, and few flights want them.
+WORDS = ["--simulate", "--silence", "3", "--patience", "0"]
 # Two that hover so high, and so long, that no signal comes too late: up they take 8 s and down 10 s.
 HIGH = "choreo 1\ndrone a 0 0 4000000 0\ndrone b 1500000 0 4000000 0\ncue 60000\nend\n"
 ON_THE_FLOOR = """choreo 1
@@ -63,60 +61,45 @@ def wide_show():
     return "\n".join(rows) + "\n"
 
 
-def fly(words, show=SHOW, text="yes\nyes\nyes\nleave\n", signals=()):
-    """The status, the output and the log of a simulated flight. Each signal is sent when a line with its words has
-    come, and the input stays open then, so that a question waits."""
-    with tempfile.TemporaryDirectory() as room:
-        log = os.path.join(room, "log.csv")
+def fly(words, show=SHOW, text="yes\nyes\nyes\nleave\n", script=()):
+    """The status, the output and the log of a simulated flight; the rows of a script say what else the crew does."""
+    with tempfile.TemporaryDirectory() as place:
+        room = common.Folder()
+        room.place, log = place, os.path.join(place, "log.csv")
+        room.write("typed", text)
         if "\n" in show:
-            with open(os.path.join(room, "show.choreo"), "w") as file:
-                file.write(show)
-            show = os.path.join(room, "show.choreo")
-        process = subprocess.Popen(
-            [common.SHOW, "fly", *WORDS, "--log", log, *words, show], cwd=common.TOP, stdin=subprocess.PIPE,
-            stdout=subprocess.PIPE, stderr=subprocess.STDOUT, universal_newlines=True)
-        out, left = "", list(signals)
-        try:
-            process.stdin.write(text)
-            process.stdin.flush()
-            if not left:
-                process.stdin.close()
-        except BrokenPipeError:
-            pass
-        for line in process.stdout:
-            out += line
-            if left and left[0][0] in line:
-                process.send_signal(left.pop(0)[1])
-        status, rows = process.wait(), ""
-        process.stdin.close()
-        process.stdout.close()
+            room.write("show.choreo", show)
+            show = room.path("show.choreo")
+        if script:
+            room.write("script", flights.script(*script))
+            words = [*words, "--script", room.path("script")]
+        with open(room.path("typed"), "rb") as typed:
+            done = subprocess.run(flights.words_of(*WORDS, "--log", log, *words, show), cwd=common.TOP, stdin=typed,
+                                  stdout=subprocess.PIPE, stderr=subprocess.STDOUT, universal_newlines=True)
+        rows = ""
         if os.path.exists(log):
             with open(log) as file:
                 rows = file.read()
-        judged = common.run("flown", "--gap", "10000", show, log) if "started" in out else None
-        return status, out, rows, judged
+        return done.returncode, done.stdout, rows
 
 
 def terminal_gone():
-    """A flight whose terminal is closed after the start: its status, what it told on standard error, and its log."""
-    with tempfile.TemporaryDirectory() as room:
-        log = os.path.join(room, "log.csv")
-        show = os.path.join(room, "show.choreo")
-        with open(show, "w") as file:
-            file.write(HIGH)
-        process = subprocess.Popen([common.SHOW, "fly", *WORDS, "--yes", "--log", log, show], cwd=common.TOP,
-                                   stdout=subprocess.PIPE, stderr=subprocess.PIPE, universal_newlines=True)
-        for line in process.stdout:
-            if line.startswith("started"):
-                break
-        process.stdout.close()
-        process.send_signal(signal.SIGHUP)
-        time.sleep(0.1)  # in the landing or after it: neither may stop a motor
-        process.send_signal(signal.SIGTERM)
-        told, status = process.stderr.read(), process.wait()
-        process.stderr.close()
-        with open(log) as file:
-            return status, told, file.read()
+    """A flight whose terminal is gone, which is told so after the start: its status, what it told on standard error, and
+    its log."""
+    with tempfile.TemporaryDirectory() as place:
+        room = common.Folder()
+        room.place = place
+        room.write("show.choreo", HIGH)
+        # in the landing or after it: neither may stop a motor
+        room.write("script", flights.script((0, "press:HUP", "started"), (0.1, "press:TERM", "")))
+        reading, writing = os.pipe()
+        os.close(reading)
+        done = subprocess.run(flights.words_of(*WORDS, "--yes", "--log", room.path("log.csv"), "--script",
+                                               room.path("script"), room.path("show.choreo")), cwd=common.TOP,
+                              stdin=subprocess.DEVNULL, stdout=writing, stderr=subprocess.PIPE, universal_newlines=True)
+        os.close(writing)
+        with open(room.path("log.csv")) as file:
+            return done.returncode, done.stderr, file.read()
 
 
 def b(fault):
@@ -124,9 +107,16 @@ def b(fault):
     return ["--fault", "b:" + fault]
 
 
-INT, YES = signal.SIGINT, "yes\nyes\nyes\nleave\n"
+YES = "yes\nyes\nyes\nleave\n"
+
+
+def ctrl_c(*words):
+    """The rows of Ctrl-C after some words, and again after others."""
+    return [(0, "press:INT", it) for it in words]
+
+
 FLIGHTS = {
-    "twelve": (["--yes", "--sim", "speed=%d" % faster(2), "--sim", "stray=40", "--sim", "late=80"], wide_show()),
+    "twelve": (["--yes", "--sim", "stray=40", "--sim", "late=80"], wide_show()),
     "whole": (["--sim", "stray=30", "--sim", "late=40"],),
     "lossy": (["--sim", "loss=20", "--sim", "seed=3", "--late", "200"],),
     "unicast": (["--unicast"],), "copies": (["--copies", "3", "--late", "500"],),
@@ -138,13 +128,13 @@ FLIGHTS = {
     "jumps": (["--only", "look"], "examples/every_act.choreo"),
     "let through": (["--only", "upload", "--jump", "9", *(word for name in "abc" for word in ("--fault", name + ":memory"))],
                     "examples/every_act.choreo"),
-    "early Ctrl-C": ([], SHOW, "", [("check:", INT)]),
-    "Ctrl-C": ([], HIGH, YES, [("started", INT)]),
-    "Ctrl-C on the way up": ([], SHOW, "yes\nyes\n", [("taking off", INT)]),
-    "two Ctrl-C": ([], HIGH, YES, [("started", INT), ("Ctrl-C: landing", INT)]),
-    "two Ctrl-C, deaf": (b("deaf") + ["--unicast"], HIGH, YES, [("started", INT), ("Ctrl-C: landing", INT)]),
-    "Ctrl-C in a landing": (b("falls:1.2"), HIGH, YES, [("; landing all", INT)]),
-    "two in a landing": (b("falls:1.2"), HIGH, YES, [("; landing all", INT), ("the landing goes on", INT)]),
+    "early Ctrl-C": ([], SHOW, "", ctrl_c("check:")),
+    "Ctrl-C": ([], HIGH, YES, ctrl_c("started")),
+    "Ctrl-C on the way up": ([], SHOW, "yes\nyes\n", ctrl_c("taking off")),
+    "two Ctrl-C": ([], HIGH, YES, ctrl_c("started", "Ctrl-C: landing")),
+    "two Ctrl-C, deaf": (b("deaf") + ["--unicast"], HIGH, YES, ctrl_c("started", "Ctrl-C: landing")),
+    "Ctrl-C in a landing": (b("falls:1.2"), HIGH, YES, ctrl_c("; landing all")),
+    "two in a landing": (b("falls:1.2"), HIGH, YES, ctrl_c("; landing all", "the landing goes on")),
     **{fault: (b(fault),) for fault in (
         "dead", "outdated", "empty", "unsettled", "astray", "memory", "locked", "deaf", "lost", "forgets", "unarmed", "stays",
         "stuck", "deafens", "refuses", "wanders:2", "falls:4", "drains:2", "hovers")},
@@ -163,29 +153,30 @@ class Flights(unittest.TestCase):
     def flown(self, name, status, *lines, without=(), ends=None):
         """The output of a flight, after a look at its status, at lines that it has or hasn't, and at how its drones
         end: by name the end of the line that says so."""
-        came, out, rows, judged = begun(name).result()
+        came, out, rows = begun(name).result()
         self.assertEqual(came, status, name + ":\n" + out)
-        said = as_if_idle(out)
         for line in lines:
-            self.assertRegex(said, line, name)
+            self.assertRegex(out, line, name)
         for line in without:
-            self.assertNotIn(line, said, name)
+            self.assertNotIn(line, out, name)
         for drone, end in (ends or {}).items():
             self.assertRegex(out, "simulated: %s at .*%s( after [0-9]+ ms)?\n" % (drone, end), name + ":\n" + out)
-        return out, rows, judged
+        return out, rows
 
     def test_whole(self):
         on_floor = r", 0.0[0-9]\) m, disarmed, 1 start"
-        out, _, judged = self.flown(
+        out, rows = self.flown(
             "whole", 0, "Upload\\? Type yes: ", "uploaded and read back", "Take off\\? Type yes: ", "taking off, 2 drones: ",
             "at the first places: a [0-9]+ mm off, b [0-9]+ mm off", "Start\\? Type yes: ", "started: by one packet to all", "flown: 7.0 s",
             "landed\n", ends={"a": on_floor, "b": on_floor})
         # The show says nothing of strays, so no flight is within them.
+        judged = flights.judged(rows, SHOW)
         self.assertEqual((judged[0], "stray is 0, which no drone keeps" in judged[1]), (1, True), judged)
 
     def test_strays_and_starts_are_found(self):
         # Twelve drones that stray by 40 mm and start within 80 ms: what the log says is within a tenth of that.
-        out, rows, (status, said, told) = self.flown("twelve", 0, "landed\n", "taking off, 12 drones")
+        out, rows = self.flown("twelve", 0, "landed\n", "taking off, 12 drones")
+        status, said, told = flights.judged(rows, wide_show())
         self.assertEqual((status, "KEPT: " in said), (0, True), said + told)
         apart, far = re.search("by the log's clock, ([0-9]+) ms apart; so late the farthest is d[0-9]+, ([0-9.]+) mm", said).groups()
         # the simulated drones' own starts are as far apart as was asked for, but for what a busy machine adds

@@ -10,7 +10,6 @@ import resource
 import select
 import signal
 import subprocess
-import sys
 import tempfile
 import threading
 import time
@@ -18,11 +17,10 @@ import unittest
 
 import common
 import flights
-from flights import as_if_idle, faster
-from hemtoghai.flying import crew
-from test_fly import HIGH, PASSING, SHOW, b, fly, last_heights
+from hemtoghai.flying import clock, crew
+from test_fly import HIGH, PASSING, SHOW, WORDS, b, ctrl_c, fly, last_heights
 
-AT_ONCE = 4
+AT_ONCE = 3
 # b flies through below a's place, so that a must not come down there before b has passed.
 UNDER = """choreo 1
 stray 40
@@ -78,7 +76,6 @@ BESIDE = "choreo 1\nstray 40\nlate 50\n" + "".join("drone %s %d 0 1000000 0\n" %
 STACK, ASIDE = "choreo 1\ndrone a 0 0 500000 0\ndrone b 0 0 1500000 0\ncue 6000\nend\n", "a 700000 0 0\nb 0 0 0\n"
 TWO = ["--sim", "dongles=2", "--late", "300"]
 GONE = TWO + ["--silence", "2"]
-SLOW = ["--sim", "speed=%d" % faster(2)]  # where a machine that stands still for a moment would change what is seen
 INT, TERM = signal.SIGINT, signal.SIGTERM
 
 
@@ -100,9 +97,8 @@ def typed(lines, wait_for, then, show=SHOW, seconds=90):
     """A flight at a terminal of its own, where lines are typed at once when some words have come, and that is looked at
     for two seconds more after others have: the status, or None where it still waits, and the output."""
     master, slave = pty.openpty()
-    process = subprocess.Popen(
-        [common.SHOW, "fly", "--simulate", "--sim", "speed=%d" % faster(4), "--silence", "4", show], cwd=common.TOP,
-        stdin=slave, stdout=subprocess.PIPE, stderr=subprocess.STDOUT)
+    process = subprocess.Popen(flights.words_of(*WORDS, show), cwd=common.TOP, stdin=slave, stdout=subprocess.PIPE,
+                               stderr=subprocess.STDOUT)
     os.close(slave)
     os.set_blocking(process.stdout.fileno(), False)
     out, until, sent = "", time.monotonic() + seconds, False
@@ -125,9 +121,8 @@ def typed(lines, wait_for, then, show=SHOW, seconds=90):
 
 def piped():
     """A flight that gets three lines in one write, by a pipe that stays open: its status, and the output."""
-    process = subprocess.Popen(
-        [common.SHOW, "fly", "--simulate", "--sim", "speed=%d" % faster(4), "--silence", "4", SHOW], cwd=common.TOP,
-        stdin=subprocess.PIPE, stdout=subprocess.PIPE, stderr=subprocess.STDOUT)
+    process = subprocess.Popen(flights.words_of(*WORDS, SHOW), cwd=common.TOP, stdin=subprocess.PIPE,
+                               stdout=subprocess.PIPE, stderr=subprocess.STDOUT)
     os.write(process.stdin.fileno(), b"yes\nyes\nno\n")
     try:
         with process.stdout:
@@ -137,39 +132,18 @@ def piped():
         process.stdin.close()
 
 
-def pressed(words, *signals, show=HIGH, after=0.0, speed=4):
-    """A flight in which signals are sent: each as soon as its words have come since the one before, the first so many
-    simulated seconds later. The status, the output, and by signal the real seconds until the next line came."""
-    with tempfile.TemporaryDirectory() as room:
-        path = os.path.join(room, "show.choreo")
-        with open(path, "w") as file:
-            file.write(show)
-        speed = faster(speed)
-        process = subprocess.Popen(
-            [common.SHOW, "fly", "--simulate", "--sim", "speed=%d" % speed, "--silence", "3", "--yes", *words, path],
-            cwd=common.TOP, stdin=subprocess.PIPE, stdout=subprocess.PIPE, stderr=subprocess.STDOUT)
-        process.stdin.write(b"leave\n")  # who can't be reached is left, or the flight would go on as long as a battery
-        process.stdin.close()
-        os.set_blocking(process.stdout.fileno(), False)
-        out, until, seen, waits, left, sent = "", time.monotonic() + 200, 0, [], list(signals), None
-        while process.poll() is None and time.monotonic() < until:
-            if select.select([process.stdout], [], [], 0.02)[0]:
-                came = (process.stdout.read() or b"").decode()
-                if sent is not None and came:
-                    waits.append(time.monotonic() - sent)
-                    sent = None
-                out += came
-            if left and sent is None and left[0][0] in out[seen:]:
-                time.sleep(0 if waits else after / speed)
-                seen = len(out)
-                process.send_signal(left.pop(0)[1])
-                sent = time.monotonic()
-        status = process.poll()
-        process.kill()
-        process.wait()
-        out += (process.stdout.read() or b"").decode()
-        process.stdout.close()
-        return status, out, waits
+def waits_of(out):
+    """How many seconds after each thing that a script did something was said."""
+    return [float(it) for it in re.findall("simulated: press:.*, and ([0-9.]+) s later something was said", out)]
+
+
+def pressed(words, *signals, show=HIGH, after=0.0):
+    """A flight in which signals come: each as soon as its words have come since the one before, the first so many seconds
+    later. The status, the output, and by signal the seconds until something was said."""
+    script = [(after if n == 0 else 0, "press:" + name, said) for n, (said, name) in enumerate(signals)]
+    # who can't be reached is left, or the flight would go on as long as a battery
+    status, out, _ = fly(["--yes", *words], show, "leave\n", script)
+    return status, out, waits_of(out)
 
 
 def going_up(*signals):
@@ -187,63 +161,60 @@ def coming_down(*signals):
     return pressed([], *signals, show=SHORT)
 
 
-# ./show fly with another program in the place of the proved one, which says when the first drone is told to land.
+# What is run before a flight in which `check` takes three seconds from when some words have come: it says how long after a
+# signal the first drone is told to land, or what it says instead.
 TOLD = """
-import sys
-sys.path[:0] = sys.argv[1:3]
-from hemtoghai import __main__, program
-from hemtoghai.flying import crew
+import atexit
+from hemtoghai.flying import clock, crew
+sys.path[:0] = [common.SIMULATED]
 from cflib import air
-program.PROGRAM, told, commanded = sys.argv[3], [], air.Drone.commanded
-def noted(drone, data, at=None):
-    if data[0] == 8 and not told:
-        told.append(crew.say("simulated: one is told to land"))
-    return commanded(drone, data, at)
-air.Drone.commanded = noted
-sys.argv[:4] = ["show", "fly"]
-__main__.run()
+TRIGGER, ACTS, at, commanded, pressed = %r, %r, {}, air.Drone.commanded, crew.Watch.pressed
+def acts():
+    if "pressed" in at:
+        at.setdefault("acts", clock.now())
+def noted(drone, data, heard=None):
+    if data[0] == 8:
+        acts()
+    return commanded(drone, data, heard)
+def hears(text):
+    if TRIGGER in text:
+        stages.TAKES = 3.0
+    if any(words in text for words in ACTS):
+        acts()
+def presses(watch, number):
+    at["pressed"] = clock.now()
+    pressed(watch, number)
+crew.HEARS.append(hears)
+crew.Watch.pressed, air.Drone.commanded = presses, noted
+atexit.register(lambda: crew.say("simulated: it acts after %%.2f s" %% (at["acts"] - at["pressed"])))
 """
 
 
-# What a flight says that acts on a Ctrl-C: a landing, the stage that goes to its end, or, behind that, the way back.
-ACTS = "told to land", "goes to its end first", "all come down"
+# What a flight says that acts on a Ctrl-C but a landing: the stage that goes to its end, or, behind that, the way back.
+ACTS = "goes to its end first", "all come down"
 
 
-def while_check_is_slow(trigger, after, show, pads, speed=4):
-    """A flight in which `check` takes three seconds from when some words have come, and so many simulated seconds later
-    Ctrl-C is pressed: the status, the output, and the real seconds until one is told to land, or a line says that the
-    stage goes to its end, or that all go back."""
-    with tempfile.TemporaryDirectory() as room:
-        def file(name, text):
-            with open(os.path.join(room, name), "w") as out:
-                out.write(text)
-            return out.name
-        program = file("program", "#!/bin/sh\n[ \"$1\" = check ] && [ -e %s/slow ] && sleep 3\nexec %s \"$@\"\n" % (
-            room, common.PROGRAM))
-        os.chmod(program, 0o755)
-        process = subprocess.Popen(
-            [sys.executable, "-c", TOLD, common.PYTHON, common.SIMULATED, program, "--simulate", "--sim",
-             "speed=%d" % faster(speed), "--silence", "3", "--yes", "--pads", file("pads", pads), file("show.choreo", show)],
-            cwd=common.TOP, stdin=subprocess.DEVNULL, stdout=subprocess.PIPE, stderr=subprocess.STDOUT, universal_newlines=True)
-        out, pressed_at, wait = "", None, None
-        for line in process.stdout:
-            out += line
-            if pressed_at is None and trigger in line:
-                file("slow", "")
-                time.sleep(after / faster(speed))
-                process.send_signal(INT)
-                pressed_at = time.monotonic()
-            if pressed_at and wait is None and any(words in line for words in ACTS):
-                wait = time.monotonic() - pressed_at
-        process.stdout.close()
-        return process.wait(), out, wait
+def while_check_is_slow(trigger, after, show, pads):
+    """A flight in which `check` takes three seconds from when some words have come, and so many seconds later Ctrl-C is
+    pressed: the status, the output, and the seconds until one is told to land, or a line says that the stage goes to its
+    end, or that all go back."""
+    with tempfile.TemporaryDirectory() as place:
+        room = common.Folder()
+        room.place = place
+        room.write("pads", pads)
+        room.write("show.choreo", show)
+        room.write("script", flights.script((after, "press:INT", trigger)))
+        words = [*WORDS, "--yes", "--pads", room.path("pads"), "--script", room.path("script"), room.path("show.choreo")]
+        done = subprocess.run(flights.words_of(*words, more=TOLD % (trigger, ACTS)), cwd=common.TOP, stdin=subprocess.DEVNULL,
+                              stdout=subprocess.PIPE, stderr=subprocess.STDOUT, universal_newlines=True)
+        found = re.search("simulated: it acts after ([0-9.]+) s", done.stdout)
+        return done.returncode, done.stdout, found and float(found.group(1))
 
 
-def stays(seconds=14):
+def stays(seconds=1):
     """Whether a flight still runs where one hovers in the end and nobody answers, and the output."""
-    process = subprocess.Popen(
-        [common.SHOW, "fly", "--simulate", "--sim", "speed=%d" % faster(4), "--silence", "4", "--yes", *b("hovers"), SHOW],
-        cwd=common.TOP, stdin=subprocess.DEVNULL, stdout=subprocess.PIPE, stderr=subprocess.STDOUT)
+    process = subprocess.Popen(flights.words_of(*WORDS, "--yes", *b("hovers"), SHOW), cwd=common.TOP,
+                               stdin=subprocess.DEVNULL, stdout=subprocess.PIPE, stderr=subprocess.STDOUT)
     os.set_blocking(process.stdout.fileno(), False)
     out, until = "", time.monotonic() + 150
     while process.poll() is None and time.monotonic() < until:
@@ -259,21 +230,9 @@ def stays(seconds=14):
 
 
 def stands_still(after, seconds=3.0):
-    """A flight that stands still for some real seconds, as on a machine that sleeps, so many simulated seconds after the
-    show, where one goes home above the other: its status, and the output."""
-    process = subprocess.Popen(
-        [common.SHOW, "fly", "--simulate", "--sim", "speed=%d" % faster(4), "--yes", SHOW], cwd=common.TOP, stdin=subprocess.DEVNULL,
-        stdout=subprocess.PIPE, stderr=subprocess.STDOUT, universal_newlines=True)
-    out = ""
-    for line in process.stdout:
-        out += line
-        if line.startswith("flown:"):
-            time.sleep(after / faster(4))
-            process.send_signal(signal.SIGSTOP)
-            time.sleep(seconds)
-            process.send_signal(signal.SIGCONT)
-    process.stdout.close()
-    return process.wait(), out
+    """A flight that stands still for some seconds, as on a machine that sleeps, so many seconds after the show, where one
+    goes home above the other: its status, and the output."""
+    return fly(["--yes"], SHOW, "", [(after, "still:%g" % seconds, "flown:")])[:2]
 
 
 def limited(words, size):
@@ -281,8 +240,7 @@ def limited(words, size):
     with tempfile.TemporaryDirectory() as room:
         log = os.path.join(room, "log.csv")
         done = subprocess.run(
-            [common.SHOW, "fly", "--simulate", "--sim", "speed=%d" % faster(4), "--silence", "4", "--yes", "--log", log, *words, SHOW],
-            cwd=common.TOP, stdin=subprocess.DEVNULL, stdout=subprocess.PIPE, stderr=subprocess.STDOUT, universal_newlines=True,
+            flights.words_of(*WORDS, "--yes", "--log", log, *words, SHOW), cwd=common.TOP, stdin=subprocess.DEVNULL, stdout=subprocess.PIPE, stderr=subprocess.STDOUT, universal_newlines=True,
             preexec_fn=lambda: resource.setrlimit(resource.RLIMIT_FSIZE, (size, size)))
         with open(log) as file:
             return done.returncode, done.stdout, file.read()
@@ -299,7 +257,7 @@ def unread():
                 os.write(writing, bytes(4096))
         except BlockingIOError:
             os.set_blocking(writing, True)
-        process = subprocess.Popen([common.SHOW, "fly", "--simulate", "--sim", "speed=%d" % faster(4), "--silence", "4", "--yes", "--log", log,
+        process = subprocess.Popen([common.SHOW, "fly", *WORDS, "--yes", "--log", log,
                                     SHOW], cwd=common.TOP, stdin=subprocess.DEVNULL, stdout=writing, stderr=writing)
         os.close(writing)
         status = process.wait(240)
@@ -311,7 +269,7 @@ def unread():
 YES = "yes\nyes\nyes\n"  # before what is answered for one that doesn't come down
 FLIGHTS = {
     "silent": (fly, b("silent:0.8"), UNDER), "silent lands": (fly, b("silent:0.8") + ["--on-silence", "land"], UNDER),
-    "gap": (fly, b("gap:1") + ["--silence", "1.5", *SLOW]), "sag": (fly, b("sag:1")), "drains": (fly, b("drains:1")),
+    "gap": (fly, b("gap:1") + ["--silence", "1.5"]), "sag": (fly, b("sag:1")), "drains": (fly, b("drains:1")),
     "high": (fly, b("high:0.9")), "riser": (fly, b("riser")), "pads": (with_pads, b("riser"), PADS),
     "stack": (with_pads, [], ASIDE, STACK), "stack no": (with_pads, [], ASIDE, STACK, "yes\nyes\nno\n"),
     "stack gap": (with_pads, ["--fault", "a:gap:5.8"], ASIDE, STACK),
@@ -321,7 +279,7 @@ FLIGHTS = {
     "turned": (fly, b("turned")), "flying": (fly, b("flying")),
     "blocks": (fly, GONE + ["--sim", "blocks=0.5"], FAST), "dies": (fly, GONE + ["--sim", "dies=0.5"], FAST),
     "blocks lands": (fly, GONE + ["--sim", "blocks=0.5", "--on-silence", "land"], FAST),
-    "falls at speed": (fly, b("falls:1.4") + SLOW, FAST),
+    "falls at speed": (fly, b("falls:1.4"), FAST),
     "too fast": (fly, [], JUMPY), "low": (fly, [], BELOW), "let through": (fly, ["--accel", "70", "--only", "look"], JUMPY),
     "height 90": (fly, [], strays(90000)), "height 199": (fly, [], strays(199000)), "height 250": (fly, [], strays(250000)),
     "stray": (fly, ["--sim", "stray=75"], strays()), "stray void": (fly, ["--sim", "stray=75", "--stray", "250"], strays()),
@@ -329,15 +287,15 @@ FLIGHTS = {
     "hovers": (fly, b("hovers"), SHOW, YES + "land\nleave\n"), "hovers stop": (fly, b("hovers"), SHOW, YES + "stop\n"),
     "only land": (fly, ["--only", "land"]), "only stop": (fly, ["--only", "stop"]),
     "type-ahead": (typed, "yes\nyes\nyes\n", "Type yes", "Take off? Type yes: "), "one write": (piped,),
-    "Ctrl-C blocked": (blocked, ("started", INT)),
-    "two blocked": (blocked, ("started", INT), ("Ctrl-C: landing", INT)),
-    "TERM blocked": (blocked, ("started", TERM)),
-    "Ctrl-C going up": (going_up, ("taking off", INT)),
-    "two going up": (going_up, ("taking off", INT), ("Ctrl-C: landing", INT)),
-    "TERM": (pressed, [], ("started", TERM)), "TERM twice": (pressed, [], ("started", TERM), ("Ctrl-C: landing", TERM)),
-    "Ctrl-C coming down": (coming_down, ("landing, 2", INT)),
-    "two coming down": (coming_down, ("landing, 2", INT), ("the landing goes on; Ctrl-C stops all motors", INT)),
-    "QUIT": (pressed, [], ("started", signal.SIGQUIT)), "TSTP": (coming_down, ("started", signal.SIGTSTP)),
+    "Ctrl-C blocked": (blocked, ("started", "INT")),
+    "two blocked": (blocked, ("started", "INT"), ("Ctrl-C: landing", "INT")),
+    "TERM blocked": (blocked, ("started", "TERM")),
+    "Ctrl-C going up": (going_up, ("taking off", "INT")),
+    "two going up": (going_up, ("taking off", "INT"), ("Ctrl-C: landing", "INT")),
+    "TERM": (pressed, [], ("started", "TERM")), "TERM twice": (pressed, [], ("started", "TERM"), ("Ctrl-C: landing", "TERM")),
+    "Ctrl-C coming down": (coming_down, ("landing, 2", "INT")),
+    "two coming down": (coming_down, ("landing, 2", "INT"), ("the landing goes on; Ctrl-C stops all motors", "INT")),
+    "QUIT": (pressed, [], ("started", "QUIT")), "TSTP": (coming_down, ("started", "TSTP")),
     "slow going up": (while_check_is_slow, "taking off", 5.0, HIGH, "a 0 0 0\nb 1500000 0 0\n"),
     "slow coming down": (while_check_is_slow, "flown: ", 1.0, WIDE, "a 1000000 0 0\nb 4000000 0 0\n"),
     "slow and below": (while_check_is_slow, "taking off", 4.4, STACK, ASIDE),
@@ -366,6 +324,7 @@ class Signals(unittest.TestCase):
     def setUp(self):
         for number in (INT, TERM, signal.SIGHUP, signal.SIGQUIT, signal.SIGTSTP, signal.SIGTTIN, signal.SIGTTOU):
             self.addCleanup(signal.signal, number, signal.getsignal(number))
+        clock.use(clock.REAL)
         self.watch, self.cut = crew.Watch(), threading.Event()
         self.watch.stop_motors = self.cut.set
         self.watch.flies = True
@@ -405,11 +364,10 @@ class Hard(unittest.TestCase):
         """The output of a flight, after a look at its status and at lines that it has or hasn't."""
         came, out = begun(name).result()[:2]
         self.assertEqual(came, status, name + ":\n" + out)
-        said = as_if_idle(out)
         for line in lines:
-            self.assertRegex(said, line, name)
+            self.assertRegex(out, line, name)
         for line in without:
-            self.assertNotRegex(said, line, name)
+            self.assertNotRegex(out, line, name)
         return out
 
     # ---- who is silent
@@ -457,7 +415,7 @@ class Hard(unittest.TestCase):
         # The lower drone's link is gone for three seconds when the way down begins: it doesn't hear that it is to go
         # aside, and the upper one doesn't come down on it.
         out = begun("stack gap").result()[1]
-        self.assertRegex(as_if_idle(out), "FAULT: a doesn't answer(.*\n)*landed\n")
+        self.assertRegex(out, "FAULT: a doesn't answer(.*\n)*landed\n")
         self.assertNotIn("THIS LANDING", out)
         self.assertGreater(nearest(out), 0.6, out)
 
@@ -639,7 +597,7 @@ class Hard(unittest.TestCase):
                             ("slow and below", "Ctrl-C")):
             status, out, wait = begun(name).result()
             self.assertEqual(status, 1, out)
-            self.assertRegex(as_if_idle(out), words, name)
+            self.assertRegex(out, words, name)
             self.assertTrue(wait is not None and wait < 1, (name, wait, out))
         for name in ("slow going up", "slow coming down"):
             self.assertNotIn("goes to its end first", begun(name).result()[1], name)

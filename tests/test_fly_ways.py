@@ -1,53 +1,52 @@
 """./show fly where drones leave the ways up and down, or an estimate leaps there, and while the crew is asked; and where
 one isn't heard for a moment when a landing is chosen."""
 import re
-import signal
 import unittest
 
 import common
 import flights
 from hemtoghai.flying.landings import Column, Mover
-from test_fly import b, fly
-from test_fly_hard import ASIDE, pressed, SLOW, STACK, strays, UNDER, WIDE, with_pads
+from test_fly import b, ctrl_c, fly
+from test_fly_hard import ASIDE, pressed, STACK, strays, UNDER, WIDE, with_pads
 
-INT = signal.SIGINT
+PATIENT = ["--patience", "2"]  # until it is judged what a drone may not hear of
 
 
 def unheard_and_pressed():
     """A flight in which b isn't heard from 2 s after the start on, and Ctrl-C is pressed 0.7 s later."""
-    return pressed(b("gap:2"), ("started", INT), show=UNDER, after=2.7, speed=2)
+    return pressed(b("gap:2") + PATIENT, ("started", "INT"), show=UNDER, after=2.7)
 
 
 STRAYS = WIDE.replace("choreo 1\n", "choreo 1\nstray 60\nlate 60\n")
 FLIGHTS = {
-    "leaves going up": (fly, b("leaves:1") + SLOW, STRAYS), "leaps going up": (fly, b("leaps:2") + SLOW, STRAYS),
+    "leaves going up": (fly, b("leaves:1"), STRAYS), "leaps going up": (fly, b("leaps:2"), STRAYS),
     # nobody answers `Start?`, and b leaves its place meanwhile
-    "leaves waiting": (fly, b("leaves:13") + SLOW, STRAYS, "yes\nyes\n", [("no such line", INT)]),
-    "leaves coming down": (fly, b("wanders:4.5") + SLOW, STRAYS),
-    "leaps coming down": (fly, b("misled:6") + SLOW, STRAYS),
+    "leaves waiting": (fly, b("leaves:13"), STRAYS, "yes\nyes\n", [(1000, "type:no", "Start?")]),
+    "leaves coming down": (fly, b("wanders:4.5"), STRAYS),
+    "leaps coming down": (fly, b("misled:6"), STRAYS),
 }
 # The same show with a third one, far away. b is heard of nobody from 2.4 s on; from 4 s on it flies through below a, which
 # takes 4.25 s to the floor. If b hears, both land 1.5 m apart; if it doesn't, a sinks into its way.
 THREE = UNDER.replace("drone a", "drone c 4000000 0 800000 0\ndrone a")
 FLIGHTS.update({
-    "unheard, empty": (fly, b("gap:2.4") + ["--fault", "c:drains:1.2", *SLOW], THREE),
-    "unheard, falls": (fly, b("gap:2.4") + ["--fault", "c:falls:3", *SLOW], THREE),
+    "unheard, empty": (fly, b("gap:2.4") + ["--fault", "c:drains:1.2", *PATIENT], THREE),
+    "unheard, falls": (fly, b("gap:2.4") + ["--fault", "c:falls:3", *PATIENT], THREE),
     "unheard, Ctrl-C": (unheard_and_pressed,),
-    "heard, empty": (fly, ["--fault", "c:drains:1.2", *SLOW], THREE),
+    "heard, empty": (fly, ["--fault", "c:drains:1.2"], THREE),
 })
 # Two above each other, who have to come down by a way, and a third one aside.
 ABOVE, PADS = STACK.replace("cue", "drone c 4000000 0 1000000 0\ncue"), ASIDE + "c 4000000 0 0\n"
 FLIGHTS.update({
-    "flees": (with_pads, ["--fault", "c:flees:7", *SLOW], PADS, ABOVE),
-    "misled above": (with_pads, b("misled:7") + SLOW, PADS, ABOVE),
-    "Ctrl-C on the way home": (with_pads, SLOW, PADS, ABOVE, "yes\nyes\nno\n", [("all come down", INT)]),
-    "two on the way home": (with_pads, SLOW, PADS, ABOVE, "yes\nyes\nno\n", [("all come down", INT), ("Ctrl-C, once more", INT)]),
+    "flees": (with_pads, ["--fault", "c:flees:7"], PADS, ABOVE),
+    "misled above": (with_pads, b("misled:7"), PADS, ABOVE),
+    "Ctrl-C on the way home": (with_pads, [], PADS, ABOVE, "yes\nyes\nno\n", ctrl_c("all come down")),
+    "two on the way home": (with_pads, [], PADS, ABOVE, "yes\nyes\nno\n", ctrl_c("all come down", "Ctrl-C, once more")),
 })
-FLIGHTS["doubts"] = (fly, b("doubts:2") + SLOW, STRAYS)
-FLIGHTS["doubts in the show"] = (fly, b("doubts:16") + SLOW, STRAYS.replace("cue 3000", "cue 9000"))
-FLIGHTS["strangers"] = (fly, ["--sim", "strangers=2"] + SLOW, strays())
-FLIGHTS["strangers, unicast"] = (fly, ["--sim", "strangers=1", "--unicast", "--late", "500"] + SLOW, strays())
-FLIGHTS["lower"] = (fly, b("lower:1") + SLOW, strays())
+FLIGHTS["doubts"] = (fly, b("doubts:2"), STRAYS)
+FLIGHTS["doubts in the show"] = (fly, b("doubts:16"), STRAYS.replace("cue 3000", "cue 9000"))
+FLIGHTS["strangers"] = (fly, ["--sim", "strangers=2"], strays())
+FLIGHTS["strangers, unicast"] = (fly, ["--sim", "strangers=1", "--unicast", "--late", "500"], strays())
+FLIGHTS["lower"] = (fly, b("lower:1"), strays())
 RUNS = flights.Flights(3, FLIGHTS)
 begun, forget, setUpModule = RUNS.begun, RUNS.forget, RUNS.set_up
 
@@ -108,7 +107,7 @@ class Unheard(unittest.TestCase):
 @common.wants_program
 class FarAway(unittest.TestCase):
     def ended(self, name, status, *lines, without=()):
-        came, out, rows, _ = begun(name).result()
+        came, out, rows = begun(name).result()
         self.assertEqual(came, status, out)
         for line in lines:
             self.assertRegex(out, line, name)
@@ -142,14 +141,14 @@ class Unsure(unittest.TestCase):
         # the estimate stays where it should be, and its variance grows by 0.02 m^2 a second, to 0.004 in 0.2 s
         said = "FAULT: b isn't sure of its place any more: variance ([0-9.]+) m\\^2; landing all\nlanded\n"
         for name in ("doubts", "doubts in the show"):
-            status, out, rows, judged = begun(name).result()
+            status, out, rows = begun(name).result()
             self.assertEqual(status, 1, out)
             self.assertRegex(out, said)
             self.assertLess(float(re.search(said, out).group(1)), 0.03, out)
             heads, *cells = [row.split(",") for row in rows.split()]
             self.assertEqual(heads[-1], "variance")
             self.assertEqual({row[1] for row in cells if float(row[-1]) > 0.004}, {"b"})
-        self.assertIn("not sure of their places: b at ", judged[1])
+        self.assertIn("not sure of their places: b at ", flights.judged(rows, FLIGHTS["doubts in the show"][2])[1])
 
 
 @common.wants_program

@@ -18,15 +18,27 @@ class Warnings(unittest.TestCase):
     def test_what_flies(self):
         self.assertIsNone(warning("cue 2000", "a move 1000000 0 1000000 0", "end"))
         self.assertIsNone(warning("cue 2000", "end"))
-        # 0.3 m/s, and no more
-        self.assertIsNone(warning("cue 1000", "a line 300000 0 1000000 0", "end"))
+        # 0.03 m/s, and no more
+        self.assertIsNone(warning("cue 1000", "a line 30000 0 1000000 0", "end"))
+        self.assertEqual(warning("cue 1000", "a line 31000 0 1000000 0", "end"),
+                         "line 3, cue 1: a jumps by 0.03 m/s on x, more than 0.03" + flyable.AT_SPEED)
+
+    def test_one_limit(self):
+        # `check` warns of each jump that `summary` says can't be flown, and of no other.
+        from hemtoghai.commands import summary
+        from hemtoghai.launching import glance
+        self.assertEqual((flyable.MOST["jump"], glance.JUMP, summary.LEAST), (30, 30, 0.03))
+        self.assertEqual(flyable.MOST["accel"], glance.ACCEL)
 
     def test_jumps(self):
-        # half a metre in a second after a hold, and 0.301 m/s at the end of a cubic from rest: 3 times 0.301 / 3 m in a second
+        # half a metre in a second after a hold, and 0.04 m/s at the end of a cubic from rest: 3 times 0.04 / 3 m in a second;
+        # a curve whose first point isn't where the drone is begins at speed: 3 times 0.18 m in three seconds
         self.assertEqual(warning("cue 1000", "end", "cue 1000", "a line 0 500000 1000000 0", "end"),
-                         "line 5, cue 2: a jumps by 0.50 m/s on y, more than 0.3")
-        self.assertEqual(warning("cue 3000", "a curve 0 0 1000000 0 0 1000000 0 0 1301000 0", "end"),
-                         "line 3, the end: a jumps by 0.30 m/s on z, more than 0.3")
+                         "line 5, cue 2: a jumps by 0.50 m/s on y, more than 0.03" + flyable.AT_SPEED)
+        self.assertEqual(warning("cue 3000", "a curve 0 0 1000000 0 0 1000000 0 0 1040000 0", "end"),
+                         "line 3, the end: a jumps by 0.04 m/s on z, more than 0.03" + flyable.AT_SPEED)
+        self.assertEqual(warning("cue 3000", "a curve 0 180000 1000000 0 500000 1000000 0 500000 1000000 0", "end"),
+                         "line 3, cue 1: a jumps by 0.18 m/s on y, more than 0.03" + flyable.AT_SPEED)
 
     def test_accelerations(self):
         # 6 L / T^2 of a cubic from rest to rest: 12 m/s^2 for two metres in a second
@@ -54,8 +66,8 @@ class Warnings(unittest.TestCase):
 
     def test_several(self):
         text = b"choreo 1\ndrone a 0 0 -1000 0\ncue 1\na line 1000 0 -1000 0\nend\n"
-        self.assertEqual(flyable.warning(STAND_IN, text), "line 3, cue 1: a jumps by 1.00 m/s on x, more than 0.3; "
-                         "line 3, cue 1: a goes below z 0; all places lie within 40 mm of the origin: lengths are "
+        self.assertEqual(flyable.warning(STAND_IN, text), "line 3, cue 1: a jumps by 1.00 m/s on x, more than 0.03" +
+                         flyable.AT_SPEED + "; line 3, cue 1: a goes below z 0; all places lie within 40 mm of the origin: lengths are "
                          "micrometres, so a metre is 1000000")
 
     def test_no_answer(self):

@@ -17,9 +17,9 @@ class Planner(unittest.TestCase):
     def setUp(self):
         self.flown = common.example("crossing_cured")[1]
 
-    def of(self, *faults, speed=20):
+    def of(self, *faults):
         """Drone a, armed."""
-        common.world(self.flown, [("a", *fault) for fault in faults], speed=speed)
+        common.world(self.flown, [("a", *fault) for fault in faults])
         one = common.drone(self.flown, "a")
         one.parameters[0] = one.armed = True
         return one
@@ -67,7 +67,7 @@ class Planner(unittest.TestCase):
             far = max(air.carried_on(speed, k / 100) for k in range(500))
             self.assertLessEqual(1000 * far, landings.carried(1000 * speed), speed)
         self.assertTrue(0.35 < max(air.carried_on(2.0, k / 100) for k in range(500)) < 0.45)
-        one = self.of(speed=2)
+        one = self.of()
         common.make_ready(self.flown, loaded=True)
         one.begin(struct.pack("<BBBBBf", 5, 0, 0, 0, 0, 1.0))
         clock.wait(3.4)  # in the middle of its fastest cue
@@ -108,6 +108,130 @@ class Planner(unittest.TestCase):
         clock.wait(2.5)
         one.log_what_is_due()
         self.assertEqual(one.blocks, {})
+
+
+class Faults(unittest.TestCase):
+    """What simulated drones do by a fault, by hand."""
+
+    def of(self, *faults, **settings):
+        """Drones a and b, armed, with their trajectories; a has the faults."""
+        self.flown = common.example("crossing_cured")[1]
+        common.world(self.flown, [("a", *fault) for fault in faults], **settings)
+        common.make_ready(self.flown, loaded=True)
+        return common.drones(self.flown)
+
+    def risen(self, *faults):
+        """The same, where a rose to a metre in two seconds."""
+        one, two = self.of(*faults)
+        one.commanded(firmware.take_off(1.0, 2.0))
+        clock.wait(2)
+        return one, two
+
+    def start(self, one):
+        one.begin(struct.pack("<BBBBBf", 5, 0, 0, 0, 0, 1.0))
+
+    def test_frozen(self):
+        one, _ = self.risen(("frozen", 2.0))
+        clock.wait(1)
+        here = one.estimate(clock.now())
+        self.assertEqual(here[2], 1.0)
+        one.go([3.0, 0.0, 1.0], 2.0)
+        clock.wait(3)
+        self.assertEqual((one.estimate(clock.now()), one.is_at()), (here, [3.0, 0.0, 1.0]))
+
+    def test_late_answers(self):
+        one, _ = self.risen(("slow", 0))
+        one.up_queue, said = [], []
+        one.take(firmware.packet(firmware.COMMANDER, 0, firmware.group(1)))
+        for seconds in (0, 1.2, 0.2):
+            clock.wait(seconds)
+            said.append(one.poll(b"\xFF"))
+        self.assertEqual(said, [air.NOTHING, air.NOTHING, bytes([0x8C, 0, 1, 0, 0])])
+
+    def test_motors_that_stop(self):
+        # half a metre after 0.32 s, by 4.9 m/s^2; what starts anew is heard again after a second, and its clock is at 0
+        for fault, gone in (("falls", 0), ("dark", 1), ("restarts", 1)):
+            one, _ = self.risen((fault, 1.0))
+            self.start(one)
+            clock.wait(1)
+            high = one.planned()[2]
+            self.assertEqual(one.is_gone(), bool(gone), fault)
+            one.is_at()
+            clock.wait(0.32)
+            self.assertAlmostEqual(high - one.is_at()[2], 0.5, 2, fault)
+            clock.wait(2)
+            info = one.supervisor(clock.now())
+            self.assertEqual((one.is_at()[2], one.is_gone()), (0.0, fault == "dark"), fault)
+            self.assertEqual(bool(info & firmware.IS_TUMBLED), fault != "restarts", fault)
+            self.assertEqual(clock.now() - one.booted < 3, fault == "restarts")
+
+    def test_an_old_cell(self):
+        one, _ = self.risen(("sinks", 2.0))
+        clock.wait(1)
+        self.assertAlmostEqual(one.is_at()[2], 0.6)
+        self.assertLess(one.volts(clock.now()), 3.2)
+        clock.wait(2.1)
+        self.assertFalse(one.cut)
+        one.is_at()
+        self.assertTrue(one.cut)
+
+    def test_exchanged_by_the_positioning(self):
+        one, two = self.of(("swapped", 1.0))
+        for it in (one, two):
+            self.start(it)
+        self.assertEqual(one.estimate(clock.now()), one.is_at())
+        clock.wait(2)
+        now = clock.now()
+        self.assertEqual((one.estimate(now), two.estimate(now)), (two.is_at(now), one.is_at(now)))
+        # a second later each is 0.75 m farther from the other than it should be
+        apart = math.dist(one.planned(now), two.planned(now))
+        self.assertAlmostEqual(math.dist(one.is_at(now), two.is_at(now)), apart + 1.5, 1)
+
+    def test_on_the_floor(self):
+        for fault, places in (("pushed", ([0.12, 0, 0], [1, 0, 0])), ("trades", ([1, 0, 0], [0, 0, 0]))):
+            self.assertEqual([it.is_at() for it in self.of((fault, 0))], list(places), fault)
+
+    def test_a_small_memory(self):
+        one, _ = self.of(("small", 0))
+        self.assertEqual([one.memory(2, struct.pack("<BI", 2, at) + bytes(10))[5] for at in (0, 10, 11)], [0, 0, air.EIO])
+
+    def test_two_of_one_address(self):
+        one, _ = self.of(("twin", 0))
+        for _ in range(40):
+            air.WORLD.transfer(one.uri, firmware.packet(firmware.COMMANDER, 0, firmware.group(4)))
+        self.assertEqual((one.group, one.twin.group, one.twin.is_at()), (4, 4, [0, 0.5, 0]))
+
+    def test_a_fast_clock(self):
+        stamps = []
+        for faults in ((), (("fast", 0),)):
+            one, _ = self.of(*faults)
+            one.booted, one.blocks = clock.now(), {1: [[], 0.1, clock.now()]}
+            clock.wait(100)
+            one.log_what_is_due()
+            stamps.append(int.from_bytes(one.up_queue[-1][2:5], "little"))
+        self.assertEqual(stamps, [100000, 100030])
+
+    def test_links(self):
+        one, _ = self.risen(("mute", 3.0))
+        self.assertFalse(one.is_gone())
+        clock.wait(1.1)
+        self.assertTrue(one.is_gone())
+        one, _ = self.of(("blinks", 1.0))
+        self.start(one)
+        for seconds, gone in ((0.9, False), (0.2, True), (0.3, True), (0.2, False)):
+            clock.wait(seconds)
+            self.assertEqual(one.is_gone(), gone)
+
+    def test_what_comes_over_a_dongle(self):
+        one, two = self.of(usb=1.0, noise=5.0)
+        self.start(one)
+        begun, lost = clock.now(), []
+        while clock.now() < begun + 9:
+            lost.append((clock.now() - begun, not air.WORLD.transfer(two.uri, b"\xFF")[0]))
+        shares = [sum(it for at, it in lost if low <= at < high) / sum(low <= at < high for at, _ in lost)
+                  for low, high in ((0, 0.99), (1.01, 2.19), (2.21, 4.99), (5, 8), (8.01, 9))]
+        self.assertEqual([shares[k] for k in (0, 1, 2, 4)], [0, 1, 0, 0])
+        self.assertTrue(0.8 < shares[3] < 0.95, shares)  # two thirds are lost each way: 8 of 9 aren't answered
 
 
 if __name__ == "__main__":

@@ -6,9 +6,6 @@ director's to say alone. Where a drone has a fault, the director refuses to go o
 brings all home. A second Ctrl-C stops all motors, whatever the director says.
 """
 import math
-import queue
-import threading
-import time
 from collections import deque
 from typing import Callable, Deque, Dict, List, Optional, Set, Tuple
 
@@ -25,12 +22,13 @@ from hemtoghai.flying.ways import Ways
 
 LOOK = 0.05  # seconds between two looks at all drones
 AT_ONCE = 8  # samples that the director is told at once in the show
-MOST_TOLD, STILL = 200, 50  # milliseconds that it is told at once, and real ones
+MOST_TOLD = 200  # milliseconds that it is told at once
+TICK = 0.001  # seconds: it is told whole milliseconds
 TELLS = 5  # seconds between two lines on how it goes
 GOES = 3.0  # seconds for which a go is said again: it counts only where all drones are as they have to be
-REPLY, REPLIES = 0.2, 1.0  # real seconds in which the director answers a go that it takes, and least ones for all
+REPLY, REPLIES = 0.2, 1.0  # seconds in which the director answers a go that it takes, and least ones for all
 PLACES = 8.0  # seconds in which all have to be at their first places, once the way up is over
-ENDS = 1.0  # real seconds in which all is heard that the director said before it ended
+ENDS = 1.0  # seconds in which all is heard that the director said before it ended
 PATIENCE = 12.0  # seconds after the end of a step until which the director has begun the next one, or said who is late
 MUTE = 255  # the status that the director is told of a drone that refuses, or has no answer
 
@@ -48,7 +46,7 @@ class Bridge(Home):
         self.over: Optional[Over] = None
         self.told: List[Tuple[Optional[float], int]] = [(None, 0)] * len(self.names)
         self.ahead: List[Deque[Tuple[Leg, int]]] = [deque(self.stages_of(k)) for k in self.all]
-        self.came: "queue.SimpleQueue[Tuple[int, Optional[str], float, int]]" = queue.SimpleQueue()
+        self.came: "clock.Queue[Tuple[int, Optional[str], float, int]]" = clock.Queue()
         self.to_arm: Set[int] = set()
         self.sinking: Set[int] = set()
         self.refusals: Dict[int, str] = {}
@@ -69,7 +67,8 @@ class Bridge(Home):
         state = self.fleet.states[k]
         is_armed = k in self.armed if state.info is None else state.says(firmware.IS_ARMED)
         is_ready = not state.denies(firmware.CAN_ARM | firmware.IS_ARMED) and not state.says(firmware.WRECKED)
-        return (director.READY * is_ready | director.ARMED * is_armed | director.DOWN * self.is_down(k)
+        return (director.READY * is_ready | director.ARMED * is_armed | director.DOWN * self.stands(k)
+                | director.FLYING * self.flies(k) | director.SURE * (state.unsure is None)
                 | director.LOST * (self.wrong_with(k) is not None))
 
     def tell(self) -> None:
@@ -80,19 +79,20 @@ class Bridge(Home):
         if not self.director.is_free() or passed < 0:
             return
         # A machine that stood still makes that good bit by bit, so that drones aren't late whom it couldn't hear.
-        passed = min(passed, max(MOST_TOLD, int(STILL / clock.real(1))))
+        passed = min(passed, MOST_TOLD)
         self.told_at += passed / 1000
         frames, rows = director.clock_frames(passed), [(state.heard, self.flags(k)) for k, state in enumerate(states)]
         new = sorted((k for k in self.all if rows[k] != self.told[k]), key=lambda k: self.told[k][0] or 0.0)
         for k in new[:AT_ONCE if self.zero is not None else None]:
             at = states[k].measured
-            if at is not None:
+            # One that was measured after the time that the director knows of would be taken for older than it is.
+            if at is not None and at < self.told_at + TICK:
                 self.told[k] = rows[k]
                 frames += director.sample(k, 1000 * (self.told_at - at), self.at(k), rows[k][1])
         self.director.hear(frames)
 
     def tell_answers(self) -> None:
-        while not self.came.empty():
+        while not self.came.is_empty():
             drone, words, seconds, stage = self.came.get()
             if words is None:
                 self.unheard.pop(drone, None)
@@ -158,6 +158,8 @@ class Bridge(Home):
                           "%s isn't as the next step wants it for long enough" % name)
         if fault == director.WRONG:
             raise Trouble(self.wrong_with(k) or "%s is lost" % name)
+        if fault == director.UNSURE:
+            raise Trouble(self.wrong_with(k) or "%s isn't sure of its place any more" % name)
         if fault == director.ASTRAY and self.ways.rules.show_stray:
             say("OUTSIDE OF THE PROMISE since %.1f s: %s is off its curve, and the show's `stray` is %d" % (
                 max(0.0, self.since(self.zero) / 1000 - 0.3), name, self.ways.rules.show_stray))
@@ -232,7 +234,7 @@ class Bridge(Home):
             except Exception as error:
                 words = "%s: %r" % (self.names[k], error)
             self.came.put((k, words, clock.now() - begin, stage))
-        threading.Thread(target=run, daemon=True).start()
+        clock.Task(run)
 
     # ---- the flight
 
@@ -263,11 +265,11 @@ class Bridge(Home):
 
     def say_go(self, is_taken: Callable[[], bool], least: float = REPLIES) -> None:
         """Says go until the director takes it, but not for long."""
-        until, why = time.monotonic() + max(least, clock.real(GOES)), ""
+        until, why = clock.now() + max(least, GOES), ""
         while not is_taken():
             flags = director.ARMED if self.to_arm else director.READY
             why = "; ".join(words for words in (self.unfit(k, flags) for k in self.all) if words) or why
-            if time.monotonic() > until:
+            if clock.now() > until:
                 raise Trouble(f"the flight director doesn't take the go: {why or 'all seem to be as it wants them'}")
             self.step()
             self.director.hear(director.signal(director.GO))
@@ -301,12 +303,14 @@ class Bridge(Home):
         """Starts all drones, and says how far apart their starts may be."""
         (trajectory,) = self.flown.show.settings["trajectory"]
         self.zero = clock.now()  # whatever comes of it: a start that isn't known to have gone out may have been taken
-        begin, end, answers = self.fleet.start(trajectory, self.options.copies, not self.options.unicast)
+        begin, end, answers, mute = self.fleet.start(trajectory, self.options.copies, not self.options.unicast)
         self.zero = self.fleet.log.zero = begin
         # Drones start within `late` after it went out: the show's time begins in the middle of that.
         self.told_at += (begin + end + self.ways.rules.show_late / 1000) / 2 - self.went
         for k, name in enumerate(self.names):
-            if k not in answers:
+            if k in mute:
+                self.refusals[k] = f"{name} doesn't answer the start, and may have taken it"
+            elif k not in answers:
                 self.refusals[k] = "%s didn't take the start" % name
             elif answers[k][1]:
                 self.refusals[k] = "%s refuses the start with status %d" % (name, answers[k][1])
@@ -358,7 +362,10 @@ class Bridge(Home):
         it, which the director hasn't."""
         if self.in_show:
             self.leave_show()
-            if self.silent | self.out:
+            gone = self.silent | self.out
+            if gone:
+                if self.ways.rules.show_stray:
+                    say(f"THE PROMISE WAS VOID in this flight: of {self.words_of(gone)} it isn't known")
                 self.come_down()
                 return
         while self.over is None:

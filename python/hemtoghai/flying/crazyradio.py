@@ -19,13 +19,11 @@ What it does besides carrying packets byte for byte:
   packets; --repeat-starts sends them).
 The library's own classes (Crazyflie, its memories and parameters) stay out of it, since they would write too.
 """
-import contextlib
-import queue
 import random
 import re
 import threading
-import time
 from collections import Counter
+from functools import partial
 from typing import Any, Callable, Dict, Iterable, List, Optional, Sequence, Set, Tuple
 
 from hemtoghai.flying import clock, finite, firmware
@@ -38,13 +36,13 @@ BROADCAST = (0xFF, 0xE7, 0xE7, 0xE7, 0xE7)
 RATES = {"250K": 0, "1M": 1, "2M": 2}
 URI = re.compile("radio://([0-9]{1,9})/([0-9]{1,9})/(250K|1M|2M)/([0-9A-Fa-f]{10})")
 MOST_DONGLES, MOST_CHANNEL = 99, 125  # channels of 1 MHz above 2,400 MHz
-LIMIT = 0.8  # real seconds in which a dongle has sent a broadcast, or counts as gone
-CLOSES = 3.0  # real seconds in which all is closed, or left open
+LIMIT = 0.8  # seconds in which a dongle has sent a broadcast, or counts as gone
+CLOSES = 3.0  # seconds in which all is closed, or left open
 MANY = 15  # drones of one dongle above which somebody is to know
 
 Work = Callable[[], None]
 Sent = List[Any]  # when the first copy of a broadcast went, and when the last had, or what failed
-Job = Tuple[bytes, int, Sent, threading.Event]
+Job = Tuple[bytes, int, Sent, clock.Event]
 Waiting = Optional[Tuple[bytes, Work, Work]]  # a packet, and what is called before and after it is sent
 Asked = Tuple[int, int, int, Optional[int], int, bytes]  # drone, port, channel, length, least and the first bytes
 
@@ -88,9 +86,8 @@ class Dongle:
 
     def __init__(self, number: str, channel: str, rate: str) -> None:
         self.name, self.shared = "dongle %s" % number, None  # type: str, Any
-        self.jobs: "queue.SimpleQueue[Optional[Job]]" = queue.SimpleQueue()
-        self.thread = threading.Thread(target=self.run, args=(int(number), int(channel), RATES[rate]), daemon=True)
-        self.thread.start()
+        self.jobs: "clock.Queue[Optional[Job]]" = clock.Queue()
+        self.task = clock.Task(lambda: self.run(int(number), int(channel), RATES[rate]))
 
     def run(self, number: int, channel: int, rate: int) -> None:
         from cflib.crtp.radiodriver import RadioManager
@@ -115,17 +112,17 @@ class Dongle:
                 row.append(error)
             done.set()
 
-    def send(self, raw: bytes, copies: int) -> Tuple[Sent, threading.Event]:
+    def send(self, raw: bytes, copies: int) -> Tuple[Sent, clock.Event]:
         """Has a packet sent; a list that gets when the first copy went and the last had, and an event once it has."""
         row: Sent = []
-        done = threading.Event()
+        done = clock.Event()
         self.jobs.put((raw, copies, row, done))
         return row, done
 
     def close(self) -> None:
         self.jobs.put(None)
-        self.thread.join(LIMIT)
-        if self.shared is not None and not self.thread.is_alive():
+        self.task.join(LIMIT)
+        if self.shared is not None and not self.task.is_alive():
             self.shared.close()
 
 
@@ -160,14 +157,14 @@ class Radio:
         except ImportError as error:
             raise ImportError("%s: Bitcraze's library is needed, pip install cflib" % error) from error
         self.names, self.uris, self.packet_of = names, uris, CRTPPacket
-        self.open, self.asked, self.changed = True, 0, threading.Condition()
+        self.open, self.asked, self.changed = True, 0, clock.used().condition()
         self.listeners: List[Heard] = []
         self.faults: Dict[int, str] = {}
         self.last: List[Optional[float]] = [None] * len(names)
         self.answers: Dict[Asked, List[bytes]] = {}
-        self.waiting: "List[queue.SimpleQueue[Waiting]]" = [queue.SimpleQueue() for _ in names]
+        self.waiting: "List[clock.Queue[Waiting]]" = [clock.Queue() for _ in names]
         self.drivers: List[Any] = []
-        self.threads: List[threading.Thread] = []
+        self.tasks: List[clock.Task] = []
         self.shared: Dict[Tuple[str, ...], Dongle] = {}
         try:
             if not getattr(cflib.crtp, "CLASSES", None):
@@ -184,10 +181,8 @@ class Radio:
             if driver is None:
                 raise ValueError("no driver opens %s" % uri)
             self.drivers.append(driver)
-        self.threads = [threading.Thread(target=work, args=(drone,), daemon=True)
-                        for work in (self.send_all, self.hear_all) for drone in range(len(self.names))]
-        for thread in self.threads:
-            thread.start()
+        self.tasks = [clock.Task(partial(work, drone)) for work in (self.send_all, self.hear_all)
+                      for drone in range(len(self.names))]
 
     def wait_for_all(self, all_wanted: bool = True) -> None:
         """Waits two seconds at most until each drone was heard; raises where all are wanted, and names the others."""
@@ -205,7 +200,7 @@ class Radio:
     def nudge(self, drones: Iterable[int]) -> None:
         """Asks drones something, where nothing else waits for them: one that has nothing to say may send nothing."""
         for drone in drones:
-            if self.waiting[drone].empty():
+            if self.waiting[drone].is_empty():
                 self.send(drone, firmware.packet(firmware.MEMORY, 0, firmware.COUNT_MEMORIES))
 
     def send_all(self, drone: int) -> None:
@@ -227,14 +222,14 @@ class Radio:
                 came = self.drivers[drone].receive_packet(0.05)
             except Exception as error:
                 self.faults[drone], came = "nothing can be received from it: %s" % error, None
-                time.sleep(0.05)
+                clock.wait(0.05)
             if came is None:
                 continue
             try:
                 raw = bytes([came.header]) + bytes(came.data)
             except Exception as error:  # of the library's own packet
                 self.faults[drone] = f"a packet of it can't be read: {error!r}"
-                time.sleep(0.05)
+                clock.wait(0.05)
                 continue
             self.last[drone] = clock.now()
             self.hand_on(drone, raw)
@@ -260,24 +255,24 @@ class Radio:
 
     def ask(self, drone: int, port: int, channel: int, data: bytes, same: Optional[int] = None,
             seconds: float = PATIENCE, length: Optional[int] = None, least: int = 0, every: float = ANSWER,
-            since: Optional[int] = None) -> bytes:
+            since: Optional[int] = None, again: Callable[[bytes, float], bytes] = lambda data, _: data) -> bytes:
         """The answer to a question, which is put again `every` so many seconds until it comes: one that begins with the
         first `same` bytes of the question's data, all where it is None, and has so many bytes where a length is given,
         at least so many where the least is. A question that was dropped isn't put again, and not once where it was
-        dropped `since`, a count of drops."""
+        dropped `since`, a count of drops. What is asked after so many seconds `again` makes of the question's data."""
         key: Asked = (drone, port, channel, length, least, bytes(data[:same]))
         found: List[bytes] = []
         with self.changed:
             self.answers[key] = found
             asked = self.asked if since is None else since
-        until = clock.now() + seconds
+        begun = clock.now()
         try:
-            while clock.now() < until:
+            while clock.now() < begun + seconds:
                 with self.changed:
                     if asked != self.asked:
                         break
-                    self.send(drone, firmware.packet(port, channel, data))
-                    self.changed.wait_for(lambda: found or asked != self.asked, clock.real(every))
+                    self.send(drone, firmware.packet(port, channel, again(data, clock.now() - begun)))
+                    self.changed.wait_for(lambda: found or asked != self.asked, every)
                     if found:
                         return found[0]
         finally:
@@ -291,9 +286,7 @@ class Radio:
         with self.changed:
             self.asked += 1
             for waiting in self.waiting:
-                with contextlib.suppress(queue.Empty):
-                    while True:
-                        waiting.get_nowait()
+                waiting.clear()
             self.changed.notify_all()
 
     def each(self, work: Callable[[int], Any], look: Optional[Work] = None) -> List[Any]:
@@ -306,12 +299,9 @@ class Radio:
                 out[drone] = work(drone)
             except Exception as error:
                 failed.append(error)
-        threads = [threading.Thread(target=run, args=(drone,), daemon=True) for drone in range(len(self.names))]
-        for thread in threads:
-            thread.start()
-        for thread in threads:
-            while thread.is_alive():
-                thread.join(0.02 if look else None)
+        for task in [clock.Task(partial(run, drone)) for drone in range(len(self.names))]:
+            while task.is_alive():
+                task.join(0.02 if look else None)
                 if look:
                     look()
         if failed:
@@ -370,7 +360,7 @@ class Radio:
         counts = Counter(uri.split("/")[2] for uri in self.uris)
         return [(number, count) for number, count in sorted(counts.items()) if count > MANY]
 
-    def broadcast_beside(self, raw: bytes, copies: int = 1) -> List[Tuple[Dongle, Sent, threading.Event]]:
+    def broadcast_beside(self, raw: bytes, copies: int = 1) -> List[Tuple[Dongle, Sent, clock.Event]]:
         """Has a packet sent to all drones, so many times, by each dongle, and returns at once its row and its event."""
         return [(dongle, *dongle.send(raw, copies)) for dongle in self.dongles()]
 
@@ -378,9 +368,9 @@ class Radio:
         """Sends a packet to all drones at once, so many times, by each dongle and channel; when the first went out and
         when the last had. It has no answer by itself; drones answer by their own links. A dongle that doesn't send it
         in time is named, after all others have sent it."""
-        sent, until, gone = self.broadcast_beside(raw, copies), time.monotonic() + LIMIT, []
+        sent, until, gone = self.broadcast_beside(raw, copies), clock.now() + LIMIT, []
         for dongle, row, done in sent:
-            if not done.wait(max(0.0, until - time.monotonic())):
+            if not done.wait(max(0.0, until - clock.now())):
                 gone.append("%s doesn't send" % dongle.name)
             elif isinstance(row[-1], Exception):
                 gone.append("%s: %s" % (dongle.name, row[-1]))
@@ -393,17 +383,14 @@ class Radio:
         self.open = False
         for waiting in self.waiting:
             waiting.put(None)
-        closing = [threading.Thread(target=self.close_one, args=(it,), daemon=True)
-                   for it in [*self.drivers, *self.shared.values()]]
-        until = time.monotonic() + CLOSES
-        for thread in self.threads:
-            thread.join(max(0.01, until - time.monotonic()))
-        until = time.monotonic() + CLOSES
-        for thread in closing:
-            thread.start()
-        for thread in closing:
-            thread.join(max(0.01, until - time.monotonic()))
-        if any(thread.is_alive() for thread in closing):
+        until = clock.now() + CLOSES
+        for task in self.tasks:
+            task.join(max(0.01, until - clock.now()))
+        until = clock.now() + CLOSES
+        closing = [clock.Task(partial(self.close_one, it)) for it in [*self.drivers, *self.shared.values()]]
+        for task in closing:
+            task.join(max(0.01, until - clock.now()))
+        if any(task.is_alive() for task in closing):
             print("radio: closing failed: a dongle doesn't answer")
         self.drivers, self.shared = [], {}
 
@@ -428,7 +415,7 @@ class Link(AnyLink):
         self.fault: Optional[str] = None
         self.asked: Set[Tuple[int, Key]] = set()
         self.starts: Dict[int, List[Optional[float]]] = {}
-        self.copies, self.strangers, self.answer_time = 0, 0, clock.real(self.answer_time)
+        self.copies, self.strangers = 0, 0
         wrong = ["%s: memory %d is %s; its trajectory memory is %s" % (
             name, memory, "of type %02X" % rows[memory][0] if memory < len(rows) else "not there",
             " ".join(map(str, trajectory_memories(rows))) or "missing")

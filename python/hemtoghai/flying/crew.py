@@ -7,13 +7,12 @@ import atexit
 import contextlib
 import os
 import queue
-import select
 import signal
 import threading
-import time
 import termios
-from typing import Callable, Optional
+from typing import Callable, List, Optional
 
+from hemtoghai.flying import clock
 from hemtoghai.flying.crazyradio import Trouble
 
 
@@ -40,27 +39,27 @@ class Watch:
         self.flies, self.lands, self.was_pressed, self.presses, self.over = False, False, False, 0, False
         self.is_answered = False  # whether the crew was told what the first signal did
         self.stop_motors: Callable[[], None] = lambda: None
-        self.pipe = os.pipe()
-        threading.Thread(target=self.wait_for_cut, daemon=True).start()
+        self.bell = clock.Bell()
+        clock.Task(self.wait_for_cut)
         for number in (signal.SIGINT, signal.SIGTERM, signal.SIGHUP, signal.SIGQUIT):
-            signal.signal(number, self.pressed)
+            signal.signal(number, lambda number, _: clock.used().interrupt(lambda: self.pressed(number)))
         for number in (signal.SIGTSTP, signal.SIGTTIN, signal.SIGTTOU):
             signal.signal(number, signal.SIG_IGN)
 
-    def pressed(self, number: int, _: object) -> None:
+    def pressed(self, number: int) -> None:
         if self.over:
             return
         before, self.was_pressed = self.was_pressed, True
         if self.flies and number == signal.SIGINT:
             self.presses += 1
             if self.presses == 2:
-                os.write(self.pipe[1], b"!")
+                self.bell.ring()
         elif not self.flies and not before:
             raise Interrupted
 
     def wait_for_cut(self) -> None:
-        if os.read(self.pipe[0], 1):
-            self.stop_motors()
+        self.bell.wait()
+        self.stop_motors()
 
     def look(self) -> None:
         """Raises what was pressed in flight, as far as it still changes something."""
@@ -111,25 +110,32 @@ class Teller:
 
     def finish(self, seconds: float = 2.0) -> None:
         """Waits until all is written, but not for long."""
-        until = time.monotonic() + seconds
-        while self.lines.unfinished_tasks and time.monotonic() < until:
-            time.sleep(0.005)
+        clock.in_real_time(lambda: not self.lines.unfinished_tasks, seconds)
 
 
 TELLER = Teller()
+HEARS: List[Callable[[str], None]] = []  # who hears all that is said, besides the terminal
 atexit.register(TELLER.finish)
 
 
+def put(text: str) -> None:
+    TELLER.lines.put(text)
+    for hears in HEARS:
+        hears(text)
+
+
 def say(text: str) -> None:
-    TELLER.lines.put(text + "\n")
+    put(text + "\n")
 
 
 class Answers:
     """What the crew types. A terminal's line counts only where it was typed after its question; what comes by a pipe
-    is taken line by line. `ended` is whether nobody answers any more."""
+    is taken line by line. `is_closed` is whether standard input has ended, `others_come` whether others may answer
+    still (flying/script.py), and `ended` whether nobody answers any more."""
 
     def __init__(self) -> None:
-        self.waiting, self.ended = b"", False
+        self.waiting, self.is_closed, self.ended = b"", False, False
+        self.others_come: Callable[[], bool] = lambda: False
 
     def flush(self) -> None:
         """Forgets what was typed before."""
@@ -138,21 +144,35 @@ class Answers:
                 self.waiting = b""
                 termios.tcflush(0, termios.TCIFLUSH)
 
+    def hear(self, seconds: float) -> bool:
+        """Takes what is typed by then; whether there is a line, or there will be none."""
+        if b"\n" not in self.waiting and not self.ended:
+            is_open = not self.others_come()
+            if self.is_closed or not is_open and not clock.REAL.is_readable(0, 0):
+                clock.wait(seconds)
+            else:
+                self.read(seconds)
+            self.ended = self.is_closed and is_open
+        return b"\n" in self.waiting or self.ended
+
+    def read(self, seconds: float) -> None:
+        """Takes what comes by standard input by then."""
+        try:
+            if clock.used().is_readable(0, seconds):
+                came = os.read(0, 4096)
+                self.waiting, self.is_closed = self.waiting + came, not came
+        except (OSError, ValueError):
+            self.is_closed = True
+
     def line(self, text: str, look: Callable[[], object], every: float = 0.05) -> Optional[str]:
         """The answer to a question, while what flies is looked after; None where nobody answers any more, or where the
         look gives something else than None."""
         TELLER.finish(1.0)
         self.flush()
-        TELLER.lines.put(text)
-        while b"\n" not in self.waiting and not self.ended:
+        put(text)
+        while not self.hear(every):
             if look() is not None:
                 return None
-            try:
-                if select.select([0], [], [], every)[0]:
-                    came = os.read(0, 4096)
-                    self.waiting, self.ended = self.waiting + came, not came
-            except (OSError, ValueError):
-                self.ended = True
         if not self.waiting:
             return None
         line, _, self.waiting = self.waiting.partition(b"\n")

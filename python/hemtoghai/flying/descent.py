@@ -21,12 +21,14 @@ class Descent:
     """Drones that are brought down. `floors` are the heights, in metres, of what they land on, and `silence` the
     seconds without a sample after which nothing is known of a drone. Only what a drone says counts: one is down where
     its last sample, no older than that, says so. `landed` aren't looked after any more, and `rising` were told to take
-    off a moment ago: on the floor they aren't down."""
+    off a moment ago: on the floor they aren't down. `still_armed` are the names of those that were told to disarm,
+    and didn't."""
 
     def __init__(self, fleet: Fleet, floors: Sequence[float], silence: float, watch: Watch) -> None:
         self.fleet, self.floors, self.longest, self.watch = fleet, floors, silence, watch
         self.names, self.all = fleet.names, list(range(len(fleet.names)))
         self.landed: Set[int] = set()
+        self.still_armed: Set[str] = set()
         self.rising: Set[int] = set()
         watch.stop_motors = fleet.cut
 
@@ -42,13 +44,19 @@ class Descent:
         heard = self.fleet.states[k].heard
         return heard is not None and clock.now() - heard <= self.longest
 
-    def is_down(self, k: int) -> bool:
-        """Whether a drone says that it is on its floor, and doesn't fly. One that has tumbled lies wherever it is.
-        Motors that stopped a moment ago count as flying, but for a drone that has disarmed itself."""
+    def stands(self, k: int) -> bool:
+        """Whether a drone says that it is on its floor. One that has tumbled lies wherever it is."""
         state = self.fleet.states[k]
-        if not self.is_fresh(k) or state.says(firmware.IS_FLYING) and not state.denies(firmware.IS_ARMED):
-            return False
-        return abs(state.where()[2] - self.floors[k]) <= DOWN or state.says(firmware.WRECKED)
+        return self.is_fresh(k) and (abs(state.where()[2] - self.floors[k]) <= DOWN or state.says(firmware.WRECKED))
+
+    def flies(self, k: int) -> bool:
+        """Whether a drone says that it flies, or did a moment ago. One that has disarmed itself doesn't."""
+        state = self.fleet.states[k]
+        return state.says(firmware.IS_FLYING) and not state.denies(firmware.IS_ARMED)
+
+    def is_down(self, k: int) -> bool:
+        """Whether a drone says that it is on its floor, and doesn't fly."""
+        return self.stands(k) and not self.flies(k)
 
     def wrecks(self) -> List[int]:
         """Who has tumbled, it says."""
@@ -88,12 +96,20 @@ class Descent:
             elif not self.is_down(k):
                 words = "IN THE AIR, it said %.1f s ago, at %s" % (age, at)
             else:
-                words = "down, it says, at %s, %s%s" % (
-                    at, "and doesn't say whether it is armed" if state.info is None else
-                    "and hasn't said since whether it is armed" if not self.fleet.has_said(k) else
-                    "ARMED" if state.says(firmware.IS_ARMED) else "disarmed",
-                    ", and has tumbled" if state.says(firmware.WRECKED) else "")
+                words = "%s, it says, at %s, %s" % (self.words_down(k), at, self.words_armed(k))
             say("end: %s: %s" % (name, words))
+
+    def words_down(self, k: int) -> str:
+        """How one is down: a wreck may lie elsewhere, and may be falling still."""
+        is_there = abs(self.fleet.states[k].where()[2] - self.floors[k]) <= DOWN
+        return "down" if is_there else "doesn't fly any more"
+
+    def words_armed(self, k: int) -> str:
+        state = self.fleet.states[k]
+        words = ("and doesn't say whether it is armed" if state.info is None else
+                 "and hasn't said since whether it is armed" if not self.fleet.has_said(k) else
+                 "ARMED" if state.says(firmware.IS_ARMED) else "disarmed")
+        return words + (", and has tumbled" if state.says(firmware.WRECKED) else "")
 
     # ---- landing
 
@@ -158,12 +174,14 @@ class Descent:
         return self.finish(self.stay(self.up(self.all)))
 
     def finish(self, up: List[int]) -> bool:
-        """Ends the watch, and says where all are; whether all are down, and nobody has tumbled."""
+        """Ends the watch, and says where all are; whether all are down, say so since they were told to disarm, and none
+        is still armed, nor has tumbled."""
         self.watch.end()
         say("landed" if not up else "landed, but for %s: not disarmed; --only land and --only stop still reach them" %
             self.words_of(up))
         self.account()
-        return not up and not self.wrecks()
+        have_said = all(state.info is None or self.fleet.has_said(k) for k, state in enumerate(self.fleet.states))
+        return not up and have_said and not self.wrecks() and not self.still_armed
 
     def stay(self, up: List[int]) -> List[int]:
         """Stays with drones that aren't down: asks what to do with them, and where nobody answers tells them to land
@@ -207,6 +225,7 @@ class Descent:
         self.fleet.radio.drop()
         self.fleet.rest(drones)
         wrong = self.fleet.disarm(drones)
+        self.still_armed = (self.still_armed - {self.names[k] for k in drones}) | set(wrong)
         auto = [k for k in drones if self.fleet.states[k].says(firmware.AUTO_ARM)]
         if wrong:
             say("STILL ARMED: %s" % ", ".join(wrong))

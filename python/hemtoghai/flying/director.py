@@ -3,32 +3,30 @@
 Its frames are those of docs/PROMISES.md, 'Its frames'. Nothing is decided here: what is written and what is read is
 handed on. The process has a group of its own, since Ctrl-C at a terminal ends all that the terminal's group has.
 """
-import fcntl
+import io
 import os
-import queue
 import struct
 import subprocess
-import termios
 import threading
-import time
 from typing import IO, Iterator, List, NamedTuple, Optional, Sequence, Tuple, Union
 
 from hemtoghai import program
+from hemtoghai.flying import clock
 from hemtoghai.flying.piped import Piped
 
 CLOCK, SAMPLE, ANSWER, SIGNAL = 1, 2, 3, 4  # the first bytes of what it hears
 GO, LAND, STOP = 0, 1, 2  # the crew's words
-READY, ARMED, LOST, DOWN = 1, 2, 4, 8  # the flags of a sample
+READY, ARMED, LOST, DOWN, FLYING, SURE = 1, 2, 4, 8, 16, 32  # the flags of a sample
 TO_ONE, TO_ALL, NOTE, OVER, CAUSE, END = 1, 2, 3, 4, 5, 0x45  # the first bytes of what it says
 ARM, RISE, GO_TO, SINK, START, HALT, DISARM = range(7)  # orders
 # What follows the first byte of a frame, and of an order, in the forms of `struct`.
 FRAMES = {TO_ONE: "B", TO_ALL: "", NOTE: "BB", OVER: "B", CAUSE: "BBBH", END: "B"}
 ORDERS = {ARM: "", RISE: "hI", GO_TO: "hhhhI", SINK: "hI", START: "", HALT: "", DISARM: ""}
-SILENT, ASTRAY, WRONG, REFUSED, LATE = range(5)  # faults; the director calls WRONG `lost`
+SILENT, ASTRAY, WRONG, REFUSED, LATE, UNSURE = range(6)  # faults; the director calls WRONG `lost`
 NOT_FLOWN = 8  # the status of a flight to whose director nothing happened
 MOST_MS, MOST_AGE, MOST_MM = 65535, 65535, 32767
-HANGS = 5.0  # real seconds for which the process may read nothing of what waits for it
-LONGEST = 600.0  # real seconds in which it has judged three shows
+HANGS = 5.0  # seconds for which the process may read nothing of what waits for it
+LONGEST = 600.0  # seconds in which it has judged three shows
 MARKER = b"%%\n"
 
 
@@ -127,8 +125,9 @@ class Director(Piped):
 
     def __init__(self, words: Sequence[str], texts: Sequence[bytes]) -> None:
         """Raises program.Unusable or OSError where it can't be started."""
-        self.waiting, self.since, self.is_well, self.lock = b"", time.monotonic(), True, threading.Lock()
-        self.said: "queue.SimpleQueue[Said]" = queue.SimpleQueue()
+        self.waiting, self.since, self.is_well, self.lock = b"", clock.now(), True, threading.Lock()
+        self.said: "clock.Queue[Said]" = clock.Queue()
+        self.held, self.is_through = b"", False
         super().__init__([program.runs(), "direct", *words], stderr=subprocess.DEVNULL, start_new_session=True)
         self.writes_to = self.input.fileno()
         # What it has to read before a flight is written however long it judges that.
@@ -141,6 +140,7 @@ class Director(Piped):
             self.waiting += frames
             try:
                 while self.is_well and self.waiting:
+                    self.was_told = True
                     self.waiting = self.waiting[os.write(self.writes_to, self.waiting):]
             except BlockingIOError:
                 pass
@@ -152,37 +152,37 @@ class Director(Piped):
         self.hear(b"")
         if not self.is_well:
             return False
-        try:
-            unread, = struct.unpack("i", fcntl.ioctl(self.writes_to, termios.FIONREAD, bytes(4)))
-        except (OSError, ValueError):
-            self.is_well = False
+        clock.used().settle()
+        if self.unread() or self.waiting:
+            self.is_well = self.is_well and clock.now() - self.since < HANGS
             return False
-        if unread or self.waiting:
-            self.is_well = self.is_well and time.monotonic() - self.since < HANGS
-            return False
-        self.since = time.monotonic()
+        self.since = clock.now()
         return True
 
     def says(self) -> Iterator[Said]:
-        while not self.said.empty():
+        while not self.said.is_empty():
             yield self.said.get()
 
     def wait(self, seconds: float) -> Optional[Said]:
-        """The next that it says within so many real seconds, or None."""
+        """The next that it says within so many seconds, or None."""
         try:
-            return self.said.get(timeout=seconds)
-        except queue.Empty:
+            return self.said.get(seconds)
+        except clock.Empty:
             return None
 
-    def listen(self) -> None:
-        with open(self.output.fileno(), "rb", closefd=False) as stream:
-            said: Optional[Said] = None
-            while not isinstance(said, Ended):
-                try:
-                    said = said_by(stream)
-                except (struct.error, KeyError, OSError):
-                    said = Ended(None)
-                self.said.put(said)
+    def take(self, data: bytes) -> None:
+        """Takes frames as far as they are whole. What is none, and what is cut off, is its end."""
+        self.held += data
+        while not self.is_through:
+            stream = io.BytesIO(self.held)
+            try:
+                said = said_by(stream)
+            except (struct.error, KeyError) as fault:
+                if data and isinstance(fault, struct.error):
+                    return
+                said = Ended(None)
+            self.held, self.is_through = stream.read(), isinstance(said, Ended)
+            self.said.put(said)
 
     def close_input(self) -> None:
         """Ends its input: it lands nobody then, and ends."""

@@ -138,7 +138,16 @@ def land(height: float, seconds: float) -> bytes:
 
 
 def go_to(x: float, y: float, z: float, yaw: float, seconds: float) -> bytes:
-    return struct.pack("<BBBfffff", 4, 0, 0, x, y, z, yaw, seconds)
+    return GO_TO + struct.pack("<BBfffff", 0, 0, x, y, z, yaw, seconds)
+
+
+def left_of(data: bytes, passed: float, most: float) -> bytes:
+    """The data of a go-to that is said once more: it takes what is left of its time, shorter by so many seconds at
+    most. A drone that heard the first one is where it would have been, and no later than it began."""
+    if data[:1] != GO_TO:
+        return data
+    seconds, = struct.unpack_from("<f", data, len(data) - 4)
+    return data[:-4] + struct.pack("<f", max(seconds / 2, seconds - min(passed, most)))
 
 
 def start(trajectory: int, mask: int = 0) -> bytes:
@@ -146,7 +155,7 @@ def start(trajectory: int, mask: int = 0) -> bytes:
     return struct.pack("<BBBBBf", 5, mask, 0, 0, trajectory, 1.0)
 
 
-LAND = bytes([8])  # the first byte of a landing
+GO_TO, LAND = bytes([4]), bytes([8])  # the first bytes of a go-to and of a landing
 STOP = bytes([3, 0])  # the motors stop, and the drone falls
 
 # ---- the emergency stop, port 6 channel 1 (85 %): motors off until the drone is started anew

@@ -7,11 +7,12 @@ import csv
 import math
 import random
 import threading
-from typing import Callable, Dict, Iterable, List, Optional, Sequence, Set, TextIO, Tuple
+from functools import partial
+from typing import Callable, Dict, Iterable, List, NamedTuple, Optional, Sequence, Set, TextIO, Tuple
 
 from hemtoghai.flying import clock, finite, firmware
 from hemtoghai.flying.crazyradio import ANSWER, Dead, Radio, Trouble
-from hemtoghai.flying.stages import SAME_FLOOR
+from hemtoghai.flying.stages import LATE, SAME_FLOOR
 
 FLIGHT, SETTLING = 1, 2  # log blocks
 MARK = 0x5A  # a byte by which the answer to a broadcast is told from others
@@ -34,7 +35,15 @@ HISTORY = 20  # samples that are kept to see whether a drone is settled
 
 Look = Callable[[], None]  # what looks after a flight while others wait
 Table = Dict[str, Tuple[int, int]]  # by an item's name its number and its type
-Started = Tuple[float, float, Dict[int, Tuple[float, int]]]  # when it went out first and last, and its answers
+
+
+class Started(NamedTuple):
+    """A start: when it went out first and last, by drone when it was answered last and with which status, and who
+    answered neither it nor what was asked after it."""
+    begin: float
+    end: float
+    answers: Dict[int, Tuple[float, int]]
+    quiet: Set[int]
 
 
 class State:
@@ -122,16 +131,15 @@ class Log:
     so that a slow disk holds up nobody: what can't be written is said once, and lost. Opening it raises OSError."""
 
     def __init__(self, path: Optional[str], tell: Callable[[str], None]) -> None:
-        self.path, self.tell, self.lock, self.over = path, tell, threading.Lock(), threading.Event()
+        self.path, self.tell, self.lock, self.over = path, tell, threading.Lock(), clock.Event()
         self.waiting: List[Tuple[float, str, Sequence[float], int, Optional[float]]] = []
         self.fault: object = None
         self.zero: Optional[float] = None
-        self.thread: Optional[threading.Thread] = None
+        self.task: Optional[clock.Task] = None
         if path:
             file = open(path, "w", newline="", encoding="utf-8")
             self.put_rows(file, [["time", "drone", "x", "y", "z", "stamp", "variance"]])
-            self.thread = threading.Thread(target=self.run, args=(file,), daemon=True)
-            self.thread.start()
+            self.task = clock.Task(lambda: self.run(file))
 
     def put(self, at: float, name: str, place: Sequence[float], stamp: int, variance: Optional[float] = None) -> None:
         if self.path and self.fault is None:
@@ -171,9 +179,9 @@ class Log:
         if self.zero is None and self.waiting:
             self.zero = self.waiting[-1][0]
         self.over.set()
-        if self.thread:
-            self.thread.join(2.0)
-            if self.thread.is_alive():
+        if self.task:
+            self.task.join(2.0)
+            if self.task.is_alive():
                 self.fault = "the disk doesn't answer"
                 self.tell("THE LOG ISN'T WRITTEN to its end: %s" % self.fault)
 
@@ -262,7 +270,7 @@ class Fleet:
             if (last is not None and now - last <= REVIVE and state.heard is not None and now - state.heard >= REVIVE
                     and now - self.revived[drone] >= 3 * REVIVE):
                 self.revived[drone] = now
-                threading.Thread(target=self.try_logs, args=(drone,), daemon=True).start()
+                clock.Task(partial(self.try_logs, drone))
 
     def try_logs(self, drone: int) -> None:
         """Makes a drone's logs anew, if it lets that be done."""
@@ -313,12 +321,14 @@ class Fleet:
     # ---- commands
 
     def command(self, drone: int, data: bytes, word: str, since: Optional[int] = None, seconds: float = 2.0) -> None:
-        """A command to one drone, until it is answered. A take-off that is asked for once more, since its answer was
-        lost, is refused: then it was taken. So is a landing of one that lands already, or is on the floor. Nothing goes
-        out where all questions were dropped `since`, a count of the radio's."""
+        """A command to one drone, until it is answered; a go-to is said again for what is left of its time. A take-off
+        that is asked for once more, since its answer was lost, is refused: then it was taken. So is a landing of one
+        that lands already, or is on the floor. Nothing goes out where all questions were dropped `since`, a count of
+        the radio's."""
         begin, lands = clock.now(), data[:1] == firmware.LAND
         status = self.radio.ask(drone, firmware.COMMANDER, 0, data, 3, seconds=seconds, least=4,
-                                every=AGAIN if lands else ANSWER, since=since)[3]
+                                every=AGAIN if lands else ANSWER, since=since,
+                                again=lambda data, passed: firmware.left_of(data, passed, LATE / 1000))[3]
         if status and not (status == 1 and (lands or clock.now() - begin > 0.9 * ANSWER)):
             raise Trouble("%s refuses to %s: status %d" % (self.names[drone], word, status))
 
@@ -367,9 +377,9 @@ class Fleet:
 
     def start(self, trajectory: int, copies: int, by_broadcast: bool) -> Started:
         """Starts a trajectory in all drones of the flight's group, by a broadcast that each hears at once, or one by
-        one: when starts went out first and last, and by drone when it answered last, and with which status. Nobody is
-        sent a second start of its own, since it would begin anew. A drone answers in order: one that answers a question
-        after the start and not the start didn't take it. That question takes it out of the group again."""
+        one. Nobody is sent a second start of its own, since it would begin anew. A drone answers in order: one that
+        answers a question after the start and not the start didn't take it. That question takes it out of the group
+        again."""
         with self.lock:
             self.started = {}
         raw = firmware.packet(firmware.COMMANDER, 0, firmware.start(trajectory, self.group))
@@ -378,9 +388,9 @@ class Fleet:
         for drone in [] if by_broadcast else drones:
             self.radio.send(drone, raw)
         begin, end = self.radio.broadcast(raw, copies) if by_broadcast else (begin, clock.now())
-        self.radio.failures(drones, lambda drone: self.radio.pass_by(drone, 1))
+        mute = self.radio.failures(drones, lambda drone: self.radio.pass_by(drone, 1))
         with self.lock:
-            return begin, end, dict(self.started)
+            return Started(begin, end, dict(self.started), set(mute) - set(self.started))
 
     def beside(self, raw: bytes, copies: int) -> None:
         """A broadcast that goes out beside commands to each drone, so that nothing rests on it, nor waits for it."""

@@ -7,7 +7,6 @@ of what happens from the first fault on, so that it gives no orders any more: bu
 (flying/bridge.py).
 """
 import math
-import time
 from itertools import combinations
 from typing import Callable, Dict, Iterator, List, Optional, Set, Tuple
 
@@ -25,9 +24,9 @@ LEAD = 100  # milliseconds until a landing that is decided is begun
 MOST_PAIRS = 10  # that are named where all land
 WAYS = 3  # home that are begun, where drones don't answer on them
 HEARD_AGAIN = 5.0  # seconds for which one that didn't answer is waited for, before what is left is judged
-ANSWERS = 0.4  # real seconds in which `check` has to answer where drones fly on meanwhile
+ANSWERS = 0.4  # seconds in which `check` has to answer where drones fly on meanwhile
 OLD = 0.2  # seconds that a sample may be old by which a landing is judged
-ORDERED = 0.2  # real seconds in which the director has to order a landing
+ORDERED = 0.2  # seconds in which the director has to order a landing
 SLOWER = 2.0  # seconds that its landing may take longer than all need
 NO_ANSWER = "`check` didn't answer in time"
 
@@ -63,10 +62,10 @@ class Home(Watched):
                 or len(self.up(self.all)) < len(self.all) or self.deaf() or self.out
                 or seconds > self.seconds_down(self.all) + SLOWER):
             return None
-        left, until = set(self.all), time.monotonic() + ORDERED
+        left, until = set(self.all), clock.now() + ORDERED
         self.director.hear(signal(TO_LAND))
         while left:
-            said = self.director.wait(max(0.0, until - time.monotonic()))
+            said = self.director.wait(max(0.0, until - clock.now()))
             if said is None or isinstance(said, Ended):
                 say("the flight director doesn't order the landing: it begins without it")
                 return None
@@ -373,15 +372,30 @@ class Home(Watched):
         return self.new_way(way, count, at, hold), "by a new way"
 
     def new_way(self, leg: Leg, count: int, at: Dict[int, Place], hold: Set[int]) -> Optional[Leg]:
-        """A new way down from places; else the rest of a leg, judged without the drones that don't fly any more: better
-        than to come down on one that lies below. None where neither is accepted."""
+        """A new way down from places; where one lies on a pad, to pads that are dealt anew; else the rest of a leg,
+        judged without the drones that don't fly any more: better than to come down on one that lies below. None where
+        none of them is accepted."""
         wrecks, new = self.out - self.silent, self.ways.new_judged(at, hold)
         if new or not wrecks:
+            return new
+        pads = self.ways.dealt_anew(at, hold, wrecks)
+        new = self.ways.new_judged(at, hold, pads) if pads and pads != self.ways.pads else None
+        if new and pads:
+            self.deal(pads)
             return new
         rest = self.ways.rest_judged(leg, count, {k: at[k] for k in at if k not in wrecks}, hold)
         if rest:
             say("NOT JUDGED beside %s: nothing leads clear of where it lies" % self.words_of(wrecks))
         return rest
+
+    def deal(self, pads: Dict[int, Place]) -> None:
+        """Who flies goes to another pad from here on."""
+        for k, pad in pads.items():
+            if pad != self.ways.pads[k]:
+                old = next(j for j in self.all if self.ways.pads[j] == pad)
+                say(f"PADS ARE DEALT ANEW: {self.names[k]} goes to that of {self.names[old]}")
+        self.ways.deal(pads)
+        self.floors = [floor / 1000 for floor in self.ways.floors]
 
     def home_stage(self, stage: Stage, look: Callable[[], None] = lambda: None) -> List[str]:
         """A stage of the way home: it is flown whatever is wrong, but for what a look raises, and a second Ctrl-C stops
@@ -403,6 +417,9 @@ class Home(Watched):
             self.unheard.pop(drone, None)
             self.took[drone] = clock.now() - self.moves[drone][1]
         mute = [str(why) for why in self.fleet.radio.failures(list(stage.to), go, self.watch.look).values()]
+        late = 1000 * max(self.took.values(), default=0.0)
+        if late > self.ways.rules.late and len(stage.to) > 1:
+            say(f"OUTSIDE OF WHAT WAS JUDGED: commands within {late:.0f} ms, and {self.ways.rules.late} were judged")
         for words in mute:
             say(words)
         self.pause(clock.now() + seconds + 1, look)

@@ -35,7 +35,7 @@ MOST_CUES = 900  # of the show of a silent drone
 ROUNDED = 2  # by which a cut curve may be off by rounding
 TOO_FAR = "drones are carried on too far"
 NOT_LOOKED = "not looked at before take-off"
-COMPUTES = threading.Lock()  # one thread at a time, so that those of a flight aren't held up; `check` is asked by several
+COMPUTES = threading.Lock()  # one thread at a time, so that a flight isn't held up; `check` is asked by several
 
 Reach = Tuple[Place, float]  # the middle of what a drone may reach, and how far it is from that at most
 Cubic = List[List[float]]  # four control points

@@ -6,9 +6,9 @@ tried of it. The simulated drones are those of docs/RADIO.md, 'A drone'. Nothing
 import argparse
 import heapq
 import random
-import threading
-import time
 from typing import Callable, List, Optional, Sequence, Tuple
+
+from hemtoghai.flying import clock
 
 MEMORY = 4096
 ENTRIES = 10
@@ -123,16 +123,16 @@ class SimulatedLink(Link):
         self.answer_time = max(0.005, 5 * options.delay / 1000, 2 / options.rate)
         self.counts = dict.fromkeys(("down", "up", "lost", "again", "late"), 0)
         self.under_way: List[Tuple[float, int, str, int, bytes]] = []
-        self.number, self.free_at, self.open = 0, 0.0, True
-        self.changed = threading.Condition()
-        self.thread = threading.Thread(target=self.run, daemon=True)
-        self.thread.start()
+        self.number, self.free_at, self.open, self.is_new = 0, 0.0, True, False
+        self.changed = clock.used().condition()
+        self.task = clock.Task(self.run)
 
     def send(self, drone: int, packet: bytes) -> None:
         with self.changed:
-            self.free_at = max(self.free_at, time.monotonic()) + 1 / self.options.rate
+            self.free_at = max(self.free_at, clock.now()) + 1 / self.options.rate
             self.put(self.free_at, "leave", drone, packet)
-            self.changed.notify()
+            self.is_new = True
+            self.changed.notify_all()
 
     def put(self, at: float, what: str, drone: int, packet: bytes) -> None:
         """Notes what happens at an instant; what is noted first comes first among equals."""
@@ -151,7 +151,7 @@ class SimulatedLink(Link):
             if self.chance.random() * 100 < options.late:
                 counts["late"] += 1
                 wait += 20 * options.delay / 1000 * self.chance.random()
-            self.put(time.monotonic() + wait, what, drone, packet)
+            self.put(clock.now() + wait, what, drone, packet)
             if self.chance.random() * 100 >= options.again:
                 return
             counts["again"] += 1
@@ -159,9 +159,9 @@ class SimulatedLink(Link):
     def run(self) -> None:
         with self.changed:
             while self.open:
-                wait = self.under_way[0][0] - time.monotonic() if self.under_way else None
+                wait, self.is_new = self.under_way[0][0] - clock.now() if self.under_way else None, False
                 if wait is None or wait > 0:
-                    self.changed.wait(wait)
+                    self.changed.wait_for(lambda: self.is_new or not self.open, wait)
                     continue
                 _, _, what, drone, packet = heapq.heappop(self.under_way)
                 if what == "leave":
@@ -177,8 +177,8 @@ class SimulatedLink(Link):
     def close(self) -> None:
         with self.changed:
             self.open = False
-            self.changed.notify()
-        self.thread.join()
+            self.changed.notify_all()
+        self.task.join()
 
     def report(self) -> List[str]:
         words = "simulated link, seed %d: %d packets to drones, %d answers back; %d of them lost, %d repeated, %d late"

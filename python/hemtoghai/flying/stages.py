@@ -13,12 +13,14 @@ with each other: their pads have to be PADS mm apart. Millimetres and millisecon
 """
 import concurrent.futures
 import subprocess
+import threading
 from itertools import combinations
 from math import ceil, dist
 from typing import Callable, Dict, Iterable, Iterator, List, Mapping, Optional, Sequence, Tuple, TypeVar, Union
 
 from hemtoghai import program
 from hemtoghai.companion import missing, no_program
+from hemtoghai.flying import clock
 
 AIM = 30  # how far a drone's estimate may have moved since its place was measured
 LATE = 300  # how far apart commands to single drones may be
@@ -29,6 +31,8 @@ PEAK = 2.19  # the greatest speed of a move, in mean speeds
 TAKE_OFF, GO_TO, LAND = "take-off", "go-to", "landing"
 PATIENCE = 10  # seconds in which `check` has to answer
 AT_ONCE = 4  # texts that `check` is asked about side by side
+ROUND = 8 * AT_ONCE  # questions after which others get their turn
+TAKES = 0.02  # seconds that a question to `check` takes in a simulated flight
 MOST = 1000  # of a stray and of lateness, in the language
 
 Place = Tuple[int, int, int]
@@ -87,21 +91,35 @@ def text_of(names: Sequence[str], at: Dict[int, Place], yaws: Sequence[int], sta
 
 
 ANSWERS: Dict[bytes, Optional[str]] = {}
+CLAIMED, CLAIMS = set[bytes](), threading.Lock()  # the texts that were asked about, each of which takes its time once
+
+
+def said_of(text: bytes) -> Tuple[int, str]:
+    """The status of `check`, and its line, of a text, by the file that was hashed; raises OSError, program.Unusable
+    where that gave no answer, or subprocess.TimeoutExpired where it takes too long. It has a process group of its own:
+    Ctrl-C ends the terminal's."""
+    done = subprocess.run([program.runs(), "check"], input=text, stdout=subprocess.PIPE, stderr=subprocess.DEVNULL,
+                          timeout=clock.used().patience(PATIENCE), start_new_session=True)
+    program.need_answer(["check"], done.returncode, done.stdout)
+    return done.returncode, done.stdout.decode(errors="replace").strip()
 
 
 def refusal_of(text: bytes) -> Optional[str]:
     """Why `check` doesn't accept a text, or None where it does. It is asked once; where it can't be asked, or doesn't
-    answer, that is why. It has a process group of its own: Ctrl-C ends the terminal's."""
+    answer, that is why."""
     if text in ANSWERS:
         return ANSWERS[text]
     if no_program():
         return missing()
+    with CLAIMS:
+        is_new = text not in CLAIMED
+        CLAIMED.add(text)
+    if is_new:
+        clock.used().owe(TAKES)
     try:
-        done = subprocess.run([program.PROGRAM, "check"], input=text, stdout=subprocess.PIPE, stderr=subprocess.DEVNULL,
-                              timeout=PATIENCE, start_new_session=True)
-    except (OSError, subprocess.TimeoutExpired) as error:
+        status, line = said_of(text)
+    except (OSError, subprocess.TimeoutExpired, program.Unusable) as error:
         return "`check` doesn't answer: %s" % error
-    status, line = done.returncode, done.stdout.decode(errors="replace").strip()
     if status not in (0, 3, 4, 5):
         return "`check` ended with %d: %s" % (status, line)
     ANSWERS[text] = (line or "`check` ended with %d" % status) if status else None
@@ -110,8 +128,12 @@ def refusal_of(text: bytes) -> Optional[str]:
 
 def side_by_side(work: Callable[[Asked], Found], items: Iterable[Asked]) -> List[Found]:
     """What a function that asks `check` gives for each of these, some at a time."""
+    wanted, found = list(items), list[Found]()
     with concurrent.futures.ThreadPoolExecutor(AT_ONCE) as pool:
-        return list(pool.map(work, items))
+        for n in range(0, len(wanted), ROUND):
+            found += pool.map(work, wanted[n:n + ROUND])
+            clock.used().pay(AT_ONCE)
+    return found
 
 
 def place_of(values: Iterable[float]) -> Place:

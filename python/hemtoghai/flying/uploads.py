@@ -3,17 +3,17 @@ carries packets between it and a link. Shared by ./show bridge and ./show fly; n
 """
 import contextlib
 import os
-import queue
-import time
 from typing import Any, Callable, Dict, List, Optional, Sequence, Set, Tuple
 
 from hemtoghai import program as proved
 from hemtoghai.companion import stop
+from hemtoghai.flying import clock
 from hemtoghai.flying.links import COMMAND, Heard, Key, key_of, Link, READ, words_of, WRITE
 from hemtoghai.flying.piped import Piped
 from hemtoghai.language.choreo import Flown
 
 TICK, PACKET, END = 0x54, 0x50, 0x45
+LONGEST = 200  # bytes of what is no frame that are kept
 GIVES_UP = 20  # ticks for which a packet is in flight; at each but the last it is sent
 ENDS = {0: "done: each drone has what it is to fly", 3: "the show is faulty", 4: "the show has no room in a drone",
         5: "two drones of the show come too close", 6: "the program could not read", 8: "stopped before its end",
@@ -22,7 +22,7 @@ ENDS = {0: "done: each drone has what it is to fly", 3: "the show is faulty", 4:
         14: "a drone's memory holds something else"}
 
 
-Events = queue.Queue[Tuple[Any, ...]]  # what comes: a word, and what belongs to it
+Events = clock.Queue[Tuple[Any, ...]]  # what comes: a word, and what belongs to it
 Tell = Callable[[str], None]
 
 
@@ -31,7 +31,7 @@ class Host(Piped):
     and ("closed", bytes that are no frame) where it ends without an end frame."""
 
     def __init__(self, command: List[str], text: bytes, events: Events) -> None:
-        self.events = events
+        self.events, self.held, self.is_through = events, b"", False
         try:
             if os.path.abspath(command[0]) == proved.PROGRAM:
                 command = [proved.runs(), *command[1:]]
@@ -45,6 +45,7 @@ class Host(Piped):
 
     def write(self, data: bytes) -> None:
         """Writes to the program; where it has ended, its end frame is under way."""
+        self.was_told = True
         with contextlib.suppress(BrokenPipeError, ValueError):
             while data:
                 data = data[self.input.write(data):]
@@ -57,24 +58,29 @@ class Host(Piped):
         if 1 <= len(packet) <= 31:
             self.write(bytes([PACKET, drone + 1, len(packet)]) + packet)
 
-    def listen(self) -> None:
-        """Reads frames until the end, and puts them into `events`."""
-        with open(self.output.fileno(), "rb", closefd=False) as stream:
-            front = stream.read(1)
-            while front == bytes([PACKET]):
-                head = stream.read(2)
-                packet = stream.read(head[1]) if len(head) == 2 else b""
-                if len(head) < 2 or len(packet) < head[1]:
-                    front += head + packet
-                    break
-                self.events.put(("packet", head[0] - 1, packet))
-                front = stream.read(1)
-            status = stream.read(1) if front == bytes([END]) else b""
-            self.events.put(("end", status[0]) if status else ("closed", front + stream.read(200)))
+    def take(self, data: bytes) -> None:
+        """Takes frames, and puts them into `events`, to the end."""
+        self.held += data
+        while self.held[:1] == bytes([PACKET]) and len(self.held) > 2 and len(self.held) >= 3 + self.held[2]:
+            size = 3 + self.held[2]
+            self.events.put(("packet", self.held[1] - 1, self.held[3:size]))
+            self.held = self.held[size:]
+        front, is_cut = self.held[:1], not data
+        is_none = front not in (b"", bytes([PACKET]), bytes([END])) and len(self.held) >= LONGEST
+        if self.is_through:
+            return
+        if front == bytes([END]) and len(self.held) > 1:
+            self.events.put(("end", self.held[1]))
+        elif is_cut or is_none:
+            self.events.put(("closed", self.held[:LONGEST]))
+        else:
+            return
+        self.is_through = True
 
     def end(self) -> int:
         """Ends the program's input, so that an upload that is still going ends with 8, and waits for it; its status."""
         self.close_input()
+        self.is_over.wait()
         return self.process.wait()
 
 
@@ -95,7 +101,7 @@ class Traffic:
         self.ended: Optional[float] = None
 
     def sent(self, drone: int, packet: bytes) -> None:
-        self.begun = self.begun or time.monotonic()
+        self.begun = self.begun or clock.now()
         key = key_of(packet, False)
         if key is None:
             return
@@ -127,7 +133,7 @@ class Traffic:
 
     def seconds(self) -> float:
         """How long it took from the first packet to the end, or now."""
-        return 0.0 if self.begun is None else (self.ended or time.monotonic()) - self.begun
+        return 0.0 if self.begun is None else (self.ended or clock.now()) - self.begun
 
     def line(self) -> str:
         return "%.0f s: %s" % (self.seconds(), ", ".join(
@@ -168,7 +174,7 @@ class Pace:
     ROUNDS, PATIENCE = 8, 5  # packets for each that a tick repeats, and answer times, where only some stand still
 
     def __init__(self, answer_time: float, traffic: Traffic) -> None:
-        now = time.monotonic()
+        now = clock.now()
         self.answer_time, self.traffic, self.ticks = answer_time, traffic, 0
         self.handed, self.at_tick, self.left, self.moved = 0, 0, 0, now
         self.last = [0] * len(traffic.names)
@@ -184,13 +190,13 @@ class Pace:
 
     def hears(self, drone: int) -> None:
         if self.since[drone] is not None:
-            self.since[drone] = time.monotonic()
+            self.since[drone] = clock.now()
 
     def look(self, left: int) -> None:
         """Notes how many packets have left the link."""
         if left == self.left and None not in self.since:
             return
-        now = time.monotonic()
+        now = clock.now()
         if left != self.left:
             self.left, self.moved = left, now
         for drone, since in enumerate(self.since):
@@ -200,7 +206,7 @@ class Pace:
     def is_due(self, left: int) -> bool:
         """Whether it is time for a tick, where this many packets have left the link."""
         self.look(left)
-        now = time.monotonic()
+        now = clock.now()
         counts = [len(packets) - len(good) for packets, good in zip(self.traffic.packets, self.traffic.good)]
         wait = self.answer_time if any(counts) else self.STUCK * self.answer_time
         still = [0.0 if since is None else now - since for since in self.since]
@@ -234,11 +240,11 @@ class Carrying:
 
     def step(self) -> None:
         what, rest = "nothing", list[Any]()
-        with contextlib.suppress(queue.Empty):
-            what, *rest = self.events.get(timeout=self.pace.step() if self.traffic.begun else None)
+        with contextlib.suppress(clock.Empty):
+            what, *rest = self.events.get(self.pace.step() if self.traffic.begun else None)
         if what in ("end", "closed"):
             self.status, self.rest = (rest[0], b"") if what == "end" else (None, rest[0])
-            self.traffic.ended, self.done = time.monotonic(), True
+            self.traffic.ended, self.done = clock.now(), True
         elif self.fault:
             return
         elif what == "packet":
@@ -256,7 +262,7 @@ class Carrying:
 
     def look(self) -> None:
         """Ticks where it is time, looks whether the link is well, and says how far the drones are."""
-        now = time.monotonic()
+        now = clock.now()
         if self.done or self.fault or not self.traffic.begun or now < self.next:
             return
         self.next = now + self.pace.step()
@@ -274,8 +280,11 @@ def uploaded(command: List[str], text: bytes, link_of: Callable[[Heard], Link], 
              tick: Optional[float], tell: Tell) -> Tuple[Carrying, int]:
     """Uploads a show by a program over a link that is made and closed here: what was carried, and the program's own
     status. Ctrl-C stops the upload, the second one this loop."""
-    events: Events = queue.Queue()
-    link, host = link_of(lambda drone, packet: events.put(("heard", drone, packet))), None
+    events: Events = clock.Queue()
+
+    def heard(drone: int, packet: bytes) -> None:
+        events.put(("heard", drone, packet))
+    link, host = link_of(heard), None
     try:
         host = Host(command, text, events)
         carrying = Carrying(host, link, events, tick, traffic, tell)

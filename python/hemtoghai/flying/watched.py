@@ -4,8 +4,6 @@ Faults are found here. What is done about them is decided by the proved flight d
 first fault on by flying/home.py.
 """
 import math
-import threading
-import time
 from typing import Callable, Dict, Iterator, List, Optional, Set, Tuple, TypeVar
 
 from hemtoghai.flying import clock, firmware, landings
@@ -254,7 +252,7 @@ class Watched(Descent):
             clock.wait(min(0.05, max(0.0, until - clock.now())))
 
     def meanwhile(self, work: Callable[[], Found], seconds: float = math.inf, *late: Found) -> Found:
-        """What a function gives that asks `check`, while the crew is heard. Where it takes longer than these real
+        """What a function gives that asks `check`, while the crew is heard. Where it takes longer than these
         seconds it goes on, nobody waits for it, and `late` is given."""
         out: List[Found] = []
         failed: List[Exception] = []
@@ -264,10 +262,9 @@ class Watched(Descent):
                 out.append(work())
             except Exception as error:
                 failed.append(error)
-        thread, until = threading.Thread(target=run, daemon=True), time.monotonic() + seconds
-        thread.start()
-        while thread.is_alive() and time.monotonic() < until:
-            thread.join(0.02)
+        task, until = clock.Task(run), clock.now() + seconds
+        while task.is_alive() and clock.now() < until:
+            task.join(0.02)
             self.attend()
         if failed:
             raise failed[0]

@@ -4,22 +4,21 @@ Landings from each stage of both ways are judged before anybody takes off, by a 
 back from each stage: at a fault there is no time to ask `check`.
 """
 import argparse
-import threading
-import time
-from typing import Callable, Dict, Iterable, List, Optional, Sequence, Tuple
+from math import dist
+from typing import Callable, Dict, Iterable, List, Optional, Sequence, Set, Tuple
 
 from hemtoghai import program
-from hemtoghai.flying import director, legs
+from hemtoghai.flying import clock, director, legs
 from hemtoghai.flying.crazyradio import Trouble
 from hemtoghai.flying.crew import say
 from hemtoghai.flying.landings import Landings, StageLandings
-from hemtoghai.flying.stages import AIM, judge_stages, LAND, Leg, milliseconds_for, NoWay, Place, Rules
+from hemtoghai.flying.stages import AIM, apart, judge_stages, LAND, Leg, milliseconds_for, NoWay, Place, Rules
 from hemtoghai.language.choreo import Flown
+from hemtoghai.writing.figures import least
 
 STARTS = range(0, 2001, 400)  # milliseconds after a start, at which it is judged as one that not all took
 ROOM = 200  # by which a drone may be farther outside of the box of show and ways than it may stray
-PATIENCE = 120  # real seconds for which a take-off waits until landings on the ways are judged
-DEAF_PATIENCE = 30  # the same, until landings are that one drone may not hear of
+PATIENCE = 120  # seconds for which a take-off waits until landings on the ways are judged
 # Why the flight director takes three shows for no flight, by the numbers of its causes and by the way or the seam.
 CAUSES = (("isn't the drone of the way up", "isn't the drone of the way down"),
           ("doesn't begin the show where its way up ends", "doesn't begin its way down where the show ends",
@@ -69,7 +68,7 @@ class Ways:
             id(leg): [StageLandings(leg, number, self.floors) for number in range(len(leg.stages))]
             for leg in (self.up, self.down)}
         self.broken: List[Tuple[int, Optional[str]]] = []
-        self.preparing: Optional[threading.Thread] = None
+        self.preparing: Optional[clock.Task] = None
         self.is_prepared = self.over = self.flies = False
 
     def has_room(self, place: Sequence[float], stray: float) -> bool:
@@ -94,9 +93,9 @@ class Ways:
 
     def ask_director(self) -> None:
         """Raises Trouble where the ways and the show are no flight to the director."""
-        begin, it = time.monotonic(), self.begin_director()
+        begin, it = clock.now(), self.begin_director()
         *before, end = director.judged(it)
-        self.took = time.monotonic() - begin
+        self.took = clock.now() - begin
         status = end.status if isinstance(end, director.Ended) else None
         if status == director.NOT_FLOWN:
             return
@@ -108,8 +107,7 @@ class Ways:
 
     def prepare(self) -> None:
         """Has all that a fault on the ways may ask judged, by a thread."""
-        self.preparing = threading.Thread(target=self.judge_beforehand, daemon=True)
-        self.preparing.start()
+        self.preparing = clock.Task(self.judge_beforehand)
 
     def judge_beforehand(self) -> None:
         """Judges the landings from each stage of both ways, and each stage of the ways back, until it is ended."""
@@ -131,8 +129,8 @@ class Ways:
 
     def wait(self, look: Callable[[], None]) -> None:
         """Waits until that is judged, but not for ever."""
-        until, until_deaf = (time.monotonic() + seconds for seconds in (PATIENCE, DEAF_PATIENCE))
-        while self.preparing and self.preparing.is_alive() and time.monotonic() < (
+        until, until_deaf = (clock.now() + seconds for seconds in (PATIENCE, self.options.patience))
+        while self.preparing and self.preparing.is_alive() and clock.now() < (
                 until_deaf if self.is_prepared else until):
             look()
             self.preparing.join(0.05)
@@ -160,15 +158,17 @@ class Ways:
         rest = leg.rest(count, at, hold)
         return None if not rest.stages or judge_stages(rest, rest.stages, self.pads, rest.begin) else rest
 
-    def new_judged(self, at: Dict[int, Place], hold: Iterable[int]) -> Optional[Leg]:
-        """A new way down from where drones are, while some hold; None where none is found. Who has no place isn't in
-        it."""
-        drones = [k for k in self.pads if k in at]
+    def new_judged(self, at: Dict[int, Place], hold: Iterable[int],
+                   pads: Optional[Dict[int, Place]] = None) -> Optional[Leg]:
+        """A new way down from where drones are, while some hold, to pads that are dealt anew where they are given; None
+        where none is found. Who has no place isn't in it."""
+        pads = pads or self.pads
+        drones = [k for k in pads if k in at]
         if not drones:
             return None
         names, yaws = ([row[k] for k in drones] for row in (self.flown.names, self.yaws))
         try:
-            leg = legs.down(names, [self.pads[k] for k in drones], [at[k] for k in drones], yaws, self.rules, False,
+            leg = legs.down(names, [pads[k] for k in drones], [at[k] for k in drones], yaws, self.rules, False,
                             [drones.index(k) for k in hold if k in at])
         except NoWay:
             return None
@@ -177,6 +177,25 @@ class Ways:
         for stage in leg.stages:
             stage.to = {drones[n]: place for n, place in stage.to.items()}
         return leg
+
+    def dealt_anew(self, at: Dict[int, Place], hold: Set[int], wrecks: Set[int]) -> Optional[Dict[int, Place]]:
+        """Pads for those who fly, where others lie on theirs: of their own and of those who lie elsewhere, as far as
+        nobody who holds is near to them from above, those to which the ways are shortest; None where there are too
+        few."""
+        held = [at[k] for k in hold if k in at]
+        flyers = [k for k in self.pads if k in at and k not in hold]
+        free = [k for k in self.pads if (k in flyers or k in wrecks) and all(
+            apart(self.pads[k], place) > self.rules.side() for place in held)]
+        if not flyers or len(free) < len(flyers):
+            return None
+        rest = [[0] * len(free)] * (len(free) - len(flyers))  # for pads that nobody gets
+        chosen = least([*([round(dist(at[k], self.pads[j]) ** 2) for j in free] for k in flyers), *rest])
+        return {**self.pads, **{k: self.pads[free[chosen[n]]] for n, k in enumerate(flyers)}}
+
+    def deal(self, pads: Dict[int, Place]) -> None:
+        """Drones come down to these pads from here on."""
+        self.pads = pads
+        self.floors[:] = [pads[k][2] for k in sorted(pads)]
 
     def tell(self) -> None:
         top = legs.top_of(self.flown)

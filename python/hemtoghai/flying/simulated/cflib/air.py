@@ -11,7 +11,6 @@ import math
 import random
 import struct
 import threading
-import time
 from typing import Any, Callable, Dict, Iterator, List, Optional, Sequence, Tuple
 
 from hemtoghai.companion import value
@@ -74,7 +73,26 @@ FAULTS = {
     "loses": "says that its place is no number, so many seconds after its start",
     "volts": "says that its voltage is no number",
     "short": "gives answers that are cut off to questions on its memories and tables",
+    "mute": "its link is gone so many seconds after it took off",
+    "blinks": "its link is gone for half a second, so many seconds after its start",
+    "frozen": "says one and the same place, so many seconds after it took off",
+    "slow": "its answers come 1.3 seconds late, once it has taken off",
+    "restarts": "starts anew in the air, so many seconds after its start, and falls",
+    "dark": "its plug is out so many seconds after its start: it falls, and says nothing",
+    "sinks": "has an old cell: so many seconds after it took off it sinks, and three seconds later its motors stop",
+    "swapped": "is taken for the next drone by the positioning, and that one for it, so many seconds after its start",
+    "pushed": "stands 120 millimetres aside of its pad",
+    "trades": "stands on the pad of the next drone, and that one on its own",
+    "twin": "another drone of its address is on, half a metre aside",
+    "small": "takes no more than twenty bytes into its trajectory memory",
+    "fast": "has a clock that runs 300 millionths too fast",
 }
+# What can come over dongle 0 so many seconds after the first start, and for how many seconds: its calls don't return
+# any more; they do, and nothing is sent; it is gone and comes back; two thirds of all packets are lost.
+TROUBLES = {"blocks": math.inf, "dies": math.inf, "usb": 1.2, "noise": 3.0}
+NOISE = 0.67
+STOPPING = "falls", "restarts", "dark"  # faults by which motors stop
+LATE, DYING, PUSHED, ROOM = 1.3, 3.0, 0.12, 20  # of slow, sinks, pushed and small: seconds, seconds, metres, bytes
 
 
 def carried_on(speed: float, seconds: float) -> float:
@@ -107,7 +125,8 @@ class Drone:
     def __init__(self, world: "World", uri: str, home: Sequence[float], faults: Dict[str, float]) -> None:
         self.world, self.uri, self.faults, self.lock = world, uri, faults, threading.RLock()
         x, y, z = home
-        self.place = [x + (0.5 if "astray" in faults else 0), y, 0.5 if "riser" in faults else z]
+        aside = 0.5 if "astray" in faults else PUSHED if "pushed" in faults else 0.0
+        self.place = [x + aside, y, 0.5 if "riser" in faults else z]
         self.plan: Optional[Tuple[Any, ...]] = None
         self.flies, self.armed, self.lands = False, False, False
         self.group = 0
@@ -123,6 +142,11 @@ class Drone:
         self.polled, self.is_read = clock.now(), False
         self.refused: List[int] = []
         self.heard_at: Optional[float] = None  # where a packet was heard at another instant than this one
+        self.next: Optional["Drone"] = None  # that it is taken for
+        self.twin: Optional["Drone"] = None  # of its address
+        self.stuck_at: Optional[List[float]] = None  # the place that it says again and again
+        self.later: List[Tuple[float, bytes]] = []  # answers that come late, and when
+        self.rebooted = False
         if "memory" in faults:
             self.memories.insert(2, (0x11, self.memory_bytes(b"\xFF" * 8192)))
         self.table: List[Optional[Tuple[int, int, int, int]]] = [None] * 10
@@ -163,14 +187,19 @@ class Drone:
 
     def is_gone(self) -> bool:
         if "reboots" in self.faults and self.is_read and self.table[0] is not None:
-            self.reboot()
-        gap = self.is_in("gap", 3)
-        off = self.off_until is not None and clock.now() < self.off_until
+            self.reboot("reboots")
+        if self.is_due("restarts"):
+            self.drop()
+            self.reboot("restarts")
+        now = clock.now()
+        gap = self.is_in("gap", 3) or self.is_in("blinks", 0.5) or self.past("mute", now) > 0
+        off = self.off_until is not None and now < self.off_until or self.is_due("dark")
         return gap or off or "dead" in self.faults or self.is_due("silent") or "lost" in self.faults and self.is_written
 
-    def reboot(self) -> None:
-        """Starts anew: its memory is zero, and all that it was told is gone."""
-        del self.faults["reboots"]
+    def reboot(self, fault: str) -> None:
+        """Starts anew, once by a fault: its memory is zero, and all that it was told is gone."""
+        del self.faults[fault]
+        self.rebooted = True
         self.memories = [(kind, self.memory_bytes(size)) for kind, size in MEMORIES]
         self.table, self.blocks, self.up_queue, self.parameters = [None] * 10, {}, [], [row[2] for row in PARAMETERS]
         self.group = 0
@@ -198,7 +227,7 @@ class Drone:
         self.is_idle()
         now = now or clock.now()
         at = self.planned(now)
-        if self.cut or self.is_due("falls"):
+        if self.cut or any(map(self.is_due, STOPPING)) or self.past("sinks", now) > DYING:
             self.drop()
             fallen = now - (self.cut or now)
             return [self.place[0], self.place[1], max(self.floor, self.place[2] - 4.9 * fallen * fallen)]
@@ -217,6 +246,12 @@ class Drone:
         if self.flies:
             at[0] += 0.5 * self.past("leaves", now)
             at[1] += self.drifted(now)
+            at[2] -= 0.4 * self.past("sinks", now)
+        if self.next and self.flies and self.is_due("swapped"):
+            # Its controller takes the other one's error for its own, and flies away from it, faster and faster.
+            way = [v - w for v, w in zip(at, self.next.planned(now))]
+            far = 0.75 * ((self.flown(now) or 0.0) - self.faults["swapped"]) ** 2 / max(0.01, math.hypot(*way))
+            at = [v + far * w for v, w in zip(at, way)]
         return [at[0], at[1], max(self.floor, at[2])]
 
     def drop(self) -> None:
@@ -257,6 +292,8 @@ class Drone:
         """A packet of the radio that arrived; the acknowledgement's payload."""
         with self.lock:
             self.log_what_is_due()
+            self.up_queue += [answer for at, answer in self.later if at <= self.polled]
+            self.later = [row for row in self.later if row[0] > self.polled]
             if raw == b"\xFF\x05\x01":
                 self.safelink, self.last_up, self.down, self.held = True, 1, 0, None
                 return raw
@@ -283,7 +320,9 @@ class Drone:
         answer = ports[port](channel, data) if port in ports else None
         if answer is not None and "short" in self.faults and channel == 0 and port != firmware.COMMANDER:
             answer = answer[:3]
-        if answer is not None:
+        if answer is not None and "slow" in self.faults and self.rose_at is not None:
+            self.later.append((clock.now() + LATE, firmware.packet(port, channel, answer)))
+        elif answer is not None:
             self.up_queue.append(firmware.packet(port, channel, answer))
 
     def emergency(self, channel: int, data: bytes) -> Optional[bytes]:
@@ -313,11 +352,12 @@ class Drone:
             kind, whole = self.memories[data[1]]
             return struct.pack("<BBBI8s", 2, data[1], kind, len(whole), bytes(8))
         number, address = struct.unpack_from("<BI", data)
-        whole = self.memories[number][1] if number < len(self.memories) else b""
+        kind, whole = self.memories[number] if number < len(self.memories) else (0, b"")
+        room = ROOM if kind == 0x12 and "small" in self.faults else len(whole)
         if channel == 1:
-            good, self.is_read = address + data[5] <= len(whole), self.is_read or 1 < data[5] < 20  # the last read
+            good, self.is_read = address + data[5] <= room, self.is_read or 1 < data[5] < 20  # the last read
             return data[:5] + (b"\0" + bytes(whole[address:address + data[5]]) if good else bytes([EIO]))
-        good = address + len(data) - 5 <= len(whole)
+        good = address + len(data) - 5 <= room
         if good and "forgets" not in self.faults:
             whole[address:address + len(data) - 5] = data[5:]
         self.is_written = True
@@ -373,7 +413,7 @@ class Drone:
                 row[2] = max(at + period, now - period)
                 values = [self.variable(LOGGED[number - PADDING][0], now) for _, number in items]
                 form = "<" + "".join(firmware.LOG_TYPES[kind] for kind, _ in items)
-                stamp = int((now - self.booted) * 1000) % 2 ** 24
+                stamp = int((now - self.booted) * (1000.3 if "fast" in self.faults else 1000)) % 2 ** 24
                 self.up_queue.append(firmware.packet(firmware.LOGS, 2, bytes([block]) + stamp.to_bytes(3, "little")
                                                      + struct.pack(form, *values)))
 
@@ -382,31 +422,43 @@ class Drone:
         group, _, item = name.partition(".")
         if item == "yaw":
             return self.yaw + (90.0 if "turned" in self.faults else 0.0)
-        if group == "stateEstimate" and ("senseless" in self.faults or self.is_due("loses")):
-            return math.nan
-        if name == "pm.vbat" and "volts" in self.faults:
-            return math.nan
         if group == "stateEstimate":
-            high = self.faults.get("high", 0.0) - self.is_due("lower") if item == "z" else 0.0
-            aside = 0.5 if self.past("leaps", now) else 25.0 if self.is_due("misled") else 0.0
-            aside -= self.drifted(now) if self.flies else 0.0
-            return self.is_at(now)["xyz".index(item)] + (high if item == "z" else aside if item == "y" else 0.0)
+            return self.estimate(now)["xyz".index(item)]
         if group == "kalman":
             return 0.05 if "unsettled" in self.faults else 0.00002 + 0.02 * self.past("doubts", now)
-        if name == "pm.vbat":
-            low = 3.3 if "empty" in self.faults else 3.0 if self.is_due("drains") else FULL
-            if self.is_in("sag", 0.5):
-                low = 3.1
-            return low - SINKS * (self.flown() or 0)
-        flying = self.flies and not self.cut and self.is_at()[2] > self.floor + 0.05
+        return self.volts(now) if name == "pm.vbat" else self.supervisor(now)
+
+    def estimate(self, now: float) -> List[float]:
+        """Where it believes to be."""
+        if "senseless" in self.faults or self.is_due("loses"):
+            return [math.nan] * 3
+        if self.past("frozen", now):
+            self.stuck_at = self.stuck_at or self.is_at(now)
+            return self.stuck_at
+        if self.next and self.is_due("swapped"):
+            return self.next.is_at(now)
+        x, y, z = self.is_at(now)
+        y += 0.5 if self.past("leaps", now) else 25.0 if self.is_due("misled") else 0.0
+        y -= self.drifted(now) if self.flies else 0.0
+        return [x, y, z + self.faults.get("high", 0.0) - self.is_due("lower")]
+
+    def volts(self, now: float) -> float:
+        if "volts" in self.faults:
+            return math.nan
+        low = 3.3 if "empty" in self.faults else 3.0 if self.is_due("drains") else FULL
+        low = 3.1 if self.is_in("sag", 0.5) else 2.9 if self.past("sinks", now) else low
+        return low - SINKS * (self.flown() or 0)
+
+    def supervisor(self, now: float) -> int:
+        """Its supervisor's bits."""
         if "auto" in self.faults and not self.cut:
             self.armed = True
         if "timeout" in self.faults and self.armed and not self.flies and now > (self.armed_at or now) + TIMEOUT:
             self.armed = False
-        info = firmware.CAN_ARM * ("locked" not in self.faults) | firmware.IS_ARMED * self.armed
-        info |= firmware.AUTO_ARM * ("auto" in self.faults)
-        flying = flying or "flying" in self.faults
-        return info | firmware.CAN_FLY * self.armed | firmware.IS_FLYING * flying | firmware.IS_TUMBLED * bool(self.cut)
+        flying = self.flies and not self.cut and self.is_at()[2] > self.floor + 0.05 or "flying" in self.faults
+        info = firmware.CAN_ARM * ("locked" not in self.faults) | firmware.AUTO_ARM * ("auto" in self.faults)
+        info |= firmware.IS_ARMED * self.armed | firmware.CAN_FLY * self.armed | firmware.IS_FLYING * flying
+        return info | firmware.IS_TUMBLED * bool(self.cut and not self.rebooted)
 
     def command(self, channel: int, data: bytes) -> bytes:
         """Port 8: the commander."""
@@ -421,11 +473,7 @@ class Drone:
         if kind != 6 and data[1] and not data[1] & self.group:
             return 0  # taken, and nothing is done
         if kind == 3:
-            if self.is_at()[2] > self.floor + 0.05:
-                self.drop()
-            elif not self.cut:
-                self.place, self.plan, self.lands, self.flies = self.planned()[:2] + [self.floor], None, False, False
-            return 0
+            return self.stop()
         if kind == 6:
             number, where, form, offset, pieces = struct.unpack_from("<BBBIB", data, 1)
             if number > 9:
@@ -434,28 +482,39 @@ class Drone:
             return 0
         if not self.parameters[0]:
             return 0  # the commander is off: taken, and nothing is done
-        if not self.armed:
-            return EBUSY
-        if kind == 7 and "stays" in self.faults:
+        if not self.armed or kind == 7 and "stays" in self.faults:
             return EBUSY
         if kind == 7 and "stuck" in self.faults or kind == 8 and "hovers" in self.faults:
             return 0
-        if kind in (7, 8) and (self.is_idle() == (kind == 8) or self.lands):
-            self.refused.append(kind)
-            return 1
         if kind in (7, 8):
-            height, seconds = struct.unpack_from("<f", data, 2)[0], struct.unpack_from("<f", data, 11)[0]
-            here = self.planned()
-            self.go([here[0], here[1], height], seconds)
-            self.flies, self.lands = True, kind == 8
-            self.rose_at = clock.now() if self.rose_at is None else self.rose_at
-            return 0
+            return self.rise_or_land(data)
         if kind == 4:
             x, y, z, yaw, seconds = struct.unpack_from("<fffff", data, 3)
             self.go([x, y, z], seconds)
             self.flies, self.lands, self.yaw = True, False, math.degrees(yaw)
             return 0
         return self.begin(data, at) if kind == 5 else ENOEXEC
+
+    def stop(self) -> int:
+        """Its motors stop."""
+        if self.is_at()[2] > self.floor + 0.05:
+            self.drop()
+        elif not self.cut:
+            self.place, self.plan, self.lands, self.flies = self.planned()[:2] + [self.floor], None, False, False
+        return 0
+
+    def rise_or_land(self, data: bytes) -> int:
+        """A take-off from idle, or a landing of one that flies; its status."""
+        lands = data[0] == 8
+        if self.is_idle() == lands or self.lands:
+            self.refused.append(data[0])
+            return 1
+        height, seconds = struct.unpack_from("<f", data, 2)[0], struct.unpack_from("<f", data, 11)[0]
+        here = self.planned()
+        self.go([here[0], here[1], height], seconds)
+        self.flies, self.lands = True, lands
+        self.rose_at = clock.now() if self.rose_at is None else self.rose_at
+        return 0
 
     def begin(self, data: bytes, at: Optional[float] = None) -> int:
         """Starts a trajectory that was heard of at an instant, anew each time, after its own lateness."""
@@ -483,15 +542,27 @@ class World:
 
     def reset(self, homes: Dict[str, Sequence[float]], faults: Dict[str, Dict[str, float]], stray: float = 0.0,
               late: float = 0.0, loss: float = 0.0, rate: float = 900.0, seed: int = 1, unplugged: Sequence[str] = (),
-              blocks: Optional[float] = None, dies: Optional[float] = None) -> None:
-        """Sets drones at places (metres) by their URIs, each with its faults and their numbers. So many seconds after
-        the first start calls of dongle 0 don't return any more (blocks), or return and nothing is sent (dies)."""
-        self.blocks, self.dies, self.watching = blocks, dies, False
+              **after: Optional[float]) -> None:
+        """Sets drones at places (metres) by their URIs, each with its faults and their numbers. `after` are by a name
+        of TROUBLES the seconds after the first start when it comes."""
+        self.after, self.watching = after, False
         self.nearest: Optional[Tuple[float, int, int]] = None
         self.stray, self.late, self.loss, self.rate, self.unplugged = stray, late, loss, rate, unplugged
         self.chance, self.lock = random.Random(seed), threading.Lock()
         self.free: Dict[str, float] = {}
-        self.drones = {uri: Drone(self, uri, home, faults.get(uri, {})) for uri, home in homes.items()}
+        following = dict(zip(homes, [*list(homes)[1:], *list(homes)[:1]]))
+        places = dict(homes)
+        for uri in homes:
+            if "trades" in faults.get(uri, {}):
+                places[uri], places[following[uri]] = places[following[uri]], places[uri]
+        self.drones = {uri: Drone(self, uri, place, dict(faults.get(uri, {}))) for uri, place in places.items()}
+        for uri, drone in self.drones.items():
+            if "swapped" in faults.get(uri, {}):
+                drone.next, self.drones[following[uri]].next = self.drones[following[uri]], drone
+                drone.next.faults["swapped"] = drone.faults["swapped"]
+            if "twin" in drone.faults:
+                x, y, z = drone.place
+                drone.twin = Drone(self, uri, [x, y + 0.5, z], {})
         # The first and the last start are `late` apart, the others lie evenly between them.
         shares = [k / max(1, len(homes) - 1) for k in range(len(homes))]
         self.chance.shuffle(shares)
@@ -500,27 +571,34 @@ class World:
 
     def add_stranger(self, uri: str, home: Sequence[float], trajectory: int, data: bytes, pieces: int) -> None:
         """A drone on the channel that isn't in the flight, and was in one before: armed, in all groups, and with a
-        trajectory in its memory."""
+        trajectory in its memory, or with none where that has no pieces."""
         drone = Drone(self, uri, home, {})
         drone.armed, drone.parameters[0], drone.group = True, 1, 0xFF
         drone.memories[2][1][:len(data)] = data
-        drone.table[trajectory] = 1, 1, 0, pieces
+        drone.table[trajectory] = (1, 1, 0, pieces) if pieces else None
         self.drones[uri] = drone
 
-    def ails(self, dongle: object, after: Optional[float]) -> bool:
-        """Whether something that comes over dongle 0 so long after the first start has come over this one."""
-        starts = [drone.starts[0] for drone in self.drones.values() if drone.starts]
-        return str(dongle) == "0" and after is not None and bool(starts) and clock.now() >= min(starts) + after
+    def ails(self, dongle: object, *troubles: str) -> bool:
+        """Whether one of these troubles has come over a dongle, and isn't over."""
+        return str(dongle) == "0" and any(self.since(it) is not None for it in troubles)
+
+    def since(self, trouble: str) -> Optional[float]:
+        """For how many seconds a trouble goes on; None where it doesn't."""
+        after, starts = self.after.get(trouble), [it.starts[0] for it in self.drones.values() if it.starts]
+        if after is None or not starts:
+            return None
+        seconds = clock.now() - min(starts) - after
+        return seconds if 0 <= seconds < TROUBLES[trouble] else None
 
     def watch(self) -> None:
         """Notes how near two drones of which one flies come to each other, looking all the while."""
         self.watching = True
-        threading.Thread(target=self.look, daemon=True).start()
+        clock.Task(self.look)
 
     def look(self) -> None:
-        """Looks, every twenty-five real milliseconds."""
+        """Looks, every twenty-five milliseconds."""
         while self.watching:
-            time.sleep(0.025)
+            clock.wait(0.025)
             rows = [(drone.is_at(), drone) for drone in list(self.drones.values())]
             for k, (at, drone) in enumerate(rows):
                 for n, (other, second) in enumerate(rows[:k]):
@@ -552,7 +630,8 @@ class World:
         with self.lock:
             at = max(clock.now(), self.free.get(dongle, 0.0))
             self.free[dongle] = at + 1 / self.rate
-            lost, lost_back = self.chance.random() < self.loss, self.chance.random() < self.loss
+            loss = self.loss if self.since("noise") is None else NOISE
+            lost, lost_back = self.chance.random() < loss, self.chance.random() < loss
         clock.wait(at + 1 / self.rate - clock.now())
         return lost, lost_back
 
@@ -560,10 +639,10 @@ class World:
         """A packet to a drone: whether it was acknowledged, and what came back."""
         lost, lost_back = self.take_turn(uri.split("/")[2])
         drone = self.drones.get(uri)
-        if lost or drone is None or drone.is_gone() or self.ails(uri.split("/")[2], self.dies):
+        if lost or drone is None or drone.is_gone() or self.ails(uri.split("/")[2], "dies", "usb"):
             return False, b""
-        came = drone.poll(raw)
-        return (False, b"") if lost_back else (True, came)
+        came = [it.poll(raw) for it in (drone, drone.twin) if it]
+        return (False, b"") if lost_back else (True, self.chance.choice(came) if drone.twin else came[0])
 
     def broadcast(self, dongle: object, channel: object, raw: bytes) -> None:
         """A packet to all drones of a channel, each of which may miss it. Nobody acknowledges it, so the dongle
@@ -573,7 +652,7 @@ class World:
         for uri, drone in self.drones.items():
             if uri.split("/")[2:4] == [str(dongle), str(channel)] and "deaf" not in drone.faults:
                 is_deaf = drone.is_gone() or "deafens" in drone.faults and drone.flies
-                is_deaf = is_deaf or self.ails(dongle, self.dies)
+                is_deaf = is_deaf or self.ails(dongle, "dies", "usb")
                 if not is_deaf and self.chance.random() >= self.loss ** 4:
                     with drone.lock:
                         drone.heard_at = now

@@ -1,8 +1,5 @@
 """The radio driver and its thread, with safelink and the library's queues."""
-import queue
 import re
-import threading
-import time
 from typing import Any, Callable, List, Optional, Sequence, Tuple
 
 from hemtoghai.flying import clock
@@ -23,8 +20,8 @@ class RadioDriver:
     def __init__(self) -> None:
         self.uri = ""
         self.link_error_callback: Optional[Callable[[str], None]] = None
-        self.in_queue: "queue.Queue[CRTPPacket]" = queue.Queue()
-        self.out_queue: "queue.Queue[CRTPPacket]" = queue.Queue(1)
+        self.in_queue: "clock.Queue[CRTPPacket]" = clock.Queue()
+        self.out_queue: "clock.Queue[CRTPPacket]" = clock.Queue(1)
         self._thread = _RadioDriverThread(self)
 
     def connect(self, uri: str, radio_link_statistics_callback: Any,
@@ -35,20 +32,17 @@ class RadioDriver:
             raise Exception("Cannot find a Crazyradio Dongle")
         self.uri, self.link_error_callback = uri, link_error_callback
         OPEN.append(self)
-        self._thread.start()
+        self._thread.begin()
 
     def receive_packet(self, wait: float = 0) -> Optional[CRTPPacket]:
         try:
-            return self.in_queue.get(wait != 0, None if wait < 0 else wait)
-        except queue.Empty:
+            return self.in_queue.get(None if wait < 0 else wait)
+        except clock.Empty:
             return None
 
     def send_packet(self, pk: CRTPPacket) -> None:
-        try:
-            self.out_queue.put(pk, True, clock.real(2))
-        except queue.Full:
-            if self.link_error_callback:
-                self.link_error_callback("RadioDriver: Could not send packet to copter")
+        if not self.out_queue.put(pk, 2) and self.link_error_callback:
+            self.link_error_callback("RadioDriver: Could not send packet to copter")
 
     def close(self) -> None:
         self._thread.open = False
@@ -57,17 +51,24 @@ class RadioDriver:
         self.link_error_callback = None
 
 
-class _RadioDriverThread(threading.Thread):
+class _RadioDriverThread:
+    task: clock.Task
+
     def __init__(self, link: RadioDriver) -> None:
-        threading.Thread.__init__(self, daemon=True)
         self.link, self.open, self.left = link, True, RETRIES
         self.up = self.down = 0
         self.safelink = False
 
+    def begin(self) -> None:
+        self.task = clock.Task(self.run)
+
+    def join(self) -> None:
+        self.task.join()
+
     def exchange(self, data: bytes) -> Tuple[bool, bytes]:
         """A transfer, with safelink's numbers; none ends where the dongle is gone and the library waits for it."""
-        while air.WORLD.ails(self.link.uri.split("/")[2], air.WORLD.blocks):
-            time.sleep(0.05)
+        while air.WORLD.ails(self.link.uri.split("/")[2], "blocks"):
+            clock.wait(0.05)
         if not self.safelink:
             return air.WORLD.transfer(self.link.uri, data)
         head = bytes([data[0] & 0xF3 | self.up << 3 | self.down << 2])
@@ -98,9 +99,9 @@ class _RadioDriverThread(threading.Thread):
             # After ten transfers in which nothing came it waits a little for what is to be sent.
             empty = empty + 1 if not came or came[0] & 0xF3 == 0xF3 else 0
             try:
-                packet = self.link.out_queue.get(empty > 10, clock.real(RELAXED))
+                packet = self.link.out_queue.get(RELAXED if empty > 10 else 0)
                 out = bytes([packet.header]) + bytes(packet.data)
-            except queue.Empty:
+            except clock.Empty:
                 out = b"\xFF"
 
 
@@ -129,8 +130,8 @@ class _SharedRadioInstance:
         self.rate = dr
 
     def send_packet(self, data: Sequence[int]) -> None:
-        while air.WORLD.ails(self.devid, air.WORLD.blocks):
-            time.sleep(0.05)
+        while air.WORLD.ails(self.devid, "blocks"):
+            clock.wait(0.05)
         if self.address == (0xFF, 0xE7, 0xE7, 0xE7, 0xE7):
             air.WORLD.broadcast(self.devid, self.channel, bytes(data))
 
