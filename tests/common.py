@@ -13,19 +13,30 @@ PYTHON = os.path.join(TOP, "python")
 SIMULATED = os.path.join(PYTHON, "hemtoghai", "flying", "simulated")
 sys.path[:0] = [PYTHON, SIMULATED]
 
-from hemtoghai.flying import clock
+from hemtoghai.flying import clock, own_clock
 from hemtoghai.language import choreo
 from hemtoghai.program import PROGRAM
 from cflib import air
 
 SHOW = os.path.join(TOP, "show")
-SPEED = 20
 
 
 def wants_program(test):
     """Marks a test, or a class of them, that needs the proved program: without one it is skipped. In CI, which builds
     it before, `.ci/companions` fails without it."""
     return unittest.skipUnless(os.access(PROGRAM, os.X_OK), "the program isn't built: ./show check FILE builds it")(test)
+
+
+# `./show` with the program that is there, which CI makes without a record: nothing is proved and built for a test.
+AS_BUILT = [sys.executable, "-IS", "-c", """
+import sys
+sys.path.insert(0, %r)
+from hemtoghai import __main__, program
+from hemtoghai.launching import launcher
+launcher.file_for = lambda *given: program.PROGRAM
+sys.argv[0] = "show"
+__main__.run()
+""" % PYTHON]
 
 
 class Folder:
@@ -56,9 +67,17 @@ def uris(count):
     return ["radio://0/80/2M/E7E7E7E7%02X" % (k + 1) for k in range(count)]
 
 
-def world(flown, faults=(), speed=SPEED, **settings):
-    """Sets the simulated drones below the first places of a show; faults are (name, kind, number)."""
-    clock.set_speed(speed)
+def begin_clock():
+    """Begins a clock of a simulation, and ends the one before with its threads."""
+    if isinstance(clock.used(), own_clock.OwnClock):
+        clock.used().end()
+    clock.use(own_clock.OwnClock())
+
+
+def world(flown, faults=(), **settings):
+    """Sets the simulated drones below the first places of a show, with a clock of their own; faults are (name, kind,
+    number)."""
+    begin_clock()
     where, by_uri = uris(len(flown.names)), {}
     for name, kind, number in faults:
         by_uri.setdefault(where[flown.names.index(name)], {})[kind] = number

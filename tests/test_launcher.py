@@ -376,6 +376,11 @@ class Words(Processes):
         os.mkdir(self.path("folder"))
         self.file("room", "a\n%%\nb\n")
 
+    def test_json_of_the_sources(self):
+        status, said, told = self.show("--unproved", "check", "--json", "good")
+        self.assertIn("show: --unproved and --json don't go together: leave one of them out\n", told)
+        self.assertNotIn("ok", said)
+
     def test_help(self):
         with open(os.path.join(TOP, "docs", "COMMANDS.md")) as file:
             page = file.read()
@@ -813,15 +818,15 @@ class Progresses(unittest.TestCase):
         build = progress.Progress(self.BELOW, 2)
         self.assertEqual(build.cost, {"listed": 3, "halving": 17, "fleet_math": 10, "mm_rounding": 29})
         self.assertEqual(build.words(), "proof 0 %, about a minute left")
-        # 3 of 59; a machine that took 30 seconds for 3 takes 460 for the 17 and 29 that are left of the longest chain
-        build.took["listed"] = 30.0
-        self.assertEqual(build.words(), "proof 5 %, about 8 minutes left")
+        # 3 of 59; 300 seconds for 3 and 60 for 60 are 5.71 for one, so 263 for the 17 and 29 of the longest chain
+        build.took["listed"] = 300.0
+        self.assertEqual(build.words(), "proof 5 %, about 4 minutes left")
         # A crate that was kept says nothing of the machine.
         build.took["listed"] = 0.1
         self.assertEqual(build.words(), "proof 5 %, about a minute left")
-        # One that took 340 seconds for 17, and still goes on, does: 20 by 10 and 29. Of it a twentieth is left.
+        # One that took 340 seconds for 17, and still goes on, does: 400 for 77, by 10 and 29. Of it a twentieth is left.
         build.begun["halving"] = time.monotonic() - 340
-        self.assertEqual(build.words(), "proof 32 %, about 13 minutes left")
+        self.assertEqual(build.words(), "proof 32 %, about 3 minutes left")
 
     def test_table(self):
         # Each crate of the program has its time, and no other crate has one.

@@ -6,6 +6,7 @@ import random
 import re
 import subprocess
 import tempfile
+import types
 import unittest
 
 import common
@@ -15,6 +16,7 @@ from hemtoghai.flying import landings
 from hemtoghai.flying import legs
 from hemtoghai.flying import routes
 from hemtoghai.flying import stages
+from hemtoghai.flying import ways
 
 ABOVE = """choreo 1
 drone a 0 0 500000 0
@@ -374,6 +376,23 @@ class AllLand(unittest.TestCase):
         for name in ("ring", "grid_to_ring_dealt"):
             it = self.of(common.example(name)[0])
             self.assertTrue(all(why is None for _, why in it.table()), name)
+
+
+class Dealt(unittest.TestCase):
+    def test_pads_beside_a_wreck(self):
+        # b has fallen onto c's pad, and its own is free: c goes there, and a keeps its own. Pads are 1 m apart, and who is
+        # nearer than 300 mm from above is in the way.
+        it = types.SimpleNamespace(pads={0: (0, 0, 0), 1: (1000, 0, 0), 2: (2000, 0, 0)},
+                                   rules=types.SimpleNamespace(side=lambda: 300))
+        at = {0: (0, 0, 1000), 1: (1900, 50, 30), 2: (2000, 0, 1000)}
+        self.assertEqual(ways.Ways.dealt_anew(it, at, {1}, {1}), {0: (0, 0, 0), 1: (1000, 0, 0), 2: (1000, 0, 0)})
+        # one that is silent above its own pad, and doesn't lie there, keeps it: no pad is left for c
+        self.assertIsNone(ways.Ways.dealt_anew(it, {**at, 0: (0, 0, 900)}, {0, 1}, ()))
+        # it lies between two pads, near to none: each keeps its own; b lies near its own and to c's
+        at[1] = (1500, 0, 0)
+        self.assertEqual(ways.Ways.dealt_anew(it, at, {1}, {1}), it.pads)
+        it.rules.side = lambda: 600
+        self.assertIsNone(ways.Ways.dealt_anew(it, at, {1}, {1}))
 
 
 @common.wants_program

@@ -83,11 +83,11 @@ class Case(common.Folder, unittest.TestCase):
         if choice is not None:
             os.environ["HEMTOGHAI_BY"] = choice
         try:
-            verdict = hemtoghai.check("")
+            verdict = hemtoghai.run("explain --depth 6")
         except hemtoghai.Unusable as why:
             return str(why)
         self.assertEqual((verdict.line, verdict.proved), {
-            "library": ("check --depth 6|", verdict.proof == PROVED),
+            "library": ("explain --depth 6|", verdict.proof == PROVED),
             "process": ("ok drones 1 cues 1 duration_ms 1", False)}[verdict.by])
         return verdict.by, verdict.proof
 
@@ -181,7 +181,7 @@ class Choice(Case):
         with mock.patch.object(program, "in_memory", exchanged):
             self.assertEqual(self.by(), ("library", PROVED))
         os.remove(self.path(self.library))  # it is there no more, and answers
-        self.assertEqual(hemtoghai.check("").line, "check --depth 6|")
+        self.assertEqual(hemtoghai.run("explain --depth 6").line, "explain --depth 6|")
 
     def test_no_files_in_memory(self):
         self.make()
@@ -197,7 +197,7 @@ class Choice(Case):
     def test_faults_are_told_again(self):
         self.assertIsInstance(self.by("library"), str)
         self.make()
-        self.assertEqual(hemtoghai.check("").by, "library")
+        self.assertEqual(hemtoghai.run("explain").by, "library")
 
 
 class Questions(Case):
@@ -208,16 +208,16 @@ class Questions(Case):
     def test_words(self):
         self.assertEqual(hemtoghai.run("  explain\t--depth 4\n", "a").output, b"explain --depth 4|a")
         self.assertEqual(hemtoghai.run("", "a").output, b"|a")
-        self.assertEqual(hemtoghai.run("check --depth 04", "a").depth, 4)
+        self.assertEqual(hemtoghai.run("explain --depth 04", "a").depth, 4)
         for words, line in ((["check"], b"check"), (["check", "--depth", "3 "], b"check --depth ?"),
                             (["check", ""], b"check ?"), (["a\tb", "\udcff", "\u00e9"], b"? \xff \xc3\xa9"), ([], b"")):
             self.assertEqual(answering.line_of(words), line)
 
     def test_texts(self):
         for text in ("a", b"a", bytearray(b"a"), memoryview(b"a")):
-            self.assertEqual(hemtoghai.run("check", text).output, b"check|a")
-        self.assertEqual(hemtoghai.run("check", b"a\0b\xff\r\n").output, b"check|a\0b\xff\r\n")
-        self.assertEqual(hemtoghai.run("check", "\u00e9\udcff").output, b"check|\xc3\xa9\xff")
+            self.assertEqual(hemtoghai.run("explain", text).output, b"explain|a")
+        self.assertEqual(hemtoghai.run("explain", b"a\0b\xff\r\n").output, b"explain|a\0b\xff\r\n")
+        self.assertEqual(hemtoghai.run("explain", "\u00e9\udcff").output, b"explain|\xc3\xa9\xff")
         for wrong in (5, None, ["a"], 2.5):
             with self.assertRaises(TypeError):
                 hemtoghai.check(wrong)
@@ -231,33 +231,42 @@ class Questions(Case):
 
     def test_long_answers(self):
         # More than the room that is given at first, by one byte and by many.
-        for count in (answering.ROOM - 6, answering.ROOM - 5, answering.ROOM - 4, 3000000):
-            verdict = hemtoghai.run("check", b"x" * count)
-            self.assertEqual((verdict.status, verdict.output), (0, b"check|" + b"x" * count))
+        for count in (answering.ROOM - 8, answering.ROOM - 7, answering.ROOM - 6, 3000000):
+            verdict = hemtoghai.run("explain", b"x" * count)
+            self.assertEqual((verdict.status, verdict.output), (0, b"explain|" + b"x" * count))
 
     def test_a_question_within_a_question(self):
         # As of a handler of signals, which runs between the call and the copy of its answer.
         library, within = answering.library(), []
-        library.run(["check"], b"first")
+        library.run(["explain"], b"first")
         call = library.call
 
         def interrupted(*words):
             status = call(*words)
             if not within:
                 within.append(None)
-                within[0] = library.run(["compile"], b"within it").output
+                within[0] = library.run(["help"], b"within it").output
             return status
         library.call = interrupted
-        self.assertEqual((library.run(["check"], b"outer").output, within), (b"check|outer", [b"compile|within it"]))
+        self.assertEqual((library.run(["explain"], b"outer").output, within), (b"explain|outer", [b"help|within it"]))
 
     def test_statuses(self):
         with self.assertRaises(MemoryError):
             hemtoghai.check("1")
-        self.assertEqual([hemtoghai.check(str(status)).status for status in (0, 2, 3, 4, 5, 6, 8, 9)],
-                         [0, 2, 3, 4, 5, 6, 8, 9])
+        self.assertEqual([hemtoghai.check(str(status)).status for status in (2, 3, 4, 5, 6, 8, 9)], [2, 3, 4, 5, 6, 8, 9])
+        self.assertEqual(hemtoghai.run("explain", "0").status, 0)
         with self.assertRaises(hemtoghai.Refused) as refused:
             hemtoghai.certify("4")
         self.assertEqual((refused.exception.verdict.status, refused.exception.verdict.by), (4, "library"))
+
+
+    def test_no_answer(self):
+        # A library that accepts without the words of the command gave no answer, as a program didn't that does.
+        for ask in (hemtoghai.check, hemtoghai.compile, hemtoghai.certify, hemtoghai.report, hemtoghai.speed, hemtoghai.play,
+                    lambda text: hemtoghai.verify(text, ""), lambda text: hemtoghai.boxes(text, "")):
+            with self.assertRaises(hemtoghai.Unusable) as refused:
+                ask("0")
+            self.assertIn("gave no answer of", str(refused.exception))
 
 
 class Lazy(unittest.TestCase):

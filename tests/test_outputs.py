@@ -2,9 +2,12 @@
 import glob
 import os
 import resource
+import signal
 import subprocess
+import sys
 import tempfile
 import unittest
+from unittest import mock
 
 import common
 from common import TOP, wants_program
@@ -168,6 +171,95 @@ class Files(common.Folder, unittest.TestCase):
         self.assertEqual(os.listdir(self.place), ["a"])
         with open(self.path("a"), "rb") as file:
             self.assertEqual(file.read(), OLD)
+
+    def test_what_came_meanwhile(self):
+        # Looked at before the work, a file may have come since: it stays, and of several files none is written.
+        self.write("b", OLD)
+        with self.assertRaises(SystemExit) as ended:
+            outputs.write_all({self.path("a"): b"new", self.path("b"): b"new"}, False)
+        self.assertEqual((ended.exception.code, os.listdir(self.place)), (70, ["b"]))
+        with open(self.path("b"), "rb") as file:
+            self.assertEqual(file.read(), OLD)
+        outputs.write_all({self.path("b"): b"new", self.path("a"): b"new"}, True)
+        self.assertEqual(sorted(os.listdir(self.place)), ["a", "b"])
+
+    def test_no_files_without_a_name(self):
+        # On a system without them, or a disk on which a file has one name, the same is written.
+        def no_link(*_, **named):
+            raise PermissionError(1, "not permitted")
+        for link in (os.link, no_link):
+            with mock.patch.object(outputs, "unnamed", return_value=None), mock.patch.object(os, "link", link):
+                outputs.write_all({self.path("a"): b"first"}, False)
+                outputs.write_all({self.path("a"): b"second"}, True)
+                with self.assertRaises(SystemExit):
+                    outputs.write_all({self.path("a"): b"third"}, False)
+            with open(self.path("a"), "rb") as file:
+                self.assertEqual((file.read(), os.listdir(self.place)), (b"second", ["a"]))
+            os.remove(self.path("a"))
+
+
+class Moments(common.Folder, unittest.TestCase):
+    """A process that is ended at each of its steps through outputs.py."""
+    OLD, NEW = {"a": b"old a", "b": b"old b"}, {"a": b"new a" * 5000, "b": b"new b" * 5000, "c": b"new c" * 5000}
+
+    def ended_at(self, moment, number):
+        """How a process ended that writes the new files and sends itself a signal at a step; whether it came so far."""
+        process = os.fork()
+        if process == 0:
+            steps = [0]
+
+            def step(frame, event, _):
+                if frame.f_code.co_filename == outputs.__file__:
+                    steps[0] += 1
+                    if steps[0] == moment:
+                        os.kill(os.getpid(), number)
+                    return step
+            try:
+                for other in (signal.SIGTERM, signal.SIGHUP):
+                    signal.signal(other, signal.SIG_DFL)
+                signal.signal(signal.SIGINT, signal.default_int_handler)
+                sys.settrace(step)
+                outputs.write_all({self.path(name): data for name, data in self.NEW.items()})
+                sys.settrace(None)
+            except KeyboardInterrupt:
+                os._exit(130)
+            os._exit(0 if steps[0] < moment else 1)
+        return os.waitstatus_to_exitcode(os.waitpid(process, 0)[1])
+
+    def is_new(self, name):
+        if not os.path.exists(self.path(name)):
+            return False
+        with open(self.path(name), "rb") as file:
+            return file.read() == self.NEW[name]
+
+    def test_each(self):
+        # In memory where that is there: some thousand files are waited for until they are on their disk.
+        with tempfile.TemporaryDirectory(dir="/dev/shm" if os.path.isdir("/dev/shm") else None) as folder:
+            self.place = folder
+            has_unnamed = outputs.unnamed(folder)
+            for number in (signal.SIGKILL, signal.SIGTERM, signal.SIGINT, signal.SIGHUP):
+                moment, kept, status = 0, 0, 1
+                while status != 0:
+                    moment += 1
+                    for name in os.listdir(folder):
+                        os.remove(self.path(name))
+                    for name, data in self.OLD.items():
+                        self.write(name, data)
+                    status = self.ended_at(moment, number)
+                    self.assertIn(status, (0, 1, 130, -number), moment)
+                    for name in os.listdir(folder):
+                        with open(self.path(name), "rb") as file:
+                            data = file.read()
+                        if name in self.NEW:
+                            self.assertIn(data, (self.OLD.get(name), self.NEW[name]), (number, moment, name))
+                            kept += data == self.OLD.get(name)
+                        elif has_unnamed is not None:  # a whole file, and only where nothing can be done before the end
+                            self.assertEqual((number, data in self.NEW.values()), (signal.SIGKILL, True), (moment, name))
+                    self.assertLessEqual({*self.OLD}, {*os.listdir(folder)}, (number, moment))
+                    if number != signal.SIGKILL:  # all of them, or none
+                        self.assertEqual(len({self.is_new(name) for name in self.NEW}), 1, (number, moment))
+                self.assertGreater(moment, 60)
+                self.assertGreater(kept, 60)
 
 
 if __name__ == "__main__":

@@ -1,5 +1,6 @@
 """./show picture: what the page is given, and the drawing. How the page looks isn't tested here; it was looked at in
 Chromium."""
+import base64
 import json
 import os
 import re
@@ -73,7 +74,8 @@ class Page(unittest.TestCase):
                 self.assertIn("line 2: this is no region: " + line, told)
 
     def test_controls(self):
-        page = picture(*STAND_IN, "examples/solo.choreo")[1]
+        page = re.sub("data:text/javascript;base64,([A-Za-z0-9+/=]+)", lambda it: base64.b64decode(it[1]).decode(),
+                      picture(*STAND_IN, "examples/solo.choreo")[1])
         for name in ("speed", "loop", "views", "space", "slider", "go"):
             self.assertIn('id="%s"' % name, page)
             self.assertIn('byId("%s")' % name, page)

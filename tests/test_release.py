@@ -211,6 +211,8 @@ class Release(unittest.TestCase):
         status, cls.said, error = cls.repository.release()
         if status:
             raise AssertionError(error)
+        before = digest(cls.repository.packed())
+        cls.again = cls.repository.release(), digest(cls.repository.packed()) == before
         with tarfile.open(cls.repository.packed()) as tar:
             tar.extractall(os.path.join(room.name, "unpacked"))
         os.rename(cls.repository.place, os.path.join(room.name, "elsewhere"))
@@ -229,6 +231,11 @@ class Release(unittest.TestCase):
         """The manifest."""
         with open(os.path.join(self.top, "MANIFEST.json")) as file:
             return json.load(file)
+
+    def test_over_another(self):
+        (status, _, told), is_same = self.again
+        self.assertEqual((status, is_same), (70, True))
+        self.assertIn("is there already: --force overwrites it", told)
 
     def test_no_rt(self):
         self.assertIsNone(shutil.which("rt", path=self.bin))

@@ -12,6 +12,7 @@ import sys
 import tempfile
 import unittest
 
+import common
 from common import TOP, wants_program
 
 SHOW = "examples/crossing.choreo"
@@ -85,10 +86,34 @@ class Streams(unittest.TestCase):
                 self.assertEqual([c for c in said if c != "\n" and not c.isprintable()], [], words)
                 self.assertIn("\\x1b[31mred\\x07\\x9b2J", said)
 
+    def test_control_characters_in_words(self):
+        for words in (["why", "--\x1b[31mred", SHOW], ["why", "--most", "\x1b[31m", SHOW], ["summary", SHOW, "\x1b[2J", "\x07"]):
+            done = subprocess.run(["./show", *words], cwd=TOP, stdout=subprocess.PIPE, stderr=subprocess.PIPE, timeout=300)
+            self.assertEqual((done.returncode, b"\x1b" in done.stderr, b"\\x1b[" in done.stderr), (2, False, True), done.stderr)
+        with tempfile.TemporaryDirectory() as room:
+            name = os.path.join(room, "\x1b[31mred")
+            with open(os.path.join(room, "plan"), "wb") as file:
+                file.write(b"plan 1\nend\n")
+            done = subprocess.run(["./show", "export", "skyc", file.name, name], cwd=TOP, stdout=subprocess.PIPE, timeout=300)
+            self.assertEqual((done.returncode, b"\x1b" in done.stdout, os.path.exists(name)), (0, False, True))
+
+    def test_beside_a_module_of_the_same_name(self):
+        # `python3 -m hemtoghai` takes Python's own modules, and not what lies in the folder in which it is typed.
+        with tempfile.TemporaryDirectory() as room:
+            for name in ("argparse", "json", "tempfile", "struct", "re"):
+                with open(os.path.join(room, name + ".py"), "w") as file:
+                    file.write("import os\nos._exit(66)\n")
+            done = subprocess.run([sys.executable, "-B", "-m", "hemtoghai", "summary", os.path.join(TOP, SHOW)], cwd=room,
+                                  env={**os.environ, "PYTHONPATH": os.path.join(TOP, "python")}, stdout=subprocess.PIPE,
+                                  stderr=subprocess.PIPE, timeout=300)
+            self.assertEqual((done.returncode, done.stdout[:9]), (0, b"2 drones,"), done.stderr)
+
     @wants_program
     def test_no_such_judge(self):
-        status, said, told = shell("HEMTOGHAI_BY=evil ./show check --json " + SHOW)
-        self.assertEqual((status, said, told), (70, "", "show: HEMTOGHAI_BY is library or process, and not 'evil'\n"))
+        done = subprocess.run([*common.AS_BUILT, "check", "--json", SHOW], cwd=TOP, env={**os.environ, "HEMTOGHAI_BY": "evil"},
+                              stdout=subprocess.PIPE, stderr=subprocess.PIPE, timeout=300)
+        self.assertEqual((done.returncode, done.stdout, done.stderr),
+                         (70, b"", b"show: HEMTOGHAI_BY is library or process, and not 'evil'\n"))
 
     def test_early_interrupt(self):
         # Ctrl-C while the command is still being imported: no traceback, and the status of the signal.
@@ -110,11 +135,21 @@ class Streams(unittest.TestCase):
         self.assertEqual((done.returncode, done.stdout, done.stderr),
                          (70, b"", b"show: Python 3.9 or later is needed, and this is 3.7\n"))
 
+    def test_old_python_and_the_module(self):
+        with open(os.path.join(TOP, "python", "hemtoghai", "__init__.py"), encoding="utf-8") as file:
+            text = file.read()
+        ast.parse(text, feature_version=(3, 6))
+        for words, status, said in ((["-m"], 70, "hemtoghai: %s\n"), ([""], 1, "ImportError: %s\n")):
+            code = "import sys\nsys.version_info = (3, 8, 18)\nsys.argv = %r\n%s" % (words, text)
+            done = subprocess.run([sys.executable, "-c", code], stdout=subprocess.PIPE, stderr=subprocess.PIPE, timeout=60)
+            self.assertEqual((done.returncode, done.stdout), (status, b""))
+            self.assertTrue(done.stderr.decode().endswith(said % "Python 3.9 or later is needed, and this is 3.8"), done.stderr)
+
     @wants_program
     def test_children_ignored(self):
         # The status is the program's too where the parent ignored SIGCHLD, which stays so in what it starts.
         for words in (["check", SHOW], ["why", SHOW], ["check", "--json", SHOW]):
-            done = subprocess.run(["./show", *words], cwd=TOP, stdout=subprocess.PIPE, stderr=subprocess.PIPE, timeout=300,
+            done = subprocess.run([*common.AS_BUILT, *words], cwd=TOP, stdout=subprocess.PIPE, stderr=subprocess.PIPE, timeout=300,
                                   preexec_fn=lambda: signal.signal(signal.SIGCHLD, signal.SIG_IGN))
             self.assertEqual((done.returncode, b"error 5 pair a b" in done.stdout), (5, True), (words, done.stderr))
 
@@ -183,7 +218,7 @@ class Swapped(unittest.TestCase):
             status, said, told = shell("./show " + words, self.place)
             self.assertEqual((status, "check: ok" in said + told, line in told), (70, False, True), said + told)
         status, said, told = shell("./show without examples/crossing_cured.choreo a", self.place)
-        self.assertEqual((status, line in told), (0, True), told)
+        self.assertEqual((status, "has no verdict: " in told, line in told), (70, True, True), told)
 
 
 if __name__ == "__main__":

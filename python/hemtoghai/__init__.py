@@ -11,7 +11,14 @@
 The proved library is asked in this process, or the proved program in one of its own: `verdict.proved` says whether the
 record of the one that answered has a proof. docs/PYTHON.md has whole programs.
 """
-from __future__ import annotations
+import sys
+
+if sys.version_info < (3, 9):  # before what an older one can't read
+    NEEDED = "Python 3.9 or later is needed, and this is %d.%d" % sys.version_info[:2]
+    if sys.argv[:1] == ["-m"]:  # python3 -m hemtoghai, which would have a traceback
+        sys.stderr.write("hemtoghai: " + NEEDED + "\n")
+        sys.exit(70)
+    raise ImportError(NEEDED)
 
 TYPE_CHECKING = False  # what is named below is imported where it is first asked for: ./show has to begin fast
 if TYPE_CHECKING:

@@ -63,8 +63,16 @@ def main(words: list[str]) -> int:
     return launcher.main(words)
 
 
+def drop_own_place() -> None:
+    """Has no module be taken from the folder in which `python3 -m hemtoghai` is typed, or that of pip's script."""
+    own = [os.path.realpath(place) for place in (os.curdir, os.path.dirname(sys.argv[0]))]
+    if not sys.flags.isolated and os.path.realpath("".join(sys.path[:1])) in own:
+        del sys.path[:1]
+
+
 def run() -> None:
     """Runs the command of this process's words, and ends the process with its status."""
+    drop_own_place()
     words = sys.argv[1:]
     command = "".join(words[1:2] if words[:1] == ["--proved"] else words[:1])
     streams.run(lambda: main(words), command if command in COMMANDS else program.NAME)

@@ -75,6 +75,7 @@ class Library:
         answer = Answer(status, ctypes.string_at(output, size.value), self.proof, "library")
         if len(output) <= MOST_ROOM:
             self.rooms.output = output
+        program.need_answer(words, status, answer.output)
         return answer
 
 

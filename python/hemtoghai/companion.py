@@ -13,7 +13,7 @@ from hemtoghai.language import choreo
 from hemtoghai.language.choreo import Flown, Refused
 from hemtoghai.language.cures import print_cure
 from hemtoghai.program import COMMAND
-from hemtoghai.streams import NO_ANSWER, tell
+from hemtoghai.streams import NO_ANSWER, shown, tell
 
 Number = TypeVar("Number", float, Fraction)  # in doubles or exact
 PartOfPlan = Tuple[str, bytes, int, List[Tuple[str, str]]]  # name, bytes, pieces, packets as words and digits
@@ -35,10 +35,17 @@ def stop(text: str, status: int = NO_ANSWER) -> NoReturn:
     sys.exit(status)
 
 
+class Parser(argparse.ArgumentParser):
+    """A reader of words that says what is wrong with them as a terminal may have it."""
+
+    def error(self, message: str) -> NoReturn:
+        super().error(shown(message))
+
+
 def parser(text: str | None) -> argparse.ArgumentParser:
-    return argparse.ArgumentParser(prog="%s %s" % (COMMAND, tool_name()),
-                                   description=(text or "").replace("./show", COMMAND),
-                                   formatter_class=argparse.RawDescriptionHelpFormatter)
+    return Parser(prog="%s %s" % (COMMAND, tool_name()),
+                  description=(text or "").replace("./show", COMMAND),
+                  formatter_class=argparse.RawDescriptionHelpFormatter)
 
 
 def add_depth(words: argparse.ArgumentParser, text: str = "as for check: 0 to 8, without it 6") -> None:
@@ -138,11 +145,22 @@ def missing(program: str | None = None) -> str:
     return "`check` was not asked: %s" % (no_program(program) or "it gave no answer")
 
 
+def no_verdict(program: str | None = None) -> str:
+    """Why a tool that found nothing wrong with a show doesn't accept it: only the program does."""
+    return "no verdict: %s; what the tool itself looked at is as it should be" % missing(program)
+
+
 def value(row: Sequence[Number], u: Number) -> Number:
     """The place on an axis at a fraction of a cue, by its control values."""
-    while len(row) > 1:
-        row = [a + (b - a) * u for a, b in zip(row, row[1:])]
-    return row[0]
+    many_, rest, power, out, share = len(row) - 1, 1 - u, u, row[0], 1
+    if not many_:
+        return out
+    out *= rest
+    for k in range(1, many_):
+        share = share * (many_ - k + 1) // k
+        out = (out + share * power * row[k]) * rest
+        power *= u
+    return out + power * row[-1]
 
 
 def place(flown: Flown, drone: int, cue: int, u: float) -> list[float]:

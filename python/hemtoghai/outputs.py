@@ -1,19 +1,25 @@
 """Writes files: each as a whole or not at all, never over a file that is read, and over another one only by --force.
 
-The bytes go into a new file in the same folder, which takes the name once all of them are on the disk. Where the disk
-is full, or the process is ended, the old file stays as it was. What is no plain file, as /dev/null, is written itself.
+The bytes go into a file without a name in the same folder, which gets the name once all of them are on the disk. Where
+the disk is full, or the process is ended, the old file stays as it was, and no half one is left. Where the system has
+no files without a name the new one has a hidden name until then. What is no plain file, as /dev/null, is written
+itself.
 """
 from __future__ import annotations
 
 import argparse
 import contextlib
 import os
+import signal
 import stat
 import sys
 import tempfile
-from collections.abc import Iterable
+from collections.abc import Iterable, Iterator
 
 from hemtoghai.companion import stop
+
+HIDDEN = ".hemtoghai."  # how the name of a file begins that isn't in its place yet
+ENDING = signal.SIGINT, signal.SIGTERM, signal.SIGHUP, signal.SIGQUIT
 
 
 def add_force(reader: argparse.ArgumentParser) -> None:
@@ -38,7 +44,11 @@ def fault_of(path: str, force: bool, read: Iterable[str]) -> str | None:
         return None
     if any(is_same(other, found) for other in read):
         return f"{path} is what is read: give another path for what is written"
-    return None if force else f"{path} is there already: --force overwrites it, or give another path"
+    return None if force else is_there(path)
+
+
+def is_there(path: str) -> str:
+    return f"{path} is there already: --force overwrites it, or give another path"
 
 
 def refuse(paths: Iterable[str], force: bool, read: Iterable[str]) -> None:
@@ -52,7 +62,7 @@ def refuse(paths: Iterable[str], force: bool, read: Iterable[str]) -> None:
 def make_folders(path: str) -> list[str]:
     """Makes a folder and those above it; the ones that were made, the innermost first. Raises OSError."""
     lacking: list[str] = []
-    while path and not os.path.isdir(path):
+    while path and not os.path.lexists(path):
         lacking.append(path)
         path = os.path.dirname(path)
     made: list[str] = []
@@ -72,31 +82,85 @@ def remove_folders(made: Iterable[str]) -> None:
             os.rmdir(folder)
 
 
-def laid(path: str, data: bytes) -> str:
-    """The path of a new file with these bytes, in the folder of another that it is to replace, with the mode of that.
-    Raises OSError, and leaves no file then."""
-    number, new = tempfile.mkstemp(prefix=".hemtoghai.", dir=os.path.dirname(path) or ".")
+def mode_of(path: str) -> int:
+    """The mode of the file that is there, or that of a new one."""
     try:
-        with os.fdopen(number, "wb") as file:
-            file.write(data)
-            file.flush()
-            os.fsync(file.fileno())
+        return stat.S_IMODE(os.stat(path).st_mode)
+    except OSError:
+        mask = os.umask(0)
+        os.umask(mask)
+        return 0o666 & ~mask
+
+
+@contextlib.contextmanager
+def unbroken() -> Iterator[None]:
+    """What ends a tool from outside waits until this is over."""
+    before = signal.pthread_sigmask(signal.SIG_BLOCK, ENDING)
+    try:
+        yield
+    finally:
+        signal.pthread_sigmask(signal.SIG_SETMASK, before)
+
+
+class New:
+    """A file that is written whole beside the place that it is to have. Raises OSError, and leaves no file then."""
+
+    def __init__(self, path: str, data: bytes) -> None:
+        self.path, self.folder = path, os.path.dirname(path)
+        self.hidden: str | None = None  # a name of its own
+        if (number := unnamed(self.folder)) is None:
+            number, self.hidden = tempfile.mkstemp(prefix=HIDDEN, dir=self.folder)
+        self.number = number
         try:
-            mode = stat.S_IMODE(os.stat(path).st_mode)
-        except OSError:
-            mask = os.umask(0)
-            os.umask(mask)
-            mode = 0o666 & ~mask
-        os.chmod(new, mode)
-    except BaseException:
-        os.unlink(new)
-        raise
-    return new
+            left = memoryview(data)
+            while left:
+                left = left[os.write(number, left):]
+            os.fchmod(number, mode_of(path))
+            os.fsync(number)
+        except BaseException:
+            self.drop()
+            raise
+
+    def put(self, force: bool) -> None:
+        """Has it take its place; raises FileExistsError where another is there that isn't to be replaced."""
+        source = self.hidden or f"/proc/self/fd/{self.number}"
+        try:
+            return os.link(source, self.path, src_dir_fd=self.number)  # so a link is followed to what it leads to
+        except FileExistsError:
+            if not force:
+                raise
+        except OSError:  # a disk on which a file has one name
+            if self.hidden is None or not force and os.path.lexists(self.path):
+                raise
+        if self.hidden is None:
+            self.hidden = tempfile.mktemp(prefix=HIDDEN, dir=self.folder)
+            os.link(source, self.hidden, src_dir_fd=self.number)
+        os.replace(self.hidden, self.path)
+        self.hidden = None
+
+    def drop(self) -> None:
+        """Closes it, and takes its own name away."""
+        os.close(self.number)
+        if self.hidden:
+            with contextlib.suppress(OSError):
+                os.unlink(self.hidden)
 
 
-def write_all(files: dict[str, bytes]) -> None:
-    """Writes files, by their paths: all of them, or none, and then a line ends the tool."""
-    new: dict[str, str] = {}
+def unnamed(folder: str) -> int | None:
+    """An open file without a name in a folder, to be written; None where the system or the disk has none."""
+    if not os.path.isdir("/proc/self/fd"):
+        return None
+    try:
+        return os.open(folder, os.O_TMPFILE | os.O_WRONLY, 0o600)
+    except (AttributeError, OSError):
+        return None
+
+
+def write_all(files: dict[str, bytes], force: bool = True) -> None:
+    """Writes files, by their paths: all of them, or none, and then a line ends the tool. Without force it ends too
+    where one is there by now."""
+    new: list[New] = []
+    placed: list[str] = []
     path = ""
     try:
         for path, data in files.items():
@@ -104,26 +168,43 @@ def write_all(files: dict[str, bytes]) -> None:
                 with open(path, "wb") as file:
                     file.write(data)
             else:
-                whole = os.path.realpath(path)  # so that a link stays one
-                new[whole] = laid(whole, data)
-        for path in list(new):
-            os.replace(new.pop(path), path)
+                new.append(New(os.path.realpath(path), data))  # so that a link stays one
+        with unbroken():
+            for it in new:
+                path = it.path
+                it.put(force)
+                placed.append(path)
+            for folder in {it.folder for it in new}:
+                sync_folder(folder)
+    except FileExistsError:
+        for other in placed:  # there was none of these before
+            os.unlink(other)
+        stop(is_there(path))
     except OSError as error:
         stop(f"{path}: {error.strerror}")
     finally:
-        for left in new.values():
-            with contextlib.suppress(OSError):
-                os.unlink(left)
+        for it in new:
+            it.drop()
 
 
-def write_below(folder: str, files: dict[str, bytes]) -> None:
+def sync_folder(folder: str) -> None:
+    """Has the names in a folder be on the disk too, where the system does so."""
+    with contextlib.suppress(OSError):
+        number = os.open(folder, os.O_RDONLY)
+        try:
+            os.fsync(number)
+        finally:
+            os.close(number)
+
+
+def write_below(folder: str, files: dict[str, bytes], force: bool = True) -> None:
     """Writes files by their names in a folder, which is made where it isn't there: all, or none and no folder."""
     try:
         made = make_folders(folder)
     except OSError as error:
         stop(f"{folder}: {error.strerror}")
     try:
-        write_all({os.path.join(folder, name): data for name, data in files.items()})
+        write_all({os.path.join(folder, name): data for name, data in files.items()}, force)
     except BaseException:
         remove_folders(made)
         raise

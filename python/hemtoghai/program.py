@@ -28,9 +28,24 @@ OLDEST_LIBRARY = 2, 34  # the C library that the program of a release needs
 MOST_BYTES = 1 << 28  # of a program, 256 MiB
 SEALS, ADD_SEALS = 0x0F, 1033  # of a file in memory: neither these seals, nor its size, nor its bytes change
 
+# What a command writes where it accepts, by docs/COMMANDS.md: its one line, or how its lines begin and end.
+ACCEPTED = {
+    "check": rb"ok drones \d+ cues \d+ duration_ms \d+\n", "verify": rb"valid depth \d trees \d+\n",
+    "boxes": rb"kept regions \d+\n", "compile": rb"(?s)plan 1\n.*\nend\n", "report": rb"\{.*\}\n",
+    "certify": rb"(?s)(version 2\n)?certificate \d\n.*", "play": rb"(?s)0 .*\n",
+    "speed": rb"(speed \S+( \d+){3}\n)+", "dynamics": rb"(dynamics \S+ acceleration .*\n)+(greatest .*\n)?"}
+
 
 class Unusable(Exception):
     """Why the program can't be run."""
+
+
+def absent() -> str:
+    """What to do where the program isn't there."""
+    if IS_INSTALLED or os.path.exists(os.path.join(TOP, "show")):
+        return "the program isn't built; ./show check FILE builds it"
+    return ("this copy of the package has no program: install the wheel of a release, which ./show release of the "
+            "repository makes, or use ./show there")
 
 
 # By a program's path what its file, its record and the file that runs looked like, that file, and the last line of its
@@ -138,7 +153,7 @@ def runs(path: str | None = None) -> str:
     """The path of the file to run for a program, without one for the program that was proved here; raises Unusable."""
     path = os.path.abspath(path) if path else PROGRAM
     if not os.path.isfile(path) or not os.access(path, os.X_OK):
-        raise Unusable("the program isn't built; ./show check FILE builds it")
+        raise Unusable(absent())
     if path != PROGRAM:
         if demanded[0]:
             raise Unusable("%s isn't the proved program, and --proved runs no other" % path)
@@ -198,12 +213,16 @@ def words_of(*words: str) -> list[str]:
 
 
 def is_answer(words: list[str], status: int, output: bytes) -> bool:
-    """Whether a command can give this: none accepts without a byte, and `check` accepts with its own line alone."""
-    if status or words[:1] != ["check"]:
-        return bool(status or output)
-    row = output[:-1].split(b" ")
-    return output[-1:] == b"\n" and len(row) == 7 and all(word.isdigit() for word in row[2::2]) and (
-        row[:1] + row[1::2] == [b"ok", b"drones", b"cues", b"duration_ms"])
+    """Whether a command can give this: it accepts with its own words alone, and none without a byte."""
+    import re
+    own = ACCEPTED.get("".join(words[:1]), rb"(?s).+")
+    return status != 0 or re.fullmatch(own, output) is not None
+
+
+def need_answer(words: list[str], status: int, output: bytes) -> None:
+    """Raises Unusable where what was asked gave no answer of a command: no yes is taken of anything else."""
+    if not is_answer(words, status, output):
+        raise Unusable(f"what was run isn't the program: it gave no answer of `{' '.join(words[:1])}`")
 
 
 def status_in(process: int) -> int:
@@ -270,6 +289,5 @@ def ask(words: list[str], text: bytes, path: str | None = None) -> tuple[int, by
         raise Unusable(f"the program can't be run: {error}") from None
     if status < 0:
         raise Unusable(f"the program was ended by signal {-status}")
-    if not is_answer(words, status, output):
-        raise Unusable(f"what was run isn't the program: it gave no answer of `{' '.join(words[:1])}`")
+    need_answer(words, status, output)
     return status, output

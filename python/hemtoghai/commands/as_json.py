@@ -19,7 +19,7 @@ from itertools import combinations
 from math import hypot
 from typing import Any
 
-from hemtoghai import companion, judging, texts
+from hemtoghai import companion, judging, streams, texts
 from hemtoghai.commands import summary, why
 from hemtoghai.geometry import separation
 from hemtoghai.language import choreo
@@ -58,12 +58,14 @@ def by_program(words: list[str]) -> int:
 
 
 def verdict_of(text: bytes, depth: int) -> judging.Verdict:
-    """The verdict on a show, by the companions where the program can't be run: then nothing is proved."""
+    """The verdict on a show. Where the program can't be run a refusal is that of the companions; they accept none."""
     try:
         return judging.check(text, depth)
     except Unusable:
         status, line = separation.judged(text, depth)
-        return judging.Verdict(status, line.encode() + b"\n" if status else b"ok\n", None, text, depth)
+        if status == 0:
+            status, line = streams.NO_ANSWER, companion.no_verdict()
+        return judging.Verdict(status, line.encode() + b"\n", None, text, depth)
 
 
 def helped(flown: choreo.Flown, place: judging.Blocked, depth: int) -> dict[str, Any]:
@@ -128,7 +130,7 @@ def by_summary(words: list[str]) -> int:
             "pairs": sorted((pair_data(flown, i, j) for i, j in combinations(range(len(flown.names)), 2)),
                             key=lambda row: float(row["share"]))}
     if options.margin:
-        more["margin"] = {"ellipsoid_percent" if word == "ellipsoid" else word: most
+        more["margin"] = None if companion.no_program() else {"ellipsoid_percent" if word == "ellipsoid" else word: most
                           for word, most, _ in margins_of(flown, text, options.depth)}
     return put("summary", verdict, **more)
 

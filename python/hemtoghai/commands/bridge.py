@@ -23,7 +23,8 @@ from collections.abc import Callable, Iterator, Sequence
 
 from hemtoghai import outputs, program
 from hemtoghai.companion import add_depth, decoded, flown_of, many, no_program, parser, stop
-from hemtoghai.flying import finite, links
+from hemtoghai.flying import clock, finite, links
+from hemtoghai.flying.own_clock import OwnClock
 from hemtoghai.flying.uploads import Carrying, ENDS, Traffic, uploaded, wanted_packets
 from hemtoghai.language.choreo import Flown
 
@@ -189,6 +190,8 @@ def main(words: list[str]) -> int:
         stop(fault)
     memory_id = flown.show.settings["memory"][0] if options.id is None else options.id
     drones = [links.Drone(memory_id) for _ in flown.names]
+    if not options.radio and not options.link:
+        clock.use(OwnClock())
     command = [os.path.abspath(options.program), "upload", "--depth", str(options.depth),
                *["--start"] * options.start, *["--readback"] * options.readback]
 

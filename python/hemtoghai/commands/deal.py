@@ -15,17 +15,18 @@ from __future__ import annotations
 import sys
 from collections.abc import Callable
 
-from hemtoghai.companion import add_depth, ask_check, missing, parser, stop, tool_name, words_and_show
+from hemtoghai.companion import add_depth, ask_check, missing, no_verdict, parser, stop, tool_name, words_and_show
 from hemtoghai.geometry import separation
 from hemtoghai.language import choreo
 from hemtoghai.language.lines import free_name, with_words, with_words_at
+from hemtoghai.streams import NO_ANSWER, tell
 from hemtoghai.writing.dealing import deal, Dealt, form_lines, names_of, on_their_own, State, state, Words, words_of
 
 NOBODY_MOVES = 71
 
 
 def say(words: str) -> None:
-    print("%s: %s" % (tool_name(), words), file=sys.stderr)
+    tell(tool_name(), words)
 
 
 def listed(numbers: list[int]) -> str:
@@ -90,14 +91,13 @@ def rewritten(text: bytes, made: Dealt) -> tuple[bytes, Callable[[int], int]]:
 
 
 def judged(text: bytes, deep: int) -> int:
-    """Says what `check` finds, or this tool where the program isn't built; the status."""
+    """Says what `check` finds, or why this tool refuses the text where the program isn't built; the status."""
     if answer := ask_check(text, deep):
         say("check: " + answer[1])
         return answer[0]
-    say(missing())
     status, line = separation.judged(text, deep)
-    say("as this tool computes it" + (": " + line if status else ", nothing is refused"))
-    return status
+    say(missing() + "; as this tool computes it: " + line if status else no_verdict())
+    return status or NO_ANSWER
 
 
 def say_carried(made: Dealt, new_line: Callable[[int], int]) -> None:

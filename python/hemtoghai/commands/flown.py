@@ -22,8 +22,8 @@ The verdict is `KEPT` only for a log that covers the show: each drone has at lea
 ms, 1000 without the option, after the one before, the begin of the show and its end counted as samples. Nor may a log
 stop more than 300 ms before the end. For any other log it is `NOT KEPT` or `NOT KNOWN`. So it is where a column
 `variance`, as `fly` writes it, says that a drone wasn't sure of its place: above M2 square metres, 0.004 without the
-option. A log with a place or a time that isn't finite is refused. Status 0: kept. 1: not kept or
-not known. 70: no answer.
+option. Of a sample without a variance nobody knows, so a log that lacks some isn't kept either. A log with a place or
+a time that isn't finite is refused. Status 0: kept. 1: not kept or not known. 70: no answer.
 """
 import argparse
 import csv
@@ -247,7 +247,9 @@ def print_verdict(judged: Dict[str, Judged], options: argparse.Namespace) -> boo
     lacking = {name: it.lacks(options.gap) for name, it in judged.items() if it.lacks(options.gap)}
     name = max(judged, key=lambda it: judged[it].worst)
     unsure = {name: it.unsure for name, it in judged.items() if it.unsure}
-    word = "NOT KEPT" if outside else "NOT KNOWN" if lacking or unsure else "KEPT"
+    bare = {name: sum(row[3] is None for row in it.samples) for name, it in judged.items()}
+    bare = {name: count for name, count in bare.items() if count}
+    word = "NOT KEPT" if outside else "NOT KNOWN" if lacking or unsure or bare else "KEPT"
     print("%s: %d of %s within %g mm of the curve at an instant within %g ms of the others'; the farthest is %s, "
           "%.1f mm at %.2f s"
           % (word, count - outside, many(count, "sample"), options.stray, options.late,
@@ -258,8 +260,9 @@ def print_verdict(judged: Dict[str, Judged], options: argparse.Namespace) -> boo
         print("not sure of their places: %s" % "; ".join(
             f"{name} at {many(len(rows), 'sample')}, first at {rows[0][0] / 1000:.2f} s, variance up to "
             f"{max(variance for _, variance in rows):.3g} m^2" for name, rows in unsure.items()))
-    if not any(row[3] is not None for it in judged.values() for row in it.samples):
-        print("the log has no variances: how sure drones were of their places isn't known")
+    if bare:
+        print("no variance says how sure they were of their places: %s" % "; ".join(
+            f"{name} at {many(count, 'sample')}" for name, count in bare.items()))
     return word == "KEPT"
 
 

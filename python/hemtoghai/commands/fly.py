@@ -18,7 +18,7 @@ that is judged. A second one stops all motors, and the drones fall. At a fault a
 and so does everybody, to the end of the show, unless --on-silence land is given. Have somebody at hand who can cut the
 power, too: where this program or its radio dies in flight, drones fly their trajectories to the end and stay there.
 
-Status 0: flown and landed. 1: not flown, or landed early. 2: wrong words. 3 to 5: the show is refused. 60: motors were
+Status 0: flown, and all are down and obeyed to disarm, they say. 1: not flown, or landed early. 2: wrong words. 3 to 5: the show is refused. 60: motors were
 stopped. 70: no answer.
 """
 import argparse
@@ -33,8 +33,10 @@ from hemtoghai.flying.bridge import Bridge
 from hemtoghai.flying.crew import Cut, Interrupted, say, TELLER, Watch
 from hemtoghai.flying.descent import Descent, EARLY, LANDING
 from hemtoghai.flying.fleet import Fleet, FLIGHT, Log
+from hemtoghai.flying.own_clock import OwnClock
 from hemtoghai.flying.preflight import preflight
-from hemtoghai.flying.simulation import set_simulation, simulated
+from hemtoghai.flying.script import Script
+from hemtoghai.flying.simulation import begin_clock, set_simulation, simulated
 from hemtoghai.flying.stages import Place
 from hemtoghai.flying.uploads import ENDS, Traffic, uploaded, wanted_packets
 from hemtoghai.flying.ways import Ways
@@ -43,7 +45,6 @@ from hemtoghai.writing import flyable
 
 NO_STRAY, NO_LATE = 250, 100  # of a show without these lines
 EVERY = 100  # milliseconds between samples, for --only land
-LAND = 5.0  # seconds of a landing, of drones of which nothing is known
 # Options with numbers: their defaults, least and greatest values, whether they are whole, units, and what they are.
 NUMBERS = [
     ("every", 100, 20, 1000, True, "MS", "milliseconds between samples"),
@@ -61,6 +62,8 @@ NUMBERS = [
     ("silence", 1.5, 0.2, 60, False, "S", "seconds without a sample, then a drone is silent"),
     ("jump", 0.3, 0.001, 1000, False, "M/S", "greatest jump of speed in the show on an axis: no drone flies one"),
     ("accel", 10.0, 0.001, 100000, False, "M/S2", "greatest acceleration in the show on an axis"),
+    ("patience", 30, 0, 3600, False, "S", "seconds that a take-off waits for landings that one drone may not hear of"),
+    ("sink", 5, 2, 60, False, "S", "seconds of a landing with --only land, which knows no heights"),
     ("copies", 1, 1, 10, True, "N", "of the broadcast that starts; a drone begins anew at each that it hears"),
 ]
 
@@ -73,9 +76,13 @@ def options_of(words: list[str]) -> argparse.Namespace:
     reader.add_argument("--simulate", action="store_true", help="fly simulated drones")
     reader.add_argument("--sim", action="append", default=[], metavar="KEY=N",
                        help="of simulated drones: stray (mm), late (ms), loss (percent), rate (packets/s), seed, speed "
-                            "(times), dongles; blocks and dies (s): dongle 0 is gone so long after the start")
+                            "(times real time, at most), dongles, strangers, blanks (drones on the channel that "
+                            "aren't in the show, with a trajectory and without); blocks, dies, usb and noise (s): "
+                            "what comes over dongle 0 so long after the start")
     reader.add_argument("--fault", action="append", default=[], metavar="NAME:KIND[:S]",
                        help="a fault of a simulated drone")
+    reader.add_argument("--script", metavar="FILE", help="what the crew of a simulated flight does, and when: a text "
+                                                        "with lines `SECONDS WHAT WORDS`, as in `2 press:INT started`")
     reader.add_argument("--pads", metavar="PADS", help="a text with a line `NAME X Y Z` in micrometres: where drones "
                                                       "stand; without it below their first places, at height 0")
     reader.add_argument("--ceiling", type=finite.option(1, 100000, True), metavar="MM",
@@ -97,8 +104,8 @@ def options_of(words: list[str]) -> argparse.Namespace:
     options = reader.parse_args(words)
     if bool(options.radio) == options.simulate:
         reader.error("one of --radio and --simulate is wanted")
-    if not options.simulate and (options.sim or options.fault):
-        reader.error("--sim and --fault are of simulated drones")
+    if not options.simulate and (options.sim or options.fault or options.script):
+        reader.error("--sim, --fault and --script are of simulated drones")
     return options
 
 
@@ -210,12 +217,12 @@ def only(radio: crazyradio.Radio, floors: Dict[str, Place], options: argparse.Na
             watch.confirm("Stop all motors? Drones in the air fall.", lambda: None)
             return descent.cut()
         watch.flies = watch.lands = True
-        _, quiet, refused = fleet.land(descent.floors, descent.all, LAND, watch.look)
-        say("told to land, in %.0f s%s%s" % (LAND, "; NO ANSWER: " + descent.words_of(quiet) if quiet else "",
+        _, quiet, refused = fleet.land(descent.floors, descent.all, options.sink, watch.look)
+        say("told to land, in %g s%s%s" % (options.sink, "; NO ANSWER: " + descent.words_of(quiet) if quiet else "",
                                             "; REFUSED: " + ", ".join(refused.values()) if refused else ""))
         for why in radio.failures(heard, lambda k: fleet.begin_logs(k, EVERY, (FLIGHT,))).values():
             say(str(why))
-        descent.wait_down(heard, LAND)
+        descent.wait_down(heard, options.sink)
         return 0 if descent.land(LANDING) else EARLY
     except Cut:
         return descent.cut()
@@ -260,11 +267,15 @@ def show(options: argparse.Namespace, watch: Watch, radios: List[crazyradio.Radi
 def main(words: list[str]) -> int:
     options = options_of(words)
     outputs.refuse(filter(None, [options.log]), options.force,
-                   filter(None, [options.show, options.pads, options.radio]))
-    watch = Watch(options.yes)
+                   filter(None, [options.show, options.pads, options.radio, options.script]))
+    if options.simulate:
+        begin_clock(options)
+    watch, script = Watch(options.yes), None
     radios: List[crazyradio.Radio] = []
     signal.signal(signal.SIGPIPE, signal.SIG_IGN)
     try:
+        own = clock.used()
+        script = Script(options.script, watch, own) if options.script and isinstance(own, OwnClock) else None
         return (emergency if options.only in ("land", "stop") else show)(options, watch, radios)
     except Trouble as trouble:
         say(str(trouble))
@@ -280,4 +291,6 @@ def main(words: list[str]) -> int:
             radio.close()
             for line in simulated(radio.names) if options.simulate else ():
                 say(line)
+        for line in script.lines() if script else ():
+            say(line)
         TELLER.finish()

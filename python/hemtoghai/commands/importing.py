@@ -23,8 +23,9 @@ from __future__ import annotations
 import argparse
 import math
 import os
+import re
 import sys
-from collections.abc import Callable
+from collections.abc import Callable, Sequence
 from fractions import Fraction
 from typing import Any, List, NamedTuple, NoReturn, Tuple
 
@@ -36,6 +37,7 @@ from hemtoghai.geometry import fitting, separation
 from hemtoghai.geometry.paths import Budget, Path, TooLong
 from hemtoghai.language import choreo
 from hemtoghai.language.lines import header, line_in, NEWEST
+from hemtoghai.streams import shown
 
 Paths = List[Path[Fraction]]
 Axes = Tuple[int, int]  # half axes of an ellipsoid, in millimetres
@@ -67,7 +69,8 @@ def judge(fit: fitting.Fit, head: list[str], form: int, wanted: Axes, bound: Fra
         begin = fit.cues[first].begin
         print("check, from %.3f s on: %s" % (begin / 1000, output.decode(errors="replace").strip()))
         if status == 5:
-            print_why(fit, fit.text(head, form, chosen, begin), wanted, deep)
+            text = fit.text(head, form, chosen, begin)
+            print_why(fit, text, wanted, deep, after_wait(output.decode(errors="replace"), text, fit.cues[chosen]))
         elif status:
             print("NO ANSWER on separation: the import is refused for another reason; see docs/COMMANDS.md")
         if status:
@@ -103,12 +106,19 @@ def nearest(fit: fitting.Fit, pair: tuple[int, int], begin: float, end: float, w
     return min((begin + best * step, (low + high) / 2), key=far)
 
 
-def print_why(fit: fitting.Fit, text: str, wanted: Axes, deep: int) -> None:
-    """Says of a refusal for separation whether the file is to blame, where and when, and what `why` says. The
-    text begins with a wait, so that its time is the file's."""
+def after_wait(line: str, text: str, cues: Sequence[object]) -> str:
+    """The line of `check` on some cues, as it is on a text with these at its end, after a wait."""
+    waits = sum(row.startswith("cue ") for row in text.split("\n")) - len(cues)
+    return re.sub(r"(?<= cue )\d+", lambda found: str(int(found[0]) + waits), line.strip())
+
+
+def print_why(fit: fitting.Fit, text: str, wanted: Axes, deep: int, line: str) -> None:
+    """Says of a refusal for separation, with this line, whether the file is to blame, where and when, and what `why`
+    says. The text begins with a wait, so that its time is the file's."""
     flown, found = choreo.flown_of(text.encode()), []
     edges = begins(flown)
-    for i, j, cue, index in separation.blocked_places(flown, deep):
+    blocked, are_all = separation.some_places(flown, deep, line)
+    for i, j, cue, index in blocked:
         t = nearest(fit, (i, j), edges[cue], edges[cue + 1], wanted)
         found.append((share_of(fit, (i, j), Fraction(t), wanted), t, i, j, cue, index))
     found.sort(key=lambda row: row[0][0])
@@ -123,7 +133,8 @@ def print_why(fit: fitting.Fit, text: str, wanted: Axes, deep: int) -> None:
     for k, place in zip((i, j), places):
         print("  %s at (%s) mm by the file" % (flown.names[k], ", ".join("%.0f" % (v / 1000) for v in place[:3])))
     if len(found) > 1:
-        print("  and %s blocked, of this or other pairs" % many(len(found) - 1, "more place"))
+        print("  and %s blocked, of this or other pairs%s" % (
+            many(len(found) - 1, "more place"), "" if are_all else "; there may be more"))
     print("%s why, of the import: its cues and lines, and its larger ellipsoids" % program.COMMAND)
     why.print_place(flown, text.encode().split(b"\n"), separation.Meeting(flown, deep, i, j, cue, index), deep, [])
 
@@ -263,7 +274,7 @@ def fit_of(paths: Paths, options: argparse.Namespace, tolerance: float) -> fitti
 
 
 def say(words: str) -> None:
-    print(words, file=sys.stderr)  # beside the show's text
+    print(shown(words), file=sys.stderr)  # beside the show's text
 
 
 def say_cues(fit: fitting.Fit, bounds: list[tuple[Fraction, Fraction]]) -> None:

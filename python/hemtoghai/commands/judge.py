@@ -17,9 +17,11 @@ from __future__ import annotations
 import sys
 if __name__ == "__main__" and not sys.flags.isolated:
     sys.path[:1] = []  # Python's own modules alone, whatever lies beside this file
+import contextlib
 import os
 import re
 from array import array
+from bisect import bisect_right
 from collections.abc import Iterable, Iterator, Sequence
 from itertools import combinations, islice, product
 from math import comb, gcd, isqrt
@@ -56,6 +58,7 @@ class Certificate(NamedTuple):
 
 LARGEST = {"show": 1048576, "plan": 1 << 22, "certificate": 400000000}  # bytes
 LIMITS = {"ellipsoid": (1, 2000), "stray": (0, 1000), "late": (0, 1000)}
+PIECE, MOST_KNOWN = 1 << 16, 100000  # bytes of a certificate, and kinds of lines, that are looked at together
 NUMBER = re.compile("-?[0-9]+")
 QUANTITY = re.compile(r"(-?)([0-9]+)(?:\.([0-9]+))?([a-z]+)")
 # What a place of a show counts: the units of `choreo 2`, each as so many of the least one, and so many of that are one.
@@ -73,6 +76,8 @@ def stop(text: str, status: int = 70) -> NoReturn:
             raise OSError
         print("judge: " + text, file=stream, flush=True)
     except (OSError, ValueError):
+        with contextlib.suppress(OSError):
+            os.write(2, b"judge: what was found can't be written\n")
         os._exit(70)  # so that no status speaks of a line that nobody got
     sys.exit(status)
 
@@ -284,19 +289,32 @@ def ruler(n: Direction, r: int, h: int, stray: int, reach: Sequence[int]) -> Rul
 
 
 class Trees:
-    """The trees of a certificate: its text, and where the line of each begins. A great certificate has tens of millions,
-    so that none of them is kept as a value of its own."""
+    """The trees of a certificate: its text, and where the lines begin. A great certificate has tens of millions, so
+    none is kept as a value of its own: of lines that are a direction alone, and so as long as each other, the first."""
 
     def __init__(self, text: str, width: int) -> None:
-        self.text, self.width = text, width
-        self.begins = array("I")
+        self.text, self.width, self.count = text, width, 0
+        self.numbers, self.places = array("I"), array("I")  # of the first lines, in order
 
     def __len__(self) -> int:
-        return len(self.begins)
+        return self.count
 
-    def add(self, at: int, end: int, words: dict[str, Direction]) -> bool:
-        """Adds the line between two places; whether it is one whole tree: `.` before two trees, and words."""
-        self.begins.append(at)
+    def place_of(self, number: int) -> int:
+        """Where a line begins, or would, after those that are noted."""
+        k = bisect_right(self.numbers, number) - 1
+        return self.places[k] + (number - self.numbers[k]) * (self.width + 1)
+
+    def note(self, at: int, many: int, next_: int) -> int:
+        """Notes lines from a place on, all but the last of which are a direction alone; where a further line would
+        begin if the last were one too. `next_` is that of the lines before."""
+        if at != next_:
+            self.numbers.append(self.count)
+            self.places.append(at)
+        self.count += many
+        return at + many * (self.width + 1)
+
+    def is_tree(self, at: int, end: int, words: dict[str, Direction]) -> bool:
+        """Whether the text between two places is one whole tree: `.` before two trees, and words."""
         owed, text = 1, self.text
         while at < end and owed:
             if text[at] == ".":
@@ -307,18 +325,45 @@ class Trees:
                 return False
         return owed == 0 and at == end
 
+    def add_all(self, at: int, line: int, words: dict[str, Direction]) -> int | None:
+        """Adds all lines from a place on, of which the first has this number; the number of one that is no tree."""
+        text, next_ = self.text, -1
+        known = dict.fromkeys(words, True)  # by short lines whether they are trees
+        while at < len(text):
+            end = len(text) if len(text) - at <= PIECE else text.rfind("\n", at, at + PIECE) + 1
+            if not end:  # a line that is longer than a piece
+                (_, last), = islice(lines_in(text, at), 1)
+                if not self.is_tree(at, last, words):
+                    return line
+                next_, at, line = self.note(at, 1, next_), text.find("\n", last) + 1 or len(text), line + 1
+                continue
+            rows = text[at:end].removesuffix("\n").split("\n")
+            if words.keys() >= {*rows}:  # most are a direction alone
+                next_, at, line = self.note(at, len(rows), next_), end, line + len(rows)
+                continue
+            for line, row in enumerate(rows, line):
+                last = at + len(row)
+                if row not in known:
+                    if not self.is_tree(at, last - (row[-1:] == "\r" and last < len(text)), words):
+                        return line
+                    if len(row) < 40 and row[-1] != "\r" and len(known) < MOST_KNOWN:
+                        known[row] = True
+                next_, at = self.note(at, 1, next_), last + 1
+            line += 1
+        return None
+
     def nodes(self, number: int) -> Iterator[str]:
         """The nodes of a tree in order: `.` and words."""
-        at, owed = self.begins[number], 1
+        at, owed = self.place_of(number), 1
         while owed:
             node = "." if self.text[at] == "." else self.text[at:at + self.width]
             at, owed = at + len(node), owed + (1 if node == "." else -1)
             yield node
 
 
-def lines_in(text: str) -> Iterator[tuple[int, int]]:
-    """Where the lines of a text begin and end, without their line feeds, and carriage returns before these."""
-    at = 0
+def lines_in(text: str, at: int = 0) -> Iterator[tuple[int, int]]:
+    """Where the lines of a text begin and end from a place on, without line feeds, nor carriage returns before these.
+    """
     while at < len(text):
         end = text.find("\n", at)
         last = len(text) if end < 0 else end
@@ -338,9 +383,9 @@ def certificate_of(path: str) -> Certificate:
     if not re.fullmatch("certificate [0-8]", head):
         stop("error 11 line %d" % version, 11)
     trees = Trees(text, version)
-    for number, (at, end) in enumerate(islice(lines_in(text), version, None), version + 1):
-        if not trees.add(at, end, words):
-            stop("error 11 line %d" % number, 11)
+    begin = next((at for at, _ in islice(lines_in(text), version, None)), len(text))
+    if number := trees.add_all(begin, version + 1, words):
+        stop("error 11 line %d" % number, 11)
     return Certificate(int(head[-1]), words, trees, version)
 
 

@@ -23,10 +23,9 @@ from hemtoghai.companion import add_depth, ask_check, ask_dynamics, missing, par
 from hemtoghai.geometry import separation
 from hemtoghai.language.choreo import Flown
 from hemtoghai.seeing import drawing
+from hemtoghai.seeing.page import page_of
 from hemtoghai.seeing.sampling import (blocked_marks, boxes_said, flight_of, Mark, regions_of, rows_of_play, shares,
                                        step_of, worked_out)
-
-PAGE, VIEW = [os.path.join(program.PACKAGE, "seeing", name) for name in ("picture.html", "view.js")]
 
 
 def motion_said(options: argparse.Namespace, text: bytes, flown: Flown) -> str:
@@ -90,7 +89,7 @@ def main(words: list[str]) -> int:
     data = picture_of(options, text, flown)
     # In a script `<` could begin an end tag.
     said = json.dumps(data, separators=(",", ":")).replace("<", "\\u003C")
-    sys.stdout.write(read_file(PAGE).decode().replace("/*VIEW*/", read_file(VIEW).decode()).replace("/*DATA*/", said))
+    sys.stdout.write(page_of("picture.html").replace("/*DATA*/", said))
     print("picture: %s; a sample every %d ms; positions by %s" % (
         data["line"], data["step"], "the program's play" if data["source"] == "play" else "this tool"), file=sys.stderr)
     if data["judge"] != "check":

@@ -1,7 +1,7 @@
 """Makes a release: an archive with the proved program and library, ./show, its companions, documents and examples, and
 a wheel with the program and the companions.
 
-    ./show release [--out FOLDER] [--changed]
+    ./show release [--out FOLDER] [--changed] [--force]
 
 hemtoghai-VERSION-x86_64-linux.tar.gz runs without the toolchain, with Python 3.9 or later, on x86-64 with glibc 2.34 or
 later. VERSION is the content of the file VERSION. The library is in library/out, as ./show library makes it, with its
@@ -13,7 +13,8 @@ take the commit.
 
 hemtoghai-VERSION-py3-none-manylinux_2_34_x86_64.whl is what pip installs: `import hemtoghai` and the command hemtoghai,
 with a manifest of its own. Setuptools makes it, without a network; if setuptools or wheel isn't installed no wheel is
-made, and a line says so. The same commit, program and library make the same bytes of both.
+made, and a line says so. The same commit, program and library make the same bytes of both. Neither is written over one
+that is there but by --force.
 
 `release` refuses a program or a library that isn't the one of these sources, by the stamps that ./show and ./show
 library wrote when they proved them, whatever the times of files. It refuses a build without its last line, and, without
@@ -51,6 +52,7 @@ LINKS = ["lib/libhemtoghai.so", "lib/libhemtoghai.so.0"]
 PACKAGE = "python/hemtoghai/"
 BESIDE = ("VERSION", "docs/COMMANDS.md", "docs/LANGUAGE.md")  # in a checkout beside the package, and in the wheel in it
 SHARED = "library/out/MANIFEST.json", "library/out/lib/libhemtoghai.so."  # as the names of its files begin
+PACKED = ".tar.gz"
 WHEEL = "hemtoghai-%s-py3-none-manylinux_2_34_x86_64.whl"
 SETTINGS = "[bdist_wheel]\nplat-name = manylinux_2_34_x86_64\n"
 MAKE = "import sys; from setuptools import build_meta; build_meta.build_wheel(sys.argv[1])"
@@ -140,10 +142,10 @@ def lacking() -> list[str]:
         [sys.executable, "-c", "import " + name], stdout=subprocess.DEVNULL, stderr=subprocess.DEVNULL).returncode]
 
 
-def make_wheel(out: str, version: str, contents: Contents) -> str:
-    """Makes a wheel of the package's files in a folder; its path. Setuptools makes it, without a network, and the same
-    files make the same bytes."""
-    with tempfile.TemporaryDirectory() as room:
+def wheel_of(version: str, contents: Contents) -> bytes:
+    """The bytes of a wheel of the package's files. Setuptools makes it, without a network, and the same files make the
+    same bytes."""
+    with tempfile.TemporaryDirectory() as room, tempfile.TemporaryDirectory() as out:
         def write(path: str, data: bytes, mode: int = 0o644) -> None:
             place = os.path.join(room, path)
             os.makedirs(os.path.dirname(place), exist_ok=True)
@@ -155,48 +157,57 @@ def make_wheel(out: str, version: str, contents: Contents) -> str:
         write("pyproject.toml", pathlib.Path(TOP, "pyproject.toml").read_bytes())
         write("setup.cfg", SETTINGS.encode())
         write("VERSION", version.encode() + b"\n")
-        done = subprocess.run([sys.executable, "-c", MAKE, os.path.abspath(out)], cwd=room, stdout=subprocess.PIPE,
+        done = subprocess.run([sys.executable, "-c", MAKE, out], cwd=room, stdout=subprocess.PIPE,
                               stderr=subprocess.STDOUT,
                               env={**os.environ, "SOURCE_DATE_EPOCH": git("log", "-1", "--format=%ct")})
-    path = os.path.join(out, WHEEL % version)
-    if done.returncode or not os.path.exists(path):
-        stop("%s\nsetuptools made no wheel" % done.stdout.decode(errors="replace").strip())
-    return path
+        path = os.path.join(out, WHEEL % version)
+        if done.returncode or not os.path.exists(path):
+            stop("%s\nsetuptools made no wheel" % done.stdout.decode(errors="replace").strip())
+        return pathlib.Path(path).read_bytes()
 
 
-def release_wheel(record: Record, contents: Contents, changed: bool, out: str) -> None:
-    """Makes the wheel of these files of a release, or says what is missing for it."""
-    if missing := lacking():
-        return print("no wheel was made: %s has no %s (python3-setuptools and python3-wheel of Debian)" % (
-            sys.executable, " and no ".join(missing)))
+def wheel_for(record: Record, contents: Contents, changed: bool) -> tuple[int, bytes]:
+    """How many of these files of a release the wheel has, and its bytes."""
     own = sorted([(path[len(PACKAGE):], data, mode) for path, data, mode in contents if path.startswith(PACKAGE)] + [
         file for file in contents if file[0] in (*BESIDE, PROGRAM) or file[0].startswith(SHARED)])
     own.append(("MANIFEST.json", manifest_of(record, own, [], changed).encode(), 0o644))
-    path = make_wheel(out, records.version() + ("+changed" if changed else ""), own)
-    return print_made(path, len(own), pathlib.Path(path).read_bytes())
+    return len(own), wheel_of(version_of(changed), own)
+
+
+def version_of(changed: bool) -> str:
+    """The version of a wheel."""
+    return records.version() + ("+changed" if changed else "")
+
+
+def archive_name(changed: bool) -> str:
+    return "hemtoghai-%s%s-x86_64-linux%s" % (records.version(), "-changed" if changed else "", PACKED)
 
 
 def main(words: list[str]) -> int:
     reader = parser(__doc__)
     reader.add_argument("--out", default=".", metavar="FOLDER", help="the folder of the archive; without it this one")
     reader.add_argument("--changed", action="store_true", help="release files that differ from the commit")
+    outputs.add_force(reader)
     options = reader.parse_args(words)
     record, changed = judged_record(options.changed), git("status", "--porcelain") != ""
     if not re.fullmatch(r"\d+\.\d+\.\d+", records.version()):
         stop("VERSION isn't a version: three numbers with points between them")
+    name, wheel = archive_name(changed), WHEEL % version_of(changed)
+    missing = lacking()
+    outputs.refuse((os.path.join(options.out, it) for it in [name, *[wheel] * (not missing)]), options.force, [])
     contents = contents_of()
     shared, = (os.path.basename(path) for path, _, _ in contents if "/libhemtoghai.so." in path)
     links = [(os.path.join(LIBRARY, path), shared) for path in LINKS]
     contents.append(("MANIFEST.json", manifest_of(record, contents, links, changed).encode(), 0o644))
-    name = "hemtoghai-%s%s-x86_64-linux" % (records.version(), "-changed" if changed else "")
-    data = archive(name, contents, links, int(git("log", "-1", "--format=%ct")))
-    path = os.path.join(options.out, name + ".tar.gz")
-    try:
-        os.makedirs(options.out, exist_ok=True)
-    except OSError as error:
-        stop("%s: %s" % (options.out, error.strerror))
-    outputs.write_all({path: data})
-    print_made(path, len(contents) + len(links), data)
-    release_wheel(record, contents, changed, options.out)
+    made = {name: (len(contents) + len(links), archive(name[:-len(PACKED)], contents, links,
+                                                       int(git("log", "-1", "--format=%ct"))))}
+    if not missing:
+        made[wheel] = wheel_for(record, contents, changed)
+    outputs.write_below(options.out, {it: data for it, (_, data) in made.items()}, options.force)
+    for it, (count, data) in made.items():
+        print_made(os.path.join(options.out, it), count, data)
+    if missing:
+        print("no wheel was made: %s has no %s (python3-setuptools and python3-wheel of Debian)" % (
+            sys.executable, " and no ".join(missing)))
     print("program sha256 %s\ntoolchain %s\nproof: %s" % (record["sha256"], record["toolchain"], record["rests_on"]))
     return 0

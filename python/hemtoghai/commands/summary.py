@@ -19,17 +19,18 @@ from hemtoghai.geometry import separation
 from hemtoghai.language.choreo import Flown
 from hemtoghai.language.lines import line_in
 from hemtoghai.program import COMMAND
+from hemtoghai.writing.flyable import MOST
 from hemtoghai.writing.margins import margins_of
 
 PLACES = 32
-LEAST = 0.03  # metres a second: what a jump is at most that comes of rounding
+LEAST = MOST["jump"] / 1000  # metres a second: what a jump is at most that comes of rounding, as `check` has it
 
 
 def look(flown: Flown, drone: int) -> tuple[float, list[tuple[float, float]]]:
     """A drone's top speed in metres a second, and its box in mm."""
     speed = 0.0
     box: list[list[float]] = [[], [], []]
-    for milliseconds, elements in flown.by_cue[drone]:
+    for milliseconds, elements in {(flight[0], id(flight[1])): flight for flight in flown.by_cue[drone]}.values():
         first = [[(len(row) - 1) * (b - a) / (milliseconds / 1000) for a, b in zip(row, row[1:])] or [0.0]
                  for row in elements[:3]]  # the control values of the rate of change in a second
         for at in range(PLACES + 1):
@@ -61,8 +62,9 @@ def print_drones(flown: Flown, motions: dict[str, Motion] | None) -> None:
         print("Accelerations and jumps were not asked: the program isn't built, or refuses the show.")
     if most > LEAST:
         print("A jump of speed can't be flown: the drone leaves its curve there, and the promise of distance is about")
-        print("curves. Cue %d is the end of the show. Use `move`, or `curve` from rest to rest."
+        print("curves. Cue %d is the end of the show. `line`, `arc` and a `curve` whose first point isn't `here` begin"
               % (len(flown.cues) + 1))
+        print("at speed: use `move`, or `curve` from rest to rest.")
         print("docs/LANGUAGE.md, How fast, says more.")
 
 
@@ -83,8 +85,12 @@ def nearest_of(flown: Flown, i: int, j: int) -> tuple[float, int, int, int, floa
     """Where two drones come nearest, measured by their ellipsoids: their share of the distance at which these touch,
     the two, the cue and the fraction of it."""
     (r, h), best = flown.show.settings["ellipsoid"], (inf, i, j, 0, 0.0)
+    seen = set[tuple[int, int]]()  # what both fly, which a repeat has often
     for cue in range(len(flown.cues)):
         first, second = flown.by_cue[i][cue][1], flown.by_cue[j][cue][1]
+        if (both := (id(first), id(second))) in seen:
+            continue
+        seen.add(both)
         gap = [max(0, min(b) - max(a), min(a) - max(b)) for a, b in zip(first[:3], second[:3])]
         if hypot(gap[0] / r, gap[1] / r, gap[2] / h) / 2 < best[0]:
             near = separation.nearest_in(flown, i, j, cue)
@@ -111,6 +117,8 @@ def in_words(flown: Flown, word: str, *numbers: int) -> str:
 
 def print_margin(flown: Flown, text: bytes, deep: int) -> None:
     """Prints by how much the ellipsoid can grow, in percent, and stray and lateness, in whole mm and ms."""
+    if no_program():
+        return print("no margin: " + missing())
     r, h = flown.show.settings["ellipsoid"]
     for word, most, above in margins_of(flown, text, deep):
         other, unit = ("late", "mm") if word == "stray" else ("stray", "ms")
@@ -127,18 +135,14 @@ def print_margin(flown: Flown, text: bytes, deep: int) -> None:
         else:
             print("accepted with %s up to %d %s, and %s as it is%s" % (
                 word, most, unit, others, and_above or ", which is the most there is"))
-    if not ask_check(text, deep):
-        print("as the tool works it out: " + missing())
 
 
 def print_ways(flown: Flown) -> None:
     """Prints the ways up from pads straight below the first places, and down to them, or why there are none."""
-    rules, (firsts, lasts, begin, end) = legs.Rules({**flown.show.settings}), legs.places_of(flown)
-    pads = legs.below(firsts)
+    rules, pads = legs.Rules({**flown.show.settings}), legs.below(legs.places_of(flown)[0])
     for name in ("up", "down"):
         try:
-            leg = (legs.way_up(flown.names, pads, firsts, begin, rules) if name == "up" else
-                   legs.down(flown.names, pads, lasts, end, rules))
+            leg = legs.way_of(name, flown, pads, rules)
             print("way %s with pads below the first places: %s, %.1f s, judged %s; %s legs has the rest" % (
                 name, many(len(leg.stages), "stage"), leg.milliseconds() / 1000,
                 "as a whole" if leg.whole else "stage by stage", COMMAND))

@@ -9,14 +9,15 @@ from __future__ import annotations
 from collections.abc import Iterable, Iterator
 from math import hypot
 
-from hemtoghai.companion import (add_depth, ask_check, begins, cue_words, many, missing, parser, place, seconds, stop,
-                                 words_and_show)
+from hemtoghai.companion import (add_depth, ask_check, begins, cue_words, many, missing, no_verdict, parser, place,
+                                 seconds, stop, words_and_show)
 from hemtoghai import outputs
 from hemtoghai.geometry import separation
 from hemtoghai.geometry.separation import is_clear, Meeting, ruler_of
 from hemtoghai.language import choreo
 from hemtoghai.language.choreo import Flown
 from hemtoghai.program import COMMAND
+from hemtoghai.streams import shown
 from hemtoghai.writing.dealing import costs, dealt, form_lines, total
 from hemtoghai.writing.flyable import small
 from hemtoghai.writing.remedies import ENOUGH, first_of, last_of, lift_all, lifted, remedies, Remedy, written
@@ -256,12 +257,12 @@ def cures_of(flown: Flown, cue: int, pairs: list[tuple[int, int]], deep: int) ->
     yield from sorted(tried, key=lambda remedy: remedy.takes)
 
 
-def cured(text: bytes, deep: int) -> tuple[bytes, list[str], str | None]:
-    """The show's text with what helps in each place that is blocked, in the order of time, and what was done; it ends
-    where nothing is blocked, or nothing helps that can be written."""
+def cured(text: bytes, deep: int, flown: Flown | None = None) -> tuple[bytes, list[str], str | None]:
+    """The show's text, which flies this, with what helps in each place that is blocked, in the order of time, and what
+    was done; it ends where nothing is blocked, or nothing helps that can be written."""
     done: list[str] = []
     while len(done) < MOST_CURES:
-        flown = choreo.flown_of(text)
+        flown = flown if not done and flown else choreo.flown_of(text)
         answer = ask_check(text, deep)
         found = [] if answer and not answer[0] else separation.first_places(flown, deep)
         if not found:
@@ -277,11 +278,11 @@ def cured(text: bytes, deep: int) -> tuple[bytes, list[str], str | None]:
     return text, done, "more than %d places" % MOST_CURES
 
 
-def write_cured(path: str, text: bytes, deep: int) -> None:
+def write_cured(path: str, text: bytes, flown: Flown, deep: int, force: bool) -> None:
     """Writes the cured show, and says what was done, how long it lasts, and what `check` says of it."""
     try:
-        new, done, left = cured(text, deep)
-        before, after = (choreo.flown_of(it).milliseconds for it in (text, new))
+        new, done, left = cured(text, deep, flown)
+        before, after = flown.milliseconds, choreo.flown_of(new).milliseconds if done else flown.milliseconds
     except choreo.Refused as refusal:
         stop("the cured show is refused for another reason: %s" % refusal)
     for line in done:
@@ -290,9 +291,9 @@ def write_cured(path: str, text: bytes, deep: int) -> None:
         print("the show lasts %s, before %s" % (seconds(after), seconds(before)))
     if left:
         print("nothing that helps could be written for " + left)
-    outputs.write_all({path: new})
+    outputs.write_all({path: new}, force)
     answer = ask_check(new, deep)
-    print("%s: %s" % (path, answer[1] if answer else "nothing is blocked" if not left else "still blocked"))
+    print("%s: %s" % (shown(path), answer[1] if answer else missing()))
 
 
 def main(words: list[str]) -> int:
@@ -316,11 +317,13 @@ def main(words: list[str]) -> int:
         return 4
     blocked = explain_separation(flown, lines, options.depth, options.most, answer[1] if answer else "")
     own = 5 if blocked else 0
-    if not blocked:
+    if blocked and options.cured:
+        write_cured(options.cured, text, flown, options.depth, options.force)
+    if answer is None and not blocked:
+        stop(no_verdict())
+    if answer and answer[0] == own == 0:
         print("Nothing is blocked at depth %d: all drones are apart." % options.depth)
-    elif options.cured:
-        write_cured(options.cured, text, options.depth)
-    if answer and answer[0] != own:
+    elif answer and answer[0] != own:
         stop("check ends with %d and this tool with %d: one of them is wrong; please report the show"
              % (answer[0], own))
     return own

@@ -19,6 +19,7 @@ from collections.abc import Collection
 from hemtoghai.companion import add_depth, ask_check, flown_of, missing, parser, stop
 from hemtoghai.language import choreo
 from hemtoghai.language.lines import free_name, line_in, with_words
+from hemtoghai.streams import NO_ANSWER, tell
 
 IDLE = "nobody"  # the role of a figure in which nobody acts
 
@@ -102,7 +103,7 @@ def main(words: list[str]) -> int:
     sys.stdout.buffer.write(new)
     sys.stdout.flush()
     if (answer := ask_check(new, options.depth)) is None:
-        print("without: %s" % missing(), file=sys.stderr)
-        return 0
-    print("without: check: %s" % answer[1], file=sys.stderr)
+        tell("without", "the new show has no verdict: %s" % missing())
+        return NO_ANSWER
+    tell("without", "check: " + answer[1])
     return answer[0]

@@ -19,6 +19,7 @@ from hemtoghai.companion import decoded, many, parser, plan_in, read_file, stop
 from hemtoghai.geometry.curves import powers
 from hemtoghai.geometry.paths import PI
 from hemtoghai.language.choreo import Row, Segment
+from hemtoghai.streams import shown
 
 # A segment is uploaded as 132 bytes, its duration and 32 coefficients as floats, into 4,096 bytes.
 MOST_PIECES = 31
@@ -67,6 +68,6 @@ def main(words: list[str]) -> int:
                     f"differ by {float(places):.1e} m on an axis and {float(yaw):.1e} rad of yaw")
         if pieces > MOST_PIECES:
             said.append(f"  more than the {MOST_PIECES} segments that fit into 4,096 bytes as polynomials")
-    outputs.write_below(options.folder, files)
-    print("\n".join(said))
+    outputs.write_below(options.folder, files, options.force)
+    print(shown("\n".join(said)))
     return 0

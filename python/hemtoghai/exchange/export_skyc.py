@@ -25,6 +25,7 @@ from hemtoghai import outputs, program, texts
 from hemtoghai.companion import decoded, many, parser, plan_in, read_file, stop, value
 from hemtoghai.geometry import paths
 from hemtoghai.language.choreo import Segment
+from hemtoghai.streams import shown
 
 Row = List[Fraction]  # control values
 SETPOINTS = 16
@@ -141,9 +142,9 @@ def main(words: list[str]) -> int:
     packed = io.BytesIO()
     with zipfile.ZipFile(packed, "w") as archive:
         archive.writestr(zipfile.ZipInfo("show.json"), json.dumps(show), zipfile.ZIP_DEFLATED)
-    outputs.write_all({options.out: packed.getvalue()})
+    outputs.write_all({options.out: packed.getvalue()}, options.force)
     print("%s: %s, %s; at any instant at most %.3f mm and %.2f degrees from the plan" % (
-        options.out, many(len(drones), "drone"), many(count, "piece"), paths.root_up(worst, 1000),
+        shown(options.out), many(len(drones), "drone"), many(count, "piece"), paths.root_up(worst, 1000),
         paths.root_up(turned / 100)))
     print("what other programs send to drones from this file are their own bytes: nothing is promised of those")
     return 0

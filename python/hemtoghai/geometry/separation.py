@@ -104,19 +104,29 @@ class Ruler:
         a, b, c = part
         return all(x * a[k] + y * b[k] + z * c[k] >= least for k in (0, 7, 1, 2, 3, 4, 5, 6))
 
+    def has_direction(self, part: Part, depth: int) -> bool:
+        """Whether any direction separates a part. Nearly all are refused by one end of it, so that is looked at here."""
+        (a, *_, a_), (b, *_, b_), (c, *_, c_) = part
+        for number, ((x, y, z), least) in enumerate(zip(self.weights, self.thresholds)):
+            least <<= 7 * depth
+            if x * a + y * b + z * c >= least and x * a_ + y * b_ + z * c_ >= least and self.separates(part, depth, number):
+                return True
+        return False
+
+
 looked = [0]  # at how many parts of cues: by it what would take too long is left out, the same on every machine
 
 
-def blocked(part: Part, ruler: Ruler, most: int, depth: int = 0, index: int = 0, hint: int = 0) -> int | None:
+def blocked(part: Part, ruler: Ruler, most: int, depth: int = 0, index: int = 0) -> int | None:
     """The index of the first part of depth `most` along which no direction separates the two, or None."""
     looked[0] += 1
-    if any(ruler.separates(part, depth, n) for n in (hint, *range(len(ruler.weights)))):
+    if ruler.has_direction(part, depth):
         return None
     if depth == most:
         return index
     left, right = cut(part)
-    found = blocked(left, ruler, most, depth + 1, 2 * index, hint)
-    return blocked(right, ruler, most, depth + 1, 2 * index + 1, hint) if found is None else found
+    found = blocked(left, ruler, most, depth + 1, 2 * index)
+    return blocked(right, ruler, most, depth + 1, 2 * index + 1) if found is None else found
 
 
 def ruler_of(flown: Flown, version: int = 2, stray: int | None = None, late: int | None = None) -> Ruler:

@@ -505,13 +505,18 @@ class Flown:
         self.cues = list(written_out(show, show.body))
         self.places = [[start] for start in self.starts]  # where each drone is when a cue begins, and at the end
         self.by_cue: list[list[Segment]] = [[] for _ in self.starts]
+        known: dict[str, tuple[list[Row], Row]] = {}  # by an act, where it begins and its goal: a repeat flies it often
         for cue in self.cues:
             for k, name in enumerate(self.names):
                 number, act, to = cue.acts.get(name, (0, "hold", None))
-                values = controls(act, self.places[k][-1], to)
-                fit(number, values)
-                self.by_cue[k].append((cue.milliseconds, [element(row, axis) for axis, row in enumerate(values)]))
-                self.places[k].append([row[-1] for row in values])
+                what = f"{act} {self.places[k][-1]} {to}"
+                if what not in known:
+                    values = controls(act, self.places[k][-1], to)
+                    fit(number, values)
+                    known[what] = [element(row, axis) for axis, row in enumerate(values)], [row[-1] for row in values]
+                elements, last = known[what]
+                self.by_cue[k].append((cue.milliseconds, elements))
+                self.places[k].append(last)
         self.sent = [joined(flight) for flight in self.by_cue]
         self.begins = list(accumulate((cue.milliseconds for cue in self.cues), initial=0))  # of cues, and the end
         self.milliseconds = self.begins[-1]

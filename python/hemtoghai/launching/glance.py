@@ -10,7 +10,7 @@ from math import hypot
 from hemtoghai import texts
 from hemtoghai.launching import running
 
-ACCEL, JUMP = 10000, 300  # as flyable.MOST
+ACCEL, JUMP = 10000, 30  # as flyable.MOST
 SMALL = 40  # millimetres, as flyable.SMALL
 ABOVE = b"volume -40000 -40000 0 40000 40000 40000\n"
 

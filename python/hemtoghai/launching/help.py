@@ -19,7 +19,7 @@ USAGE = """Begin here:
        ./show picture SHOW > F.html   see it; ./show summary SHOW: its numbers
        ./show compile SHOW > PLAN     each drone's trajectory and packets
        ./show fly --simulate SHOW     fly it without drones
-The first show in ten minutes: docs/STUDIO.md, or docs/WRITING.md with an editor.
+The first show in ten minutes: docs/STUDIO.md, or docs/LANGUAGE.md with an editor.
 
 usage: ./show COMMAND [OPTIONS] [FILE]
        ./show verify SHOW CERTIFICATE

@@ -23,6 +23,7 @@ SECONDS = {
 }
 
 Crates = Dict[str, List[str]]  # each with the ones right below it
+FIRST = 60.0  # seconds of the table that count as seen when nothing is
 
 
 def costs(below: Crates) -> dict[str, float]:
@@ -81,13 +82,17 @@ class Progress:
 
     def pace(self) -> float:
         """Seconds of the clock for one of the table. A crate that ended at once was kept from earlier, and says nothing;
-        one that takes longer than it should says so before it ends."""
+        one that takes longer than it should says so before it ends. A minute of the table counts as if this machine had
+        kept to it, so that the first small crates, most of whose time is the start of `rt`, don't decide alone."""
         took = {crate: it for crate, it in self.took.items() if it > self.cost[crate] / 5}
-        first = sum(took.values()) / sum(self.cost[crate] for crate in took) if took else 1.0
+
+        def pace() -> float:
+            return (FIRST + sum(took.values())) / (FIRST + sum(self.cost[crate] for crate in took))
+        first = pace()
         for crate, began in self.begun.items():
             if (passed := time.monotonic() - began) > self.cost[crate] * first:
                 took[crate] = passed
-        return sum(took.values()) / sum(self.cost[crate] for crate in took) if took else first
+        return pace()
 
     def left(self, pace: float) -> dict[str, float]:
         """The seconds of the table that each crate has left; one that was begun has some until it ends."""

@@ -5,7 +5,7 @@ from __future__ import annotations
 
 import os
 
-from hemtoghai.program import COMMAND, TOP
+from hemtoghai.program import absent, COMMAND, TOP, Unusable
 
 TYPE_CHECKING = False  # of a reader of types, for which `typing` needn't be imported
 if TYPE_CHECKING:
@@ -48,8 +48,13 @@ def limits_of(words: str) -> tuple[int, int] | None:
 
 def read() -> dict[str, Any]:
     """What the tables say, by the names in READ."""
-    with open(PAGE, encoding="utf-8") as file:
-        document = file.read()
+    try:
+        with open(PAGE, encoding="utf-8") as file:
+            document = file.read()
+    except FileNotFoundError:
+        if os.path.exists(os.path.join(TOP, "show")):
+            raise
+        raise Unusable(absent()) from None
     rows = [[plain(cell) for cell in row] for row in table(document, "| Words | Input | Output at status 0 |")]
     options = [[plain(cell) for cell in row] for row in table(document, "| Option | Number | Without it |")]
     numbers = {}  # the least and greatest value of a number, by its name: that of an option, or the first word of a row
@@ -113,6 +118,14 @@ def fault_of_number(name: str, word: str | None) -> str | None:
     return "%s is %d to %d%s" % (name, low, high, "" if word is None else ", not %s" % word)
 
 
+def fault_of_option(command: str, word: str, its: Iterable[str]) -> str:
+    """What is wrong with an option that a command hasn't. Only the program that is proved answers as JSON."""
+    from hemtoghai.__main__ import WITH_JSON
+    if word == "--json" and command in WITH_JSON:
+        return "--unproved and --json don't go together: leave one of them out"
+    return "%s has no option %s%s" % (command, word, meant(word.partition("=")[0], its))
+
+
 def split(words: list[str]) -> tuple[list[str], list[str], str | None]:
     """The program's words, the files, and what is wrong with the words or None. Options may stand anywhere, and as
     --depth=6; after -- all words are files."""
@@ -144,7 +157,7 @@ def split(words: list[str]) -> tuple[list[str], list[str], str | None]:
             files.append(word)
             continue
         if option not in its or equals and not its[option]:
-            return words, [], "%s has no option %s%s" % (command, word, meant(option, its))
+            return words, [], fault_of_option(command, word, its)
         if option in seen:
             return words, [], "%s stands twice" % option
         seen.add(option)

@@ -10,7 +10,8 @@ from hemtoghai.geometry.curves import powers, value_of
 from hemtoghai.language import choreo
 from hemtoghai.language.choreo import Flown
 
-MOST = {"accel": 10000, "jump": 300}  # millimetres per second squared, and per second
+MOST = {"accel": 10000, "jump": 30}  # millimetres per second squared, and per second: less comes of rounding
+AT_SPEED = ": `line`, `arc`, and a `curve` that begins or ends at speed, do so"
 PLACES = 32  # of a cue, where heights are looked at
 SMALL = 40  # millimetres: a show that was written in millimetres lies within 33, which are 33 m then
 
@@ -100,4 +101,6 @@ def warning(program: str, text: bytes) -> str | None:
     except choreo.Refused:
         return None
     found = motion_if_known(program, flown, text), below(flown), small(flown) or stacked(flown)
+    if found[0] and " jumps by " in found[0]:
+        found = found[0] + AT_SPEED, *found[1:]
     return "; ".join(filter(None, found)) or None

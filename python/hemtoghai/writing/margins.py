@@ -5,8 +5,9 @@ from __future__ import annotations
 import re
 from collections.abc import Callable, Iterator
 from functools import partial
+from typing import NoReturn
 
-from hemtoghai.companion import ask_check
+from hemtoghai.companion import ask_check, missing, stop
 from hemtoghai.geometry import separation
 from hemtoghai.language import choreo
 from hemtoghai.language.lines import line_in
@@ -38,11 +39,16 @@ def greatest(deep: int, high: int, changed: Callable[[int], bytes],
     return (None if low < 0 else low), refusal
 
 
+def not_asked(text: bytes, deep: int) -> NoReturn:
+    """Ends the tool where the program, which answered before, doesn't: no number is accepted by anything else."""
+    stop(missing())
+
+
 def margins_of(flown: choreo.Flown, text: bytes, deep: int) -> Iterator[tuple[str, int | None, str]]:
     """How far the ellipsoid can grow, in percent, and stray and lateness, in mm and ms, each while the others are as
-    they are: the setting, the greatest number, or None, and the refusal above it."""
+    they are: the setting, the greatest number that the program accepts, or None, and the refusal above it."""
     r, h = flown.show.settings["ellipsoid"]
     yield ("ellipsoid", *greatest(deep, 100 * 2000 // max(r, h) + 1, lambda k: with_setting(
-        text, "ellipsoid", max(1, r * k // 100), max(1, h * k // 100))))
+        text, "ellipsoid", max(1, r * k // 100), max(1, h * k // 100)), not_asked))
     for word in ("stray", "late"):
-        yield (word, *greatest(deep, MOST + 1, partial(with_setting, text, word)))
+        yield (word, *greatest(deep, MOST + 1, partial(with_setting, text, word), not_asked))

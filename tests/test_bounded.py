@@ -1,0 +1,140 @@
+"""What is bounded: the places that are blocked, what helps in them, and the judgement of long certificates. Processor
+seconds and memory of whole commands, with room for a slow machine; and the same answers as by the simple way."""
+import os
+import random
+import subprocess
+import tempfile
+import unittest
+
+import common
+from common import TOP
+from hemtoghai.commands import judge
+from hemtoghai.companion import value
+from hemtoghai.geometry import separation
+from hemtoghai.language import choreo
+
+DRONES = 32
+HEAD = "choreo 1\n" + "".join("drone d%d 0 0 1000000 0\n" % k for k in range(DRONES))
+ALL = HEAD + "repeat 1000\ncue 1000\n" + "".join("d%d move 1000000 0 1000000 0\n" % k for k in range(DRONES)) + "end\nend\n"
+COMMANDS = [["check", "--json"], ["why"], ["why", "--json"], ["why", "--force", "--cured", os.devnull], ["picture"]]
+SECONDS = 12.0  # six times what is promised of a machine with nothing else to do
+
+
+def used(words, place):
+    """The status, the output, processor seconds and MiB of a command."""
+    with open(os.path.join(place, "said"), "w+b") as said:
+        process = subprocess.Popen(words, stdin=subprocess.DEVNULL, stdout=said, stderr=subprocess.DEVNULL)
+        _, status, times = os.wait4(process.pid, 0)
+        process.returncode = os.waitstatus_to_exitcode(status)
+        said.seek(0)
+        return process.returncode, said.read().decode(), times.ru_utime, times.ru_maxrss >> 10
+
+
+class Blocked(common.Folder, unittest.TestCase):
+    @common.wants_program
+    def test_all_in_one_place(self):
+        with tempfile.TemporaryDirectory() as self.place:
+            self.write("show", ALL)
+            for words in COMMANDS:
+                status, said, seconds, _ = used([*common.AS_BUILT, *words, self.path("show")], self.place)
+                self.assertIn(status, (0,) if words == ["picture"] else (5,), words)
+                self.assertLess(seconds, SECONDS, words)
+            self.assertIn("more may be blocked than the 200 places that are marked", said)
+
+    def test_counts(self):
+        flown, before = choreo.flown_of(ALL.encode()), separation.looked[0]
+        places, are_all = separation.some_places(flown, 6)
+        # Of each pair the first of the parts of depth 6 is blocked, after one part of each depth from 0 on.
+        self.assertEqual((len(places), are_all, separation.looked[0] - before), (200, False, 7 * 201))
+        self.assertEqual(places[0], (0, 1, 0, 0))
+
+    def test_what_a_repeat_flies_is_worked_out_once(self):
+        flown = choreo.flown_of(ALL.encode())
+        self.assertEqual(len({id(elements) for flight in flown.by_cue for _, elements in flight}), 2)  # there, and staying
+        self.assertEqual(flown.by_cue[5][0][1][0], [0] * 4 + [1000] * 4)
+        self.assertEqual(flown.by_cue[5][1][1], [[1000], [0], [1000], [0]])
+
+    def test_any_direction(self):
+        # By one end first, or by all eight values of each direction: the same.
+        chance, ruler, seen = random.Random(7), separation.Ruler(120, 300), set()
+        for _ in range(400):
+            far, depth = chance.choice((300, 600, 900, 1500)), chance.randint(0, 3)
+            part = [[5040 * chance.randint(-far, far) << 7 * depth for _ in range(8)] for _ in range(3)]
+            row = chance.randrange(3)
+            part[row] = [v + (5040 * 1000 << 7 * depth) for v in part[row]]
+            by_all = any(ruler.separates(part, depth, number) for number in range(98))
+            self.assertEqual(ruler.has_direction(part, depth), by_all)
+            seen.add(by_all)
+        self.assertEqual(seen, {True, False})
+
+    def test_value(self):
+        # The curve's value by halving the way between neighbours again and again.
+        chance = random.Random(3)
+        for _ in range(200):
+            row, u = [chance.uniform(-4000, 4000) for _ in range(chance.choice((1, 2, 4, 8)))], chance.choice((0, 1, chance.random()))
+            left = list(row)
+            while len(left) > 1:
+                left = [a + (b - a) * u for a, b in zip(left, left[1:])]
+            self.assertAlmostEqual(value(row, u), left[0], 7)
+        self.assertEqual((value([3, 5, 9, 7], 0), value([3, 5, 9, 7], 1), value([0] * 4 + [1000] * 4, 0.5)), (3, 7, 500))
+
+
+class Certificates(common.Folder, unittest.TestCase):
+    WORDS = {"%02d" % k: (1, 0, 0) for k in range(98)}
+
+    def simple(self, text):
+        """Where the lines after the first begin, letter by letter; or the number of one that is no tree."""
+        begins, at = [], text.index("\n") + 1
+        for number, line in enumerate(text[at:].split("\n"), 2):
+            if at == len(text):
+                break
+            tree, owed, k = line[:-1] if line.endswith("\r") and at + len(line) < len(text) else line, 1, 0
+            while k < len(tree) and owed:
+                size = 1 if tree[k] == "." else 2
+                if size == 2 and tree[k:k + 2] not in self.WORDS:
+                    return number
+                k, owed = k + size, owed + (1 if size == 1 else -1)
+            if owed or k != len(tree):
+                return number
+            begins.append(at)
+            at += len(line) + 1
+        return begins
+
+    def test_as_letter_by_letter(self):
+        chance, good = random.Random(1), 0
+        kinds = ["49", "58", ".4958", "..495800", "49", "49", "49\r", ".4958\r", "49\r\r", "", "5", ".", ".49", "98",
+                 "." * 60 + "00" * 61, "4958"]
+        before = judge.PIECE, judge.MOST_KNOWN
+        try:
+            for _ in range(3000):
+                judge.PIECE, judge.MOST_KNOWN = chance.choice((5, 40, 1000)), chance.choice((98, 100, 1000))
+                some = kinds[:chance.choice((3, 6, 8, 16))]
+                text = "certificate 6\n" + "\n".join(chance.choice(some) for _ in range(chance.randrange(30))) + chance.choice(
+                    ["", "\n", "\r\n", "\r", "\n\n"])
+                trees = judge.Trees(text, 2)
+                number = trees.add_all(len("certificate 6\n"), 2, self.WORDS)
+                found = [trees.place_of(k) for k in range(len(trees))]
+                self.assertEqual(number or found, self.simple(text), text)
+                good += number is None
+        finally:
+            judge.PIECE, judge.MOST_KNOWN = before
+        self.assertGreater(good, 300)
+
+    def test_long(self):
+        # 21 MB: seven million trees of a word, or one line; the memory is some four times the text, and not each tree's.
+        with tempfile.TemporaryDirectory() as self.place:
+            self.write("plan", common.example("crossing_cured")[1].plan())
+            for text, status, said in ((b"49\n" * 7000000, 12, "judge: refused at tree 1, pair a b cue 1\n"),
+                                       (b"." + b"49" * 10500000, 11, "judge: error 11 line 3\n"),
+                                       (b".4958\n49\n" * 500000, 12, "judge: refused at tree 1, pair a b cue 1\n")):
+                self.write("certificate", b"version 2\ncertificate 6\n" + text)
+                words = [common.SHOW, "judge", os.path.join(TOP, "examples", "crossing_cured.choreo"), self.path("plan"),
+                         self.path("certificate")]
+                ended, out, seconds, mib = used(words, self.place)
+                self.assertEqual((ended, out), (status, said))
+                self.assertLess(mib, 120)
+                self.assertLess(seconds, SECONDS)
+
+
+if __name__ == "__main__":
+    unittest.main()

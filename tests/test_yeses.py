@@ -1,0 +1,302 @@
+"""Each place of the package that prints or returns a yes, and what it rests on. Whoever adds one adds an entry, or the
+test fails: a yes is that of the proved program, or its words say whose it is.
+
+Looked for are the words of a yes in texts (`ok`, `valid`, `KEPT` ..), a status of 0, and a status that is handed on, in
+what is a command. That none of the commands says yes where the program doesn't is tried below."""
+import ast
+import hashlib
+import json
+import os
+import re
+import subprocess
+import sys
+import tempfile
+import unittest
+from unittest import mock
+
+from common import PYTHON, TOP
+from hemtoghai import judging, program
+from hemtoghai.flying import stages
+
+PACKAGE = os.path.join(PYTHON, "hemtoghai")
+WORDS = re.compile(r"\b(valid|KEPT|APART|PROVED|proved|accepted|accepts|apart|ok|kept|landed|stored)\b")
+STATUSES = re.compile("commands/|exchange/export|launching/|__main__|geometry/separation")  # modules that end with one
+
+# What a yes may rest on.
+PROGRAM = "an answer of the program, whose status, output and file program.ask or answering.py looked at"
+RUN = "the program's own status and output, over a file whose SHA-256 is that of its record: launching/launcher.py"
+RECORD = "the record or the manifest that has the SHA-256 of what runs, and the last line of its proof"
+WRITTEN = "says that something was written, and nothing of the show; what is wrong with that comes from elsewhere"
+NUMBER = "a number that is no status"
+NO = "says no, or names what isn't: a no needs no proof"
+WHAT = "a word of another meaning: of files, words, libraries or places"
+OWN = "its own arithmetic, as its words and docs/TOOLS.md say: a second opinion that no proof stands behind"
+FLIGHT = "the flight: the proved director, `check` of each way and landing, and what drones say of themselves"
+# By module and function the words that are found there, and what they rest on.
+YESES = {
+    "__main__.py main": ("handed handed handed handed proved", RUN),
+    "__main__.py run": ("proved", WHAT),
+    "answering.py library": ("proved", RECORD),
+    "judging.py Verdict.as_data": ("ok proved", PROGRAM + "; `proved` is true of a record with its proof alone"),
+    "program.py -": ("kept ok valid", "what the program writes where it accepts: no other answer is taken for one"),
+    "program.py copy_of": ("proved", RECORD),
+    "program.py runs": ("proved proved proved", NO),
+    "program.py words_of": ("proved", WHAT),
+    "commands/as_json.py by_program": ("handed handed", PROGRAM),
+    "commands/as_json.py by_summary": ("handed", PROGRAM + "; 70 without it"),
+    "commands/as_json.py by_why": ("handed", PROGRAM + "; 70 without it"),
+    "commands/as_json.py main": ("handed handed", PROGRAM),
+    "commands/as_json.py put": ("handed", PROGRAM),
+    "commands/convert.py main": ("0", WRITTEN),
+    "commands/deal.py judged": ("handed handed", PROGRAM + "; 70 without it"),
+    "commands/deal.py main": ("handed handed", PROGRAM + "; 70 without it"),
+    "commands/export.py main": ("2 handed", WRITTEN),
+    "commands/importing.py head_of": ("kept", WHAT),
+    "commands/importing.py judge": ("0 APART handed handed", PROGRAM + " of each stretch, and the bound on what was cut"),
+    "commands/importing.py main": ("0 handed handed", WRITTEN),
+    "commands/importing.py print_why": ("apart", NO),
+    "commands/judge.py Trees.__len__": ("handed", NUMBER),
+    "commands/judge.py judge": ("0 0 valid valid", OWN),
+    "commands/judge.py main": ("0 handed", OWN),
+    "commands/judge.py trajectory.number": ("handed", NUMBER),
+    "commands/library.py main": ("0 kept proved", WRITTEN),
+    "commands/library.py over_kept": ("kept proved proved", NO),
+    "commands/library.py prove": ("proved", RECORD),
+    "commands/release.py contents_of": ("proved", RECORD),
+    "commands/release.py judged_record": ("proved", RECORD),
+    "commands/release.py main": ("0", WRITTEN),
+    "commands/summary.py main": ("0", WRITTEN),
+    "commands/summary.py print_margin": ("accepted accepted", PROGRAM),
+    "commands/why.py explain_separation": ("0 handed ok", "how many are blocked: none is no yes by itself, see main"),
+    "commands/why.py main": ("4 apart handed", PROGRAM + "; 70 without it"),
+    "commands/why.py print_counts": ("apart apart", NO),
+    "commands/why.py print_place": ("APART APART", NO),
+    "commands/without.py main": ("handed handed", PROGRAM + "; 70 without it"),
+    "exchange/export_csv.py main": ("0", WRITTEN),
+    "exchange/export_skyc.py main": ("0", WRITTEN),
+    "exchange/foreign.py checked": ("apart", WHAT),
+    "geometry/separation.py judged": ("0 ok", "taken for a refusal alone, but where words say that nothing is proved"),
+    "geometry/separation.py most_borne": ("handed", NUMBER),
+    "language/cures.py -": ("apart apart", WHAT),
+    "launching/building.py -": ("proved", NO),
+    "launching/building.py Watch.lanes": ("handed handed", NUMBER),
+    "launching/building.py build_all": ("proved", NO),
+    "launching/building.py prove": ("proved", NO),
+    "launching/building.py side_by_side": ("handed handed", NUMBER),
+    "launching/building.py try_on": ("handed", "the sources without a proof, for --unproved, which says so"),
+    "launching/building.py try_sources": ("handed handed", "the sources without a proof, for --unproved, which says so"),
+    "launching/help.py -": ("apart proved proved proved", WHAT),
+    "launching/help.py refuse": ("2 handed", RUN),
+    "launching/launcher.py answer": ("handed handed", RUN),
+    "launching/launcher.py fault_of_demand": ("proved proved", NO),
+    "launching/launcher.py file_for": ("proved", NO),
+    "launching/launcher.py input_number": ("0 handed handed", NUMBER),
+    "launching/launcher.py main": ("0 0 handed handed handed", RUN),
+    "launching/manual.py -": ("proved proved", WHAT),
+    "launching/manual.py main": ("0", WRITTEN),
+    "launching/manual.py page": ("proved", WHAT),
+    "launching/records.py print_version": ("0 handed handed kept", RECORD),
+    "launching/records.py write_record": ("proved", RECORD),
+    "launching/running.py ended": ("handed", RUN),
+    "launching/running.py fed": ("handed", RUN),
+    "launching/running.py started": ("handed", NUMBER),
+    "writing/flyable.py stacked": ("apart", NO),
+}
+# Modules with one entry each, whose words are looked at by tests of their own: what may be found there, and why.
+WHOLE = {
+    "commands/bridge.py": ("handed", FLIGHT + ": the end frame of the program's `upload`, and its status"),
+    "commands/flown.py": ("0 KEPT apart handed", OWN + ": what samples say, which it says"),
+    "commands/fly.py": ("0 apart handed", FLIGHT + "; 0 of --only look and --only upload"),
+    "commands/legs.py": ("handed", PROGRAM + " of the show, and of each way"),
+    "commands/picture.py": ("0 handed", WRITTEN), "commands/studio.py": ("0 KEPT PROVED handed proved", RECORD),
+    "flying/bridge.py": ("apart kept", FLIGHT), "flying/descent.py": ("landed", FLIGHT),
+    "flying/home.py": ("APART apart", FLIGHT), "flying/landings.py": ("apart", FLIGHT),
+    "flying/routes.py": ("apart", FLIGHT), "flying/stages.py": ("apart", FLIGHT), "seeing/sampling.py": ("apart", NO),
+    "seeing/studio_program.py": ("proved", RECORD), "seeing/studio_server.py": ("proved", RECORD),
+}
+
+
+def is_status(node):
+    """What a value that is returned says as a status: `0`, another number, `handed` on, or nothing."""
+    if isinstance(node, ast.Constant):
+        return [str(node.value)] if type(node.value) is int else []
+    if isinstance(node, ast.IfExp):
+        found = is_status(node.body) + is_status(node.orelse)
+        return ["0"] if "0" in found else found
+    if isinstance(node, ast.Tuple):
+        return [it for part in node.elts for it in is_status(part) if it == "0"]
+    return ["handed"] if isinstance(node, (ast.Name, ast.Attribute, ast.Call, ast.Subscript, ast.BoolOp)) else []
+
+
+def is_told(node):
+    """Whether a function's answer may be a status, or one and its words."""
+    return node.returns is not None and ast.unparse(node.returns) in ("int", "tuple[int, str]", "tuple[str, int]")
+
+
+def sites_of(text, ends):
+    """By function the words of a yes in a module's text, and the statuses that are returned, where `ends` says that it
+    has some. What stands in docstrings and in the help of options isn't looked at."""
+    found = {}
+
+    def visit(node, name, status):
+        for child in ast.iter_child_nodes(node):
+            own, told = name, status
+            if isinstance(child, (ast.FunctionDef, ast.ClassDef)):
+                own = "%s.%s" % (name, child.name) if name else child.name
+                told = isinstance(child, ast.FunctionDef) and ends and is_told(child)
+            if isinstance(child, ast.keyword) and child.arg in ("help", "metavar") or (
+                    isinstance(child, ast.Expr) and isinstance(child.value, ast.Constant)):
+                continue
+            if isinstance(child, ast.Constant) and isinstance(child.value, (str, bytes)):
+                words = child.value if isinstance(child.value, str) else child.value.decode("latin-1")
+                found.setdefault(own or "-", []).extend(WORDS.findall(words))
+            if isinstance(child, ast.Return) and told:
+                found.setdefault(own or "-", []).extend(is_status(child.value))
+            visit(child, own, told)
+    visit(ast.parse(text), "", False)
+    return {name: words for name, words in found.items() if words}
+
+
+def modules():
+    """The modules of the package, by their paths in it; but for the simulated library."""
+    for folder, _, names in os.walk(PACKAGE):
+        for name in names:
+            path = os.path.relpath(os.path.join(folder, name), PACKAGE)
+            if name.endswith(".py") and not path.startswith("flying/simulated"):
+                with open(os.path.join(PACKAGE, path), encoding="utf-8") as file:
+                    yield path, file.read()
+
+
+class Places(unittest.TestCase):
+    def test_each_has_an_entry(self):
+        found = {}
+        for path, text in modules():
+            for name, words in sites_of(text, STATUSES.match(path) is not None).items():
+                if path in WHOLE or path.startswith("flying/"):
+                    allowed = WHOLE.get(path, ("", ""))[0].split()
+                    self.assertEqual([word for word in words if word not in allowed], [], "%s, %s: no entry" % (path, name))
+                else:
+                    found["%s %s" % (path, name)] = " ".join(sorted(words))
+        wanted = {name: words for name, (words, _) in YESES.items()}
+        self.assertEqual({name: (found.get(name), wanted.get(name)) for name in {*found, *wanted}
+                          if found.get(name) != wanted.get(name)}, {}, "found, and as the entry has it")
+
+    def test_what_is_found(self):
+        text = '"""ok"""\nA = "ok"\ndef f() -> int:\n    "kept"\n    return 0 if A else 5\n' \
+               'class B:\n    def g(self) -> tuple[str, int]:\n        return "valid %d" % 3, 0\n' \
+               '    def h(self) -> int:\n        return f() or print(b"PROVED") or add(help="apart")\n' \
+               'def k(self) -> str:\n    return 0, f"{A} landed"\n'
+        self.assertEqual(sites_of(text, True), {"-": ["ok"], "f": ["0"], "B.g": ["0", "valid"], "B.h": ["handed", "PROVED"],
+                                                "k": ["landed"]})
+        self.assertEqual(sites_of(text, False), {"-": ["ok"], "B.g": ["valid"], "B.h": ["PROVED"], "k": ["landed"]})
+
+
+# Programs that lie: they accept nothing that `check` would, and each says so in another way.
+REFUSES = "#!/bin/sh\necho error 5 pair a b cue 1 part 0 of 64\nexit %d\n"
+LIARS = {"refuses": REFUSES % 5, "loses its status": REFUSES % 0, "says nothing": "#!/bin/sh\nexit 0\n",
+         "says another thing": "#!/bin/sh\necho ok\n", "is ended": "#!/bin/sh\nkill -9 $$\n", "fails": "#!/bin/sh\nexit 9\n",
+         "says more": "#!/bin/sh\necho ok drones 1 cues 1 duration_ms 1; echo error 5 pair a b\n",
+         "isn't there": None}
+GOOD, BAD, FILE = (os.path.join(TOP, "examples", name) for name in ("crossing_cured.choreo", "crossing.choreo", "rising.skyc"))
+# Commands whose yes is about a show, on one that is accepted; each may end with 0 by the program's word alone.
+ASKING = [["why", GOOD], ["why", "--json", GOOD], ["check", "--json", GOOD], ["summary", "--json", GOOD],
+          ["dynamics", "--json", GOOD], ["speed", "--json", GOOD], ["boxes", "--json", GOOD, os.devnull],
+          ["deal", os.path.join(TOP, "examples", "grid_to_ring.choreo")], ["without", GOOD, "a"], ["import", "--judge", FILE],
+          ["export", "skyc", GOOD, os.devnull], ["legs", "--dry", GOOD], ["bridge", GOOD],
+          ["fly", "--simulate", "--yes", "--only", "look", GOOD]]
+RUN_WITH = """import sys
+sys.path[:0] = [%r]
+from unittest import mock
+from hemtoghai import __main__, program, streams
+from hemtoghai.launching import launcher
+program.PROGRAM = sys.argv[1]
+with mock.patch.object(launcher, "file_for"):
+    streams.run(lambda: __main__.main(sys.argv[2:]), sys.argv[2])
+""" % PYTHON
+
+
+class Liars(unittest.TestCase):
+    def ended(self, path, words):
+        """The status of a command with a program, and what it wrote and said."""
+        done = subprocess.run([sys.executable, "-IS", "-c", RUN_WITH, path, *words], stdin=subprocess.DEVNULL,
+                              stdout=subprocess.PIPE, stderr=subprocess.PIPE, timeout=120)
+        self.assertNotIn(b"Traceback", done.stderr)
+        return done.returncode, done.stdout.decode(), done.stderr.decode()
+
+    def test_no_yes(self):
+        with tempfile.TemporaryDirectory() as room:
+            for number, (how, text) in enumerate(LIARS.items()):
+                path = os.path.join(room, "program%d" % number)
+                if text is not None:
+                    with open(path, "w") as file:
+                        file.write(text)
+                    os.chmod(path, 0o755)
+                for words in ASKING:
+                    status, said, told = self.ended(path, words)
+                    self.assertNotEqual(status, 0, (how, words, said, told))
+                    self.assertNotRegex(said + told, r"(?m)^(check: )?ok |APART: |all drones are apart|\"ok\": true", (how, words))
+
+    def test_ways(self):
+        # A way is accepted with the words of `check`, by the file that was hashed, and by nothing else.
+        text = b"choreo 1\ndrone a 0 0 0 0\ncue 1\nend\n"
+        with tempfile.TemporaryDirectory() as room:
+            for number, (how, lies) in enumerate(LIARS.items()):
+                path = os.path.join(room, "program%d" % number)
+                if lies is not None:
+                    with open(path, "w") as file:
+                        file.write(lies)
+                    os.chmod(path, 0o755)
+                with mock.patch.object(program, "PROGRAM", path), mock.patch.dict(stages.ANSWERS, clear=True):
+                    self.assertTrue(stages.refusal_of(text), how)
+
+            def exchanged(*given):
+                found = run(*given)
+                asked.append(found)
+                if len(asked) == 2:  # right before it runs
+                    os.replace(other, path)
+                return found
+            asked = []
+            path, other, run = os.path.join(room, "good"), os.path.join(room, "other"), program.runs
+            for name, says in ((path, "error 5 pair a b cue 1 part 0 of 64"), (other, "ok drones 1 cues 1 duration_ms 1")):
+                with open(name, "w") as file:
+                    file.write("#!/bin/sh\necho %s\nexit %d\n" % (says, 5 * (name == path)))
+                os.chmod(name, 0o755)
+            with open(path, "rb") as file, open(path + ".built", "w") as record:
+                json.dump({"sha256": hashlib.sha256(file.read()).hexdigest(), "rests_on": "logic=proved "}, record)
+            with mock.patch.object(program, "PROGRAM", path), mock.patch.dict(stages.ANSWERS, clear=True):
+                self.assertEqual(stages.refusal_of(text), "error 5 pair a b cue 1 part 0 of 64")
+                stages.ANSWERS.clear()
+                with mock.patch.object(program, "runs", exchanged):
+                    if run().startswith("/proc/"):
+                        self.assertEqual(stages.refusal_of(text), "error 5 pair a b cue 1 part 0 of 64")
+                        self.assertEqual(len(asked), 2)
+
+    def test_no_margin(self):
+        # Without the program nothing is accepted with a greater stray.
+        status, said, _ = self.ended("/none", ["summary", "--margin", GOOD])
+        self.assertEqual((status, "accepted" in said, "no margin: `check` was not asked" in said), (0, False, True))
+
+    def test_own_words_alone(self):
+        # The status of a command is 0 with its own words, by the examples of docs/COMMANDS.md, and with no others.
+        answers = {"check": b"ok drones 2 cues 3 duration_ms 7000\n", "verify": b"valid depth 6 trees 3\n",
+                   "boxes": b"kept regions 2\n", "certify": b"version 2\ncertificate 6\n58\n47\n00\n",
+                   "play": b"0 a 0 0 1000000 0\n0 b 1000000 0 1000000 0\n", "speed": b"speed solo 4375000 0 0\n",
+                   "report": b'{"bytes":[34,62],"cues":3,"drones":["a","b"],"duration_ms":7000,"nodes":3,"packets":[3,4]}\n',
+                   "compile": b"plan 1\ndrone solo bytes 28 pieces 1\ndata 00\nend\n",
+                   "dynamics": b"dynamics solo acceleration 3757789 0 0 jump 0 cue 1 0 cue 1 0 cue 1 begins rest ends rest\n"}
+        for command, answer in answers.items():
+            for other in answers:
+                self.assertEqual(program.is_answer([other], 0, answer), other == command, (other, command))
+            for spoilt in (b"", answer[:-1], answer[1:], b"error 5 pair a b cue 1 part 0 of 64\n", answer + b"\0"):
+                self.assertEqual(program.is_answer([command], 0, spoilt), command == "certify" and spoilt[:1] == b"v", spoilt)
+        self.assertTrue(program.is_answer(["check"], 5, b""))  # a refusal needs no words
+        self.assertFalse(program.is_answer(["version"], 0, b""))
+
+    def test_truth(self):
+        for status in (0, 1, 5, 70):
+            verdict = judging.Verdict(status, b"", None, b"")
+            self.assertEqual((bool(verdict), verdict.ok), (status == 0, status == 0))
+
+
+if __name__ == "__main__":
+    unittest.main()
