@@ -217,9 +217,10 @@ with mock.patch.object(launcher, "file_for"):
 
 class Liars(unittest.TestCase):
     def ended(self, path, words):
-        """The status of a command with a program, and what it wrote and said."""
+        """The status of a command with a program, and what it wrote and said; the library, where it is built, isn't asked."""
         done = subprocess.run([sys.executable, "-IS", "-c", RUN_WITH, path, *words], stdin=subprocess.DEVNULL,
-                              stdout=subprocess.PIPE, stderr=subprocess.PIPE, timeout=120)
+                              stdout=subprocess.PIPE, stderr=subprocess.PIPE, timeout=120,
+                              env={**os.environ, "HEMTOGHAI_BY": "process"})
         self.assertNotIn(b"Traceback", done.stderr)
         return done.returncode, done.stdout.decode(), done.stderr.decode()
 
