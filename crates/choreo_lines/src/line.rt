@@ -4,7 +4,7 @@ use choreo_show::{Act, Frame, Listed, Name, Point};
 use std::alloc::{AllocError, AllocFailed};
 
 /// What is wrong with a line, in the order in which the kinds are judged.
-#[derive(Clone, Copy, PartialEq, Eq, Debug)]
+#[derive(Clone, Copy, PartialEq, Eq)]
 pub enum LineKind {
     /// A byte that may not stand outside a comment.
     BadByte,
@@ -31,7 +31,7 @@ pub enum LineKind {
 }
 
 /// Why a line wasn't read.
-#[derive(Clone, Copy, PartialEq, Eq, Debug)]
+#[derive(Clone, Copy)]
 pub enum LineError {
     Kind(LineKind),
     Memory,

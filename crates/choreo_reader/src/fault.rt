@@ -4,7 +4,7 @@ use choreo_lines::LineKind;
 use std::alloc::{AllocError, AllocFailed};
 
 /// Why a text has no show.
-#[derive(Clone, Copy, PartialEq, Eq, Debug)]
+#[derive(Clone, Copy, PartialEq, Eq)]
 pub enum ShowFault {
     /// The first faulty line, from 1, and what is wrong with it.
     Line { line: u32, kind: LineKind },

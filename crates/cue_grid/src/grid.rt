@@ -54,7 +54,7 @@ pub enum GridFault {
 }
 
 /// Why a show isn't unrolled.
-#[derive(Clone, Copy, PartialEq, Eq, Debug)]
+#[derive(Clone, Copy)]
 pub enum UnrollError {
     /// What is wrong with its names or cues.
     Fault { fault: GridFault },

@@ -30,7 +30,7 @@ fn raises_each_degree(rt: HostRuntime) -> Result<(), Fail> {
             [5040, -10080, 15120, -20160, 25200, -30240, 35280, -40320],
         ),
     ] {
-        assert_eq!(rt; raised.b, wanted);
+        assert!(rt; raised.b == wanted);
     }
     Ok(())
 }
@@ -61,7 +61,7 @@ fn tells_values(rt: HostRuntime) -> Result<(), Fail> {
             -170123011253338910355734801518080000000,
         ),
     ] {
-        assert_eq!(rt; value, wanted);
+        assert!(rt; value == wanted);
     }
     Ok(())
 }
@@ -84,7 +84,7 @@ fn subtracts_and_projects(rt: HostRuntime) -> Result<(), Fail> {
             [-60, 300, 900, 900, 1500, 1500, 2100, 3180],
         ),
     ] {
-        assert_eq!(rt; curve.b, wanted);
+        assert!(rt; curve.b == wanted);
     }
     Ok(())
 }

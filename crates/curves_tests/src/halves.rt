@@ -45,7 +45,7 @@ fn names_halves(rt: HostRuntime) -> Result<(), Fail> {
         index: 100,
     };
     let (left, right) = (place.left(), place.right());
-    assert_eq!(rt; [left.depth, right.depth], [8, 8]);
-    assert_eq!(rt; [left.index, right.index], [200, 201]);
+    assert!(rt; [left.depth, right.depth] == [8, 8]);
+    assert!(rt; [left.index, right.index] == [200, 201]);
     Ok(())
 }

@@ -20,7 +20,7 @@ fn floors_quotients(rt: HostRuntime) -> Result<(), Fail> {
         (i128::MAX, i128::MAX, 1),
         (i128::MIN, 3, -56713727820156410577229101238628035243),
     ] {
-        assert_eq!(rt; floor_div(a, b), floor, "of {a} by {b}");
+        assert!(rt; floor_div(a, b) == floor, "of {a} by {b}");
     }
     Ok(())
 }
@@ -41,7 +41,7 @@ fn finds_roots(rt: HostRuntime) -> Result<(), Fail> {
         (1000000000000000000000000, 1000000000001),
         ((1 << 100) - 1, 1 << 50),
     ] {
-        assert_eq!(rt; least_root_above(v), root, "above {v}");
+        assert!(rt; least_root_above(v) == root, "above {v}");
     }
     Ok(())
 }
@@ -59,7 +59,7 @@ fn tells_differences(rt: HostRuntime) -> Result<(), Fail> {
             170141183460469231731687303715884105726,
         ),
     ] {
-        assert_eq!(rt; abs_diff(a, b), apart, "of {a} and {b}");
+        assert!(rt; abs_diff(a, b) == apart, "of {a} and {b}");
     }
     Ok(())
 }

@@ -197,13 +197,13 @@ fn edges_between_segments(rt: HostRuntime) -> Result<(), Fail> {
 #[test]
 fn rows_are_lines(rt: HostRuntime) {
     let row = play_row(500, b"solo", [70_556, 0, 1_000_000, 0]);
-    assert_eq!(rt; row.as_slice(), b"500 solo 70556 0 1000000 0\n".as_slice());
+    assert!(rt; row.as_slice() == b"500 solo 70556 0 1000000 0\n".as_slice());
     let row = play_row(0, b"a", [-334, -1, 0, -900]);
-    assert_eq!(rt; row.as_slice(), b"0 a -334 -1 0 -900\n".as_slice());
+    assert!(rt; row.as_slice() == b"0 a -334 -1 0 -900\n".as_slice());
     let row = play_row(
         4_294_967_295,
         b"abcdefghijklmnop",
         [i64::MIN, i64::MIN, i64::MIN, i64::MAX],
     );
-    assert_eq!(rt; row.as_slice().len(), 111);
+    assert!(rt; row.as_slice().len() == 111);
 }

@@ -46,10 +46,10 @@ fn a_move_from_rest_to_rest(rt: HostRuntime) -> Result<(), Fail> {
         0, 0, 0, 0, 0xE8, 3, 0, 0, 3, 0xD0, 7, 0, 0, 0, 0, 0, 0, 0xE8, 3, 0xE8, 3, 0xE8, 3, 0xE8,
         3, 0, 0, 0,
     ];
-    assert_eq!(rt; bytes.as_slice(), wanted.as_slice());
-    assert_eq!(rt; size_of(&t), 28);
+    assert!(rt; bytes.as_slice() == wanted.as_slice());
+    assert!(rt; size_of(&t) == 28);
     let segments = t.segments.into_vec();
-    assert_eq!(rt; segments.as_slice(), [segment].as_slice());
+    assert!(rt; segments.as_slice() == [segment].as_slice());
     assert!(rt; reads(rt.alloc(), &wanted, [0, 0, 1000, 0], segment, 25));
     assert!(rt; reads(rt.alloc(), &wanted[..25], [0, 0, 1000, 0], segment, 25));
     Ok(())
@@ -74,14 +74,14 @@ fn a_quarter_arc(rt: HostRuntime) -> Result<(), Fail> {
         0xE8, 3, 0, 0, 0xE8, 3, 0, 0, 0x0A, 0xE8, 3, 0xE8, 3, 0x28, 2, 0, 0, 0x28, 2, 0xE8, 3,
         0xE8, 3, 0, 0, 0,
     ];
-    assert_eq!(rt; bytes.as_slice(), wanted.as_slice());
-    assert_eq!(rt; size_of(&t), 26);
+    assert!(rt; bytes.as_slice() == wanted.as_slice());
+    assert!(rt; size_of(&t) == 26);
     assert!(rt; reads(rt.alloc(), &wanted, [1000, 0, 1000, 0], segment, 23));
     assert!(rt; reads(rt.alloc(), &wanted[..23], [1000, 0, 1000, 0], segment, 23));
     let fault = fault_in(rt.alloc(), &wanted, 2);
-    assert_eq!(rt; fault, Some(CodecFault::ZeroDuration { at: 24 }));
+    assert!(rt; fault == Some(CodecFault::ZeroDuration { at: 24 }));
     let fault = fault_in(rt.alloc(), &wanted[..23], 2);
-    assert_eq!(rt; fault, Some(CodecFault::Short { at: 23 }));
+    assert!(rt; fault == Some(CodecFault::Short { at: 23 }));
     Ok(())
 }
 
@@ -104,8 +104,8 @@ fn all_four_kinds(rt: HostRuntime) -> Result<(), Fail> {
         0, 0x80, 0xFF, 0x7F, 0, 1, 0, 0xFF, 0xE4, 0xFF, 0xFF, 0xFF, 0xFF, 1, 0, 0xFE, 0xFF, 0x2C,
         1, 0, 0x80, 0xFF, 0x7F, 0, 0, 1, 0, 2, 0, 3, 0, 2, 1, 0, 0, 0,
     ];
-    assert_eq!(rt; bytes.as_slice(), wanted.as_slice());
-    assert_eq!(rt; size_of(&t), 36);
+    assert!(rt; bytes.as_slice() == wanted.as_slice());
+    assert!(rt; size_of(&t) == 36);
     let start = [-32_768, 32_767, 256, -256];
     assert!(rt; reads(rt.alloc(), &wanted, start, segment, 33));
     Ok(())
@@ -145,16 +145,10 @@ fn first_faults(rt: HostRuntime) -> Result<(), Fail> {
     ];
     for (bytes, pieces, fault) in cases {
         let all = after_start(rt.alloc(), bytes)?;
-        assert_eq!(rt; fault_in(rt.alloc(), &all, pieces), fault);
+        assert!(rt; fault_in(rt.alloc(), &all, pieces) == fault);
     }
-    assert_eq!(rt;
-        fault_in(rt.alloc(), &[], 1),
-        Some(CodecFault::Short { at: 0 })
-    );
-    assert_eq!(rt;
-        fault_in(rt.alloc(), &[0; 7], 1),
-        Some(CodecFault::Short { at: 6 })
-    );
+    assert!(rt; fault_in(rt.alloc(), &[], 1) == Some(CodecFault::Short { at: 0 }));
+    assert!(rt; fault_in(rt.alloc(), &[0; 7], 1) == Some(CodecFault::Short { at: 6 }));
     Ok(())
 }
 
@@ -185,11 +179,11 @@ fn each_header(rt: HostRuntime) -> Result<(), Fail> {
         bytes.extend_from_slice(&[0; 3])?;
         match decode(rt.alloc(), &bytes, 1) {
             Ok((t, used)) => {
-                assert_eq!(rt; used, 11 + 2 * usize::from(count), "header {header}");
+                assert!(rt; used == 11 + 2 * usize::from(count), "header {header}");
                 let back = encode(rt.alloc(), &t)?;
-                assert_eq!(rt; back.as_slice(), bytes.as_slice(), "header {header}");
+                assert!(rt; back.as_slice() == bytes.as_slice(), "header {header}");
             }
-            Err(fault) => assert_eq!(rt; Some(fault), None, "header {header}"),
+            Err(fault) => assert!(rt; Some(fault) == None, "header {header}"),
         }
     }
     Ok(())

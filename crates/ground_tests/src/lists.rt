@@ -6,10 +6,10 @@ use std::test::Fail;
 fn a_vector_comes_back_whole(rt: HostRuntime) -> Result<(), Fail> {
     let alloc = rt.alloc();
     let list = Listed::from_vec(vec![in alloc; 3, 1, 2]?);
-    assert_eq!(rt; list.as_slice(), [3, 1, 2].as_slice());
+    assert!(rt; list.as_slice() == [3, 1, 2].as_slice());
     let mut again = list.into_vec();
     again.push(5)?;
-    assert_eq!(rt; again.as_slice(), [3, 1, 2, 5].as_slice());
+    assert!(rt; again.as_slice() == [3, 1, 2, 5].as_slice());
     Ok(())
 }
 

@@ -21,7 +21,7 @@ const MOST_REGIONS: usize = 64;
 const FARTHEST: i64 = 40_000;
 
 /// Why regions aren't read.
-#[derive(Clone, Copy, Debug, PartialEq, Eq)]
+#[derive(Clone, Copy)]
 pub enum RegionFault {
     /// The first faulty line. Lines count from 1, those without words included.
     Line { line: u32 },

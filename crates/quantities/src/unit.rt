@@ -5,7 +5,7 @@ ghost use Rattle.quantities.specs.Units.{measure_of};
 ghost use Rattle.quantities.specs.Steps.{measure_by};
 
 /// What a place counts.
-#[derive(Clone, Copy, Debug, PartialEq, Eq)]
+#[derive(Clone, Copy)]
 pub enum Counts {
     Micrometres,
     Millimetres,

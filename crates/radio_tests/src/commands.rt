@@ -18,7 +18,7 @@ fn makes_commands(rt: HostRuntime) -> Result<(), Fail> {
         (start(0), [0x8C, 5, 0, 0, 0, 0, 0, 0, 0x80, 0x3F]),
         (start(9), [0x8C, 5, 0, 0, 0, 9, 0, 0, 0x80, 0x3F]),
     ] {
-        assert_eq!(rt; packet.bytes(), bytes.as_slice());
+        assert!(rt; packet.bytes() == bytes.as_slice());
     }
     Ok(())
 }
@@ -30,7 +30,7 @@ fn makes_answers(rt: HostRuntime) -> Result<(), Fail> {
         (command_answer(&define(7, 4096, 3), 5), [0x8C, 6, 7, 1, 5]),
         (command_answer(&start(4), 0), [0x8C, 5, 0, 0, 0]),
     ] {
-        assert_eq!(rt; packet.bytes(), bytes.as_slice());
+        assert!(rt; packet.bytes() == bytes.as_slice());
     }
     Ok(())
 }
@@ -72,7 +72,7 @@ fn reads_commands(rt: HostRuntime) -> Result<(), Fail> {
         (&[0, 0, 0, 0, 0, 0, 0, 0, 0], Err(CommandFault::Unknown)),
     ];
     for (payload, command) in table {
-        assert_eq!(rt; parse_command(payload), command);
+        assert!(rt; parse_command(payload) == command);
     }
     Ok(())
 }

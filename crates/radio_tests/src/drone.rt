@@ -146,7 +146,7 @@ fn answers_one_packet(rt: HostRuntime) -> Result<(), Fail> {
         assert!(rt; 1 <= bytes.len() && bytes.len() <= 31);
         let mut drone = fresh();
         match drone.handle(&packet_of(bytes)) {
-            Some(given) => assert_eq!(rt; given.bytes(), answer),
+            Some(given) => assert!(rt; given.bytes() == answer),
             None => assert!(rt; answer.is_empty()),
         }
         let mut wanted = fresh();
@@ -161,10 +161,10 @@ fn answers_one_packet(rt: HostRuntime) -> Result<(), Fail> {
             }
             None => {}
         }
-        assert_eq!(rt; drone.memory.as_slice(), wanted.memory.as_slice());
-        assert_eq!(rt; drone.defs.as_slice(), wanted.defs.as_slice());
-        assert_eq!(rt; drone.started, None);
-        assert_eq!(rt; drone.memory_id, 2);
+        assert!(rt; drone.memory.as_slice() == wanted.memory.as_slice());
+        assert!(rt; drone.defs.as_slice() == wanted.defs.as_slice());
+        assert!(rt; drone.started == None);
+        assert!(rt; drone.memory_id == 2);
     }
     Ok(())
 }
@@ -184,18 +184,15 @@ fn starts_what_it_was_given(rt: HostRuntime) -> Result<(), Fail> {
     ];
     for (bytes, status) in table {
         assert!(rt; 1 <= bytes.len() && bytes.len() <= 31);
-        assert_eq!(rt; drone.started, None);
+        assert!(rt; drone.started == None);
         match drone.handle(&packet_of(bytes)) {
-            Some(given) => assert_eq!(rt; given.bytes().last(), Some(&status)),
+            Some(given) => assert!(rt; given.bytes().last() == Some(&status)),
             None => assert!(rt; false),
         }
     }
-    assert_eq!(rt; &drone.memory[4091..], [255, 3, 0, 0, 0].as_slice());
-    assert_eq!(rt;
-        drone.defs[4].map(|def| (def.offset, def.pieces)),
-        Some((4068, 1))
-    );
+    assert!(rt; &drone.memory[4091..] == [255, 3, 0, 0, 0].as_slice());
+    assert!(rt; drone.defs[4].map(|def| (def.offset, def.pieces)) == Some((4068, 1)));
     assert!(rt; drone.defs[3].is_none());
-    assert_eq!(rt; drone.started, Some(4));
+    assert!(rt; drone.started == Some(4));
     Ok(())
 }

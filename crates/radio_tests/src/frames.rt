@@ -88,8 +88,8 @@ fn streams(rt: HostRuntime) -> Result<(), Fail> {
     ];
     for (bytes, wanted, whole) in cases {
         let given = seen(alloc, bytes)?;
-        assert_eq!(rt; given.0.as_slice(), wanted);
-        assert_eq!(rt; given.1, whole);
+        assert!(rt; given.0.as_slice() == wanted);
+        assert!(rt; given.1 == whole);
     }
     Ok(())
 }
@@ -103,14 +103,14 @@ fn longest_frame(rt: HostRuntime) -> Result<(), Fail> {
     wanted.extend_from_slice(&[0x54; 31])?;
     wanted.push(b';')?;
     let given = seen(alloc, &bytes)?;
-    assert_eq!(rt; given.0.as_slice(), wanted.as_slice());
+    assert!(rt; given.0.as_slice() == wanted.as_slice());
     assert!(rt; given.1);
     let mut out: ArrayVec<u8, FRAME_BYTES> = ArrayVec::new();
     let Ok(packet) = from_bytes(&[0x54; 31]) else {
         panic!(rt; "31 bytes are a packet");
     };
     put_frame(32, &packet, &mut out);
-    assert_eq!(rt; out.as_slice(), bytes.as_slice());
+    assert!(rt; out.as_slice() == bytes.as_slice());
     Ok(())
 }
 
@@ -118,11 +118,11 @@ fn longest_frame(rt: HostRuntime) -> Result<(), Fail> {
 fn written_frames(rt: HostRuntime) {
     let mut out: ArrayVec<u8, 90> = ArrayVec::new();
     put_frame(1, &write_answer(2, 24, 0), &mut out);
-    assert_eq!(rt; out.as_slice(), ANSWER.as_slice());
+    assert!(rt; out.as_slice() == ANSWER.as_slice());
     put_frame(5, &write_request(2, 24, &[3, 0]), &mut out);
-    assert_eq!(rt;
-        out.as_slice(),
-        b"\x50\x01\x07\x4E\x02\x18\x00\x00\x00\x00\x50\x05\x08\x4E\x02\x18\x00\x00\x00\x03\x00".as_slice()
+    assert!(rt;
+        out.as_slice()
+            == b"\x50\x01\x07\x4E\x02\x18\x00\x00\x00\x00\x50\x05\x08\x4E\x02\x18\x00\x00\x00\x03\x00".as_slice()
     );
 }
 
@@ -176,20 +176,20 @@ const FRONTS: [(&[u8], &[u8], usize); 18] = [
 fn first_frames(rt: HostRuntime) -> Result<(), Fail> {
     for (bytes, wanted, size) in FRONTS {
         let given = front(rt.alloc(), bytes)?;
-        assert_eq!(rt; given.0.as_slice(), wanted);
-        assert_eq!(rt; given.1, size);
+        assert!(rt; given.0.as_slice() == wanted);
+        assert!(rt; given.1 == size);
     }
     let mut longest = [0x54; 35];
     longest[0] = 0x50;
     longest[1] = 32;
     longest[2] = 31;
     let given = front(rt.alloc(), &longest)?;
-    assert_eq!(rt;
-        given.0.as_slice(),
-        [b"P\x20".as_slice(), &longest[3..34]]
-            .concat(rt.alloc())?
-            .as_slice()
+    assert!(rt;
+        given.0.as_slice()
+            == [b"P\x20".as_slice(), &longest[3..34]]
+                .concat(rt.alloc())?
+                .as_slice()
     );
-    assert_eq!(rt; given.1, 34);
+    assert!(rt; given.1 == 34);
     Ok(())
 }

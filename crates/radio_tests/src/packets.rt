@@ -19,7 +19,7 @@ fn makes_messages(rt: HostRuntime) -> Result<(), Fail> {
         0x4E, 2, 0, 0, 0, 0, 0, 0, 0, 0, 0xE8, 3, 0, 0, 3, 0xD0, 7, 0, 0, 0, 0, 0, 0, 0xE8, 3,
         0xE8, 3, 0xE8, 3, 0xE8,
     ];
-    assert_eq!(rt; write_request(2, 0, &PATH[..24]).bytes(), first.as_slice());
+    assert!(rt; write_request(2, 0, &PATH[..24]).bytes() == first.as_slice());
     let tail = &PATH[24..];
     for (packet, bytes) in [
         (
@@ -35,7 +35,7 @@ fn makes_messages(rt: HostRuntime) -> Result<(), Fail> {
             [0x4D, 2, 0xE4, 0x0F, 0, 0, 0, 0xE8, 3, 0],
         ),
     ] {
-        assert_eq!(rt; packet.bytes(), bytes.as_slice());
+        assert!(rt; packet.bytes() == bytes.as_slice());
     }
     for (packet, bytes) in [
         (
@@ -50,7 +50,7 @@ fn makes_messages(rt: HostRuntime) -> Result<(), Fail> {
         (read_request(2, 0x0403_0201, 20), [0x4D, 2, 1, 2, 3, 4, 20]),
         (read_answer(3, 4096, 5, &[]), [0x4D, 3, 0, 0x10, 0, 0, 5]),
     ] {
-        assert_eq!(rt; packet.bytes(), bytes.as_slice());
+        assert!(rt; packet.bytes() == bytes.as_slice());
     }
     Ok(())
 }
@@ -70,9 +70,9 @@ fn packets_have_1_to_31_bytes(rt: HostRuntime) -> Result<(), Fail> {
         match from_bytes(taken) {
             Ok(packet) => {
                 assert!(rt; fault.is_none(), "at {len}");
-                assert_eq!(rt; packet.bytes(), taken);
+                assert!(rt; packet.bytes() == taken);
             }
-            Err(e) => assert_eq!(rt; Some(e), fault, "at {len}"),
+            Err(e) => assert!(rt; Some(e) == fault, "at {len}"),
         }
     }
     Ok(())
@@ -133,19 +133,19 @@ fn reads_what_a_drone_is_told(rt: HostRuntime) -> Result<(), Fail> {
     for (bytes, id, address, data) in WRITES {
         let piece = piece_of(data);
         let told = Ok(Down::Write { id, address, piece });
-        assert_eq!(rt; parse_down(&packet_of(bytes)?), told);
+        assert!(rt; parse_down(&packet_of(bytes)?) == told);
     }
     for (bytes, id, address, len) in READS {
         let told = Ok(Down::Read { id, address, len });
-        assert_eq!(rt; parse_down(&packet_of(bytes)?), told);
+        assert!(rt; parse_down(&packet_of(bytes)?) == told);
     }
     for (bytes, data) in COMMANDS {
         let payload = piece_of(data);
         let told = Ok(Down::Command { payload });
-        assert_eq!(rt; parse_down(&packet_of(bytes)?), told);
+        assert!(rt; parse_down(&packet_of(bytes)?) == told);
     }
     for (bytes, fault) in NOTHING_DOWN {
-        assert_eq!(rt; parse_down(&packet_of(bytes)?), Err(fault));
+        assert!(rt; parse_down(&packet_of(bytes)?) == Err(fault));
     }
     Ok(())
 }
@@ -190,7 +190,7 @@ fn reads_what_the_host_is_told(rt: HostRuntime) -> Result<(), Fail> {
             address,
             status,
         });
-        assert_eq!(rt; parse_up(&packet_of(bytes)?), told);
+        assert!(rt; parse_up(&packet_of(bytes)?) == told);
     }
     for (bytes, id, address, status, data) in READ_ANSWERS {
         let piece = piece_of(data);
@@ -200,14 +200,14 @@ fn reads_what_the_host_is_told(rt: HostRuntime) -> Result<(), Fail> {
             status,
             piece,
         });
-        assert_eq!(rt; parse_up(&packet_of(bytes)?), told);
+        assert!(rt; parse_up(&packet_of(bytes)?) == told);
     }
     for (bytes, first, status) in COMMAND_ANSWERS {
         let told = Ok(Up::CommandAnswer { first, status });
-        assert_eq!(rt; parse_up(&packet_of(bytes)?), told);
+        assert!(rt; parse_up(&packet_of(bytes)?) == told);
     }
     for (bytes, fault) in NOTHING_UP {
-        assert_eq!(rt; parse_up(&packet_of(bytes)?), Err(fault));
+        assert!(rt; parse_up(&packet_of(bytes)?) == Err(fault));
     }
     Ok(())
 }
@@ -246,6 +246,6 @@ fn reads_the_bytes_of_an_answer(rt: HostRuntime) {
     ];
     for (bytes, wanted) in results {
         assert!(rt; 1 <= bytes.len() && bytes.len() <= PACKET_BYTES);
-        assert_eq!(rt; parse_up_bytes(bytes), wanted);
+        assert!(rt; parse_up_bytes(bytes) == wanted);
     }
 }

@@ -356,16 +356,15 @@ fn accelerations_and_jumps_of_two_segments(rt: HostRuntime) -> Result<(), Fail> 
             second,
             Depth::make(depth.min(8)),
         )?;
-        assert_eq!(rt; accelerations, bounds);
-        assert_eq!(rt;
+        assert!(rt; accelerations == bounds);
+        assert!(rt;
             [
                 (x.speed, x.segment),
                 (y.speed, y.segment),
                 (z.speed, z.segment)
-            ],
-            greatest
+            ] == greatest
         );
-        assert_eq!(rt; [begins, ends], at_rest);
+        assert!(rt; [begins, ends] == at_rest);
     }
     Ok(())
 }
@@ -422,7 +421,7 @@ fn what_is_above_a_limit_first(rt: HostRuntime) -> Result<(), Fail> {
             Limits { acceleration, jump },
         )?;
         let row = found.map(|e| (matches!(e.kind, Kind::Jump), e.segment, e.axis, e.value));
-        assert_eq!(rt; row, wanted);
+        assert!(rt; row == wanted);
     }
     Ok(())
 }

@@ -76,10 +76,7 @@ fn the_first_control_value_that_is_too_low(rt: HostRuntime) -> Result<(), Fail> 
     let seen = projected(&dips, along_x, 120, 300);
     let whole = Depth::make(0);
     // 72,300 and 72,000 times 5,040
-    assert_eq!(rt;
-        [seen.b[0], seen.b[3], seen.b[7]],
-        [364392000, 362880000, 364392000]
-    );
+    assert!(rt; [seen.b[0], seen.b[3], seen.b[7]] == [364392000, 362880000, 364392000]);
     for (found, wanted) in [
         (low_control(&dips, along_x, 120, 300, 72001, whole), Some(3)),
         (low_control(&dips, along_x, 120, 300, 72000, whole), None),
@@ -89,7 +86,7 @@ fn the_first_control_value_that_is_too_low(rt: HostRuntime) -> Result<(), Fail> 
         (first_below(&seen, 1, Depth::make(2)), None),
         (first_below(&seen, 5, Depth::make(2)), Some(0)),
     ] {
-        assert_eq!(rt; found, wanted);
+        assert!(rt; found == wanted);
     }
     Ok(())
 }
@@ -154,10 +151,10 @@ fn both_halves_of_a_cue(rt: HostRuntime) -> Result<(), Fail> {
     let level = Bez::<8> { b: [0; 8] };
     let above = Bez::<8> { b: [5; 8] };
     let (first, second) = halves(&[step, level, above]);
-    assert_eq!(rt; first[0].b, [0, 0, 0, 0, 8, 24, 44, 64]);
-    assert_eq!(rt; second[0].b, [64, 84, 104, 120, 128, 128, 128, 128]);
-    assert_eq!(rt; first[1].b, [0; 8]);
-    assert_eq!(rt; second[2].b, [640; 8]);
+    assert!(rt; first[0].b == [0, 0, 0, 0, 8, 24, 44, 64]);
+    assert!(rt; second[0].b == [64, 84, 104, 120, 128, 128, 128, 128]);
+    assert!(rt; first[1].b == [0; 8]);
+    assert!(rt; second[2].b == [640; 8]);
     Ok(())
 }
 

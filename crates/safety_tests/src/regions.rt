@@ -108,16 +108,10 @@ const VOLUMES: [([i32; 3], [i32; 3], u8, Judged); 5] = [
 #[test]
 fn regions_of_one_drone(rt: HostRuntime) -> Result<(), Fail> {
     for (low, high, depth, wanted) in KEEPOUTS {
-        assert_eq!(rt;
-            judged(rt.alloc(), keepout(low, high), Depth::make(depth.min(8)))?,
-            wanted
-        );
+        assert!(rt; judged(rt.alloc(), keepout(low, high), Depth::make(depth.min(8)))? == wanted);
     }
     for (low, high, depth, wanted) in VOLUMES {
-        assert_eq!(rt;
-            judged(rt.alloc(), volume(low, high), Depth::make(depth.min(8)))?,
-            wanted
-        );
+        assert!(rt; judged(rt.alloc(), volume(low, high), Depth::make(depth.min(8)))? == wanted);
     }
     Ok(())
 }
@@ -159,7 +153,7 @@ fn texts(rt: HostRuntime) {
         (b"keep 0 0 0 0 0 0 # out\n", Read::Line(1)),
     ];
     for (text, wanted) in cases {
-        assert_eq!(rt; found(rt.alloc(), text), wanted);
+        assert!(rt; found(rt.alloc(), text) == wanted);
     }
 }
 
@@ -169,9 +163,9 @@ fn at_most_sixty_four(rt: HostRuntime) -> Result<(), Fail> {
     for _ in 0..64 {
         text.extend_from_slice(b"volume 0 0 0 1 1 1\n")?;
     }
-    assert_eq!(rt; found(rt.alloc(), text.as_slice()), Read::Regions(64));
+    assert!(rt; found(rt.alloc(), text.as_slice()) == Read::Regions(64));
     text.extend_from_slice(b" \nkeepout 5 5 5 6 6 6\n")?;
-    assert_eq!(rt; found(rt.alloc(), text.as_slice()), Read::Line(66));
+    assert!(rt; found(rt.alloc(), text.as_slice()) == Read::Line(66));
     Ok(())
 }
 
@@ -191,7 +185,7 @@ fn the_first_region(rt: HostRuntime) -> Result<(), Fail> {
         cue: 0,
         index: 25,
     };
-    assert_eq!(rt; judge(&curves, 120, 300, Depth::make(6), &regions), entry);
+    assert!(rt; judge(&curves, 120, 300, Depth::make(6), &regions) == entry);
     Ok(())
 }
 
@@ -235,19 +229,16 @@ fn the_second_drone_in_the_second_cue(rt: HostRuntime) -> Result<(), Fail> {
     let trajs = pair(rt.alloc())?;
     let curves = Curves::make(rt.alloc(), &trajs)?;
     let below = vec![in rt.alloc(); keepout([300, -50, 1200], [400, 50, 1690])]?;
-    assert_eq!(rt;
-        judge(&curves, 120, 300, Depth::make(6), &below),
-        Judged::Kept
-    );
+    assert!(rt; judge(&curves, 120, 300, Depth::make(6), &below) == Judged::Kept);
     let reached = vec![in rt.alloc(); keepout([300, -50, 1310], [400, 50, 1710])]?;
-    assert_eq!(rt;
-        judge(&curves, 120, 300, Depth::make(6), &reached),
-        Judged::Enters {
-            region: 0,
-            drone: 1,
-            cue: 1,
-            index: 31
-        }
+    assert!(rt;
+        judge(&curves, 120, 300, Depth::make(6), &reached)
+            == (Judged::Enters {
+                region: 0,
+                drone: 1,
+                cue: 1,
+                index: 31
+            })
     );
     Ok(())
 }

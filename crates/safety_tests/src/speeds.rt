@@ -249,7 +249,7 @@ fn bounds_of_two_segments(rt: HostRuntime) -> Result<(), Fail> {
         let first = segment(first_ms, x, y, z);
         let second = segment(second_ms, u, v, w);
         let found = bounds(rt.alloc(), start, first, second, Depth::make(depth.min(8)))?;
-        assert_eq!(rt; found, wanted);
+        assert!(rt; found == wanted);
     }
     Ok(())
 }

@@ -161,7 +161,7 @@ const BYTES_OF_SHOWS: [(&[u8], &[u8], Outcome); 14] = [
 #[test]
 fn bytes_of_shows(rt: HostRuntime) {
     for (text, wanted, outcome) in BYTES_OF_SHOWS {
-        assert_eq!(rt; outcome_of(rt.alloc(), text, wanted), outcome);
+        assert!(rt; outcome_of(rt.alloc(), text, wanted) == outcome);
     }
 }
 
@@ -246,7 +246,7 @@ const REFUSALS: [(&[u8], PlanFault); 8] = [
 #[test]
 fn refusals(rt: HostRuntime) {
     for (text, fault) in REFUSALS {
-        assert_eq!(rt; outcome_of(rt.alloc(), text, b""), Outcome::Fault(fault));
+        assert!(rt; outcome_of(rt.alloc(), text, b"") == Outcome::Fault(fault));
     }
 }
 
@@ -315,7 +315,7 @@ const PLANS: [(&[u8], &[u8]); 5] = [
 fn plans(rt: HostRuntime) {
     for (text, wanted) in PLANS {
         match plan_of(rt.alloc(), text) {
-            Some(plan) => assert_eq!(rt; plan.bytes(), wanted),
+            Some(plan) => assert!(rt; plan.bytes() == wanted),
             None => panic!(rt; "no plan of {text:?}"),
         }
     }

@@ -121,11 +121,11 @@ fn packets_are_those_of_the_format(rt: HostRuntime) -> Result<(), Fail> {
     assert!(rt; has_packets(&session, 0, &LAST_BYTE));
     assert!(rt; has_packets(&session, 1, &LAST_PATH));
     let settings = session.settings();
-    assert_eq!(rt; settings.memory_id, 3);
-    assert_eq!(rt; settings.offset, 4068);
-    assert_eq!(rt; settings.trajectory_id, 9);
-    assert_eq!(rt; session.load_len(0), 1);
-    assert_eq!(rt; session.load_len(1), 28);
+    assert!(rt; settings.memory_id == 3);
+    assert!(rt; settings.offset == 4068);
+    assert!(rt; settings.trajectory_id == 9);
+    assert!(rt; session.load_len(0) == 1);
+    assert!(rt; session.load_len(1) == 28);
     let bytes: [(usize, u8); 3] = [(0, 0), (9, 0xD0), (27, 0)];
     for (i, byte) in bytes {
         assert!(rt; i < session.load_len(1) && session.load_byte(1, i) == byte);
@@ -261,7 +261,7 @@ fn silence_ends_at_twenty_ticks(rt: HostRuntime) -> Result<(), Fail> {
     let mut out = Out::new();
     for _ in 0..19 {
         assert!(rt; host.event(Event::Tick, &mut out) == Progress::Going);
-        assert_eq!(rt; out.len(), 4);
+        assert!(rt; out.len() == 4);
     }
     let ended = Progress::GaveUp {
         drone: 0,

@@ -320,7 +320,7 @@ const ENDS: [Row; 30] = [
 
 #[test]
 fn each_end(rt: HostRuntime) -> Result<(), Fail> {
-    assert_eq!(rt; (LONG_WROTE.len(), LONG_REFUSED.len()), (34, 34));
+    assert!(rt; (LONG_WROTE.len(), LONG_REFUSED.len()) == (34, 34));
     for (asked, input, status, output) in ENDS {
         assert!(rt; ends(rt.alloc(), asked, input, status, output)?);
     }
@@ -335,8 +335,8 @@ fn the_twentieth_tick_gives_up(rt: HostRuntime) -> Result<(), Fail> {
         (b"TTTTTTTTTTTTTTTTTTT", 8),
     ] {
         let ran = run(alloc, LOAD, joined(alloc, &[ticks])?, 1, 0, 0)?;
-        assert_eq!(rt; ran.status, status);
-        assert_eq!(rt; ran.sink.written().len(), 922);
+        assert!(rt; ran.status == status);
+        assert!(rt; ran.sink.written().len() == 922);
     }
     Ok(())
 }
@@ -364,7 +364,7 @@ fn no_read_after_the_end(rt: HostRuntime) -> Result<(), Fail> {
             count.saturating_add(1),
             0,
         )?;
-        assert_eq!(rt; ran.status, status);
+        assert!(rt; ran.status == status);
         // The read that fails is still the next one.
         assert!(rt; ran.source.read(&mut [0; 1]).is_err());
     }
@@ -398,8 +398,8 @@ fn failing_ends(rt: HostRuntime) -> Result<(), Fail> {
     let alloc = rt.alloc();
     for (input, read, write, cut, status, output) in FAILURES {
         let ran = run(alloc, LOAD, joined(alloc, input)?, cut, read, write)?;
-        assert_eq!(rt; ran.status, status);
-        assert_eq!(rt; ran.sink.written(), joined(alloc, output)?.as_slice());
+        assert!(rt; ran.status == status);
+        assert!(rt; ran.sink.written() == joined(alloc, output)?.as_slice());
     }
     Ok(())
 }
@@ -413,8 +413,8 @@ fn frames_wait_for_answers(rt: HostRuntime) -> Result<(), Fail> {
         bytes.extend_from_slice(OTHER)?;
     }
     let mut ran = run(alloc, LOAD, bytes, 100, 0, 1)?;
-    assert_eq!(rt; ran.status, 7);
-    assert_eq!(rt; ran.sink.written().len(), 0);
+    assert!(rt; ran.status == 7);
+    assert!(rt; ran.sink.written().len() == 0);
     let mut left = 0;
     for _ in 0..60 {
         let mut buf = [0; 100];
@@ -453,8 +453,8 @@ fn four_million_frames(rt: HostRuntime) -> Result<(), Fail> {
     for (count, behind, status, output) in FOUR_MILLION_FRAMES {
         let input = many(alloc, count, joined(alloc, behind)?.as_slice())?;
         let ran = run(alloc, LOAD, input, 4096, 0, 0)?;
-        assert_eq!(rt; ran.status, status);
-        assert_eq!(rt; ran.sink.written(), joined(alloc, output)?.as_slice());
+        assert!(rt; ran.status == status);
+        assert!(rt; ran.sink.written() == joined(alloc, output)?.as_slice());
     }
     Ok(())
 }
@@ -530,8 +530,8 @@ fn ends_share_a_count(rt: HostRuntime) -> Result<(), Fail> {
         host_of(rt.alloc(), LOAD)?,
         &mut sink,
     );
-    assert_eq!(rt; status, 0);
-    assert_eq!(rt; given.get(), 4);
-    assert_eq!(rt; sent.get(), 74);
+    assert!(rt; status == 0);
+    assert!(rt; given.get() == 4);
+    assert!(rt; sent.get() == 74);
     Ok(())
 }

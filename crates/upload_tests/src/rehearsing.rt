@@ -93,7 +93,7 @@ fn a_whole_rehearsal(rt: HostRuntime) -> Result<(), Fail> {
     match text_of(alloc, &world, solo_name())? {
         Some(text) => {
             let bytes = text.bytes();
-            assert_eq!(rt; bytes.len(), 13_015);
+            assert!(rt; bytes.len() == 13_015);
             assert!(rt; bytes.starts_with(HEAD));
             assert!(rt; bytes.ends_with(TAIL));
             for k in 1..128 {
@@ -114,7 +114,7 @@ fn before_any_event(rt: HostRuntime) -> Result<(), Fail> {
     let world = rehearsed(alloc, &[])?;
     assert!(rt; world.progress() == Progress::Going);
     let drone = world.drone(0);
-    assert_eq!(rt; drone.memory_id, 7);
+    assert!(rt; drone.memory_id == 7);
     assert!(rt; drone.memory.iter().all(|byte| *byte == 0xFF));
     assert!(rt; drone.defs.iter().all(|def| def.is_none()));
     assert!(rt; drone.started.is_none());
