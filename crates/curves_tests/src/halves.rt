@@ -5,7 +5,7 @@ use halving::{Place, halve};
 use std::test::Fail;
 
 // A curve, its first half and its second half: a step, waves, and the first half of the waves.
-const HALVES: [([i128; 8], [i128; 8], [i128; 8]); 3] = [
+const HALVES: &[([i128; 8], [i128; 8], [i128; 8])] = &[
     (
         [0, 0, 0, 0, 1, 1, 1, 1],
         [0, 0, 0, 0, 8, 24, 44, 64],
@@ -31,7 +31,7 @@ const HALVES: [([i128; 8], [i128; 8], [i128; 8]); 3] = [
 
 #[test]
 fn halves(rt: HostRuntime) -> Result<(), Fail> {
-    for (whole, first, second) in HALVES {
+    for &(whole, first, second) in HALVES {
         let (left, right) = halve(&Bez { b: whole });
         assert!(rt; left.b == first && right.b == second);
     }

@@ -142,7 +142,7 @@ fn greatest_numbers_the_other_way(rt: HostRuntime) -> Result<(), Fail> {
 }
 
 // rows at the edges of three segments: the millisecond, then x, y and z in micrometres and the yaw
-const EDGES: [(u32, [i64; 4]); 9] = [
+const EDGES: &[(u32, [i64; 4])] = &[
     (0, [0, 1_000_000, -5000, 9000]),
     (1, [1000, 1_000_000, -4998, 8982]),
     (999, [999_000, 1_000_000, 1_493_498, -8982]),
@@ -190,7 +190,7 @@ fn edges_between_segments(rt: HostRuntime) -> Result<(), Fail> {
         },
     ];
     let t = traj(rt.alloc(), [0, 1000, -5, 900], &segments)?;
-    assert!(rt; plays(&t, 1008, &EDGES));
+    assert!(rt; plays(&t, 1008, EDGES));
     Ok(())
 }
 

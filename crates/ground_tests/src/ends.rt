@@ -70,7 +70,7 @@ fn a_full_writer_fails(rt: HostRuntime) {
 }
 
 // The room, the number of the write that fails, whether all went out, and what did.
-const WRITES: [(usize, u64, bool, &[u8]); 3] = [
+const WRITES: &[(usize, u64, bool, &[u8])] = &[
     (9, 0, true, b"forwards"),
     (9, 2, false, b"for"),
     (7, 0, false, b"forward"),
@@ -79,7 +79,7 @@ const WRITES: [(usize, u64, bool, &[u8]); 3] = [
 #[test]
 fn writes(rt: HostRuntime) -> Result<(), Fail> {
     let alloc = rt.alloc();
-    for (room, fails, done, written) in WRITES {
+    for &(room, fails, done, written) in WRITES {
         let mut sink = MemSink::make(alloc, room, 3, Vec::from_slice(alloc, &[fails])?)?;
         let is_done = write_whole(&mut sink, b"forwards").is_ok();
         assert!(rt; is_done == done && sink.written() == written);

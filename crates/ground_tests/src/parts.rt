@@ -14,7 +14,7 @@ fn source_of(alloc: Global, input: &[u8], cut: usize, fails: u64) -> Result<MemS
 }
 
 // An input; its first part, whether a marker line ends that, and its second part.
-const PARTS_UNDER_ANY_CUT: [(&[u8], &[u8], bool, &[u8]); 8] = [
+const PARTS_UNDER_ANY_CUT: &[(&[u8], &[u8], bool, &[u8])] = &[
     (b"", b"", false, b""),
     (b"a\nb", b"a\nb", false, b""),
     (b"a\n%%\nb\n", b"a\n", true, b"b\n"),
@@ -32,7 +32,7 @@ const PARTS_UNDER_ANY_CUT: [(&[u8], &[u8], bool, &[u8]); 8] = [
 
 #[test]
 fn parts_under_any_cut(rt: HostRuntime) -> Result<(), Fail> {
-    for (input, wanted, marker, rest) in PARTS_UNDER_ANY_CUT {
+    for &(input, wanted, marker, rest) in PARTS_UNDER_ANY_CUT {
         for cut in [1, 2, 3, 5, 100] {
             let mut source = source_of(rt.alloc(), input, cut, 0)?;
             let Ok((first, second)) = two_parts(rt.alloc(), &mut source) else {
@@ -59,7 +59,7 @@ fn first_part(
 }
 
 // The input, its limit, the number of the read that fails, and the fault or the part.
-const REFUSALS: [(&[u8], usize, u64, Result<&[u8], IoFault>); 5] = [
+const REFUSALS: &[(&[u8], usize, u64, Result<&[u8], IoFault>)] = &[
     (b"abc\n%%\n", 3, 0, Err(IoFault::TooLong)),
     (b"abcd", 3, 0, Err(IoFault::TooLong)),
     (b"abc\n%%\n", 9, 2, Err(IoFault::Read)),
@@ -69,7 +69,7 @@ const REFUSALS: [(&[u8], usize, u64, Result<&[u8], IoFault>); 5] = [
 
 #[test]
 fn refusals(rt: HostRuntime) -> Result<(), Fail> {
-    for (input, limit, fails, wanted) in REFUSALS {
+    for &(input, limit, fails, wanted) in REFUSALS {
         let (part, sound) = first_part(rt.alloc(), input, limit, fails)?;
         let is_wanted = match (&part, wanted) {
             (Ok(part), Ok(bytes)) => sound && part.bytes.as_slice() == bytes,
@@ -137,7 +137,7 @@ fn asked(alloc: Global, input: &[u8], cut: usize, fails: u64) -> Result<Vec<u8>,
     Ok(given)
 }
 
-const PARTS_BYTE_BY_BYTE: [(&[u8], &[u8]); 9] = [
+const PARTS_BYTE_BY_BYTE: &[(&[u8], &[u8])] = &[
     (b"", b""),
     (b"%", b"%"),
     (b"%%", b"^"),
@@ -151,7 +151,7 @@ const PARTS_BYTE_BY_BYTE: [(&[u8], &[u8]); 9] = [
 
 #[test]
 fn parts_byte_by_byte(rt: HostRuntime) -> Result<(), Fail> {
-    for (input, wanted) in PARTS_BYTE_BY_BYTE {
+    for &(input, wanted) in PARTS_BYTE_BY_BYTE {
         for cut in [1, 2, 3, 5, 100] {
             let given = asked(rt.alloc(), input, cut, 0);
             assert!(rt; matches!(&given, Ok(bytes) if bytes.as_slice() == wanted));
@@ -178,7 +178,7 @@ fn marker_line_across_the_buffer(rt: HostRuntime) -> Result<(), Fail> {
 }
 
 // The first bytes of the input, the fault, and the bytes that are left: one read of 4,096 bytes.
-const READS_LITTLE: [(&[u8], Option<IoFault>, usize); 3] = [
+const READS_LITTLE: &[(&[u8], Option<IoFault>, usize)] = &[
     (b"a\n%%\n", None, 15909),
     (b"aaaaaaaaaaa", Some(IoFault::TooLong), 15915),
     (b"aaaaaaaaaa\n%%\n", Some(IoFault::TooLong), 15918),
@@ -188,7 +188,7 @@ const READS_LITTLE: [(&[u8], Option<IoFault>, usize); 3] = [
 #[test]
 fn reads_little(rt: HostRuntime) -> Result<(), Fail> {
     let alloc = rt.alloc();
-    for (front, wanted, left) in READS_LITTLE {
+    for &(front, wanted, left) in READS_LITTLE {
         let mut bytes = Vec::from_slice(alloc, front)?;
         bytes.extend_from_slice(&[b'x'; 20000])?;
         let mut source = MemSource::make(bytes, 20100, Vec::new(alloc));

@@ -108,7 +108,7 @@ fn is_text(text: &Result<Vec<u8>, IoFault>, wanted: Result<&[u8], IoFault>) -> b
 // A text that a failed read cut off.
 const FAILED: Result<&[u8], IoFault> = Err(IoFault::Read);
 
-const ROWS: [Row<'static>; 7] = [
+const ROWS: &[Row<'static>] = &[
     // A byte at a time: the second text ends at the end.
     Row {
         steps: &[
@@ -183,7 +183,7 @@ const ROWS: [Row<'static>; 7] = [
 
 #[test]
 fn readers_of_every_kind(rt: HostRuntime) -> Result<(), Fail> {
-    for row in &ROWS {
+    for row in ROWS {
         let said = two_texts(rt.alloc(), row.steps);
         assert!(rt; said.reads == row.reads);
         assert!(rt; handed(rt.alloc(), row.steps, said.reads)?.as_slice() == row.log);

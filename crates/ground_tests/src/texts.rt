@@ -56,7 +56,7 @@ fn words_stand_on_lines(rt: HostRuntime) -> Result<(), Fail> {
     Ok(())
 }
 
-const LINES_ARE_SPLIT: [(&[u8], Option<(&[u8], &[u8])>); 4] = [
+const LINES_ARE_SPLIT: &[(&[u8], Option<(&[u8], &[u8])>)] = &[
     (b"", None),
     (b"a", Some((b"a", b""))),
     (b"a\n\nb", Some((b"a", b"\nb"))),
@@ -65,12 +65,12 @@ const LINES_ARE_SPLIT: [(&[u8], Option<(&[u8], &[u8])>); 4] = [
 
 #[test]
 fn lines_are_split(rt: HostRuntime) {
-    for (text, wanted) in LINES_ARE_SPLIT {
+    for &(text, wanted) in LINES_ARE_SPLIT {
         assert!(rt; text.len() < TEXT_LIMIT && split_line(text) == wanted);
     }
 }
 
-const NUMBERS_ARE_READ_NUMBERS: [(&[u8], Result<i64, NumberFault>); 12] = [
+const NUMBERS_ARE_READ_NUMBERS: &[(&[u8], Result<i64, NumberFault>)] = &[
     (b"0", Ok(0)),
     (b"-0", Ok(0)),
     (b"007", Ok(7)),
@@ -90,12 +90,12 @@ const NUMBERS_ARE_READ_NUMBERS: [(&[u8], Result<i64, NumberFault>); 12] = [
 
 #[test]
 fn numbers_are_read(rt: HostRuntime) {
-    for (word, wanted) in NUMBERS_ARE_READ_NUMBERS {
+    for &(word, wanted) in NUMBERS_ARE_READ_NUMBERS {
         assert!(rt; number_in(word, -1000, 1000) == wanted);
     }
 }
 
-const WORDS: [(&[u8], Option<u64>); 4] = [
+const WORDS: &[(&[u8], Option<u64>)] = &[
     (b"0100", Some(100)),
     (b"", None),
     (b"1000000000001", Some(LARGE)),
@@ -104,7 +104,7 @@ const WORDS: [(&[u8], Option<u64>); 4] = [
 
 #[test]
 fn digits_are_counted_up_to_a_limit(rt: HostRuntime) {
-    for (word, wanted) in WORDS {
+    for &(word, wanted) in WORDS {
         assert!(rt; natural(word) == wanted);
     }
 }

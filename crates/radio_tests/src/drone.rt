@@ -33,7 +33,7 @@ enum Change {
 }
 
 // A packet, its answer (none where it is empty), and what it changes where it is carried out.
-const ANSWERS: [(&[u8], &[u8], Option<Change>); 27] = [
+const ANSWERS: &[(&[u8], &[u8], Option<Change>)] = &[
     (
         &[0x4E, 2, 0, 0, 0, 0, 7],
         &[0x4E, 2, 0, 0, 0, 0, 0],
@@ -142,7 +142,7 @@ const ANSWERS: [(&[u8], &[u8], Option<Change>); 27] = [
 
 #[test]
 fn answers_one_packet(rt: HostRuntime) -> Result<(), Fail> {
-    for (bytes, answer, change) in ANSWERS {
+    for &(bytes, answer, change) in ANSWERS {
         assert!(rt; 1 <= bytes.len() && bytes.len() <= 31);
         let mut drone = fresh();
         match drone.handle(&packet_of(bytes)) {

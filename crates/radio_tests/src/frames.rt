@@ -144,7 +144,7 @@ fn front(alloc: Global, bytes: &[u8]) -> Result<(Vec<u8>, usize), AllocError> {
 }
 
 // Bytes, the packet of the frame that they begin with, and the frame's length; no bytes and 0 if they begin with none.
-const FRONTS: [(&[u8], &[u8], usize); 18] = [
+const FRONTS: &[(&[u8], &[u8], usize)] = &[
     (b"\x54", b"T", 1),
     (b"\x54\x50\x01", b"T", 1),
     (&ANSWER, b"P\x01\x4E\x02\x18\x00\x00\x00\x00", 10),
@@ -174,7 +174,7 @@ const FRONTS: [(&[u8], &[u8], usize); 18] = [
 
 #[test]
 fn first_frames(rt: HostRuntime) -> Result<(), Fail> {
-    for (bytes, wanted, size) in FRONTS {
+    for &(bytes, wanted, size) in FRONTS {
         let given = front(rt.alloc(), bytes)?;
         assert!(rt; given.0.as_slice() == wanted);
         assert!(rt; given.1 == size);

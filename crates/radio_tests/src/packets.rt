@@ -91,7 +91,7 @@ fn piece_of(bytes: &[u8]) -> Piece {
 }
 
 // Writes, with the memory id, the address and the bytes that they tell a drone.
-const WRITES: [(&[u8], u8, u32, &[u8]); 4] = [
+const WRITES: &[(&[u8], u8, u32, &[u8])] = &[
     (&[0x4E, 2, 0x18, 0, 0, 0, 3, 0, 0, 0], 2, 24, &[3, 0, 0, 0]),
     (&[0x42, 2, 0x18, 0, 0, 0, 3], 2, 24, &[3]),
     (&[0x46, 2, 255, 255, 255, 255, 9], 2, 0xFFFF_FFFF, &[9]),
@@ -110,16 +110,16 @@ const WRITES: [(&[u8], u8, u32, &[u8]); 4] = [
 ];
 
 // Reads, with the memory id, the address and the length that they tell a drone.
-const READS: [(&[u8], u8, u32, u8); 2] = [
+const READS: &[(&[u8], u8, u32, u8)] = &[
     (&[0x4D, 2, 1, 2, 3, 4, 20], 2, 0x0403_0201, 20),
     (&[0x41, 2, 0, 0x10, 0, 0, 0, 7, 7], 2, 4096, 0),
 ];
 
 // Commands, with the payload that they tell a drone.
-const COMMANDS: [(&[u8], &[u8]); 2] = [(&[0x8C, 5], &[5]), (&[0x80, 9, 8, 7], &[9, 8, 7])];
+const COMMANDS: &[(&[u8], &[u8])] = &[(&[0x8C, 5], &[5]), (&[0x80, 9, 8, 7], &[9, 8, 7])];
 
 // Packets that tell a drone nothing.
-const NOTHING_DOWN: [(&[u8], PacketFault); 6] = [
+const NOTHING_DOWN: &[(&[u8], PacketFault)] = &[
     (&[0x4E, 2, 0, 0, 0, 0], PacketFault::Short),
     (&[0x4D, 2, 0, 0, 0, 0], PacketFault::Short),
     (&[0x8C], PacketFault::Short),
@@ -130,28 +130,28 @@ const NOTHING_DOWN: [(&[u8], PacketFault); 6] = [
 
 #[test]
 fn reads_what_a_drone_is_told(rt: HostRuntime) -> Result<(), Fail> {
-    for (bytes, id, address, data) in WRITES {
+    for &(bytes, id, address, data) in WRITES {
         let piece = piece_of(data);
         let told = Ok(Down::Write { id, address, piece });
         assert!(rt; parse_down(&packet_of(bytes)?) == told);
     }
-    for (bytes, id, address, len) in READS {
+    for &(bytes, id, address, len) in READS {
         let told = Ok(Down::Read { id, address, len });
         assert!(rt; parse_down(&packet_of(bytes)?) == told);
     }
-    for (bytes, data) in COMMANDS {
+    for &(bytes, data) in COMMANDS {
         let payload = piece_of(data);
         let told = Ok(Down::Command { payload });
         assert!(rt; parse_down(&packet_of(bytes)?) == told);
     }
-    for (bytes, fault) in NOTHING_DOWN {
+    for &(bytes, fault) in NOTHING_DOWN {
         assert!(rt; parse_down(&packet_of(bytes)?) == Err(fault));
     }
     Ok(())
 }
 
 // Answers to writes, with the memory id, the address and the status that they tell the host.
-const WRITE_ANSWERS: [(&[u8], u8, u32, u8); 5] = [
+const WRITE_ANSWERS: &[(&[u8], u8, u32, u8)] = &[
     (&[0x4E, 2, 0, 0, 0, 0, 0], 2, 0, 0),
     (&[0x4E, 2, 0, 0, 0, 0, 5], 2, 0, 5),
     (&[0x4E, 3, 0, 0, 0, 0, 0], 3, 0, 0),
@@ -161,19 +161,19 @@ const WRITE_ANSWERS: [(&[u8], u8, u32, u8); 5] = [
 
 // Answers to reads, with the memory id, the address, the status and the bytes that they tell the
 // host.
-const READ_ANSWERS: [(&[u8], u8, u32, u8, &[u8]); 2] = [
+const READ_ANSWERS: &[(&[u8], u8, u32, u8, &[u8])] = &[
     (&[0x4D, 2, 0, 0, 0, 0, 5], 2, 0, 5, &[]),
     (&[0x45, 2, 1, 2, 3, 4, 0, 7, 8], 2, 0x0403_0201, 0, &[7, 8]),
 ];
 
 // Answers to commands, with the first bytes of the command and the status that they tell the host.
-const COMMAND_ANSWERS: [(&[u8], [u8; 3], u8); 2] = [
+const COMMAND_ANSWERS: &[(&[u8], [u8; 3], u8)] = &[
     (&[0x8C, 6, 0, 1, 2], [6, 0, 1], 2),
     (&[0x88, 5, 0, 0, 0, 9], [5, 0, 0], 0),
 ];
 
 // Packets that tell the host nothing.
-const NOTHING_UP: [(&[u8], PacketFault); 6] = [
+const NOTHING_UP: &[(&[u8], PacketFault)] = &[
     (&[0x4E, 2, 0, 0, 0, 0], PacketFault::Short),
     (&[0x4D, 2, 0, 0, 0, 0], PacketFault::Short),
     (&[0x8C, 6, 0, 1], PacketFault::Short),
@@ -184,7 +184,7 @@ const NOTHING_UP: [(&[u8], PacketFault); 6] = [
 
 #[test]
 fn reads_what_the_host_is_told(rt: HostRuntime) -> Result<(), Fail> {
-    for (bytes, id, address, status) in WRITE_ANSWERS {
+    for &(bytes, id, address, status) in WRITE_ANSWERS {
         let told = Ok(Up::WriteAnswer {
             id,
             address,
@@ -192,7 +192,7 @@ fn reads_what_the_host_is_told(rt: HostRuntime) -> Result<(), Fail> {
         });
         assert!(rt; parse_up(&packet_of(bytes)?) == told);
     }
-    for (bytes, id, address, status, data) in READ_ANSWERS {
+    for &(bytes, id, address, status, data) in READ_ANSWERS {
         let piece = piece_of(data);
         let told = Ok(Up::ReadAnswer {
             id,
@@ -202,11 +202,11 @@ fn reads_what_the_host_is_told(rt: HostRuntime) -> Result<(), Fail> {
         });
         assert!(rt; parse_up(&packet_of(bytes)?) == told);
     }
-    for (bytes, first, status) in COMMAND_ANSWERS {
+    for &(bytes, first, status) in COMMAND_ANSWERS {
         let told = Ok(Up::CommandAnswer { first, status });
         assert!(rt; parse_up(&packet_of(bytes)?) == told);
     }
-    for (bytes, fault) in NOTHING_UP {
+    for &(bytes, fault) in NOTHING_UP {
         assert!(rt; parse_up(&packet_of(bytes)?) == Err(fault));
     }
     Ok(())

@@ -90,7 +90,7 @@ fn fault_of(fault: CertFault) -> Outcome {
     }
 }
 
-const FOR_TWO: [(&[u8], Outcome); 18] = [
+const FOR_TWO: &[(&[u8], Outcome)] = &[
     (b"certificate 6\nr\nl\na\n", Outcome::Valid(6, 3)),
     (b"certificate 6\r\nr\r\nl\r\na", Outcome::Valid(6, 3)),
     (b"certificate 1\n.rr\n.ll\n.aa\n", Outcome::Valid(1, 3)),
@@ -144,13 +144,13 @@ const FOR_TWO: [(&[u8], Outcome); 18] = [
 #[test]
 fn certificates_of_two_drones(rt: HostRuntime) -> Result<(), Fail> {
     let curves = two(rt.alloc())?;
-    for (text, wanted) in FOR_TWO {
+    for &(text, wanted) in FOR_TWO {
         assert!(rt; becomes(&curves, text) == wanted);
     }
     Ok(())
 }
 
-const FOR_THREE: [(&[u8], Outcome); 5] = [
+const FOR_THREE: &[(&[u8], Outcome)] = &[
     // the pairs (1, 2), (1, 3) and (2, 3), each with its three cues
     (
         b"certificate 0\nv\nv\nv\np\np\np\ne\ne\ne\n",
@@ -179,14 +179,14 @@ const FOR_THREE: [(&[u8], Outcome); 5] = [
 #[test]
 fn certificates_of_three_drones(rt: HostRuntime) -> Result<(), Fail> {
     let curves = three(rt.alloc())?;
-    for (text, wanted) in FOR_THREE {
+    for &(text, wanted) in FOR_THREE {
         assert!(rt; becomes(&curves, text) == wanted);
     }
     Ok(())
 }
 
 // The first faulty line of each.
-const FAULTY: [(&[u8], u32); 20] = [
+const FAULTY: &[(&[u8], u32)] = &[
     (b"", 1),
     (b"\n", 1),
     (b"certificate 9\n", 1),
@@ -212,7 +212,7 @@ const FAULTY: [(&[u8], u32); 20] = [
 #[test]
 fn faulty_lines(rt: HostRuntime) -> Result<(), Fail> {
     let curves = two(rt.alloc())?;
-    for (text, line) in FAULTY {
+    for &(text, line) in FAULTY {
         assert!(rt; becomes(&curves, text) == Outcome::Line(line));
     }
     Ok(())
@@ -284,7 +284,7 @@ fn the_version_of_a_fault(rt: HostRuntime) -> Result<(), Fail> {
 
 // In the first cue the second drone is 1,000 mm along x from the first. Along (1, 0, 0) that is 300,000, where the
 // ellipsoids ask for 72,001, 379 mm of stray for 227,400 and 1 mm of reach on x for 300.
-const BY_CLEARANCE: [(u16, [u32; 3], bool); 7] = [
+const BY_CLEARANCE: &[(u16, [u32; 3], bool)] = &[
     (0, [0, 0, 0], true),
     (379, [0, 65_536, 65_536], true),
     (380, [0, 0, 0], false),
@@ -297,7 +297,7 @@ const BY_CLEARANCE: [(u16, [u32; 3], bool); 7] = [
 #[test]
 fn strays_and_late_drones(rt: HostRuntime) -> Result<(), Fail> {
     let curves = two(rt.alloc())?;
-    for (stray, reach, wanted) in BY_CLEARANCE {
+    for &(stray, reach, wanted) in BY_CLEARANCE {
         let verdict = judged(
             &curves,
             clearance(120, 300, stray, reach),

@@ -385,7 +385,7 @@ fn excess(
 }
 
 // Limits on acceleration and on jumps; whether a jump is the first above them, its segment, its axis and its value.
-const LIMITS: [(Option<u64>, Option<u64>, Option<(bool, usize, u8, i64)>); 11] = [
+const LIMITS: &[(Option<u64>, Option<u64>, Option<(bool, usize, u8, i64)>)] = &[
     (None, None, None),
     (Some(1878325), None, Some((false, 1, 0, 6761968))),
     (Some(1878324), None, Some((false, 0, 0, 1878325))),
@@ -401,7 +401,7 @@ const LIMITS: [(Option<u64>, Option<u64>, Option<(bool, usize, u8, i64)>); 11] =
 
 #[test]
 fn what_is_above_a_limit_first(rt: HostRuntime) -> Result<(), Fail> {
-    for (acceleration, jump, wanted) in LIMITS {
+    for &(acceleration, jump, wanted) in LIMITS {
         let first = segment(2000, [METRE, STAYS, STAYS]);
         let second = segment(
             1000,

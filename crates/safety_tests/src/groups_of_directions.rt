@@ -16,7 +16,7 @@ use std::test::Fail;
 // nearer, where no direction tells the two apart. At each place its first direction is the only one. Lanes are weighed
 // 16 at a time, and 28 at a time with their opposites, so the directions are the first and the last ones of these
 // groups.
-const PLACES: [([i16; 3], u8, [i16; 3]); 18] = [
+const PLACES: &[([i16; 3], u8, [i16; 3])] = &[
     ([-158, -164, -196], 0, [-157, -163, -195]),
     ([-157, -167, 188], 1, [-156, -166, 187]),
     ([-159, 163, -199], 14, [-158, 162, -198]),
@@ -57,7 +57,7 @@ fn searched(
 
 #[test]
 fn the_first_direction_at_the_edge(rt: HostRuntime) -> Result<(), Fail> {
-    for (place, dir, nearer) in PLACES {
+    for &(place, dir, nearer) in PLACES {
         let (found, nodes) = searched(rt.alloc(), place, Depth::make(0))?;
         assert!(rt;
             found == Found::Clear && nodes.as_slice() == [Node::Leaf { dir }].as_slice(),
@@ -86,7 +86,7 @@ fn staying(alloc: Global, first: [i16; 3], second: [i16; 3]) -> Result<Curves, A
 fn counted_at_the_edge(rt: HostRuntime) -> Result<(), Fail> {
     table_law();
     let ruler = Ruler::make(&WIDE, still());
-    for (place, dir, nearer) in PLACES {
+    for &(place, dir, nearer) in PLACES {
         let apart = staying(rt.alloc(), [0, 0, 0], place)?;
         assert!(rt;
             nodes_of(rt.alloc(), &apart, &ruler, Depth::make(0)) == Some(Ok(2)),

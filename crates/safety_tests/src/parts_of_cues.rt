@@ -41,7 +41,7 @@ fn aside(millimetres: i16, dip: i16) -> [Bez<8>; 3]
 
 // A distance along x, that of one control value, the height, the threshold and the depth; and whether the direction
 // separates the part. 241 times the height of 1 mm is the threshold itself.
-const AT_THE_THRESHOLD: [(i16, i16, u16, i128, u8, bool); 6] = [
+const AT_THE_THRESHOLD: &[(i16, i16, u16, i128, u8, bool)] = &[
     (241, 241, 300, 72001, 0, true),
     (240, 240, 300, 72001, 0, false),
     (241, 241, 1, 241, 0, true),
@@ -53,7 +53,7 @@ const AT_THE_THRESHOLD: [(i16, i16, u16, i128, u8, bool); 6] = [
 #[test]
 fn a_direction_at_its_threshold(rt: HostRuntime) -> Result<(), Fail> {
     let along_x = [1, 0, 0];
-    for (millimetres, dip, h, threshold, depth, wanted) in AT_THE_THRESHOLD {
+    for &(millimetres, dip, h, threshold, depth, wanted) in AT_THE_THRESHOLD {
         let found = separates(
             &aside(millimetres, dip),
             along_x,

@@ -88,7 +88,7 @@ macro_rules! part {
 
 // The corners of a keepout and the depth; what is judged. A box beside the way, one nearer, and at the very limit,
 // where one millimetre decides.
-const KEEPOUTS: [([i32; 3], [i32; 3], u8, Judged); 5] = [
+const KEEPOUTS: &[([i32; 3], [i32; 3], u8, Judged)] = &[
     ([400, 200, 0], [600, 400, 2000], 6, Judged::Kept),
     ([400, 100, 0], [600, 300, 2000], 6, part!(25)),
     ([1121, 0, 0], [1200, 10, 2000], 6, Judged::Kept),
@@ -97,7 +97,7 @@ const KEEPOUTS: [([i32; 3], [i32; 3], u8, Judged); 5] = [
 ];
 
 // The same of volumes around the way.
-const VOLUMES: [([i32; 3], [i32; 3], u8, Judged); 5] = [
+const VOLUMES: &[([i32; 3], [i32; 3], u8, Judged)] = &[
     ([-200, -200, 500], [1200, 200, 1500], 6, Judged::Kept),
     ([0, -200, 500], [1200, 200, 1500], 6, part!(0)),
     ([-120, -120, 700], [1120, 120, 1300], 6, Judged::Kept),
@@ -107,10 +107,10 @@ const VOLUMES: [([i32; 3], [i32; 3], u8, Judged); 5] = [
 
 #[test]
 fn regions_of_one_drone(rt: HostRuntime) -> Result<(), Fail> {
-    for (low, high, depth, wanted) in KEEPOUTS {
+    for &(low, high, depth, wanted) in KEEPOUTS {
         assert!(rt; judged(rt.alloc(), keepout(low, high), Depth::make(depth.min(8)))? == wanted);
     }
-    for (low, high, depth, wanted) in VOLUMES {
+    for &(low, high, depth, wanted) in VOLUMES {
         assert!(rt; judged(rt.alloc(), volume(low, high), Depth::make(depth.min(8)))? == wanted);
     }
     Ok(())
@@ -245,7 +245,7 @@ fn the_second_drone_in_the_second_cue(rt: HostRuntime) -> Result<(), Fail> {
 
 // Where the way of the one drone ends 120 mm before a keepout, any stray makes it enter; and a volume bears as much
 // stray as it leaves room. The extents are those of the ellipsoid and the stray together.
-const BY_STRAY: [(i32, u16, bool); 6] = [
+const BY_STRAY: &[(i32, u16, bool)] = &[
     (1121, 0, true),
     (1121, 1, false),
     (1171, 50, true),
@@ -258,7 +258,7 @@ const BY_STRAY: [(i32, u16, bool); 6] = [
 fn keepouts_and_strays(rt: HostRuntime) -> Result<(), Fail> {
     let trajs = solo(rt.alloc())?;
     let curves = Curves::make(rt.alloc(), &trajs)?;
-    for (low, stray, kept) in BY_STRAY {
+    for &(low, stray, kept) in BY_STRAY {
         let stray = stray.min(1000);
         let regions = vec![in rt.alloc(); keepout([low, 0, 0], [3000, 10, 2000])]?;
         let found = judge(&curves, 120 + stray, 300 + stray, Depth::make(6), &regions);

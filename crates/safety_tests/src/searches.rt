@@ -89,7 +89,7 @@ const ABOVE: [i16; 8] = [620, 300, 620, 0, 0, 0, 300, 620];
 
 // Where the second drone is from the first, on x, y and z; the depth; what is found, and the nodes. One drone waits 1 m
 // beside the other and rises; they cross with 1 m between them; it sinks; they meet; and they pass part by part.
-const SEARCHES: [([i16; 8], [i16; 8], [i16; 8], u8, Found, &[Node]); 7] = [
+const SEARCHES: &[([i16; 8], [i16; 8], [i16; 8], u8, Found, &[Node])] = &[
     (
         [1000; 8],
         LEVEL,
@@ -137,7 +137,7 @@ const SEARCHES: [([i16; 8], [i16; 8], [i16; 8], u8, Found, &[Node]); 7] = [
 
 #[test]
 fn trees_of_pairs(rt: HostRuntime) -> Result<(), Fail> {
-    for (x, y, z, depth, wanted, tree) in SEARCHES {
+    for &(x, y, z, depth, wanted, tree) in SEARCHES {
         let (found, nodes) = searched(rt.alloc(), x, y, z, Depth::make(depth.min(8)))?;
         assert!(rt; found == wanted && nodes.as_slice() == tree);
     }
@@ -146,7 +146,7 @@ fn trees_of_pairs(rt: HostRuntime) -> Result<(), Fail> {
 
 #[test]
 fn a_ruler_made_before(rt: HostRuntime) -> Result<(), Fail> {
-    for (x, y, z, depth, wanted, tree) in SEARCHES {
+    for &(x, y, z, depth, wanted, tree) in SEARCHES {
         let (found, nodes) = searched_with(rt.alloc(), x, y, z, Depth::make(depth.min(8)))?;
         assert!(rt; found == wanted && nodes.as_slice() == tree);
     }
@@ -197,7 +197,7 @@ fn all_nodes(trees: &Forest) -> u64 {
 // The place of the second drone, a stray, the reach on x, y and z, and how many nodes two cues have, or none where they
 // are blocked. Drones on one axis are apart exactly where they are farther than two half axes, two strays and the reach
 // of that axis.
-const ON_ONE_AXIS: [([i16; 3], u16, [u32; 3], Result<u64, u16>); 14] = [
+const ON_ONE_AXIS: &[([i16; 3], u16, [u32; 3], Result<u64, u16>)] = &[
     ([241, 0, 0], 0, [0, 0, 0], Ok(2)),
     ([240, 0, 0], 0, [0, 0, 0], Err(0)),
     ([-241, 0, 0], 0, [0, 0, 0], Ok(2)),
@@ -218,7 +218,7 @@ const ON_ONE_AXIS: [([i16; 3], u16, [u32; 3], Result<u64, u16>); 14] = [
 #[test]
 fn drones_on_one_axis(rt: HostRuntime) -> Result<(), Fail> {
     table_law();
-    for (place, stray, reach, wanted) in ON_ONE_AXIS {
+    for &(place, stray, reach, wanted) in ON_ONE_AXIS {
         let curves = beside(rt.alloc(), place)?;
         let ruler = Ruler::make(&WIDE, clearance(120, 300, stray, reach));
         let found = nodes_of(rt.alloc(), &curves, &ruler, Depth::make(0));
@@ -259,7 +259,7 @@ fn passing(alloc: Global) -> Result<Curves, AllocError> {
 }
 
 // A stray, the reach on x, y and z, and the depth; how many nodes there are, or the first part that is blocked.
-const PASSING: [(u16, [u32; 3], u8, Result<u64, u16>); 10] = [
+const PASSING: &[(u16, [u32; 3], u8, Result<u64, u16>)] = &[
     (0, [0, 0, 0], 0, Err(0)),
     (0, [0, 0, 0], 1, Ok(3)),
     (5, [0, 0, 0], 8, Ok(3)),
@@ -276,7 +276,7 @@ const PASSING: [(u16, [u32; 3], u8, Result<u64, u16>); 10] = [
 fn drones_that_pass(rt: HostRuntime) -> Result<(), Fail> {
     table_law();
     let curves = passing(rt.alloc())?;
-    for (stray, reach, depth, wanted) in PASSING {
+    for &(stray, reach, depth, wanted) in PASSING {
         let ruler = Ruler::make(&WIDE, clearance(120, 300, stray, reach));
         let found = nodes_of(rt.alloc(), &curves, &ruler, Depth::make(depth.min(8)));
         assert!(rt; found == Some(wanted), "stray {stray}, depth {depth}");

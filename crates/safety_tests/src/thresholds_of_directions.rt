@@ -8,7 +8,7 @@ use std::test::Fail;
 
 // A stray and a reach on each axis, and the thresholds along (1, 0, 0), (0, 0, 1) and (1, 1, 1). The strays of two
 // drones take away 600, 240 and 881.8 a millimetre, rounded up, and each millimetre of reach 300, 120 and 720.
-const BY_STRAY_AND_REACH: [(u16, u32, [i128; 3]); 12] = [
+const BY_STRAY_AND_REACH: &[(u16, u32, [i128; 3])] = &[
     (0, 0, [72001, 72001, 124708]),
     (0, 1, [72301, 72121, 125428]),
     (0, 65536, [19732801, 7936321, 47310628]),
@@ -26,7 +26,7 @@ const BY_STRAY_AND_REACH: [(u16, u32, [i128; 3]); 12] = [
 #[test]
 fn by_stray_and_reach(rt: HostRuntime) -> Result<(), Fail> {
     table_law();
-    for (stray, reach, wanted) in BY_STRAY_AND_REACH {
+    for &(stray, reach, wanted) in BY_STRAY_AND_REACH {
         let t = thresholds(&DIRECTIONS, clearance(120, 300, stray, [reach; 3]));
         assert!(rt;
             [t[21], t[13], t[25]] == wanted,
@@ -58,7 +58,7 @@ fn by_entries(rt: HostRuntime) -> Result<(), Fail> {
 
 // The widest ellipsoids that a show may have, 2,000 mm to the side or up and down, alone and with the greatest stray
 // and reach: half axes, stray, reach, and the thresholds along (1, 0, 0), (0, 0, 1) and (1, 1, 1).
-const AT_THE_WIDEST: [(u16, u16, u16, u32, [i128; 3]); 6] = [
+const AT_THE_WIDEST: &[(u16, u16, u16, u32, [i128; 3])] = &[
     (2000, 2000, 0, 0, [8000001, 8000001, 13856407]),
     (2000, 2000, 1000, 65536, [143072001, 143072001, 414000611]),
     (2000, 1, 0, 0, [4001, 4001, 6929]),
@@ -70,7 +70,7 @@ const AT_THE_WIDEST: [(u16, u16, u16, u32, [i128; 3]); 6] = [
 #[test]
 fn at_the_widest(rt: HostRuntime) -> Result<(), Fail> {
     table_law();
-    for (r, h, stray, reach, wanted) in AT_THE_WIDEST {
+    for &(r, h, stray, reach, wanted) in AT_THE_WIDEST {
         let t = thresholds(&DIRECTIONS, clearance(r, h, stray, [reach; 3]));
         assert!(rt; [t[21], t[13], t[25]] == wanted, "ellipsoid {r} {h}");
     }

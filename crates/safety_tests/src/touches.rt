@@ -81,7 +81,7 @@ type Row = (
     Option<(u16, u8, u8, u8, u64)>,
 );
 
-const OF_TWO: [Row; 7] = [
+const OF_TWO: &[Row] = &[
     (
         CROSSES,
         EXCHANGED,
@@ -121,7 +121,7 @@ const OF_TWO: [Row; 7] = [
 
 #[test]
 fn of_two_drones(rt: HostRuntime) -> Result<(), Fail> {
-    for (first, second, h, fine, touch, near) in OF_TWO {
+    for &(first, second, h, fine, touch, near) in OF_TWO {
         let trajs = fleet(rt.alloc(), first, second)?;
         let h = h.max(1).min(2000);
         let found = (

@@ -50,7 +50,7 @@ fn small_drills(rt: HostRuntime) -> Result<(), Fail> {
 }
 
 // Some of the 171 lines, by their numbers from 0.
-const LINES: [(usize, &str); 22] = [
+const LINES: &[(usize, &str)] = &[
     (0, "choreo 1"),
     (1, "drone d1 0 0 1000000 0"),
     (6, "drone d6 5000000 0 1000000 0"),
@@ -79,7 +79,7 @@ const LINES: [(usize, &str); 22] = [
 fn the_largest_drill(rt: HostRuntime) -> Result<(), Fail> {
     let text = String::from_utf8(drill_text(rt.alloc(), 32)?)?;
     assert!(rt; text.len() == 5362 && text.split('\n').count() == 172);
-    for (number, wanted) in LINES {
+    for &(number, wanted) in LINES {
         assert!(rt; text.split('\n').nth(number) == Some(wanted));
     }
     Ok(())

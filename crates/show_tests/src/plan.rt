@@ -65,7 +65,7 @@ fn outcome_of(alloc: Global, text: &[u8], wanted: &[u8]) -> Outcome {
 }
 
 // Shows, the first bytes of the first drone, or all where as many are given as there are, and what becomes of the show.
-const BYTES_OF_SHOWS: [(&[u8], &[u8], Outcome); 14] = [
+const BYTES_OF_SHOWS: &[(&[u8], &[u8], Outcome)] = &[
     // one move
     (
         b"choreo 1\ndrone solo 0 0 1000000 0\ncue 2000\nsolo move 1000000 0 1000000 0\nend\n",
@@ -160,13 +160,13 @@ const BYTES_OF_SHOWS: [(&[u8], &[u8], Outcome); 14] = [
 
 #[test]
 fn bytes_of_shows(rt: HostRuntime) {
-    for (text, wanted, outcome) in BYTES_OF_SHOWS {
+    for &(text, wanted, outcome) in BYTES_OF_SHOWS {
         assert!(rt; outcome_of(rt.alloc(), text, wanted) == outcome);
     }
 }
 
 // The first reason why a show has no plan.
-const REFUSALS: [(&[u8], PlanFault); 8] = [
+const REFUSALS: &[(&[u8], PlanFault)] = &[
     // a number out of range
     (
         b"choreo 1\ndrone solo 32767500 0 1000000 0\ncue 2000\nsolo move 1000000 0 1000000 0\nend\n",
@@ -245,7 +245,7 @@ const REFUSALS: [(&[u8], PlanFault); 8] = [
 
 #[test]
 fn refusals(rt: HostRuntime) {
-    for (text, fault) in REFUSALS {
+    for &(text, fault) in REFUSALS {
         assert!(rt; outcome_of(rt.alloc(), text, b"") == Outcome::Fault(fault));
     }
 }
@@ -258,7 +258,7 @@ fn plan_of(alloc: Global, text: &[u8]) -> Option<Lines> {
 }
 
 // Shows and the whole texts of their plans.
-const PLANS: [(&[u8], &[u8]); 5] = [
+const PLANS: &[(&[u8], &[u8])] = &[
     // one drone
     (
         b"choreo 1\ndrone solo 0 0 1000000 0\ncue 2000\nsolo move 1000000 0 1000000 0\nend\n",
@@ -313,7 +313,7 @@ const PLANS: [(&[u8], &[u8]); 5] = [
 
 #[test]
 fn plans(rt: HostRuntime) {
-    for (text, wanted) in PLANS {
+    for &(text, wanted) in PLANS {
         match plan_of(rt.alloc(), text) {
             Some(plan) => assert!(rt; plan.bytes() == wanted),
             None => panic!(rt; "no plan of {text:?}"),

@@ -33,7 +33,7 @@ fn outcome_of(alloc: Global, text: &[u8]) -> Outcome {
 }
 
 // The lines that are faulty for a name, a count of words or an open block.
-const FAULTY_LINES: [(&[u8], Outcome); 8] = [
+const FAULTY_LINES: &[(&[u8], Outcome)] = &[
     // nothing at all
     (b"", Outcome::Line(1, LineKind::Header)),
     // another version
@@ -77,13 +77,13 @@ const FAULTY_LINES: [(&[u8], Outcome); 8] = [
 
 #[test]
 fn faulty_lines(rt: HostRuntime) {
-    for (text, wanted) in FAULTY_LINES {
+    for &(text, wanted) in FAULTY_LINES {
         assert!(rt; outcome_of(rt.alloc(), text) == wanted);
     }
 }
 
 // What is wrong with names, and where.
-const FAULTS_OF_NAMES: [(&[u8], Outcome); 19] = [
+const FAULTS_OF_NAMES: &[(&[u8], Outcome)] = &[
     // no drone comes before no cue
     (
         b"choreo 1\n",
@@ -195,13 +195,13 @@ const FAULTS_OF_NAMES: [(&[u8], Outcome); 19] = [
 
 #[test]
 fn faults_of_names(rt: HostRuntime) {
-    for (text, wanted) in FAULTS_OF_NAMES {
+    for &(text, wanted) in FAULTS_OF_NAMES {
         assert!(rt; outcome_of(rt.alloc(), text) == wanted);
     }
 }
 
 // How many cues there are.
-const NUMBERS_OF_CUES: [(&[u8], Outcome); 9] = [
+const NUMBERS_OF_CUES: &[(&[u8], Outcome)] = &[
     // one cue
     (
         b"choreo 1\ndrone solo 0 0 1000000 0\ncue 2000\nsolo move 1000000 0 1000000 0\nend\n",
@@ -255,7 +255,7 @@ const NUMBERS_OF_CUES: [(&[u8], Outcome); 9] = [
 
 #[test]
 fn numbers_of_cues(rt: HostRuntime) {
-    for (text, wanted) in NUMBERS_OF_CUES {
+    for &(text, wanted) in NUMBERS_OF_CUES {
         assert!(rt; outcome_of(rt.alloc(), text) == wanted);
     }
 }

@@ -52,7 +52,7 @@ fn piece(axes: [Axis; 4]) -> Outcome {
 }
 
 // Control values that are known from outside.
-const FIGURES: [(&[u8], [Axis; 4]); 11] = [
+const FIGURES: &[(&[u8], [Axis; 4])] = &[
     // a quarter circle
     (
         b"choreo 1\ndrone solo 1000000 0 1000000 0\ncue 1000\nsolo arc ccw 0 0 0\nend\n",
@@ -238,13 +238,13 @@ const FIGURES: [(&[u8], [Axis; 4]); 11] = [
 
 #[test]
 fn figures(rt: HostRuntime) {
-    for (text, axes) in FIGURES {
+    for &(text, axes) in FIGURES {
         assert!(rt; outcome_of(rt.alloc(), text) == piece(axes));
     }
 }
 
 // The first value that no trajectory can hold.
-const RANGES: [(&[u8], AxisValue); 4] = [
+const RANGES: &[(&[u8], AxisValue)] = &[
     (
         b"choreo 1\ndrone solo 32767500 0 1000000 0\ncue 2000\nsolo move 1000000 0 1000000 0\nend\n",
         AxisValue {
@@ -283,7 +283,7 @@ const RANGES: [(&[u8], AxisValue); 4] = [
 
 #[test]
 fn ranges(rt: HostRuntime) {
-    for (text, wanted) in RANGES {
+    for &(text, wanted) in RANGES {
         assert!(rt; outcome_of(rt.alloc(), text) == Outcome::OutOfRange(wanted));
     }
 }

@@ -79,7 +79,7 @@ const FRAME: Frame = Frame {
     dz: 3,
 };
 
-const BLOCK_LINES: [(Place, &[u8], Outcome); 17] = [
+const BLOCK_LINES: &[(Place, &[u8], Outcome)] = &[
     (Place::Top, b"memory 255 4095", Outcome::Memory(255, 4095)),
     (Place::Top, b"stray 0", Outcome::Stray(0)),
     (Place::Top, b"stray 1000", Outcome::Stray(1000)),
@@ -109,12 +109,12 @@ const BLOCK_LINES: [(Place, &[u8], Outcome); 17] = [
 
 #[test]
 fn lines_of_blocks_are_read(rt: HostRuntime) {
-    for (place, line, wanted) in BLOCK_LINES {
+    for &(place, line, wanted) in BLOCK_LINES {
         assert!(rt; outcome_of(rt.alloc(), Form::Whole, place, line) == wanted);
     }
 }
 
-const ACT_LINES: [(&[u8], Outcome); 12] = [
+const ACT_LINES: &[(&[u8], Outcome)] = &[
     (b"form f line", Outcome::Form(false)),
     (b"form f move", Outcome::Form(true)),
     (b"a hold", Outcome::One(Act::Hold)),
@@ -181,12 +181,12 @@ const ACT_LINES: [(&[u8], Outcome); 12] = [
 
 #[test]
 fn lines_of_a_cue_are_read(rt: HostRuntime) {
-    for (line, wanted) in ACT_LINES {
+    for &(line, wanted) in ACT_LINES {
         assert!(rt; outcome_of(rt.alloc(), Form::Whole, Place::InCue, line) == wanted);
     }
 }
 
-const REFUSALS: [(Place, &[u8], LineKind); 29] = [
+const REFUSALS: &[(Place, &[u8], LineKind)] = &[
     // the first word, then how many there are, then the others from the left
     (Place::Top, b"at a 0 0 0 0", LineKind::BadWord),
     (Place::InFigure, b"perform g x 0 0 0 0 a", LineKind::BadWord),
@@ -222,13 +222,13 @@ const REFUSALS: [(Place, &[u8], LineKind); 29] = [
 
 #[test]
 fn faulty_lines_are_refused(rt: HostRuntime) {
-    for (place, line, kind) in REFUSALS {
+    for &(place, line, kind) in REFUSALS {
         assert!(rt; outcome_of(rt.alloc(), Form::Whole, place, line) == Outcome::Fault(kind));
     }
 }
 
 // Lines in which lengths, times and angles have units.
-const UNIT_LINES: [(Place, &[u8], Outcome); 11] = [
+const UNIT_LINES: &[(Place, &[u8], Outcome)] = &[
     (Place::Top, b"memory 255 4095", Outcome::Memory(255, 4095)),
     (
         Place::Top,
@@ -264,12 +264,12 @@ const UNIT_LINES: [(Place, &[u8], Outcome); 11] = [
 
 #[test]
 fn lines_with_units_are_read(rt: HostRuntime) {
-    for (place, line, wanted) in UNIT_LINES {
+    for &(place, line, wanted) in UNIT_LINES {
         assert!(rt; outcome_of(rt.alloc(), Form::Units, place, line) == wanted);
     }
 }
 
-const UNIT_REFUSALS: [(Place, &[u8], LineKind); 17] = [
+const UNIT_REFUSALS: &[(Place, &[u8], LineKind)] = &[
     // a unit is missing, or of another kind
     (Place::Top, b"cue 1500", LineKind::BadNumber),
     (Place::Top, b"late 1m", LineKind::BadNumber),
@@ -299,7 +299,7 @@ const UNIT_REFUSALS: [(Place, &[u8], LineKind); 17] = [
 
 #[test]
 fn faulty_lines_with_units_are_refused(rt: HostRuntime) {
-    for (place, line, kind) in UNIT_REFUSALS {
+    for &(place, line, kind) in UNIT_REFUSALS {
         assert!(rt; outcome_of(rt.alloc(), Form::Units, place, line) == Outcome::Fault(kind));
     }
 }

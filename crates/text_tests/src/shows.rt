@@ -347,7 +347,7 @@ const DEFAULTS: Settings = Settings {
 };
 
 // Texts, with how far their drones may stray, in millimetres, and how late they may be, in milliseconds.
-const STRAYS: [(&[u8], u16, u16); 9] = [
+const STRAYS: &[(&[u8], u16, u16)] = &[
     (SMALLEST, 0, 0),
     (b"choreo 1\nstray 0\nlate 0\n", 0, 0),
     (b"choreo 1\nlate 1000\nstray 0001000\n", 1000, 1000),
@@ -361,7 +361,7 @@ const STRAYS: [(&[u8], u16, u16); 9] = [
 
 #[test]
 fn settings_that_are_left_out_have_their_defaults(rt: HostRuntime) {
-    for (text, stray, late) in STRAYS {
+    for &(text, stray, late) in STRAYS {
         let wanted = Settings {
             stray,
             late,
@@ -394,7 +394,7 @@ fn has_fault(alloc: Global, text: &[u8], line: u32, kind: LineKind) -> bool {
 }
 
 // Texts with the line that is faulty, and how.
-const AT_TOP: [(&[u8], u32, LineKind); 49] = [
+const AT_TOP: &[(&[u8], u32, LineKind)] = &[
     (b"", 1, LineKind::Header),
     (b"\n# choreo 1\n", 1, LineKind::Header),
     (b"\nchoreo 3\n", 2, LineKind::Header),
@@ -477,13 +477,13 @@ const AT_TOP: [(&[u8], u32, LineKind); 49] = [
 #[test]
 fn lines_at_top_are_judged(rt: HostRuntime) {
     let alloc = rt.alloc();
-    for (text, line, kind) in AT_TOP {
+    for &(text, line, kind) in AT_TOP {
         assert!(rt; has_fault(alloc, text, line, kind));
     }
 }
 
 // The same for lines in blocks.
-const IN_BLOCKS: [(&[u8], u32, LineKind); 32] = [
+const IN_BLOCKS: &[(&[u8], u32, LineKind)] = &[
     (
         b"# a show\n \t\r\nchoreo 1 # first\r\n\ncue 1#\x01\n# inside\n\nsolo jump 0",
         8,
@@ -571,13 +571,13 @@ const IN_BLOCKS: [(&[u8], u32, LineKind); 32] = [
 #[test]
 fn lines_in_blocks_are_judged(rt: HostRuntime) {
     let alloc = rt.alloc();
-    for (text, line, kind) in IN_BLOCKS {
+    for &(text, line, kind) in IN_BLOCKS {
         assert!(rt; has_fault(alloc, text, line, kind));
     }
 }
 
 // Texts of the second form.
-const IN_UNITS: [(&[u8], u32, LineKind); 20] = [
+const IN_UNITS: &[(&[u8], u32, LineKind)] = &[
     (
         b"choreo 2\ndrone solo 0 0 1.0000001m 0\ncue 2s\nsolo move 1m 0 100cm 0deg\nend\n",
         2,
@@ -624,7 +624,7 @@ const IN_UNITS: [(&[u8], u32, LineKind); 20] = [
 #[test]
 fn texts_with_units_are_judged(rt: HostRuntime) {
     let alloc = rt.alloc();
-    for (text, line, kind) in IN_UNITS {
+    for &(text, line, kind) in IN_UNITS {
         assert!(rt; has_fault(alloc, text, line, kind));
     }
 }

@@ -6,7 +6,7 @@ use text_lines::NumberFault;
 
 const FAR: i64 = 100_000_000;
 
-const WORDS: [(Counts, &[u8], Result<i64, NumberFault>); 16] = [
+const WORDS: &[(Counts, &[u8], Result<i64, NumberFault>)] = &[
     (Counts::Micrometres, b"-1.5m", Ok(-1_500_000)),
     (Counts::Micrometres, b"0001.50000000m", Ok(1_500_000)),
     (Counts::Micrometres, b"30cm", Ok(300_000)),
@@ -40,7 +40,7 @@ const WORDS: [(Counts, &[u8], Result<i64, NumberFault>); 16] = [
 #[test]
 fn words_in_their_places(rt: HostRuntime) {
     quantity_law();
-    for (counts, word, wanted) in WORDS {
+    for &(counts, word, wanted) in WORDS {
         assert!(rt; quantity_in(counts, word, -FAR, FAR) == wanted);
     }
 }

@@ -63,8 +63,13 @@ fn up(drone: u8, bytes: &[u8]) -> Result<Event, Fail> {
     Ok(Event::Up { drone, packet })
 }
 
-fn sent(drone: u8, packet: u16) -> Sent {
-    Sent { drone, packet }
+macro_rules! sent {
+    ($drone:expr, $packet:expr) => {
+        Sent {
+            drone: $drone,
+            packet: $packet,
+        }
+    };
 }
 
 // Whether these are all packets of a drone, in order.
@@ -109,27 +114,31 @@ const LAST_PATH: [&[u8]; 4] = [
     &[0x8C, 5, 0, 0, 0, 9, 0, 0, 0x80, 0x3F],
 ];
 
+// Whether a session has these settings, two loads of 1 and 28 bytes, and these bytes at three places of the second.
+fn has_last_places(session: &Session) -> bool
+    requires { drone_count session.now ≡ 2 }
+{
+    let settings = session.settings();
+    let lengths = session.load_len(0) == 1 && session.load_len(1) == 28;
+    let bytes: [(usize, u8); 3] = [(0, 0), (9, 0xD0), (27, 0)];
+    for (i, byte) in bytes {
+        if i >= session.load_len(1) || session.load_byte(1, i) != byte {
+            return false;
+        }
+    }
+    lengths && settings.memory_id == 3 && settings.offset == 4068 && settings.trajectory_id == 9
+}
+
 #[test]
 fn packets_are_those_of_the_format(rt: HostRuntime) -> Result<(), Fail> {
     let alloc = rt.alloc();
     let session = two_drones(alloc, true)?;
-    assert!(rt; has_packets(&session, 0, &PATH_PACKETS));
-    assert!(rt; has_packets(&session, 1, &PATH_PACKETS));
+    assert!(rt; has_packets(&session, 0, &PATH_PACKETS) && has_packets(&session, 1, &PATH_PACKETS));
     let session = two_drones(alloc, false)?;
     assert!(rt; has_packets(&session, 1, &PATH_PACKETS[..3]));
     let session = last_places(alloc)?;
-    assert!(rt; has_packets(&session, 0, &LAST_BYTE));
-    assert!(rt; has_packets(&session, 1, &LAST_PATH));
-    let settings = session.settings();
-    assert!(rt; settings.memory_id == 3);
-    assert!(rt; settings.offset == 4068);
-    assert!(rt; settings.trajectory_id == 9);
-    assert!(rt; session.load_len(0) == 1);
-    assert!(rt; session.load_len(1) == 28);
-    let bytes: [(usize, u8); 3] = [(0, 0), (9, 0xD0), (27, 0)];
-    for (i, byte) in bytes {
-        assert!(rt; i < session.load_len(1) && session.load_byte(1, i) == byte);
-    }
+    assert!(rt; has_packets(&session, 0, &LAST_BYTE) && has_packets(&session, 1, &LAST_PATH));
+    assert!(rt; has_last_places(&session));
     Ok(())
 }
 
@@ -141,29 +150,38 @@ fn is_at(host: &Host, drone: usize, cursor: usize, word: u64) -> bool {
         && host.word(drone, 0) == word
 }
 
+// What comes up from the first drone; its first open packet then, and the bits of its first 64.
+const CURSORS: &[(&[u8], usize, u64)] = &[
+    // An answer to the define or the start before it is sent doesn't count.
+    (&[0x8C, 6, 0, 1, 0], 0, 0b0000),
+    (&[0x4E, 2, 0, 0, 0, 0, 0], 1, 0b0001),
+    (&[0x8C, 5, 0, 0, 0], 1, 0b0001),
+    (&[0x4E, 2, 24, 0, 0, 0, 0], 2, 0b0011),
+    (&[0x8C, 6, 0, 1, 0], 3, 0b0111),
+    (&[0x8C, 5, 0, 0, 0], 3, 0b0111),
+];
+
+// Whether the first drone is so far after each of these answers, and the second where it was.
+fn is_at_each(host: &mut Host, rows: &[(&[u8], usize, u64)]) -> Result<bool, Fail> {
+    let mut out = Out::new();
+    for (bytes, cursor, word) in rows {
+        let going = host.event(up(0, bytes)?, &mut out) == Progress::Going;
+        if !going || !is_at(host, 0, *cursor, *word) || !is_at(host, 1, 0, 0) {
+            return Ok(false);
+        }
+    }
+    Ok(true)
+}
+
 #[test]
 fn cursors_and_words(rt: HostRuntime) -> Result<(), Fail> {
-    let alloc = rt.alloc();
-    let mut host = Host::make(alloc, two_drones(alloc, true)?)?;
+    let mut host = Host::make(rt.alloc(), two_drones(rt.alloc(), true)?)?;
+    let begins = is_at(&host, 0, 0, 0);
+    assert!(rt; begins && is_at_each(&mut host, CURSORS)?);
     let mut out = Out::new();
-    assert!(rt; is_at(&host, 0, 0, 0));
-    // An answer to the define or the start before it is sent doesn't count.
-    let steps: [(&[u8], usize, u64); 6] = [
-        (&[0x8C, 6, 0, 1, 0], 0, 0b0000),
-        (&[0x4E, 2, 0, 0, 0, 0, 0], 1, 0b0001),
-        (&[0x8C, 5, 0, 0, 0], 1, 0b0001),
-        (&[0x4E, 2, 24, 0, 0, 0, 0], 2, 0b0011),
-        (&[0x8C, 6, 0, 1, 0], 3, 0b0111),
-        (&[0x8C, 5, 0, 0, 0], 3, 0b0111),
-    ];
-    for (bytes, cursor, word) in steps {
-        assert!(rt; host.event(up(0, bytes)?, &mut out) == Progress::Going);
-        assert!(rt; is_at(&host, 0, cursor, word));
-        assert!(rt; is_at(&host, 1, 0, 0));
-    }
-    assert!(rt; host.event(Event::Tick, &mut out) == Progress::Going);
-    let writes = [sent(1, 0), sent(1, 1)];
-    assert!(rt; out.as_slice() == writes.as_slice());
+    let going = host.event(Event::Tick, &mut out) == Progress::Going;
+    let writes = [sent!(1, 0), sent!(1, 1)];
+    assert!(rt; going && out.as_slice() == writes.as_slice());
     Ok(())
 }
 
@@ -173,7 +191,7 @@ fn a_packet_is_refused(rt: HostRuntime) -> Result<(), Fail> {
     let mut host = Host::make(alloc, two_drones(alloc, false)?)?;
     let mut out = Out::new();
     host.first(&mut out);
-    let first = [sent(0, 0), sent(0, 1), sent(1, 0), sent(1, 1)];
+    let first = [sent!(0, 0), sent!(0, 1), sent!(1, 0), sent!(1, 1)];
     assert!(rt; out.as_slice() == first.as_slice());
     // From a drone that isn't there, and of another port.
     let refusal = [0x4E, 2, 0, 0, 0, 0, 5];
@@ -197,60 +215,85 @@ fn a_packet_is_refused(rt: HostRuntime) -> Result<(), Fail> {
     Ok(())
 }
 
+// Answers of two drones to the packets of their path.
+const FIRST: &[u8] = &[0x4E, 2, 0, 0, 0, 0, 0];
+
+const SECOND: &[u8] = &[0x4E, 2, 24, 0, 0, 0, 0];
+
+const DEFINED: &[u8] = &[0x8C, 6, 0, 1, 0];
+
+const STARTED: &[u8] = &[0x8C, 5, 0, 0, 0];
+
+// What comes up from a drone, what is sent then, and how far the upload is.
+type Row<'a> = (u8, &'a [u8], &'a [Sent], Progress);
+
+const STARTS: &[Row<'static>] = &[
+    (0, SECOND, &[], Progress::Going),
+    (0, SECOND, &[], Progress::Going),
+    (0, FIRST, &[sent!(0, 2)], Progress::Going),
+    (0, DEFINED, &[], Progress::Going),
+    (1, FIRST, &[], Progress::Going),
+    (1, SECOND, &[sent!(1, 2)], Progress::Going),
+    (1, DEFINED, &[sent!(0, 3), sent!(1, 3)], Progress::Going),
+    (1, STARTED, &[], Progress::Going),
+    (1, STARTED, &[], Progress::Going),
+    (0, STARTED, &[], Progress::Done),
+];
+
+// Of the session at the last places, whose trajectory is 9 and whose memory is 3.
+const DEFINED_LAST: &[u8] = &[0x8C, 6, 9, 1, 0];
+
+const PLACES: &[Row<'static>] = &[
+    // Another place, another memory and another trajectory.
+    (1, &[0x4E, 3, 24, 0, 0, 0, 0], &[], Progress::Going),
+    (0, &[0x4E, 2, 0xE4, 0x0F, 0, 0, 0], &[], Progress::Going),
+    (0, &[0x8C, 6, 0, 1, 0], &[], Progress::Going),
+    (1, &[0x4E, 3, 0xE4, 0x0F, 0, 0, 0], &[], Progress::Going),
+    (
+        1,
+        &[0x4E, 3, 0xFC, 0x0F, 0, 0, 0],
+        &[sent!(1, 2)],
+        Progress::Going,
+    ),
+    (1, DEFINED_LAST, &[], Progress::Going),
+    (
+        0,
+        &[0x4E, 3, 0xE4, 0x0F, 0, 0, 0],
+        &[sent!(0, 1)],
+        Progress::Going,
+    ),
+    (
+        0,
+        DEFINED_LAST,
+        &[sent!(0, 2), sent!(1, 3)],
+        Progress::Going,
+    ),
+    (0, STARTED, &[], Progress::Going),
+    (1, STARTED, &[], Progress::Done),
+];
+
+// Whether a host sends this at each answer, and is so far then.
+fn follows(host: &mut Host, rows: &[Row]) -> Result<bool, Fail> {
+    let mut out = Out::new();
+    for (drone, bytes, wanted, progress) in rows {
+        if host.event(up(*drone, bytes)?, &mut out) != *progress || out.as_slice() != *wanted {
+            return Ok(false);
+        }
+    }
+    Ok(true)
+}
+
 #[test]
 fn starts_come_last(rt: HostRuntime) -> Result<(), Fail> {
-    let alloc = rt.alloc();
-    let going = Progress::Going;
-    let second = [0x4E, 2, 24, 0, 0, 0, 0];
-    let first = [0x4E, 2, 0, 0, 0, 0, 0];
-    let define = [0x8C, 6, 0, 1, 0];
-    let start = [0x8C, 5, 0, 0, 0];
-    let events: [(u8, &[u8], &[Sent], Progress); 10] = [
-        (0, &second, &[], going),
-        (0, &second, &[], going),
-        (0, &first, &[sent(0, 2)], going),
-        (0, &define, &[], going),
-        (1, &first, &[], going),
-        (1, &second, &[sent(1, 2)], going),
-        (1, &define, &[sent(0, 3), sent(1, 3)], going),
-        (1, &start, &[], going),
-        (1, &start, &[], going),
-        (0, &start, &[], Progress::Done),
-    ];
-    let mut host = Host::make(alloc, two_drones(alloc, true)?)?;
-    let mut out = Out::new();
-    for (drone, bytes, wanted, progress) in events {
-        assert!(rt; host.event(up(drone, bytes)?, &mut out) == progress);
-        assert!(rt; out.as_slice() == wanted);
-    }
+    let mut host = Host::make(rt.alloc(), two_drones(rt.alloc(), true)?)?;
+    assert!(rt; follows(&mut host, STARTS)?);
     Ok(())
 }
 
 #[test]
 fn answers_match_by_place_and_id(rt: HostRuntime) -> Result<(), Fail> {
-    let alloc = rt.alloc();
-    let going = Progress::Going;
-    let define = [0x8C, 6, 9, 1, 0];
-    let start = [0x8C, 5, 0, 0, 0];
-    let events: [(u8, &[u8], &[Sent], Progress); 10] = [
-        // Another place, another memory and another trajectory.
-        (1, &[0x4E, 3, 24, 0, 0, 0, 0], &[], going),
-        (0, &[0x4E, 2, 0xE4, 0x0F, 0, 0, 0], &[], going),
-        (0, &[0x8C, 6, 0, 1, 0], &[], going),
-        (1, &[0x4E, 3, 0xE4, 0x0F, 0, 0, 0], &[], going),
-        (1, &[0x4E, 3, 0xFC, 0x0F, 0, 0, 0], &[sent(1, 2)], going),
-        (1, &define, &[], going),
-        (0, &[0x4E, 3, 0xE4, 0x0F, 0, 0, 0], &[sent(0, 1)], going),
-        (0, &define, &[sent(0, 2), sent(1, 3)], going),
-        (0, &start, &[], going),
-        (1, &start, &[], Progress::Done),
-    ];
-    let mut host = Host::make(alloc, last_places(alloc)?)?;
-    let mut out = Out::new();
-    for (drone, bytes, wanted, progress) in events {
-        assert!(rt; host.event(up(drone, bytes)?, &mut out) == progress);
-        assert!(rt; out.as_slice() == wanted);
-    }
+    let mut host = Host::make(rt.alloc(), last_places(rt.alloc())?)?;
+    assert!(rt; follows(&mut host, PLACES)?);
     Ok(())
 }
 
@@ -272,33 +315,47 @@ fn silence_ends_at_twenty_ticks(rt: HostRuntime) -> Result<(), Fail> {
     Ok(())
 }
 
+const REFUSED: Progress = Progress::Refused {
+    drone: 1,
+    packet: 1,
+    status: 2,
+};
+
+const BYTES: &[Row<'static>] = &[
+    // One byte too few, another port, a drone that isn't there, and another memory.
+    (0, &[0x4E, 2, 0, 0, 0, 0], &[], Progress::Going),
+    (0, &[0x00, 0x48, 0x69], &[], Progress::Going),
+    (2, &[0x4E, 2, 0, 0, 0, 0, 0], &[], Progress::Going),
+    (0, &[0x4E, 3, 0, 0, 0, 0, 0], &[], Progress::Going),
+    (0, &[0x4E, 2, 24, 0, 0, 0, 0], &[], Progress::Going),
+    // What follows the status is of no account.
+    (
+        0,
+        &[0x4E, 2, 0, 0, 0, 0, 0, 9, 9],
+        &[sent!(0, 2)],
+        Progress::Going,
+    ),
+    (1, &[0x4E, 2, 24, 0, 0, 0, 2], &[], REFUSED),
+    (1, &[0x4E, 2, 24, 0, 0, 0, 0], &[], REFUSED),
+];
+
+// The same of bytes that are heard, 1 to 31 of them.
+fn hears(host: &mut Host, rows: &[Row]) -> bool {
+    let mut out = Out::new();
+    for (drone, bytes, wanted, progress) in rows {
+        if bytes.is_empty() || bytes.len() > 31 {
+            return false;
+        }
+        if host.hear(*drone, bytes, &mut out) != *progress || out.as_slice() != *wanted {
+            return false;
+        }
+    }
+    true
+}
+
 #[test]
 fn bytes_of_answers_are_heard(rt: HostRuntime) -> Result<(), Fail> {
-    let alloc = rt.alloc();
-    let going = Progress::Going;
-    let refused = Progress::Refused {
-        drone: 1,
-        packet: 1,
-        status: 2,
-    };
-    let events: [(u8, &[u8], &[Sent], Progress); 8] = [
-        // One byte too few, another port, a drone that isn't there, and another memory.
-        (0, &[0x4E, 2, 0, 0, 0, 0], &[], going),
-        (0, &[0x00, 0x48, 0x69], &[], going),
-        (2, &[0x4E, 2, 0, 0, 0, 0, 0], &[], going),
-        (0, &[0x4E, 3, 0, 0, 0, 0, 0], &[], going),
-        (0, &[0x4E, 2, 24, 0, 0, 0, 0], &[], going),
-        // What follows the status is of no account.
-        (0, &[0x4E, 2, 0, 0, 0, 0, 0, 9, 9], &[sent(0, 2)], going),
-        (1, &[0x4E, 2, 24, 0, 0, 0, 2], &[], refused),
-        (1, &[0x4E, 2, 24, 0, 0, 0, 0], &[], refused),
-    ];
-    let mut host = Host::make(alloc, two_drones(alloc, false)?)?;
-    let mut out = Out::new();
-    for (drone, bytes, wanted, progress) in events {
-        assert!(rt; 1 <= bytes.len() && bytes.len() <= 31);
-        assert!(rt; host.hear(drone, bytes, &mut out) == progress);
-        assert!(rt; out.as_slice() == wanted);
-    }
+    let mut host = Host::make(rt.alloc(), two_drones(rt.alloc(), false)?)?;
+    assert!(rt; hears(&mut host, BYTES));
     Ok(())
 }

@@ -184,7 +184,7 @@ const AGAIN: &[u8] = b"\x50\x01\x0A\x4E\x02\x18\x00\x00\x00\x03\x00\x00\x00";
 // Of a drone that isn't there.
 const STRANGER: &[u8] = b"\x50\x20\x07\x4E\x02\x00\x00\x00\x00\x05";
 
-const ENDS: [Row; 30] = [
+const ENDS: &[Row] = &[
     // Uploads that are done.
     (
         LOAD,
@@ -321,7 +321,7 @@ const ENDS: [Row; 30] = [
 #[test]
 fn each_end(rt: HostRuntime) -> Result<(), Fail> {
     assert!(rt; (LONG_WROTE.len(), LONG_REFUSED.len()) == (34, 34));
-    for (asked, input, status, output) in ENDS {
+    for &(asked, input, status, output) in ENDS {
         assert!(rt; ends(rt.alloc(), asked, input, status, output)?);
     }
     Ok(())
@@ -341,7 +341,7 @@ fn the_twentieth_tick_gives_up(rt: HostRuntime) -> Result<(), Fail> {
     Ok(())
 }
 
-const NO_READ_AFTER_THE_END: [(&[u8], u8); 6] = [
+const NO_READ_AFTER_THE_END: &[(&[u8], u8)] = &[
     (b"\x50\x00", 11),
     (b"\x50\x21", 11),
     (b"\x50\x01\x00", 11),
@@ -354,7 +354,7 @@ const NO_READ_AFTER_THE_END: [(&[u8], u8); 6] = [
 #[test]
 fn no_read_after_the_end(rt: HostRuntime) -> Result<(), Fail> {
     let alloc = rt.alloc();
-    for (input, status) in NO_READ_AFTER_THE_END {
+    for &(input, status) in NO_READ_AFTER_THE_END {
         let count = u64::try_from(input.len()).unwrap_or(0);
         let mut ran = run(
             alloc,
@@ -378,7 +378,7 @@ const ALL: &[&[u8]] = &[WROTE_FIRST, WROTE_SECOND, DEFINED];
 
 const NOT_READ: &[u8] = b"\x45\x06";
 
-const FAILURES: [Failure; 10] = [
+const FAILURES: &[Failure] = &[
     (ALL, 1, 0, 1, 6, &[FIRST, NOT_READ]),
     (ALL, 11, 0, 1, 6, &[FIRST, NOT_READ]),
     (ALL, 21, 0, 1, 6, &[FIRST, DEFINE, NOT_READ]),
@@ -396,7 +396,7 @@ const FAILURES: [Failure; 10] = [
 #[test]
 fn failing_ends(rt: HostRuntime) -> Result<(), Fail> {
     let alloc = rt.alloc();
-    for (input, read, write, cut, status, output) in FAILURES {
+    for &(input, read, write, cut, status, output) in FAILURES {
         let ran = run(alloc, LOAD, joined(alloc, input)?, cut, read, write)?;
         assert!(rt; ran.status == status);
         assert!(rt; ran.sink.written() == joined(alloc, output)?.as_slice());
@@ -436,7 +436,7 @@ fn many(alloc: Global, count: u32, behind: &[u8]) -> Result<Vec<u8>, AllocError>
     Ok(bytes)
 }
 
-const FOUR_MILLION_FRAMES: [(u32, &[&[u8]], u8, &[&[u8]]); 3] = [
+const FOUR_MILLION_FRAMES: &[(u32, &[&[u8]], u8, &[&[u8]])] = &[
     (4_000_000, &[b"\x51"], 13, &[FIRST, b"\x45\x0D"]),
     (3_999_999, &[b"\x51"], 11, &[FIRST, b"\x45\x0B"]),
     (
@@ -450,7 +450,7 @@ const FOUR_MILLION_FRAMES: [(u32, &[&[u8]], u8, &[&[u8]]); 3] = [
 #[test]
 fn four_million_frames(rt: HostRuntime) -> Result<(), Fail> {
     let alloc = rt.alloc();
-    for (count, behind, status, output) in FOUR_MILLION_FRAMES {
+    for &(count, behind, status, output) in FOUR_MILLION_FRAMES {
         let input = many(alloc, count, joined(alloc, behind)?.as_slice())?;
         let ran = run(alloc, LOAD, input, 4096, 0, 0)?;
         assert!(rt; ran.status == status);

@@ -33,15 +33,21 @@ fn up(drone: u8, bytes: &[u8]) -> Result<Event, Fail> {
     Ok(Event::Up { drone, packet })
 }
 
-fn sent(packet: u16) -> Sent {
-    Sent { drone: 0, packet }
+macro_rules! sent {
+    ($packet:expr) => {
+        Sent {
+            drone: 0,
+            packet: $packet,
+        }
+    };
 }
 
-const LOADED: [&[u8]; 3] = [
-    &[0x4E, 2, 0, 0, 0, 0, 0],
-    &[0x4E, 2, 24, 0, 0, 0, 0],
-    &[0x8C, 6, 0, 1, 0],
-];
+// Answers to the two writes and the define.
+const WROTE_FIRST: &[u8] = &[0x4E, 2, 0, 0, 0, 0, 0];
+
+const WROTE_SECOND: &[u8] = &[0x4E, 2, 24, 0, 0, 0, 0];
+
+const DEFINED: &[u8] = &[0x8C, 6, 0, 1, 0];
 
 const FIRST_READ: [u8; 27] = [
     0x4D, 2, 0, 0, 0, 0, 0, 0, 0, 0, 0, 0xE8, 3, 0, 0, 3, 0xD0, 7, 0, 0, 0, 0, 0, 0, 0xE8, 3, 0xE8,
@@ -51,109 +57,128 @@ const SECOND_READ: [u8; 15] = [0x4D, 2, 20, 0, 0, 0, 0, 3, 0xE8, 3, 0xE8, 3, 0, 
 
 const STARTED: [u8; 5] = [0x8C, 5, 0, 0, 0];
 
+// SECOND_READ with another byte at its second place.
+const ALTERED: [u8; 15] = [0x4D, 2, 20, 0, 0, 0, 0, 3, 7, 3, 0xE8, 3, 0, 0, 0];
+
+// The same with another byte at its fourth place too.
+const ALTERED_TWICE: [u8; 15] = [0x4D, 2, 20, 0, 0, 0, 0, 3, 7, 3, 9, 3, 0, 0, 0];
+
+// What comes up, what is sent then, and how far the upload is.
+type Row<'a> = (&'a [u8], &'a [Sent], Progress);
+
+// Whether a host sends this at each answer, and is so far then.
+fn follows(host: &mut Host, rows: &[Row]) -> Result<bool, Fail> {
+    let mut out = Out::new();
+    for (bytes, wanted, progress) in rows {
+        if host.event(up(0, bytes)?, &mut out) != *progress || out.as_slice() != *wanted {
+            return Ok(false);
+        }
+    }
+    Ok(true)
+}
+
+const LOADS: &[Row<'static>] = &[
+    (WROTE_FIRST, &[], Progress::Going),
+    (WROTE_SECOND, &[sent!(2)], Progress::Going),
+    (DEFINED, &[sent!(3), sent!(4)], Progress::Going),
+];
+
+const READS: &[Row<'static>] = &[
+    (&SECOND_READ, &[], Progress::Going),
+    // Too few bytes, and bytes of another place.
+    (
+        &[
+            0x4D, 2, 0, 0, 0, 0, 0, 0, 0, 0, 0, 0xE8, 3, 0, 0, 3, 0xD0, 7, 0, 0, 0, 0, 0, 0, 0xE8,
+            3,
+        ],
+        &[],
+        Progress::Going,
+    ),
+    (&[0x4D, 2, 10, 0, 0, 0, 0, 1], &[], Progress::Going),
+    (&FIRST_READ, &[sent!(5)], Progress::Going),
+    (&FIRST_READ, &[], Progress::Going),
+    (&STARTED, &[], Progress::Done),
+];
+
 #[test]
 fn starts_come_after_the_reads(rt: HostRuntime) -> Result<(), Fail> {
-    let alloc = rt.alloc();
-    let going = Progress::Going;
-    let events: [(&[u8], &[Sent], Progress); 9] = [
-        (LOADED[0], &[], going),
-        (LOADED[1], &[sent(2)], going),
-        (LOADED[2], &[sent(3), sent(4)], going),
-        (&SECOND_READ, &[], going),
-        // Too few bytes, and bytes of another place.
-        (&FIRST_READ[..26], &[], going),
-        (&[0x4D, 2, 10, 0, 0, 0, 0, 1], &[], going),
-        (&FIRST_READ, &[sent(5)], going),
-        (&FIRST_READ, &[], going),
-        (&STARTED, &[], Progress::Done),
-    ];
-    let mut host = Host::make(alloc, one_drone(alloc, true)?)?;
+    let mut host = Host::make(rt.alloc(), one_drone(rt.alloc(), true)?)?;
     let mut out = Out::new();
     host.first(&mut out);
-    assert!(rt; out.as_slice() == [sent(0), sent(1)].as_slice());
-    for (bytes, wanted, progress) in events {
-        assert!(rt; host.event(up(0, bytes)?, &mut out) == progress);
-        assert!(rt; out.as_slice() == wanted);
-    }
+    let first = out.as_slice() == [sent!(0), sent!(1)].as_slice();
+    assert!(rt; first && follows(&mut host, LOADS)? && follows(&mut host, READS)?);
     Ok(())
 }
+
+const EARLY: &[Row<'static>] = &[
+    (WROTE_FIRST, &[], Progress::Going),
+    (&FIRST_READ, &[], Progress::Going),
+    (&ALTERED, &[], Progress::Going),
+    (WROTE_SECOND, &[sent!(2)], Progress::Going),
+    (DEFINED, &[sent!(3), sent!(4)], Progress::Going),
+    (&SECOND_READ, &[], Progress::Going),
+    (&FIRST_READ, &[], Progress::Done),
+];
 
 // Before all is loaded no answer to a read counts, neither a good one nor one with another byte.
 #[test]
 fn answers_to_reads_wait_for_the_define(rt: HostRuntime) -> Result<(), Fail> {
-    let alloc = rt.alloc();
-    let going = Progress::Going;
-    let mut altered = SECOND_READ;
-    altered[8] = 7;
-    let events: [(&[u8], &[Sent], Progress); 7] = [
-        (LOADED[0], &[], going),
-        (&FIRST_READ, &[], going),
-        (&altered, &[], going),
-        (LOADED[1], &[sent(2)], going),
-        (LOADED[2], &[sent(3), sent(4)], going),
-        (&SECOND_READ, &[], going),
-        (&FIRST_READ, &[], Progress::Done),
-    ];
-    let mut host = Host::make(alloc, one_drone(alloc, false)?)?;
-    let mut out = Out::new();
-    for (bytes, wanted, progress) in events {
-        assert!(rt; host.event(up(0, bytes)?, &mut out) == progress);
-        assert!(rt; out.as_slice() == wanted);
-    }
+    let mut host = Host::make(rt.alloc(), one_drone(rt.alloc(), false)?)?;
+    assert!(rt; follows(&mut host, EARLY)?);
     Ok(())
 }
+
+const DIFFERS: Progress = Progress::Differs {
+    drone: 0,
+    address: 21,
+    wanted: 0xE8,
+    got: 7,
+};
+
+const OTHER: &[Row<'static>] = &[
+    (&ALTERED_TWICE, &[], DIFFERS),
+    (&ALTERED_TWICE, &[], DIFFERS),
+    (&SECOND_READ, &[], DIFFERS),
+];
 
 #[test]
 fn another_byte_differs(rt: HostRuntime) -> Result<(), Fail> {
-    let alloc = rt.alloc();
-    let mut host = Host::make(alloc, one_drone(alloc, false)?)?;
-    let mut out = Out::new();
-    for bytes in LOADED {
-        assert!(rt; host.event(up(0, bytes)?, &mut out) == Progress::Going);
-    }
-    let mut altered = SECOND_READ;
-    altered[8] = 7;
-    altered[10] = 9;
-    let differs = Progress::Differs {
-        drone: 0,
-        address: 21,
-        wanted: 0xE8,
-        got: 7,
-    };
-    for _ in 0..2 {
-        assert!(rt; host.event(up(0, &altered)?, &mut out) == differs);
-        assert!(rt; out.is_empty());
-    }
-    assert!(rt; host.event(up(0, &SECOND_READ)?, &mut out) == differs);
+    let mut host = Host::make(rt.alloc(), one_drone(rt.alloc(), false)?)?;
+    assert!(rt; follows(&mut host, LOADS)? && follows(&mut host, OTHER)?);
     Ok(())
 }
 
-#[test]
-fn a_read_is_silent_or_refused(rt: HostRuntime) -> Result<(), Fail> {
-    let alloc = rt.alloc();
-    let mut host = Host::make(alloc, one_drone(alloc, true)?)?;
+// Whether a host sends both reads again at each of 19 ticks, and gives up at the twentieth.
+fn gives_up(host: &mut Host) -> bool {
     let mut out = Out::new();
-    for bytes in LOADED {
-        assert!(rt; host.event(up(0, bytes)?, &mut out) == Progress::Going);
-    }
     for _ in 0..19 {
-        assert!(rt; host.event(Event::Tick, &mut out) == Progress::Going);
-        assert!(rt; out.as_slice() == [sent(3), sent(4)].as_slice());
+        let going = host.event(Event::Tick, &mut out) == Progress::Going;
+        if !going || out.as_slice() != [sent!(3), sent!(4)].as_slice() {
+            return false;
+        }
     }
     let ended = Progress::GaveUp {
         drone: 0,
         packet: 3,
     };
-    assert!(rt; host.event(Event::Tick, &mut out) == ended);
-    let mut host = Host::make(alloc, one_drone(alloc, true)?)?;
-    for bytes in LOADED {
-        assert!(rt; host.event(up(0, bytes)?, &mut out) == Progress::Going);
-    }
-    let ended = Progress::Refused {
+    host.event(Event::Tick, &mut out) == ended
+}
+
+const REFUSED: &[Row<'static>] = &[(
+    &[0x4D, 2, 20, 0, 0, 0, 5],
+    &[],
+    Progress::Refused {
         drone: 0,
         packet: 4,
         status: 5,
-    };
-    assert!(rt; host.event(up(0, &[0x4D, 2, 20, 0, 0, 0, 5])?, &mut out) == ended);
+    },
+)];
+
+#[test]
+fn a_read_is_silent_or_refused(rt: HostRuntime) -> Result<(), Fail> {
+    let mut host = Host::make(rt.alloc(), one_drone(rt.alloc(), true)?)?;
+    assert!(rt; follows(&mut host, LOADS)? && gives_up(&mut host));
+    let mut host = Host::make(rt.alloc(), one_drone(rt.alloc(), true)?)?;
+    assert!(rt; follows(&mut host, LOADS)? && follows(&mut host, REFUSED)?);
     Ok(())
 }

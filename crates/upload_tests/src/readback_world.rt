@@ -126,38 +126,63 @@ const DIFFERS: Progress = Progress::Differs {
     got: 7,
 };
 
+// The path with 7 as its byte 3.
+const ALTERED: [u8; 28] = [
+    0, 0, 0, 7, 0xE8, 3, 0, 0, 3, 0xD0, 7, 0, 0, 0, 0, 0, 0, 0xE8, 3, 0xE8, 3, 0xE8, 3, 0xE8, 3, 0,
+    0, 0,
+];
+
+// Two schedules after the loading, how far the upload is at the end, and the bytes in the drone.
+type Row<'a> = (&'a [u8], &'a [u8], Progress, &'a [u8]);
+
+const ALTERATIONS: &[Row<'static>] = &[
+    // Nobody alters a byte.
+    (b"", READ, Progress::Done, &PATH),
+    // Before the read is taken, between the read and its answer, and after the answer.
+    (b"alter solo 3 7\n", READ, DIFFERS, &ALTERED),
+    (
+        b"take solo 4\nalter solo 3 7\ntake solo 5\nhear solo 4\n",
+        b"hear solo 5\n",
+        Progress::Done,
+        &ALTERED,
+    ),
+    (READ, b"alter solo 3 7\n", Progress::Done, &ALTERED),
+    // The byte is as it was when it is read.
+    (
+        b"alter solo 0003 007\nalter solo 3 0\n",
+        READ,
+        Progress::Done,
+        &PATH,
+    ),
+    // A drone that the session has not.
+    (b"alter duo 3 7\n", READ, Progress::Done, &PATH),
+];
+
+// Whether a world in which these schedules follow the loading is so far at the end, and has these bytes.
+fn ends_so(
+    alloc: Global,
+    before: &[u8],
+    after: &[u8],
+    progress: Progress,
+    bytes: &[u8],
+) -> Result<bool, AllocError>
+    requires before { length before.now ≤ 1048576 }
+    requires after { length after.now ≤ 1048576 }
+{
+    let mut world = world_of(alloc, &PATH, 0, 1, false)?;
+    let loaded = run(alloc, &mut world, LOADED)?;
+    let _going = run(alloc, &mut world, before)?;
+    let ended = run(alloc, &mut world, after)?;
+    let drone = world.drone(0);
+    let is_loaded = loaded == Progress::Going;
+    Ok(is_loaded && ended == progress && has_bytes(drone, bytes) && drone.started.is_none())
+}
+
 #[test]
 fn a_byte_is_altered(rt: HostRuntime) -> Result<(), Fail> {
-    let alloc = rt.alloc();
-    let done = Progress::Done;
-    let mut altered = PATH;
-    altered[3] = 7;
-    let rows: [(&[u8], &[u8], Progress, &[u8]); 6] = [
-        // Nobody alters a byte.
-        (b"", READ, done, &PATH),
-        // Before the read is taken, between the read and its answer, and after the answer.
-        (b"alter solo 3 7\n", READ, DIFFERS, &altered),
-        (
-            b"take solo 4\nalter solo 3 7\ntake solo 5\nhear solo 4\n",
-            b"hear solo 5\n",
-            done,
-            &altered,
-        ),
-        (READ, b"alter solo 3 7\n", done, &altered),
-        // The byte is as it was when it is read.
-        (b"alter solo 0003 007\nalter solo 3 0\n", READ, done, &PATH),
-        // A drone that the session has not.
-        (b"alter duo 3 7\n", READ, done, &PATH),
-    ];
-    for (before, after, progress, bytes) in rows {
-        let mut world = world_of(alloc, &PATH, 0, 1, false)?;
-        let loaded = run(alloc, &mut world, LOADED)?;
-        assert!(rt; loaded == Progress::Going);
-        let _going = run(alloc, &mut world, before)?;
-        let ended = run(alloc, &mut world, after)?;
-        assert!(rt; ended == progress);
-        assert!(rt; has_bytes(world.drone(0), bytes));
-        assert!(rt; world.drone(0).started.is_none());
+    for &(before, after, progress, bytes) in ALTERATIONS {
+        let short = before.len() <= 100 && after.len() <= 100;
+        assert!(rt; short && ends_so(rt.alloc(), before, after, progress, bytes)?);
     }
     Ok(())
 }
@@ -202,30 +227,35 @@ fn an_address_is_in_a_memory(rt: HostRuntime) -> Result<(), Fail> {
     Ok(())
 }
 
+// Packet 1 is the write, 2 the define, 3 the read, 4 the start. A schedule, how far the upload is after it, and what
+// the first drone has started then.
+const WAITS: &[(&[u8], Progress, Option<u8>)] = &[
+    (
+        b"take solo 1\nhear solo 1\ntake duo 1\nhear duo 1\ntake solo 2\nhear solo 2\n",
+        Progress::Going,
+        None,
+    ),
+    (
+        b"take duo 2\nhear duo 2\ntake solo 3\nhear solo 3\ntake solo 4\n",
+        Progress::Going,
+        None,
+    ),
+    (
+        b"take duo 3\nhear duo 3\ntake solo 4\n",
+        Progress::Going,
+        Some(0),
+    ),
+    (b"hear solo 4\n", Progress::Going, Some(0)),
+    (b"take duo 4\nhear duo 4\n", Progress::Done, Some(0)),
+];
+
 #[test]
 fn starts_wait_for_all_reads(rt: HostRuntime) -> Result<(), Fail> {
     let alloc = rt.alloc();
-    let going = Progress::Going;
     let mut world = world_of(alloc, &[9], 0, 2, true)?;
-    // Packet 1 is the write, 2 the define, 3 the read, 4 the start.
-    let rows: [(&[u8], Progress, Option<u8>); 5] = [
-        (
-            b"take solo 1\nhear solo 1\ntake duo 1\nhear duo 1\ntake solo 2\nhear solo 2\n",
-            going,
-            None,
-        ),
-        (
-            b"take duo 2\nhear duo 2\ntake solo 3\nhear solo 3\ntake solo 4\n",
-            going,
-            None,
-        ),
-        (b"take duo 3\nhear duo 3\ntake solo 4\n", going, Some(0)),
-        (b"hear solo 4\n", going, Some(0)),
-        (b"take duo 4\nhear duo 4\n", Progress::Done, Some(0)),
-    ];
-    for (text, progress, started) in rows {
-        let now = run(alloc, &mut world, text)?;
-        assert!(rt; now == progress);
+    for &(text, progress, started) in WAITS {
+        let short = text.len() <= 100;
+        assert!(rt; short && run(alloc, &mut world, text)? == progress);
         assert!(rt; world.drone(0).started == started);
     }
     assert!(rt; world.drone(1).started == Some(0));

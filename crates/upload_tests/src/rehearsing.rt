@@ -61,7 +61,7 @@ fn solo_name() -> Name
 }
 
 // The writes the other way round, then the define and the start.
-const TURNED: [WorldEvent; 8] = [
+const TURNED: &[WorldEvent] = &[
     WorldEvent::Take { drone: 0, n: 1 },
     WorldEvent::Take { drone: 0, n: 0 },
     WorldEvent::Hear { drone: 0, n: 0 },
@@ -88,7 +88,7 @@ trajectory 0 offset 0 pieces 1\nstarted 0\nends 1000 0 1000 0\n";
 #[test]
 fn a_whole_rehearsal(rt: HostRuntime) -> Result<(), Fail> {
     let alloc = rt.alloc();
-    let world = rehearsed(alloc, &TURNED)?;
+    let world = rehearsed(alloc, TURNED)?;
     assert!(rt; world.progress() == Progress::Done);
     match text_of(alloc, &world, solo_name())? {
         Some(text) => {
