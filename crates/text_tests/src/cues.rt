@@ -2,8 +2,10 @@
 //! point.
 
 ghost use Rattle.std.specs.Prelude.{◌≡◌};
+ghost use Rattle.choreo_show.specs.Plain.{plain};
+ghost use Rattle.choreo_show.specs.Valid.{IsValid};
 
-use choreo_reader::{Frame, LineKind, Mirror, Point, ShowFault, read_show};
+use choreo_reader::{Frame, LineKind, Mirror, Point, Show, ShowFault, read_show};
 use cue_grid::{GridFault, UnrollError, apply, mirror, quarter_turn, shift, unroll};
 use std::alloc::Global;
 
@@ -17,18 +19,24 @@ enum Outcome {
     Memory,
 }
 
+fn outcome_of_show(alloc: Global, show: &Show) -> Outcome
+    requires { IsValid (plain show.now) }
+{
+    match unroll(alloc, show) {
+        Ok(grid) => Outcome::Cues(grid.cues.as_slice().len()),
+        Err(UnrollError::Fault { fault }) => Outcome::Fault(fault),
+        Err(UnrollError::Memory) => Outcome::Memory,
+    }
+}
+
 fn outcome_of(alloc: Global, text: &[u8]) -> Outcome {
     if text.len() > 1_048_576 {
         return Outcome::TooLarge;
     }
     match read_show(alloc, text) {
+        Ok(show) => outcome_of_show(alloc, &show),
         Err(ShowFault::Line { line, kind }) => Outcome::Line(line, kind),
         Err(ShowFault::Memory) => Outcome::Memory,
-        Ok(show) => match unroll(alloc, &show) {
-            Ok(grid) => Outcome::Cues(grid.cues.as_slice().len()),
-            Err(UnrollError::Fault { fault }) => Outcome::Fault(fault),
-            Err(UnrollError::Memory) => Outcome::Memory,
-        },
     }
 }
 

@@ -1,7 +1,9 @@
 //! Shows by their texts: the control values of their figures, or the first value that no trajectory can hold.
+ghost use Rattle.choreo_show.specs.Plain.{plain};
+ghost use Rattle.choreo_show.specs.Valid.{IsValid};
 ghost use Rattle.cue_grid.specs.Grids.{IsGrid};
 
-use choreo_reader::read_show;
+use choreo_reader::{Show, read_show};
 use cue_grid::{Grid, unroll};
 use figure_expand::{AxisValue, range_fault, step};
 use mm_rounding::{Axis, MicroPiece};
@@ -15,25 +17,6 @@ enum Outcome {
     Other,
 }
 
-fn outcome_of(alloc: Global, text: &[u8]) -> Outcome {
-    if text.len() > 1_048_576 {
-        return Outcome::Other;
-    }
-    let show = match read_show(alloc, text) {
-        Ok(show) => show,
-        Err(_) => return Outcome::Other,
-    };
-    let grid = match unroll(alloc, &show) {
-        Ok(grid) => grid,
-        Err(_) => return Outcome::Other,
-    };
-    match range_fault(alloc, &grid) {
-        Ok(None) => last_piece(&grid),
-        Ok(Some(value)) => Outcome::OutOfRange(value),
-        Err(_) => Outcome::Other,
-    }
-}
-
 // What the first drone does in the last of one or two cues.
 fn last_piece(grid: &Grid) -> Outcome
     requires { IsGrid grid.now }
@@ -45,6 +28,35 @@ fn last_piece(grid: &Grid) -> Outcome
         return Outcome::Piece(step(&mut point, 0, &cues[1]));
     }
     Outcome::Piece(first)
+}
+
+fn outcome_of_grid(alloc: Global, grid: &Grid) -> Outcome
+    requires { IsGrid grid.now }
+{
+    match range_fault(alloc, grid) {
+        Ok(None) => last_piece(grid),
+        Ok(Some(value)) => Outcome::OutOfRange(value),
+        Err(_) => Outcome::Other,
+    }
+}
+
+fn outcome_of_show(alloc: Global, show: &Show) -> Outcome
+    requires { IsValid (plain show.now) }
+{
+    match unroll(alloc, show) {
+        Ok(grid) => outcome_of_grid(alloc, &grid),
+        Err(_) => Outcome::Other,
+    }
+}
+
+fn outcome_of(alloc: Global, text: &[u8]) -> Outcome {
+    if text.len() > 1_048_576 {
+        return Outcome::Other;
+    }
+    match read_show(alloc, text) {
+        Ok(show) => outcome_of_show(alloc, &show),
+        Err(_) => Outcome::Other,
+    }
 }
 
 fn piece(axes: [Axis; 4]) -> Outcome {
