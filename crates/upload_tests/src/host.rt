@@ -185,36 +185,6 @@ fn cursors_and_words(rt: HostRuntime) -> Result<(), Fail> {
     Ok(())
 }
 
-#[test]
-fn a_packet_is_refused(rt: HostRuntime) -> Result<(), Fail> {
-    let alloc = rt.alloc();
-    let mut host = Host::make(alloc, two_drones(alloc, false)?)?;
-    let mut out = Out::new();
-    host.first(&mut out);
-    let first = [sent!(0, 0), sent!(0, 1), sent!(1, 0), sent!(1, 1)];
-    assert!(rt; out.as_slice() == first.as_slice());
-    // From a drone that isn't there, and of another port.
-    let refusal = [0x4E, 2, 0, 0, 0, 0, 5];
-    for (drone, bytes) in [(2, refusal.as_slice()), (0, [0, 0x48, 0x69].as_slice())] {
-        assert!(rt; host.event(up(drone, bytes)?, &mut out) == Progress::Going);
-        assert!(rt; out.is_empty());
-    }
-    let ended = Progress::Refused {
-        drone: 1,
-        packet: 0,
-        status: 5,
-    };
-    for _ in 0..2 {
-        assert!(rt; host.event(up(1, &refusal)?, &mut out) == ended);
-        assert!(rt; out.is_empty());
-    }
-    assert!(rt; host.event(Event::Tick, &mut out) == ended);
-    // What is in flight before any event doesn't depend on what came later.
-    host.first(&mut out);
-    assert!(rt; out.as_slice() == first.as_slice());
-    Ok(())
-}
-
 // Answers of two drones to the packets of their path.
 const FIRST: &[u8] = &[0x4E, 2, 0, 0, 0, 0, 0];
 
@@ -281,6 +251,46 @@ fn follows(host: &mut Host, rows: &[Row]) -> Result<bool, Fail> {
         }
     }
     Ok(true)
+}
+
+// What is in flight before any event.
+const AT_FIRST: &[Sent] = &[sent!(0, 0), sent!(0, 1), sent!(1, 0), sent!(1, 1)];
+
+const REFUSAL: &[u8] = &[0x4E, 2, 0, 0, 0, 0, 5];
+
+const FIRST_REFUSED: Progress = Progress::Refused {
+    drone: 1,
+    packet: 0,
+    status: 5,
+};
+
+const REFUSALS: &[Row<'static>] = &[
+    // From a drone that isn't there, and of another port.
+    (2, REFUSAL, &[], Progress::Going),
+    (0, &[0, 0x48, 0x69], &[], Progress::Going),
+    (1, REFUSAL, &[], FIRST_REFUSED),
+    (1, REFUSAL, &[], FIRST_REFUSED),
+];
+
+// Whether this is in flight before any event, whatever has happened since.
+fn is_first(host: &Host, wanted: &[Sent]) -> bool {
+    let mut out = Out::new();
+    host.first(&mut out);
+    out.as_slice() == wanted
+}
+
+// What a tick makes of an upload.
+fn ticked(host: &mut Host) -> Progress {
+    let mut out = Out::new();
+    host.event(Event::Tick, &mut out)
+}
+
+#[test]
+fn a_packet_is_refused(rt: HostRuntime) -> Result<(), Fail> {
+    let mut host = Host::make(rt.alloc(), two_drones(rt.alloc(), false)?)?;
+    assert!(rt; is_first(&host, AT_FIRST) && follows(&mut host, REFUSALS)?);
+    assert!(rt; ticked(&mut host) == FIRST_REFUSED && is_first(&host, AT_FIRST));
+    Ok(())
 }
 
 #[test]
