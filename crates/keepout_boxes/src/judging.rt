@@ -14,7 +14,7 @@ use fleet_curves::Curves;
 use fleet_math::Depth;
 
 /// What is judged.
-#[derive(Clone, Copy, Debug, PartialEq, Eq)]
+#[derive(Clone, Copy, PartialEq, Eq)]
 pub enum Judged {
     /// Each part is kept from each keepout and in each volume.
     Kept,

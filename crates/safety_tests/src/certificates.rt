@@ -39,7 +39,7 @@ fn three(alloc: Global) -> Result<Curves, AllocError> {
 }
 
 // A verdict. Drones, cues, places, directions and control values are those of the fault, in its order.
-#[derive(Clone, Copy, PartialEq, Eq, Debug)]
+#[derive(Clone, Copy, PartialEq, Eq)]
 enum Outcome {
     // The depth, and how many trees there are.
     Valid(u8, u32),

@@ -117,7 +117,7 @@ fn regions_of_one_drone(rt: HostRuntime) -> Result<(), Fail> {
 }
 
 // What is read of a text.
-#[derive(Clone, Copy, Debug, PartialEq, Eq)]
+#[derive(Clone, Copy, PartialEq, Eq)]
 enum Read {
     Regions(usize),
     Line(u32),

@@ -31,7 +31,7 @@ pub fn fitted_of(alloc: Global, text: &[u8]) -> Result<Fitted, Option<PlanFault>
 
 /// What becomes of a text: how many cues it has, its milliseconds, how many bytes its first drone has, and whether they
 /// begin as wanted; a fault; or something else.
-#[derive(Clone, Copy, PartialEq, Eq, Debug)]
+#[derive(Clone, Copy, PartialEq, Eq)]
 enum Outcome {
     Fits(u16, u32, usize, bool),
     Fault(PlanFault),

@@ -8,7 +8,7 @@ use show_plan::{BlockedPart, SeparationFault, certificate, count_nodes};
 use std::alloc::Global;
 
 /// What is answered for a show: whether its certificate has the wanted text; a fault; or something else.
-#[derive(Clone, Copy, PartialEq, Eq, Debug)]
+#[derive(Clone, Copy, PartialEq, Eq)]
 enum Answer {
     Certified(bool),
     Fault(SeparationFault),
