@@ -57,6 +57,19 @@ pub rowed : (form : Form) (k : Keyword) (ws : List Word) (e : Entry) → row_lin
 unfolding row_line
 rowed form k ws e h = grind (arith, common_steps, drop, passed, two)
 
+-- the same the other way round: what the words after the first say, by what each step gave
+pub row_short : (form : Form) (k : Keyword) (ws : List Word) → has_count (row_of k) (length ws) ≡ false → row_line form k ws ≡ Err kind.BadCount
+unfolding row_line
+row_short form k ws h = rw h refl
+
+pub row_unread : (form : Form) (k : Keyword) (ws : List Word) (e : LineKind) → has_count (row_of k) (length ws) ≡ true → values_in form (row_of k).places ws ≡ Err e → row_line form k ws ≡ Err e
+unfolding row_line
+row_unread form k ws e h r = rw (h, r) refl
+
+pub row_whole : (form : Form) (k : Keyword) (ws : List Word) (vs : List Value) (ns : List Name) → has_count (row_of k) (length ws) ≡ true → values_in form (row_of k).places ws ≡ Ok vs → names_in (drop (length (row_of k).places) ws) ≡ Ok ns → row_line form k ws ≡ Ok (entry_with k vs ns)
+unfolding row_line
+row_whole form k ws vs ns h r n = rw (h, r, n) refl
+
 line_keyword : (form : Form) (k : Keyword) (ws : List Word) (e : Entry) → line_in form k ws ≡ Ok e → keyword_in e ≡ k
 line_keyword form first.Other ws e h = let a = acted form ws e h in ap keyword_in (sym a.is)
 line_keyword form k ws e h = let r = rowed form k (drop 1 ws) e h in ap keyword_in (sym r.is) ∙ with_keyword k r.values r.names (λ o. cc)

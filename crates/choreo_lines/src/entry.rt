@@ -256,7 +256,6 @@ fn has_count(first: Keyword, count: usize) -> bool
 }
 
 // What the words after the first of a line say.
-#[tactic(auto, unfolding(crate::specs::Fields::row_line))]
 fn row_line(
     alloc: Global,
     form: Form,
