@@ -392,14 +392,24 @@ const FAILURES: &[Failure] = &[
     (&[WROTE_FIRST], 2, 2, 100, 7, &[FIRST]),
 ];
 
+// Whether an upload that was run has this status, and wrote this.
+fn is_so(ran: &Ran, status: u8, output: &[u8]) -> bool {
+    ran.status == status && ran.sink.written() == output
+}
+
+// Whether an upload ends as its row says.
+fn fails_so(alloc: Global, row: &Failure) -> Result<bool, AllocError> {
+    let (input, read, write, cut, status, output) = *row;
+    let wanted = joined(alloc, output)?;
+    let ran = run(alloc, LOAD, joined(alloc, input)?, cut, read, write)?;
+    Ok(is_so(&ran, status, wanted.as_slice()))
+}
+
 // Each read and each write fails in turn, and both in the same upload.
 #[test]
 fn failing_ends(rt: HostRuntime) -> Result<(), Fail> {
-    let alloc = rt.alloc();
-    for &(input, read, write, cut, status, output) in FAILURES {
-        let ran = run(alloc, LOAD, joined(alloc, input)?, cut, read, write)?;
-        assert!(rt; ran.status == status);
-        assert!(rt; ran.sink.written() == joined(alloc, output)?.as_slice());
+    for row in FAILURES {
+        assert!(rt; fails_so(rt.alloc(), row)?);
     }
     Ok(())
 }
@@ -447,14 +457,25 @@ const FOUR_MILLION_FRAMES: &[(u32, &[&[u8]], u8, &[&[u8]])] = &[
     ),
 ];
 
+// Whether an upload of so many packets and these frames ends so.
+fn counts_so(
+    alloc: Global,
+    count: u32,
+    behind: &[&[u8]],
+    status: u8,
+    output: &[&[u8]],
+) -> Result<bool, AllocError> {
+    let wanted = joined(alloc, output)?;
+    let last = joined(alloc, behind)?;
+    let input = many(alloc, count, last.as_slice())?;
+    let ran = run(alloc, LOAD, input, 4096, 0, 0)?;
+    Ok(is_so(&ran, status, wanted.as_slice()))
+}
+
 #[test]
 fn four_million_frames(rt: HostRuntime) -> Result<(), Fail> {
-    let alloc = rt.alloc();
     for &(count, behind, status, output) in FOUR_MILLION_FRAMES {
-        let input = many(alloc, count, joined(alloc, behind)?.as_slice())?;
-        let ran = run(alloc, LOAD, input, 4096, 0, 0)?;
-        assert!(rt; ran.status == status);
-        assert!(rt; ran.sink.written() == joined(alloc, output)?.as_slice());
+        assert!(rt; counts_so(rt.alloc(), count, behind, status, output)?);
     }
     Ok(())
 }

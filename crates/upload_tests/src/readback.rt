@@ -100,13 +100,23 @@ const READS: &[Row<'static>] = &[
     (&STARTED, &[], Progress::Done),
 ];
 
-#[test]
-fn starts_come_after_the_reads(rt: HostRuntime) -> Result<(), Fail> {
-    let mut host = Host::make(rt.alloc(), one_drone(rt.alloc(), true)?)?;
+// Whether both writes are in flight before any event.
+fn is_first(host: &Host) -> bool {
     let mut out = Out::new();
     host.first(&mut out);
-    let first = out.as_slice() == [sent!(0), sent!(1)].as_slice();
-    assert!(rt; first && follows(&mut host, LOADS)? && follows(&mut host, READS)?);
+    out.as_slice() == [sent!(0), sent!(1)].as_slice()
+}
+
+// Whether a new host does so once all is loaded.
+fn follows_loads(alloc: Global, start: bool, rows: &[Row]) -> Result<bool, Fail> {
+    let mut host = Host::make(alloc, one_drone(alloc, start)?)?;
+    let is_loaded = is_first(&host) && follows(&mut host, LOADS)?;
+    Ok(is_loaded && follows(&mut host, rows)?)
+}
+
+#[test]
+fn starts_come_after_the_reads(rt: HostRuntime) -> Result<(), Fail> {
+    assert!(rt; follows_loads(rt.alloc(), true, READS)?);
     Ok(())
 }
 
@@ -143,8 +153,7 @@ const OTHER: &[Row<'static>] = &[
 
 #[test]
 fn another_byte_differs(rt: HostRuntime) -> Result<(), Fail> {
-    let mut host = Host::make(rt.alloc(), one_drone(rt.alloc(), false)?)?;
-    assert!(rt; follows(&mut host, LOADS)? && follows(&mut host, OTHER)?);
+    assert!(rt; follows_loads(rt.alloc(), false, OTHER)?);
     Ok(())
 }
 
@@ -174,11 +183,15 @@ const REFUSED: &[Row<'static>] = &[(
     },
 )];
 
+// Whether a new host does so once all is loaded.
+fn gives_up_on_reads(alloc: Global) -> Result<bool, Fail> {
+    let mut host = Host::make(alloc, one_drone(alloc, true)?)?;
+    Ok(follows(&mut host, LOADS)? && gives_up(&mut host))
+}
+
 #[test]
 fn a_read_is_silent_or_refused(rt: HostRuntime) -> Result<(), Fail> {
-    let mut host = Host::make(rt.alloc(), one_drone(rt.alloc(), true)?)?;
-    assert!(rt; follows(&mut host, LOADS)? && gives_up(&mut host));
-    let mut host = Host::make(rt.alloc(), one_drone(rt.alloc(), true)?)?;
-    assert!(rt; follows(&mut host, LOADS)? && follows(&mut host, REFUSED)?);
+    assert!(rt; gives_up_on_reads(rt.alloc())?);
+    assert!(rt; follows_loads(rt.alloc(), true, REFUSED)?);
     Ok(())
 }
