@@ -5,7 +5,7 @@ use choreo_reader::{
     ShowFault, Token, read_show, tokens,
 };
 use fleet_math::MOST_TEXT;
-use std::alloc::{AllocError, Global};
+use std::alloc::Global;
 use std::test::Fail;
 
 const SMALLEST: &[u8] =
@@ -14,83 +14,92 @@ const SMALLEST: &[u8] =
 const SMALLEST_IN_UNITS: &[u8] =
     b"choreo 2\ndrone solo 0 0 1m 0\ncue 2s\nsolo move 1m 0 100cm 0deg\nend\n";
 
-#[test]
-fn words_are_found(rt: HostRuntime) -> Result<(), Fail> {
-    let alloc = rt.alloc();
-    let words = tokens(alloc, b"choreo 1#\x01\n\n end").map_err(|_| AllocError)?;
-    let wanted = [
+macro_rules! token {
+    ($line:expr, $start:expr, $end:expr) => {
         Token {
-            line: 1,
-            start: 0,
-            end: 6,
-        },
-        Token {
-            line: 1,
-            start: 7,
-            end: 8,
-        },
-        Token {
-            line: 3,
-            start: 13,
-            end: 16,
-        },
-    ];
-    let bad = ShowFault::Line {
-        line: 2,
-        kind: LineKind::BadByte,
+            line: $line,
+            start: $start,
+            end: $end,
+        }
     };
-    let refused = tokens(alloc, b"a\n\x7f\n\x01").err() == Some(bad);
-    assert!(rt; refused && words.as_slice() == wanted.as_slice());
-    Ok(())
 }
 
-// Whether these are the words of a text: for each the number of its line, where it begins, and where it ends.
-fn has_words(
-    alloc: Global,
-    text: &[u8],
-    wanted: &[(u32, usize, usize)],
-) -> Result<bool, AllocError> {
+// Whether these are the words of a text.
+fn has_words(alloc: Global, text: &[u8], wanted: &[Token]) -> bool {
     if text.len() > MOST_TEXT {
-        return Ok(false);
+        return false;
     }
-    let words = tokens(alloc, text).map_err(|_| AllocError)?;
-    if words.len() != wanted.len() {
-        return Ok(false);
+    match tokens(alloc, text) {
+        Ok(words) => words.as_slice() == wanted,
+        Err(_) => false,
     }
-    for (word, (line, start, end)) in words.iter().zip(wanted.iter()) {
-        if word.line != *line || word.start != *start || word.end != *end {
-            return Ok(false);
+}
+
+// Texts with their words: for each the number of its line, where it begins, and where it ends. Words are looked for
+// among sixteen bytes at a time: a word, a line and a comment end before, at and after the sixteenth.
+const WORDS: &[(&[u8], &[Token])] = &[
+    (
+        b"choreo 1#\x01\n\n end",
+        &[token!(1, 0, 6), token!(1, 7, 8), token!(3, 13, 16)],
+    ),
+    (
+        b"a23456789012345 b\nc",
+        &[token!(1, 0, 15), token!(1, 16, 17), token!(2, 18, 19)],
+    ),
+    (
+        b"a234567890123456 b\nc",
+        &[token!(1, 0, 16), token!(1, 17, 18), token!(2, 19, 20)],
+    ),
+    (
+        b"a23456789012345\nc",
+        &[token!(1, 0, 15), token!(2, 16, 17)],
+    ),
+    (
+        b"a234567890123456\nc",
+        &[token!(1, 0, 16), token!(2, 17, 18)],
+    ),
+    (
+        b"a23456789012345#b #\nc",
+        &[token!(1, 0, 15), token!(2, 20, 21)],
+    ),
+    (
+        b"a234567890123456#b #\nc",
+        &[token!(1, 0, 16), token!(2, 21, 22)],
+    ),
+    (
+        b"a!b \"c\" 90123456789# \n#\n",
+        &[token!(1, 0, 3), token!(1, 4, 7), token!(1, 8, 19)],
+    ),
+    (b"                #a\n \t\n", &[]),
+];
+
+#[test]
+fn words_are_found(rt: HostRuntime) {
+    for &(text, wanted) in WORDS {
+        assert!(rt; has_words(rt.alloc(), text, wanted));
+    }
+}
+
+// Whether the first byte that may not stand in a text is in this line.
+fn has_bad_byte(alloc: Global, text: &[u8], line: u32) -> bool {
+    if text.len() > MOST_TEXT {
+        return false;
+    }
+    match tokens(alloc, text) {
+        Ok(_) => false,
+        Err(fault) => {
+            fault
+                == ShowFault::Line {
+                    line,
+                    kind: LineKind::BadByte,
+                }
         }
     }
-    Ok(true)
 }
 
-// Words are looked for among sixteen bytes at a time: a word, a line and a comment end before, at and after the
-// sixteenth.
 #[test]
-fn words_end_on_either_side_of_sixteen_bytes(rt: HostRuntime) -> Result<(), Fail> {
-    let alloc = rt.alloc();
-    let blank_last: [(u32, usize, usize); 3] = [(1, 0, 15), (1, 16, 17), (2, 18, 19)];
-    let blank_next: [(u32, usize, usize); 3] = [(1, 0, 16), (1, 17, 18), (2, 19, 20)];
-    let feed_last: [(u32, usize, usize); 2] = [(1, 0, 15), (2, 16, 17)];
-    let feed_next: [(u32, usize, usize); 2] = [(1, 0, 16), (2, 17, 18)];
-    let hash_last: [(u32, usize, usize); 2] = [(1, 0, 15), (2, 20, 21)];
-    let hash_next: [(u32, usize, usize); 2] = [(1, 0, 16), (2, 21, 22)];
-    let marked: [(u32, usize, usize); 3] = [(1, 0, 3), (1, 4, 7), (1, 8, 19)];
-    let cases: [(&[u8], &[(u32, usize, usize)]); 8] = [
-        (b"a23456789012345 b\nc", blank_last.as_slice()),
-        (b"a234567890123456 b\nc", blank_next.as_slice()),
-        (b"a23456789012345\nc", feed_last.as_slice()),
-        (b"a234567890123456\nc", feed_next.as_slice()),
-        (b"a23456789012345#b #\nc", hash_last.as_slice()),
-        (b"a234567890123456#b #\nc", hash_next.as_slice()),
-        (b"a!b \"c\" 90123456789# \n#\n", marked.as_slice()),
-        (b"                #a\n \t\n", &[]),
-    ];
-    for (text, wanted) in cases {
-        assert!(rt; has_words(alloc, text, wanted)?);
-    }
-    Ok(())
+fn a_bad_byte_is_named(rt: HostRuntime) {
+    assert!(rt; has_bad_byte(rt.alloc(), b"a\n\x7f\n\x01", 2));
 }
 
 // Whether a drone's line, or a place, is this one.

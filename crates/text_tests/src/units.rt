@@ -1,6 +1,7 @@
 //! Words in their places, and words of thousands of digits.
 
 use quantities::{Counts, quantity_in, quantity_law};
+use std::alloc::{AllocError, Global};
 use std::test::Fail;
 use text_lines::NumberFault;
 
@@ -45,31 +46,37 @@ fn words_in_their_places(rt: HostRuntime) {
     }
 }
 
-// A word of 5,000 digits before its end: all of them this one, or a 1 after zeros.
-#[test]
-fn long_words_are_exact(rt: HostRuntime) -> Result<(), Fail> {
-    let alloc = rt.alloc();
-    let mut word = vec![in alloc; b'9'; 5_000]?;
-    assert!(rt;
-        quantity_in(Counts::Micrometres, word.as_slice(), -FAR, FAR) == Err(NumberFault::NotANumber)
-    );
-    word.extend_from_slice(b"m")?;
-    assert!(rt;
-        quantity_in(Counts::Micrometres, word.as_slice(), -FAR, FAR) == Err(NumberFault::OutOfRange)
-    );
-    let mut word = vec![in alloc; b'0'; 5_000]?;
-    assert!(rt; quantity_in(Counts::Micrometres, word.as_slice(), -FAR, FAR) == Ok(0));
-    word.extend_from_slice(b"1.0")?;
-    word.extend_from_slice(b"m")?;
-    assert!(rt; quantity_in(Counts::Micrometres, word.as_slice(), -FAR, FAR) == Ok(1_000_000));
-    let mut word = vec![in alloc; b'9'; 5_000]?;
-    word.extend_from_slice(b".")?;
-    for _ in 0..5_000 {
+// A digit that a word has 5,000 times at first, what follows, how many zeros come then, how it ends, and what is read:
+// all of the digits are this one, or a 1 comes after zeros.
+const LONG: &[(u8, &[u8], usize, &[u8], Result<i64, NumberFault>)] = &[
+    (b'9', b"", 0, b"", Err(NumberFault::NotANumber)),
+    (b'9', b"", 0, b"m", Err(NumberFault::OutOfRange)),
+    (b'0', b"", 0, b"", Ok(0)),
+    (b'0', b"1.0", 0, b"m", Ok(1_000_000)),
+    (b'9', b".", 5_000, b"1m", Err(NumberFault::NotANumber)),
+];
+
+fn long_word(
+    alloc: Global,
+    digit: u8,
+    middle: &[u8],
+    zeros: usize,
+    end: &[u8],
+) -> Result<Vec<u8>, AllocError> {
+    let mut word = vec![in alloc; digit; 5_000]?;
+    word.extend_from_slice(middle)?;
+    for _ in 0..zeros {
         word.push(b'0')?;
     }
-    word.extend_from_slice(b"1m")?;
-    assert!(rt;
-        quantity_in(Counts::Micrometres, word.as_slice(), -FAR, FAR) == Err(NumberFault::NotANumber)
-    );
+    word.extend_from_slice(end)?;
+    Ok(word)
+}
+
+#[test]
+fn long_words_are_exact(rt: HostRuntime) -> Result<(), Fail> {
+    for &(digit, middle, zeros, end, wanted) in LONG {
+        let word = long_word(rt.alloc(), digit, middle, zeros, end)?;
+        assert!(rt; quantity_in(Counts::Micrometres, word.as_slice(), -FAR, FAR) == wanted);
+    }
     Ok(())
 }
