@@ -108,7 +108,7 @@ ones_small m zero j some = (omega (arith, ints), omega (arith, ints))
 ones_small m (suc n) zero some = (omega (arith, ints), omega (arith, ints))
 ones_small m (suc n) (suc j) some = ones_small m n j some
 
-by_same : {P : Type 0} (j i : ℕ) → (j ≡ i → P) → (j ≢ i → P) → P
+pub by_same : {P : Type 0} (j i : ℕ) → (j ≡ i → P) → (j ≢ i → P) → P
 by_same {P} j i same other = grind (arith, common_steps, by_lt)
 
 -- what holds of each entry and of a new one holds after the new one is put in
@@ -166,11 +166,19 @@ lane_low e t sum v low s most less reach =
     close : (d : ℕ) (sum a b least : ℤ) → 0 < d → sum ≤ℤ a → (a +ℤ pos d) ≤ℤ b → least ≡ b → sum <ℤ least
     close d sum a b least some most step is = omega (arith, ints, some, most, step, is)
 
--- the direction of a lane that is too low at a point of a part doesn't separate it
-pub lane_fails : (diff : List (Bez 8)) (level : Level) (clear : Clearance) (n : List ℤ) (l : Lanes) (p : Point) (i k : ℕ) → k ≤ 7 → IsLevel diff level → IsPoint level k p → IsLane clear n l i →
-    lane_value l p i <ℤ at l.low i → is_none (low_value clear diff level.place n) ≡ false
-lane_fails diff level clear n l p i k few is point lane less =
-    failed (low_value clear diff level.place n) refl
+-- a lane that is too low at a point of a part: so is the value there along its direction
+pub lane_along : (diff : List (Bez 8)) (level : Level) (clear : Clearance) (n : List ℤ) (l : Lanes) (p : Point) (i k : ℕ) → k ≤ 7 → IsLevel diff level → IsPoint level k p → IsLane clear n l i →
+    lane_value l p i <ℤ at l.low i → part_along clear.r clear.h diff level.place n k <ℤ least_value (threshold clear n) level.place.depth
+lane_along diff level clear n l p i k few is point lane less =
+    let ws : List ℤ = weights n clear.r clear.h in
+    let same : at ws 0 *ℤ at (controls level.part 0) k +ℤ at ws 1 *ℤ at (controls level.part 1) k +ℤ at ws 2 *ℤ at (controls level.part 2) k ≡ part_along clear.r clear.h diff level.place n k =
+    sums (at ws 0) (at ws 1) (at ws 2) (value 0 (omega arith)) (value 1 (omega arith)) (value 2 (omega arith)) in
+    let lane_is : lane_value l p i ≡ at ws 0 *ℤ p.x +ℤ at ws 1 *ℤ p.y +ℤ at ws 2 *ℤ p.z = lanes p.x p.y p.z lane.x lane.y lane.z in
+    lane_low level.place.depth (threshold clear n) (part_along clear.r clear.h diff level.place n k) (at ws 0 *ℤ p.x +ℤ at ws 1 *ℤ p.y +ℤ at ws 2 *ℤ p.z) (at l.low i) (slack_of ws)
+    (subst (λ (z : ℤ). z ≤ℤ (pos (2 ^ (14 + 7 * level.place.depth)) *ℤ ((at ws 0 *ℤ p.x +ℤ at ws 1 *ℤ p.y +ℤ at ws 2 *ℤ p.z) +ℤ slack_of ws))) same
+    (sum_weighed (2 ^ (14 + 7 * level.place.depth)) (at ws 0) (at ws 1) (at ws 2) p.x p.y p.z (at (controls level.part 0) k) (at (controls level.part 1) k) (at (controls level.part 2) k)
+    point.x.low point.x.high point.y.low point.y.high point.z.low point.z.high))
+    (subst (λ (z : ℤ). z <ℤ at l.low i) lane_is less) lane.low
   where
     value : (axis : ℕ) → axis ≤ 2 → at (controls level.part axis) k ≡ part_value level.place.depth level.place.index (at (controls diff axis)) k
     value axis low = ap (λ (xs : List ℤ). at xs k) (is.part axis low) ∙ at-eight (part_value level.place.depth level.place.index (at (controls diff axis))) k few
@@ -181,20 +189,14 @@ lane_fails diff level clear n l p i k few is point lane less =
     lanes : {a b c u v w : ℤ} (x y z : ℤ) → a ≡ u → b ≡ v → c ≡ w → a *ℤ x +ℤ b *ℤ y +ℤ c *ℤ z ≡ u *ℤ x +ℤ v *ℤ y +ℤ w *ℤ z
     lanes {a} {b} {c} {u} {v} {w} x y z p q r = cc
 
-    along : part_along clear.r clear.h diff level.place n k <ℤ least_value (threshold clear n) level.place.depth
-    along =
-        let ws : List ℤ = weights n clear.r clear.h in
-        let same : at ws 0 *ℤ at (controls level.part 0) k +ℤ at ws 1 *ℤ at (controls level.part 1) k +ℤ at ws 2 *ℤ at (controls level.part 2) k ≡ part_along clear.r clear.h diff level.place n k =
-        sums (at ws 0) (at ws 1) (at ws 2) (value 0 (omega arith)) (value 1 (omega arith)) (value 2 (omega arith)) in
-        let lane_is : lane_value l p i ≡ at ws 0 *ℤ p.x +ℤ at ws 1 *ℤ p.y +ℤ at ws 2 *ℤ p.z = lanes p.x p.y p.z lane.x lane.y lane.z in
-        lane_low level.place.depth (threshold clear n) (part_along clear.r clear.h diff level.place n k) (at ws 0 *ℤ p.x +ℤ at ws 1 *ℤ p.y +ℤ at ws 2 *ℤ p.z) (at l.low i) (slack_of ws)
-        (subst (λ (z : ℤ). z ≤ℤ (pos (2 ^ (14 + 7 * level.place.depth)) *ℤ ((at ws 0 *ℤ p.x +ℤ at ws 1 *ℤ p.y +ℤ at ws 2 *ℤ p.z) +ℤ slack_of ws))) same
-        (sum_weighed (2 ^ (14 + 7 * level.place.depth)) (at ws 0) (at ws 1) (at ws 2) p.x p.y p.z (at (controls level.part 0) k) (at (controls level.part 1) k) (at (controls level.part 2) k)
-        point.x.low point.x.high point.y.low point.y.high point.z.low point.z.high))
-        (subst (λ (z : ℤ). z <ℤ at l.low i) lane_is less) lane.low
-
+-- such a direction doesn't separate the part
+pub lane_fails : (diff : List (Bez 8)) (level : Level) (clear : Clearance) (n : List ℤ) (l : Lanes) (p : Point) (i k : ℕ) → k ≤ 7 → IsLevel diff level → IsPoint level k p → IsLane clear n l i →
+    lane_value l p i <ℤ at l.low i → is_none (low_value clear diff level.place n) ≡ false
+lane_fails diff level clear n l p i k few is point lane less =
+    failed (low_value clear diff level.place n) refl
+  where
     failed : (o : Option ℕ) → low_value clear diff level.place n ≡ o → is_none o ≡ false
-    failed None e = absurd (omega (arith, linear, along, first_low-values (part_along clear.r clear.h diff level.place n) (least_value (threshold clear n) level.place.depth) e k few))
+    failed None e = absurd (omega (arith, linear, lane_along diff level clear n l p i k few is point lane less, first_low-values (part_along clear.r clear.h diff level.place n) (least_value (threshold clear n) level.place.depth) e k few))
     failed (Some j) e = refl
 
 -- the same at one of two points

@@ -11,3 +11,4 @@ pub mod LaneLemmas
 pub mod Reaches
 pub mod Waits
 pub mod OppositeLemmas
+pub mod EndLemmas

@@ -4,4 +4,5 @@ pub mod Laws
 pub mod Fleets
 pub mod Extents
 pub mod Lanes
+pub mod Marks
 pub mod Opposites

@@ -1,5 +1,5 @@
 -- Directions with their opposites side by side, and what whole steps tell of both. No public clause cites these words.
-use Rattle.std.specs.Prelude.{◌≡◌, ◌⊎◌, ℕ, ◌+◌, ◌-◌, ◌<◌, ℤ, pos, ◌+ℤ◌, ◌<ℤ◌, List, length}
+use Rattle.std.specs.Prelude.{◌≡◌, ℕ, ◌+◌, ◌-◌, ◌<◌, ℤ, pos, ◌+ℤ◌, ◌<ℤ◌, List, length}
 use Rattle.fleet_math.specs.Bernstein.{at}
 use Rattle.bezier_core.specs.Steps.{IsWithin}
 use Rattle.sep_parts.specs.Rulers.{Measure}
@@ -30,7 +30,3 @@ pub record AreOpposites (m : Measure) (s : Opposites) : Type 0 where
   pub lanes : AreLanes m s.lanes
   pub small : AreSmallHighs s.high
   pub each : (i : ℕ) → i + i < length m.directions → IsHigh s.lanes i (length m.directions - (i + 1)) (at s.high i)
-
--- one of two points is so high in a lane that it is too low in the other lane
-abbrev pub IsHighAt : Opposites → Point → Point → ℕ → Type 0
-IsHighAt s p q i = (at s.high i <ℤ lane_value s.lanes p i) ⊎ (at s.high i <ℤ lane_value s.lanes q i)

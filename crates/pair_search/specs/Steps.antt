@@ -1,5 +1,5 @@
 -- Words of private steps of the search. No public clause cites them.
-use Rattle.std.specs.Prelude.{◌≡◌, ℕ, ◌+◌, ◌-◌, ◌≤◌, ◌<◌, nat_lt, Bool, true, false, List, length, Option, Some, None}
+use Rattle.std.specs.Prelude.{◌≡◌, ℕ, ◌≤◌, ◌<◌, nat_lt, Bool, true, false, List, length, Option, Some, None}
 use Rattle.std.specs.Prelude.{is_none, if◌then◌else◌, Result, Ok, Err}
 use Rattle.std.specs.Option.{option_map, option_or}
 use Rattle.std.specs.declared.alloc.AllocError.{AllocError}
@@ -82,26 +82,6 @@ pub record IsPairFar (m : Measure) (curves : Raised) (slot : Slot) : Type 0 wher
       HasDirection m.clearance (difference curves slot.a slot.b cue) m.directions root
 
 -- ---- whether there is a direction, whichever
--- neither a direction of the first half of the table nor the one as far from its end separates a place
-abbrev pub NeitherAt : Measure → List (Bez 8) → Place → ℕ → Type 0
-NeitherAt m diff place i =
-    i + i < length m.directions → (does_separate m diff place i ≡ false)
-    × (does_separate m diff place (length m.directions - (i + 1)) ≡ false)
-
--- the same of each direction from one number on and before another
-abbrev pub NeitherFrom : Measure → List (Bez 8) → Place → ℕ → ℕ → Type 0
-NeitherFrom m diff place begin past = (k : ℕ) → begin ≤ k → k < past → NeitherAt m diff place k
-
 -- a direction that separates the place
 abbrev pub IsSome : Measure → List (Bez 8) → Place → ℕ → Type 0
 IsSome m diff place dir = (dir < length m.directions) × (does_separate m diff place dir ≡ true)
-
--- one of the two, if one does
-abbrev pub FindsOne : Measure → List (Bez 8) → Place → ℕ → Option ℕ → Type 0
-FindsOne m diff place i None = NeitherAt m diff place i
-FindsOne m diff place i (Some dir) = IsSome m diff place dir
-
--- one of several and their opposites, if one does
-abbrev pub FindsAmong : Measure → List (Bez 8) → Place → ℕ → ℕ → Option ℕ → Type 0
-FindsAmong m diff place begin past None = NeitherFrom m diff place begin past
-FindsAmong m diff place begin past (Some dir) = IsSome m diff place dir

@@ -11,10 +11,12 @@
 //! what is found.
 #![tactic(auto)]
 
+mod ends;
 mod extents;
 mod first;
 mod fleet;
 mod lanes;
+mod marking;
 mod opposites;
 mod shape;
 mod some;

@@ -1,0 +1,77 @@
+-- What the marks of points tell of directions, and the ends of parts that share them. No public clause cites these
+-- words.
+use Rattle.std.specs.Prelude.{◌≡◌, ◌⊎◌, ℕ, ◌+◌, ◌-◌, ◌<◌, ◌≤◌, ℤ, ◌<ℤ◌, Bool, true, false, List, [], ◌∷◌, length, Option, Some, None}
+use Rattle.std.specs.Int.{bit_at}
+use Rattle.fleet_math.specs.Bernstein.{at}
+use Rattle.bezier_core.specs.declared.Bez.{Bez}
+use Rattle.halving.specs.declared.Place.{Place}
+use Rattle.sep_parts.specs.declared.stack.Level.{Level}
+use Rattle.sep_parts.specs.Directions.{direction_of, threshold}
+use Rattle.sep_parts.specs.Rulers.{Measure}
+use Rattle.sep_parts.specs.Separates.{least_value, part_along}
+use Rattle.pair_search.specs.declared.lanes.Point.{Point}
+use Rattle.pair_search.specs.declared.opposites.Opposites.{Opposites}
+use Rattle.pair_search.specs.declared.marking.Marks.{Marks}
+use Rattle.pair_search.specs.declared.ends.Ends.{Ends}
+use Rattle.pair_search.specs.Lanes.{IsPoint, IsSmallPoint, lane_value}
+use Rattle.pair_search.specs.Steps.{IsSome, does_separate}
+
+-- where a bit of a point is clear, the point is too low in its lane, or too high for the opposite one
+pub record IsMarked (s : Opposites) (p : Point) (marks : Marks) : Type 0 where
+  pub front : (i : ℕ) → i < 49 → bit_at marks.front i ≡ 0 → lane_value s.lanes p i <ℤ at s.lanes.low i
+  pub back : (i : ℕ) → i < 49 → bit_at marks.back i ≡ 0 → at s.high i <ℤ lane_value s.lanes p i
+
+-- the marks are those of the control values k of a level
+abbrev pub MarksAt : Opposites → Level → ℕ → Marks → Type 0
+MarksAt s level k marks = (p : Point) × IsSmallPoint p × IsPoint level k p × IsMarked s p marks
+
+-- a bit is clear only where that of one of two others is
+abbrev pub MarkTells : ℕ → ℕ → ℕ → Type 0
+MarkTells a b both = (i : ℕ) → bit_at both i ≡ 0 → (bit_at a i ≡ 0) ⊎ (bit_at b i ≡ 0)
+
+-- the control value k of a place is too low along a direction
+abbrev pub IsLowEnd : Measure → List (Bez 8) → Place → ℕ → ℕ → Type 0
+IsLowEnd m diff place k dir =
+    part_along m.clearance.r m.clearance.h diff place (direction_of m.directions dir) k
+    <ℤ least_value (threshold m.clearance (direction_of m.directions dir)) place.depth
+
+-- so it is where the bit of the direction is clear, and along its opposite where that bit is
+pub record TellsOf (m : Measure) (diff : List (Bez 8)) (place : Place) (k : ℕ) (marks : Marks) : Type 0 where
+  pub front : (i : ℕ) → i + i < length m.directions → bit_at marks.front i ≡ 0 → IsLowEnd m diff place k i
+  pub back : (i : ℕ) → i + i < length m.directions → bit_at marks.back i ≡ 0
+      → IsLowEnd m diff place k (length m.directions - (i + 1))
+
+-- the marks of both ends of a place
+pub record TellsEnds (m : Measure) (diff : List (Bez 8)) (place : Place) (ends : Ends) : Type 0 where
+  pub first : TellsOf m diff place 0 ends.first
+  pub last : TellsOf m diff place 7 ends.last
+
+-- those of each of several places
+abbrev pub TellAll : Measure → List (Bez 8) → List Place → List Ends → Type 0
+TellAll m diff [] all = Unit {0}
+TellAll m diff (place ∷ places) [] = ⊥
+TellAll m diff (place ∷ places) (ends ∷ all) = TellsEnds m diff place ends × TellAll m diff places all
+
+-- a direction whose bit is clear doesn't separate a place, and so with the opposite
+pub record AreLeft (m : Measure) (diff : List (Bez 8)) (place : Place) (near : Marks) : Type 0 where
+  pub front : (i : ℕ) → i + i < length m.directions → bit_at near.front i ≡ 0 → does_separate m diff place i ≡ false
+  pub back : (i : ℕ) → i + i < length m.directions → bit_at near.back i ≡ 0
+      → does_separate m diff place (length m.directions - (i + 1)) ≡ false
+
+-- the direction of a bit: the one with its number, or the one as far from the end of the table
+abbrev pub dir_of : ℕ → Bool → ℕ → ℕ
+dir_of count false i = i
+dir_of count true i = count - (i + 1)
+
+-- of the directions with a bit one that separates a place, if one does
+abbrev pub FindsMarked : Measure → List (Bez 8) → Place → ℕ → Bool → Option ℕ → Type 0
+FindsMarked m diff place bits back None =
+    (i : ℕ) → i < length m.directions → i < 64 → bit_at bits i ≡ 1
+    → does_separate m diff place (dir_of (length m.directions) back i) ≡ false
+FindsMarked m diff place bits back (Some dir) = IsSome m diff place dir
+
+-- the direction of a bit, where it separates a place
+abbrev pub FindsBit : Measure → List (Bez 8) → Place → Bool → ℕ → Option ℕ → Type 0
+FindsBit m diff place back i None =
+    i < length m.directions → does_separate m diff place (dir_of (length m.directions) back i) ≡ false
+FindsBit m diff place back i (Some dir) = IsSome m diff place dir
