@@ -180,6 +180,27 @@ class Process(unittest.TestCase):
                               clock(1000), at(1000, armed, high), go])
             self.assertEqual([it for it in said if isinstance(it, To)][:3], orders, (near, high))
 
+    def test_who_leaves_its_way(self):
+        # The way up may be left by 100 mm, and by 101 mm for less than 300 ms: on the way, and where the start is waited
+        # for. A sample from before the step, and one that comes late, are taken at their own instants.
+        def at(z, flags, age=0):
+            return director.sample(0, age, [0, 0, z], flags | director.SURE)
+        armed, clock = director.ARMED | director.READY, director.clock_frames
+        up = [at(0, director.READY | director.DOWN), director.signal(director.GO), at(0, armed | director.DOWN)]
+        risen = [To(0, Order(director.ARM)), To(0, Order(director.RISE, (1000,), 2000))]
+        lands = [Noted(0, director.ASTRAY), To(0, Order(director.SINK, (0,), 4001))]
+        high = [clock(2000), at(1000, armed), clock(1000)]
+        for name, events, more in (
+                ("rises", [clock(20), at(100, armed), clock(300), at(100, armed)], []),
+                ("leaps", [clock(20), at(101, armed), clock(300), at(150, armed)], lands),
+                ("leaps for less", [clock(20), at(101, armed), clock(299), at(150, armed)], []),
+                ("seen late", [clock(20), at(101, armed), clock(400), at(150, armed, 101)], []),
+                ("seen later", [clock(20), at(101, armed), clock(400), at(150, armed, 100)], lands),
+                ("seen before", [clock(20), at(5000, armed, 21), clock(300), at(150, armed)], []),
+                ("hovers", [*high, at(1100, armed), clock(300), at(900, armed)], []),
+                ("sinks", [*high, at(899, armed), clock(300), at(899, armed)], lands)):
+            self.assertEqual(self.said([*up, *events]), [*risen, *more, Ended(8)], name)
+
     def test_no_flight(self):
         def judged(words, *texts):
             return director.judged(director.Director(words, texts))

@@ -22,7 +22,7 @@ use Rattle.flight_model.specs.declared.events.Frame.TheVariants.{To, Noted}
 use Rattle.flight_model.specs.declared.flights.Condition.{Condition}
 use Rattle.flight_model.specs.declared.flights.Flight.{Flight}
 use Rattle.flight_model.specs.declared.states.Track.{Track}
-use Rattle.flight_model.specs.Directors.{all_fit, all_down, is_down, first_unfit, aged, frames_from, has_risen, land_order}
+use Rattle.flight_model.specs.Directors.{all_fit, all_down, is_down, first_unfit, frames_from, has_risen, land_order}
 
 -- conditions with no track left
 all_fit-none : (silence : ℕ) (ws : List Condition) (d : ℕ) → d < length ws → all_fit silence (drop d ws) [] ≡ false
@@ -69,13 +69,13 @@ first_unfit-short silence k ws (t ∷ ts) zero m = absurd (omega arith)
 first_unfit-short silence k [] (t ∷ ts) (suc d) m = refl
 first_unfit-short silence k (w ∷ ws) (t ∷ ts) (suc d) m = first_unfit-short silence k ws ts d (omega arith)
 
-pub age-step : (ms : ℕ) (xs : List Track) (i : ℕ) → i < length xs →
-    set (map (aged ms) (take i xs) ++ drop i xs) i (aged ms (get_or xs i (record { seen = None; off = None; unsure = None }))) ≡ map (aged ms) (take (i + 1) xs) ++ drop (i + 1) xs
-age-step ms [] i l = absurd (omega arith)
-age-step ms (x ∷ xs) zero l = refl
-age-step ms (x ∷ xs) (suc i) l =
-    ap (λ ys. aged ms x ∷ ys) (age-step ms xs i (omega arith))
-    ∙ ap (λ n. map (aged ms) (take n (x ∷ xs)) ++ drop n (x ∷ xs)) (let e : suc (i + 1) ≡ suc i + 1 = omega arith in e)
+pub map-step : (g : Track → Track) (xs : List Track) (i : ℕ) → i < length xs →
+    set (map g (take i xs) ++ drop i xs) i (g (get_or xs i (record { seen = None; off = None; unsure = None }))) ≡ map g (take (i + 1) xs) ++ drop (i + 1) xs
+map-step g [] i l = absurd (omega arith)
+map-step g (x ∷ xs) zero l = refl
+map-step g (x ∷ xs) (suc i) l =
+    ap (λ ys. g x ∷ ys) (map-step g xs i (omega arith))
+    ∙ ap (λ n. map g (take n (x ∷ xs)) ++ drop n (x ∷ xs)) (let e : suc (i + 1) ≡ suc i + 1 = omega arith in e)
 
 -- ---- orders, one drone after another
 

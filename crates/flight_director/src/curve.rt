@@ -1,14 +1,15 @@
-//! Whether a sample of the show is at its drone's curve.
+//! Whether a sample is at its drone's curve, in the show and on the ways.
 
 ghost use Rattle.std.specs.Prelude.{◌≡◌, ℕ, ◌^◌, ◌<◌, ◌≤◌, ◌*◌, ◌*ℤ◌, ◌-ℤ◌, pos, slice_get, All};
 ghost use Rattle.std.specs.List.{list_any};
 ghost use Rattle.fleet_math.specs.Numbers.{IsBelow};
 ghost use Rattle.integer_player.specs.Played.{IsPlayable, duration_of, played};
 ghost use Rattle.flight_model.specs.Samples.{is_within as word_within, is_kept as word_kept, instants_near};
-ghost use Rattle.flight_director.specs.Held.{IsHeld};
+ghost use Rattle.flight_model.specs.Samples.{instants_until, is_in_stretch as word_in, is_on_course as word_on};
+ghost use Rattle.flight_director.specs.Held.{IsCourse, IsHeld};
 
 use crate::distance::is_short;
-use flight_model::{Flight, Sample};
+use flight_model::{Course, Flight, Sample, Stretch};
 use integer_player::at;
 use traj_codec::Traj;
 
@@ -76,5 +77,48 @@ pub fn is_kept(f: &Flight, d: usize, ms: u32, x: &Sample) -> bool
     match f.curves.as_slice().get(d) {
         None => false,
         Some(t) => is_near(f, t, ms, x),
+    }
+}
+
+// Whether a sample is near a curve of a way at an instant of at most `late` before `ms`.
+fn is_near_until(c: &Course, t: &Traj, ms: u32, x: &Sample) -> bool
+    requires playable { IsPlayable t.now }
+    requires lasts { c.now.ms ≤ duration_of t.now }
+    requires short { c.now.ms ≤ 1000000000 }
+    ensures { result ≡ list_any (λ i. word_within c.now.stray (played t.now i) x.now)
+        (instants_until c.now.late c.now.ms ms) }
+{
+    let last = ms.min(c.ms);
+    let first = last - last.min(c.late as u32);
+    let past = last + 1;
+    for i in first..past {
+        if is_within_at(c.stray, t, i, x) {
+            return true;
+        }
+    }
+    false
+}
+
+// Whether a sample of a drone, taken at the instant `ms` of a way, is where the drone's curve was shortly before.
+#[tactic(auto, unfolding(flight_model::specs::Samples::is_on_course))]
+fn is_on_course(c: &Course, d: usize, ms: u32, x: &Sample) -> bool
+    requires { IsCourse c.now }
+    ensures { result ≡ word_on c.now d ms x.now }
+{
+    match c.curves.as_slice().get(d) {
+        None => false,
+        Some(t) => is_near_until(c, t, ms, x),
+    }
+}
+
+/// Whether a sample of a drone, taken at the instant `ms` of a stretch, is where the drone may be then.
+pub fn is_in_stretch(f: &Flight, d: usize, stretch: Stretch, ms: u32, x: &Sample) -> bool
+    requires { IsHeld f.now }
+    ensures { result ≡ word_in f.now d stretch ms x.now }
+{
+    match stretch {
+        Stretch::Up => is_on_course(&f.up, d, ms, x),
+        Stretch::Show => is_kept(f, d, ms.min(f.show_ms), x),
+        Stretch::Down => is_on_course(&f.down, d, ms, x),
     }
 }

@@ -8,7 +8,8 @@ ghost use Rattle.flight_model.specs.declared.flights.Step.{Step as StepWord};
 ghost use Rattle.flight_model.specs.declared.events.Frame.TheVariants.{Noted, Over};
 ghost use Rattle.flight_model.specs.declared.states.Choice.TheVariants.{Begin};
 ghost use Rattle.flight_model.specs.Directors.{start, drones, in_show, is_off as word_off, track_with as word_track};
-ghost use Rattle.flight_model.specs.Directors.{is_doubtful as word_doubtful};
+ghost use Rattle.flight_model.specs.Directors.{is_doubtful as word_doubtful, is_off_hold as word_off_hold};
+ghost use Rattle.flight_model.specs.Directors.{keeps_hold as word_keeps, last_hold as word_hold, renewed};
 ghost use Rattle.flight_model.specs.Directors.{tracks_after, harms as word_harms, heard, fits, next_step};
 ghost use Rattle.flight_model.specs.Directors.{noticed as word_noticed, overdue as word_overdue, notes as word_notes};
 ghost use Rattle.flight_model.specs.Directors.{is_due as word_due, is_due_step, is_late_step, is_grave as word_grave};
@@ -21,15 +22,16 @@ ghost use Rattle.flight_model.specs.Directors.{starts_with, unfit_in, is_flying 
 ghost use Rattle.flight_model.specs.Directors.{State as StateWord};
 ghost use Rattle.flight_director.specs.Held.{IsHeld, AreFew, with_tracks};
 
-use crate::curve::is_kept;
+use crate::curve::{is_in_stretch, is_kept};
 use crate::down::are_down;
 use crate::fit::{all_fit, first_unfit};
 use crate::notes::{MOST_NOTES, Notes, note_if, note_sample, note_silent};
-use crate::tracks::{age, all_disarmed, any_silent, later, off_with};
+use crate::tracks::{age, all_disarmed, any_silent, later, off_with, renew};
 use arrayvec::ArrayVec;
 use fleet_math::MOST_DRONES;
 use flight_model::{
-    Choice, Event, Fault, Flight, Frame, Note, Order, Orders, Phase, Sample, Signal, Step, Track,
+    Choice, Event, Fault, Flight, Frame, Hold, Note, Order, Orders, Phase, Sample, Signal, Step,
+    Track,
 };
 use std::marker::Model;
 
@@ -251,6 +253,30 @@ fn put_track(tracks: &mut [Track], d: usize, track: Track)
     tracks[d] = track;
 }
 
+// Where drones are told to be after n steps, if anywhere.
+fn last_hold(f: &Flight, n: usize) -> Option<Hold>
+    ensures { result ≡ word_hold f.now n }
+{
+    if n == 0 {
+        return None;
+    }
+    match f.steps.as_slice().get(n - 1) {
+        None => None,
+        Some(step) => step.holds,
+    }
+}
+
+// Whether a sample, taken `ms` after the last step, is where its drone is told to be.
+fn keeps_hold(f: &Flight, d: usize, hold: &Option<Hold>, ms: u32, x: &Sample) -> bool
+    requires { IsHeld f.now }
+    ensures { result ≡ word_keeps f.now d hold.now ms x.now }
+{
+    match hold {
+        None => true,
+        Some(h) => is_in_stretch(f, d, h.stretch, later(h.from, ms.min(h.ms)), x),
+    }
+}
+
 fn is_start(orders: &Orders) -> bool
     ensures { result ≡ starts_with orders.now }
 {
@@ -300,6 +326,16 @@ impl State {
         self.in_show(f, x) && !is_kept(f, d, self.waited - x.age, x)
     }
 
+    // Whether a sample was taken after the last step, and off where its drone is told to be.
+    fn is_off_hold(&self, f: &Flight, d: usize, x: &Sample) -> bool
+        requires { IsHeld f.now }
+        ensures { result ≡ word_off_hold f.now self.now d x.now }
+    {
+        self.is_flying()
+            && x.age <= self.waited
+            && !keeps_hold(f, d, &last_hold(f, self.next), self.waited - x.age, x)
+    }
+
     // Whether a sample was taken in the show, and isn't sure.
     fn is_doubtful(&self, f: &Flight, x: &Sample) -> bool
         ensures { result ≡ word_doubtful f.now self.now x.now }
@@ -313,7 +349,7 @@ impl State {
     {
         Track {
             seen: Some(*x),
-            off: if self.is_off(f, d, x) {
+            off: if self.is_off_hold(f, d, x) {
                 Some(off_with(&t.off, &t.seen, x))
             } else {
                 None
@@ -629,6 +665,13 @@ impl State {
         self.showing = false;
     }
 
+    // What is off or unsure is counted anew.
+    fn renew(&mut self)
+        ensures { self.new ≡ with_tracks self.old (map renewed self.old.tracks) }
+    {
+        renew(self.tracks.as_mut_slice());
+    }
+
     #[tactic(auto, unfolding(flight_model::specs::Directors::led))]
     fn begin(&mut self, f: &Flight)
         requires { self.old.next < length f.now.steps }
@@ -647,6 +690,7 @@ impl State {
         } else {
             Phase::Steps
         };
+        self.renew();
     }
 
     #[tactic(auto, unfolding(flight_model::specs::Directors::led))]

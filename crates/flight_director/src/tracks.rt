@@ -6,7 +6,7 @@ ghost use Rattle.flight_model.specs.declared.states.Track.{Track};
 ghost use Rattle.flight_model.specs.Directors.{later as word_later, older as word_older, aged, off_with as word_off};
 ghost use Rattle.flight_model.specs.Directors.{is_silent as word_silent, is_lost as word_lost};
 ghost use Rattle.flight_model.specs.Directors.{is_astray as word_astray, all_seen};
-ghost use Rattle.flight_model.specs.Directors.{is_disarmed as word_disarmed};
+ghost use Rattle.flight_model.specs.Directors.{is_disarmed as word_disarmed, renewed as word_renewed};
 
 use flight_model::{Sample, Track};
 
@@ -51,7 +51,26 @@ pub fn age(tracks: &mut [Track], ms: u32)
     }
 }
 
-/// For how long samples have been off the curve, or unsure, with this one after the last.
+fn renewed(t: &Track) -> Track
+    ensures { result ≡ word_renewed t.now }
+{
+    Track {
+        off: None,
+        unsure: None,
+        ..*t
+    }
+}
+
+/// A step begins: what is off or unsure is counted anew.
+pub fn renew(tracks: &mut [Track])
+    ensures { tracks.new ≡ map word_renewed tracks.old }
+{
+    for d in 0..tracks.len() {
+        tracks[d] = renewed(&tracks[d]);
+    }
+}
+
+/// For how long samples have been off, or unsure, with this one after the last.
 pub fn off_with(off: &Option<u32>, last: &Option<Sample>, x: &Sample) -> u32
     ensures { result ≡ word_off off.now last.now x.now }
 {
@@ -83,7 +102,7 @@ pub fn is_lost(seen: &Option<Sample>) -> bool
     }
 }
 
-/// Whether samples have been off the curve, or unsure, for 300 ms.
+/// Whether samples have been off, or unsure, for 300 ms.
 pub fn is_astray(off: &Option<u32>) -> bool
     ensures { result ≡ word_astray off.now }
 {

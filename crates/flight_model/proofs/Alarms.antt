@@ -1,5 +1,5 @@
 -- What is wrong is told, and lands all.
-use Rattle.std.proofs.Common.{◌≡◌, ◌≢◌, ◌<◌, ◌≤◌, ◌+◌, ◌-◌, ◌∷◌, ◌++◌, ◌∙◌, ◌||◌, ◌&&◌, [], List, Bool, true, false, cond, not, refl, sym, ap, subst, None, Some, Option, ℕ, zero, suc, leb, ltb, eqb, arith}
+use Rattle.std.proofs.Common.{◌≡◌, ◌≢◌, ◌<◌, ◌≤◌, ◌+◌, ◌-◌, ◌∷◌, ◌∙◌, ◌||◌, ◌&&◌, [], List, Bool, true, false, cond, not, refl, sym, ap, subst, None, Some, Option, ℕ, zero, suc, leb, ltb, eqb, arith}
 use Rattle.std.proofs.lemmas.Bool.{le-leb, lt-leb, le-ltb, lt-ltb, ne_eqb}
 use Rattle.std.proofs.lemmas.List.Elements.{All-nil, All-cons, All-contains, Contains-append_left, Contains-append_right}
 use Rattle.std.specs.Prelude.{All, Contains, slice_get}
@@ -14,7 +14,7 @@ use Rattle.flight_model.specs.declared.events.Note.{Note}
 use Rattle.flight_model.specs.declared.flights.Step.{Step}
 use Rattle.flight_model.specs.declared.flights.Flight.{Flight}
 unfoldable use Rattle.flight_model.specs.Directors.{heard, notes, is_fault}
-use Rattle.flight_model.specs.Directors.{Track, State, Steps, is_due, next_step, is_off, is_lost, is_astray, is_silent, is_late_step, is_flying, falls_silent, silent_from, later, older, off_with, note_if, sample_notes, seen_notes, track_with, noticed, overdue, unfit_in, is_grave}
+use Rattle.flight_model.specs.Directors.{Track, State, Steps, is_due, next_step, is_off_hold, is_lost, is_astray, is_silent, is_late_step, is_flying, falls_silent, silent_from, later, older, off_with, note_if, sample_notes, seen_notes, track_with, noticed, overdue, unfit_in, is_grave}
 use Rattle.flight_model.specs.Law.{Lands}
 use Rattle.flight_model.specs.Alarms.{note_of, HasLasted, Alarms, IsToLand, AlarmLaw}
 use Rattle.flight_model.proofs.Ending.{fault_law}
@@ -84,16 +84,30 @@ lasted o seen x h =
           ∙ (ap (λ q. is_astray (Some (off_with (Some h.ms) q x))) h.is_last ∙ le-leb 300 (later h.ms ((h.last).age - x.age)) (omega (arith, long))),
     )
 
-astray : (f : Flight) (s : State) (d : ℕ) (x : Sample) (t : Track) → slice_get s.tracks d ≡ Some t → is_off f s d x ≡ true → HasLasted t.off t.seen x →
+-- a drone that becomes astray with a sample is told of
+astray-noted : (f : Flight) (s : State) (d : ℕ) (x : Sample) (t : Track) → slice_get s.tracks d ≡ Some t → is_astray t.off ≡ false → is_astray (track_with f s d t x).off ≡ true →
+    Contains (notes f s (Seen d x)) (note_of d Astray)
+astray-noted f s d x t at before now =
+    let u = track_with f s d t x in
+    sampled f s d x t (note_of d Astray) at
+    (Contains-append_right (note_if (not (is_lost t.seen) && is_lost u.seen) d Lost) _ (note_of d Astray)
+    (Contains-append_left (note_if (not (is_astray t.off) && is_astray u.off) d Astray) _ (note_of d Astray)
+    (noted-if (not (is_astray t.off) && is_astray u.off) d Astray (both-true (is_astray t.off) (is_astray u.off) before now))))
+
+-- and that is grave
+pub astray-fault : (f : Flight) (s : State) (d : ℕ) (x : Sample) (t : Track) → slice_get s.tracks d ≡ Some t → is_astray t.off ≡ false → is_astray (track_with f s d t x).off ≡ true →
+    IsToLand f s → is_fault f s (Seen d x) ≡ true
+unfolding is_fault
+astray-fault f s d x t at before now land =
+    any-of (λ (m : Note). is_grave f s m.fault) (notes f s (Seen d x)) (note_of d Astray) (astray-noted f s d x t at before now) (to-land f s land)
+
+astray : (f : Flight) (s : State) (d : ℕ) (x : Sample) (t : Track) → slice_get s.tracks d ≡ Some t → is_off_hold f s d x ≡ true → HasLasted t.off t.seen x →
     Alarms f s (Seen d x) (note_of d Astray) (IsToLand f s)
 astray f s d x t at off h =
     let u = track_with f s d t x in
     let l = lasted t.off t.seen x h in
     let now : is_astray u.off ≡ true = ap (λ b. is_astray (cond b (Some (off_with t.off t.seen x)) None)) off ∙ l.1 in
-    let has = sampled f s d x t (note_of d Astray) at
-    (Contains-append_right (note_if (not (is_lost t.seen) && is_lost u.seen) d Lost) _ (note_of d Astray)
-    (Contains-append_left (note_if (not (is_astray t.off) && is_astray u.off) d Astray) _ (note_of d Astray)
-    (noted-if (not (is_astray t.off) && is_astray u.off) d Astray (both-true (is_astray t.off) (is_astray u.off) l.0 now)))) in
+    let has = astray-noted f s d x t at l.0 now in
     record { noted = has; lands = λ p g. alarm-lands f s (Seen d x) (note_of d Astray) (λ e. cc) has (to-land f s g) p }
 
 unsure : (f : Flight) (s : State) (d : ℕ) (x : Sample) (t : Track) → slice_get s.tracks d ≡ Some t → x.sure ≡ false → HasLasted t.unsure t.seen x →

@@ -50,9 +50,9 @@ fault_law f s e p h fault =
 -- ---- off the way
 
 -- what may be done in a phase that isn't on the way, and where it leads
-record Off_the_way (f : Flight) (h : State) (d : ℕ) (c : Choice) : Type 0 where
-  last : All IsLast (orders_to d (done f h c))
-  leads : (led f h c).phase ≢ Steps
+pub record Off_the_way (f : Flight) (h : State) (d : ℕ) (c : Choice) : Type 0 where
+  pub last : All IsLast (orders_to d (done f h c))
+  pub leads : (led f h c).phase ≢ Steps
 
 last-one : (o : Order) → IsLast o → All IsLast (o ∷ [])
 last-one o h = All-cons IsLast o [] h (All-nil IsLast)
@@ -83,7 +83,7 @@ off-chosen f h e fault d Halted same n =
     halted-has (Off_the_way f h d) f h e fault (off-finish f h d) (off-rest f h d (λ q. n (sym same ∙ q)))
 off-chosen f h e fault d Ended same n = off-rest f h d (λ q. n (sym same ∙ q))
 
-off-event : (f : Flight) (s : State) (e : Event) (d : ℕ) → s.phase ≢ Steps → Off_the_way f (heard f s e) d (choice f s e)
+pub off-event : (f : Flight) (s : State) (e : Event) (d : ℕ) → s.phase ≢ Steps → Off_the_way f (heard f s e) d (choice f s e)
 unfolding choice heard
 off-event f s e d n = off-chosen f (heard f s e) e (is_fault f s e) d s.phase refl n
 

@@ -14,9 +14,9 @@ use Rattle.flight_model.specs.declared.flights.Step.{Step}
 use Rattle.flight_model.specs.declared.flights.Flight.{Flight}
 unfoldable use Rattle.flight_model.specs.Legs.{steps_of}
 use Rattle.flight_model.specs.Legs.{IsWay, IsWayUp, IsWayDown, IsFlight, way_begins, way_ends, legs_of, leg, moves, goes_up, goes_down}
-unfoldable use Rattle.flight_model.specs.Samples.{is_fit_by, is_kept}
+unfoldable use Rattle.flight_model.specs.Samples.{is_fit_by, is_kept, is_on_course}
 unfoldable use Rattle.flight_model.specs.Directors.{tracks_after, heard, is_due, notes, is_fault, choice, done, led, happens, says}
-use Rattle.flight_model.specs.Directors.{start, sent, State, Track, next_step, all_fit, is_silent, is_off}
+use Rattle.flight_model.specs.Directors.{start, sent, State, Track, next_step, all_fit, is_silent, is_off, is_off_hold}
 unfoldable use Rattle.fleet_math.specs.Decoded.{decoded}
 unfoldable use Rattle.fleet_math.specs.Moments.{moment}
 unfoldable use Rattle.fleet_math.specs.Bernstein.{bernstein}
@@ -39,7 +39,7 @@ is_calm (Said signal.Stop) = false
 
 is_good : Flight → State → Event → Bool
 is_good f s (Clock ms) = true
-is_good f s (Seen d x) = (not x.lost && not (is_off f s d x)) && x.sure
+is_good f s (Seen d x) = (not x.lost && not (is_off f s d x)) && (x.sure && not (is_off_hold f s d x))
 is_good f s (Answered d status) = true
 is_good f s (Said w) = true
 
@@ -67,13 +67,15 @@ unfolding is_calm
 calm-said e h =
     (λ same. let g : false ≡ true = subst (λ a. is_calm a ≡ true) same h in absurd (cc), λ same. let g : false ≡ true = subst (λ a. is_calm a ≡ true) same h in absurd (cc))
 
-good-sample : (f : Flight) (s : State) (e : Event) (d : ℕ) (x : Sample) → is_good f s e ≡ true → e ≡ Seen d x → (x.lost ≡ false) × (is_off f s d x ≡ false) × (x.sure ≡ true)
+good-sample : (f : Flight) (s : State) (e : Event) (d : ℕ) (x : Sample) → is_good f s e ≡ true → e ≡ Seen d x → (x.lost ≡ false) × (is_off f s d x ≡ false) × (x.sure ≡ true) × (is_off_hold f s d x ≡ false)
 unfolding is_good
 good-sample f s e d x h same =
-    let g : (not x.lost && not (is_off f s d x)) && x.sure ≡ true = subst (λ a. is_good f s a ≡ true) same h in
-    let q = and_parts (not x.lost && not (is_off f s d x)) x.sure g in
+    let on = not (is_off_hold f s d x) in
+    let g : (not x.lost && not (is_off f s d x)) && (x.sure && on) ≡ true = subst (λ a. is_good f s a ≡ true) same h in
+    let q = and_parts (not x.lost && not (is_off f s d x)) (x.sure && on) g in
+    let r = and_parts x.sure on q.1 in
     let p = and_parts (not x.lost) (not (is_off f s d x)) q.0 in
-    (not-true x.lost p.0, not-true (is_off f s d x) p.1, q.1)
+    (not-true x.lost p.0, not-true (is_off f s d x) p.1, r.0, not-true (is_off_hold f s d x) r.1)
 
 prompt-fit : (f : Flight) (slack : ℕ) (h : State) (o : Option Step) (step : Step) → is_prompt f slack h o ≡ true → o ≡ Some step → step.asked ≡ false →
     step.after + slack ≤ h.waited → all_fit f.silence step.conditions h.tracks ≡ true
@@ -167,11 +169,11 @@ unfolding flight
 has = has_show (flight true) routes is_flight refl refl refl (omega arith) (omega arith)
 
 quiet-computed : are_quiet (flight true) 100 (start (flight true)) whole ≡ true
-unfolding are_quiet is_quiet is_calm is_good is_prompt steps_of is_fit_by is_kept tracks_after heard is_due notes is_fault choice done led happens says flight decoded moment bernstein
+unfolding are_quiet is_quiet is_calm is_good is_prompt steps_of is_fit_by is_kept is_on_course tracks_after heard is_due notes is_fault choice done led happens says flight decoded moment bernstein
 quiet-computed = refl
 
 says-computed : sent (flight true) (start (flight true)) whole ≡ said
-unfolding steps_of is_fit_by is_kept tracks_after heard is_due notes is_fault choice done led happens says flight decoded moment bernstein
+unfolding steps_of is_fit_by is_kept is_on_course tracks_after heard is_due notes is_fault choice done led happens says flight decoded moment bernstein
 says-computed = refl
 
 last-said : Contains said (Over true true)

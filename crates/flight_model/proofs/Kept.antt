@@ -19,7 +19,7 @@ use Rattle.flight_model.specs.declared.flights.Step.{Step}
 use Rattle.flight_model.specs.declared.flights.Flight.{Flight}
 unfoldable use Rattle.flight_model.specs.Samples.{is_kept}
 unfoldable use Rattle.flight_model.specs.Directors.{heard, is_due, choice, done, led, happens, says}
-use Rattle.flight_model.specs.Directors.{Phase, Steps, Landing, Off, Halted, Ended, Track, State, Choice, Rest, Begin, Descend, Cut, Quit, Finish, start, sent, after, chosen, is_fault, notes, drones, most_ms, later, passed, older, is_silent, harms, is_off, tracks_after, next_step, starts, starts_with, frames_of_step, frames_from, landings, is_flown, is_off_phase}
+use Rattle.flight_model.specs.Directors.{Phase, Steps, Landing, Off, Halted, Ended, Track, State, Choice, Rest, Begin, Descend, Cut, Quit, Finish, start, sent, after, chosen, is_fault, notes, drones, most_ms, later, passed, older, is_silent, harms, is_off, tracks_after, renewed, next_step, starts, starts_with, frames_of_step, frames_from, landings, is_flown, is_off_phase}
 use Rattle.flight_model.specs.Law.{orders_to, MayBegin}
 use Rattle.flight_model.specs.Kept.{time, IsHeard, IsKeptShow, HasShow, KeptLaw}
 use Rattle.flight_model.proofs.OrdersTo.{orders_to-append}
@@ -33,7 +33,7 @@ use Rattle.flight_model.proofs.Sightings.{time-append, time-snoc, seen_of, seen_
 
 -- ---- lists of events
 
-after-append : (f : Flight) (s : State) (xs ys : List Event) → after f s (xs ++ ys) ≡ after f (after f s xs) ys
+pub after-append : (f : Flight) (s : State) (xs ys : List Event) → after f s (xs ++ ys) ≡ after f (after f s xs) ys
 after-append f s [] ys = refl
 after-append f s (x ∷ xs) ys = after-append f (happens f s x) xs ys
 
@@ -217,7 +217,7 @@ unfolding happens heard
 broken f s e es same l has = never f (happens f s e) es true (led-broken f (heard f s e) (choice f s e) same l) has
 
 -- where nothing is done
-rest-heard : (f : Flight) (s : State) (e : Event) → choice f s e ≡ Rest → happens f s e ≡ heard f s e
+pub rest-heard : (f : Flight) (s : State) (e : Event) → choice f s e ≡ Rest → happens f s e ≡ heard f s e
 unfolding happens led
 rest-heard f s e same = rw same refl
 
@@ -281,7 +281,7 @@ led-next : (f : Flight) (h : State) (c : Choice) → c ≡ Begin → (led f h c)
 unfolding led
 led-next f h c same = rw same refl
 
-happens-next : (f : Flight) (s : State) (e : Event) → choice f s e ≡ Begin → (happens f s e).next ≡ suc s.next
+pub happens-next : (f : Flight) (s : State) (e : Event) → choice f s e ≡ Begin → (happens f s e).next ≡ suc s.next
 unfolding happens
 happens-next f s e same = led-next f (heard f s e) (choice f s e) same ∙ ap suc (next-heard f s e)
 
@@ -424,18 +424,23 @@ some-get [] d l = absurd (omega (arith, l))
 some-get (x ∷ xs) zero l = (x, refl)
 some-get (x ∷ xs) (suc d) l = some-get xs d (omega (arith, l))
 
-tracks-led : (f : Flight) (h : State) (c : Choice) → (led f h c).tracks ≡ h.tracks
-unfolding led
-tracks-led f h Rest = refl
-tracks-led f h Begin = refl
-tracks-led f h Descend = refl
-tracks-led f h Cut = refl
-tracks-led f h Quit = refl
-tracks-led f h Finish = refl
+seen_of-renewed : (ts : List Track) (d : ℕ) → seen_of (map renewed ts) d ≡ seen_of ts d
+seen_of-renewed [] d = refl
+seen_of-renewed (t ∷ ts) zero = refl
+seen_of-renewed (t ∷ ts) (suc d) = seen_of-renewed ts d
 
-tracks-happens : (f : Flight) (s : State) (e : Event) → (happens f s e).tracks ≡ tracks_after f s e
+seen-led : (f : Flight) (h : State) (c : Choice) (d : ℕ) → seen_of (led f h c).tracks d ≡ seen_of h.tracks d
+unfolding led
+seen-led f h Rest d = refl
+seen-led f h Begin d = seen_of-renewed h.tracks d
+seen-led f h Descend d = refl
+seen-led f h Cut d = refl
+seen-led f h Quit d = refl
+seen-led f h Finish d = refl
+
+seen-happens : (f : Flight) (s : State) (e : Event) (d : ℕ) → seen_of (happens f s e).tracks d ≡ seen_of (tracks_after f s e) d
 unfolding happens heard
-tracks-happens f s e = tracks-led f (heard f s e) (choice f s e)
+seen-happens f s e d = seen-led f (heard f s e) (choice f s e) d
 
 -- the state after a step that begins, with more to come
 record Begun (f : Flight) (s t : State) : Type 0 where
@@ -509,13 +514,13 @@ module _ (f : Flight) (has : HasShow f) where
     begun = happens-begun f s go same (let n = number in let l = slice_get_within f.steps (suc has.number) has.next has.is_next in omega (arith, n, l))
 
     sighted_go : AreSighted (h ++ go ∷ []) t.tracks
-    sighted_go = subst (λ ts. AreSighted (h ++ go ∷ []) ts) (sym (tracks-happens f s go)) (sighted-event f h s go sighted)
+    sighted_go = λ d x have. sighted-event f h s go sighted d x (sym (seen-happens f s go d) ∙ have)
 
     fresh : (d : ℕ) → d < drones f → Fresh s go d
     fresh d l = fresh-at s go may step_is d l
 
     seen : (d : ℕ) (l : d < drones f) → seen_of t.tracks d ≡ Some (fresh d l).x
-    seen d l = ap (λ ts. seen_of ts d) (tracks-happens f s go) ∙ (fresh d l).seen
+    seen d l = seen-happens f s go d ∙ (fresh d l).seen
 
     no_event : (earlier since : List Event) (a : Event) → [] ≡ earlier ++ a ∷ since → ⊥
     no_event [] since a e = cc
@@ -561,7 +566,7 @@ module _ (f : Flight) (has : HasShow f) where
     by_event (Answered d status) g c o = absurd (cc)
 
   sighted-happens : (h : List Event) (s : State) (e : Event) → AreSighted h s.tracks → AreSighted (h ++ e ∷ []) (happens f s e).tracks
-  sighted-happens h s e sighted = subst (λ ts. AreSighted (h ++ e ∷ []) ts) (sym (tracks-happens f s e)) (sighted-event f h s e sighted)
+  sighted-happens h s e sighted = λ d x have. sighted-event f h s e sighted d x (sym (seen-happens f s e d) ∙ have)
 
   -- up to the start: one event, and what comes after it
   module _ (h : List Event) (s : State) (e : Event) (es : List Event) (is : after f (start f) h ≡ s) (p : s.phase ≡ Steps) (n : s.next ≤ has.number)

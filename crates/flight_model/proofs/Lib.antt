@@ -13,7 +13,9 @@ mod Quiet
 mod Sightings
 mod Shows
 mod Kept
+mod Holds
 mod Planned
 mod Drawn
 mod RejectedPositions
 mod RejectedShows
+mod WatchedRows

@@ -16,7 +16,7 @@ use Rattle.flight_model.specs.declared.flights.Orders.TheVariants.{Each, All as 
 use Rattle.flight_model.specs.declared.flights.Step.{Step}
 use Rattle.flight_model.specs.declared.flights.Flight.{Flight}
 unfoldable use Rattle.flight_model.specs.Directors.{tracks_after, heard, is_due, notes, is_fault, choice, done, led, happens, says}
-use Rattle.flight_model.specs.Directors.{Phase, Steps, Landing, Off, Halted, Ended, Track, State, Choice, Rest, Begin, Descend, Cut, Quit, Finish, start, sent, after, chosen, is_go, is_land, is_stop, is_off, is_silent, is_lost, is_astray, older, aged, later, passed, fits, next_step, harms, in_show, noticed, overdue, note_if, silent_from, sample_notes, seen_notes, track_with, off_with, is_flying, is_due_step, is_late_step, unfit_in, all_fit, frames_from, frames_of, frames_of_step, landings}
+use Rattle.flight_model.specs.Directors.{Phase, Steps, Landing, Off, Halted, Ended, Track, State, Choice, Rest, Begin, Descend, Cut, Quit, Finish, start, sent, after, chosen, is_go, is_land, is_stop, is_off, is_off_hold, is_silent, is_lost, is_astray, older, aged, later, passed, fits, next_step, harms, in_show, noticed, overdue, note_if, silent_from, sample_notes, seen_notes, track_with, off_with, is_flying, is_due_step, is_late_step, unfit_in, all_fit, frames_from, frames_of, frames_of_step, landings}
 use Rattle.flight_model.specs.Law.{IsQuiet, AllQuiet, is_on_course, noted_by, notes_in, QuietLaw}
 use Rattle.flight_model.proofs.Ending.{kept-all, none_harms}
 use Rattle.flight_model.proofs.Choices.{steps-has, off-has}
@@ -40,8 +40,8 @@ module _ (slack : ℕ) (few : slack ≤ 8000) where
   unfolding heard tracks_after
   quiet-clock f s ms q = none_silent f.silence ms 0 s.tracks q.fresh
 
-  sample-quiet : (f : Flight) (s : State) (d : ℕ) (x : Sample) (t : Track) → x.lost ≡ false → is_off f s d x ≡ false → x.sure ≡ true → sample_notes d t (track_with f s d t x) ≡ []
-  sample-quiet f s d x t kept on sure = notes-of d t x (is_off f s d x) x.sure (off_with t.off t.seen x) (off_with t.unsure t.seen x) kept on sure where
+  sample-quiet : (f : Flight) (s : State) (d : ℕ) (x : Sample) (t : Track) → x.lost ≡ false → is_off_hold f s d x ≡ false → x.sure ≡ true → sample_notes d t (track_with f s d t x) ≡ []
+  sample-quiet f s d x t kept on sure = notes-of d t x (is_off_hold f s d x) x.sure (off_with t.off t.seen x) (off_with t.unsure t.seen x) kept on sure where
     notes-of : (d : ℕ) (t : Track) (x : Sample) (b c : Bool) (n m : ℕ) → x.lost ≡ false → b ≡ false → c ≡ true →
         sample_notes d t (record { seen = Some x; off = cond b (Some n) None; unsure = cond c None (Some m) }) ≡ []
     notes-of d t x true c n m kept on sure = absurd (cc)
@@ -52,7 +52,7 @@ module _ (slack : ℕ) (few : slack ≤ 8000) where
   quiet-seen f s d x q = by_track (slice_get s.tracks d) where
     by_track : (o : Option Track) → seen_notes f s d x o ≡ []
     by_track None = refl
-    by_track (Some t) = let p = q.sample d x refl in sample-quiet f s d x t p.0 p.1 p.2
+    by_track (Some t) = let p = q.sample d x refl in sample-quiet f s d x t p.0 p.3 p.2
 
   quiet-answer : (f : Flight) (s : State) (d status : ℕ) → IsQuiet f slack s (Answered d status) → noticed f s (Answered d status) ≡ []
   quiet-answer f s d status q = let e = q.answer d status refl in rw e refl

@@ -143,7 +143,7 @@ map-all P h (k ∷ ks) each = All-cons P (h k) (map h ks) (each k) (map-all P h 
 
 -- what holds of each kind of step holds of all steps
 pub all-steps : (P : Step → Type 0) (w : Routes) → ((k : ℕ) → P (arm_step w (map legs_of w.up) k)) → ((k : ℕ) → P (up_step w (map legs_of w.up) k)) →
-    P (start_step w (map legs_of w.up)) → ((k : ℕ) → P (down_step w (lasts w.show) (map legs_of w.down) k)) → P (last_step w (map legs_of w.down)) →
+    P (start_step w (lasts w.show) (map legs_of w.up)) → ((k : ℕ) → P (down_step w (lasts w.show) (map legs_of w.down) k)) → P (last_step w (map legs_of w.down)) →
     All P (steps_of w)
 unfolding steps_of
 all-steps P w arm up begin down last =
@@ -152,7 +152,7 @@ all-steps P w arm up begin down last =
     All-append P (flat_map (λ k. arm_step w ups k ∷ up_step w ups k ∷ []) (range_with_len 0 (leg_count ups))) _
     (flat-all P (λ k. arm_step w ups k ∷ up_step w ups k ∷ []) (range_with_len 0 (leg_count ups))
     (λ k. All-cons P (arm_step w ups k) (up_step w ups k ∷ []) (arm k) (All-cons P (up_step w ups k) [] (up k) (All-nil P))))
-    (All-cons P (start_step w ups) _ begin
+    (All-cons P (start_step w (lasts w.show) ups) _ begin
     (All-append P (map (down_step w (lasts w.show) downs) (range_with_len 0 (leg_count downs))) (last_step w downs ∷ [])
     (map-all P (down_step w (lasts w.show) downs) (range_with_len 0 (leg_count downs)) down)
     (All-cons P (last_step w downs) [] last (All-nil P))))

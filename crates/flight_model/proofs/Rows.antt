@@ -11,7 +11,7 @@ use Rattle.flight_model.specs.declared.events.Fault.TheVariants as fault
 use Rattle.flight_model.specs.declared.events.Frame.{Frame}
 use Rattle.flight_model.specs.declared.events.Frame.TheVariants.{To, ToAll, Noted, Over}
 unfoldable use Rattle.flight_model.specs.Legs.{steps_of}
-unfoldable use Rattle.flight_model.specs.Samples.{is_fit_by, is_kept}
+unfoldable use Rattle.flight_model.specs.Samples.{is_fit_by, is_kept, is_on_course}
 use Rattle.flight_model.specs.Samples.{is_fit}
 use Rattle.flight_model.specs.Rejected.{at_origin, standing}
 unfoldable use Rattle.flight_model.specs.Directors.{tracks_after, heard, is_due, notes, is_fault, choice, done, led, happens, says}
@@ -63,6 +63,22 @@ begun = start (flight true)
 
 unfoldable plan : ℕ → List Order
 plan d = ordered d (flight true).steps
+
+-- both are told to rise, and are armed on their pads
+abbrev climbing : State
+climbing = record at_ready { waited = 0; steady = 0; tracks = seen_at (pos 0) (pos 0) ∷ seen_at (pos 2000) (pos 0) ∷ [] }
+
+-- the first one is 200 mm higher than its pad
+abbrev leaping : List Event
+leaping = Seen 0 (sample (pos 0) (pos 0) (pos 200) true false) ∷ []
+
+-- the second one leaves its place
+abbrev drifting : List Event
+drifting = Seen 0 (sample (pos 0) (pos 0) (pos 1000) true false) ∷ Seen 1 (sample (pos 2101) (pos 0) (pos 1000) true false) ∷ []
+
+-- off, and at its place
+abbrev off_at : ℤ → Track
+off_at x = record (seen_at x (pos 1000)) { off = Some 200; unsure = Some 7 }
 
 -- a landing, with both in the air
 abbrev at_landing : State
@@ -117,6 +133,13 @@ pub record Rows : Type 0 where
   -- one astray: all land after 300 ms of it, where the show doesn't fly on
   astray : says_all false at_ready (go ++ Clock 100 ∷ both (pos 150) (pos 1000) true false ++ Clock 299 ∷ both (pos 150) (pos 1000) true false ++ Clock 1 ∷ both (pos 150) (pos 1000) true false) ≡
       ToAll order.Start ∷ note 0 fault.Astray ∷ all_land
+  -- one that rises faster than it is told to: the same on the way up, whatever the show does, after 300 ms and not less
+  leaps : says_all true climbing (Clock 20 ∷ leaping ++ Clock 299 ∷ leaping ++ Clock 1 ∷ leaping) ≡ note 0 fault.Astray ∷ all_land
+  leaps_on : says_all true climbing (Clock 20 ∷ leaping ++ Clock 299 ∷ leaping) ≡ []
+  -- from a step on it is counted anew
+  renews : (comes_to (record at_ready { tracks = off_at (pos 0) ∷ off_at (pos 2000) ∷ [] }) go).tracks ≡ seen_at (pos 0) (pos 1000) ∷ seen_at (pos 2000) (pos 1000) ∷ []
+  -- one that leaves while the operator is asked for the start
+  drifts : says_all true at_ready (drifting ++ Clock 300 ∷ drifting) ≡ note 1 fault.Astray ∷ all_land
   -- one that isn't sure of where it is: the same
   unsure : says_all false at_ready (go ++ doubts ++ Clock 299 ∷ doubts ++ Clock 1 ∷ doubts) ≡ ToAll order.Start ∷ note 0 fault.Unsure ∷ all_land
   unsure_waiting : says_all true at_ready (doubts ++ go ++ Clock 300 ∷ doubts) ≡ note 0 fault.Unsure ∷ all_land
@@ -133,7 +156,7 @@ pub record Rows : Type 0 where
   corner : fits (pos 60) (negsuc 59) (pos 0) ≡ false
 
 pub rows : Rows
-unfolding steps_of is_fit_by is_kept tracks_after heard is_due notes is_fault choice done led happens says flight says_all comes_to begun plan fits decoded moment bernstein
+unfolding steps_of is_fit_by is_kept is_on_course tracks_after heard is_due notes is_fault choice done led happens says flight says_all comes_to begun plan fits decoded moment bernstein
 rows = record {
   planned = refl;
   rises = refl;
@@ -153,6 +176,10 @@ rows = record {
   unkept = refl;
   leapt = refl;
   astray = refl;
+  leaps = refl;
+  leaps_on = refl;
+  renews = refl;
+  drifts = refl;
   unsure = refl;
   unsure_waiting = refl;
   unsure_on = refl;

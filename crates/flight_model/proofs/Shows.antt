@@ -46,7 +46,7 @@ rear : Routes → List Step
 rear w =
     map (down_step w (lasts w.show) (map legs_of w.down)) (range_with_len 0 (leg_count (map legs_of w.down))) ++ last_step w (map legs_of w.down) ∷ []
 
-steps-are : (w : Routes) → steps_of w ≡ front w ++ start_step w (map legs_of w.up) ∷ rear w
+steps-are : (w : Routes) → steps_of w ≡ front w ++ start_step w (lasts w.show) (map legs_of w.up) ∷ rear w
 unfolding steps_of front rear
 steps-are w = refl
 
@@ -55,7 +55,7 @@ pub has_show : (f : Flight) (w : Routes) → IsFlight w → f.steps ≡ steps_of
 unfolding rear
 has_show f w is steps curves ms short heard =
     let all = steps ∙ steps-are w in
-    let begin = start_step w (map legs_of w.up) in
+    let begin = start_step w (lasts w.show) (map legs_of w.up) in
     let then = following w (lasts w.show) (map legs_of w.down) (leg_count (map legs_of w.down)) (no_legs w.show w.down is.downs is.return) in
     record {
       number = length (front w);

@@ -71,7 +71,7 @@ Has d o step = order_in step.orders d ≡ Some (Some o)
 abbrev IsOfNoLeg : Routes → ℕ → Order → Step → Type 0
 IsOfNoLeg w d o step =
     Has d o step → is_of_leg o ≡ false →
-    ((step ≡ start_step w (map legs_of w.up)) × (o ≡ order.Start)) ⊎ ((step ≡ last_step w (map legs_of w.down)) × (o ≡ order.Disarm))
+    ((step ≡ start_step w (lasts w.show) (map legs_of w.up)) × (o ≡ order.Start)) ⊎ ((step ≡ last_step w (map legs_of w.down)) × (o ≡ order.Disarm))
 
 of_no_leg : (w : Routes) (d : ℕ) (o : Order) → All (IsOfNoLeg w d o) (steps_of w)
 of_no_leg w d o =
@@ -92,7 +92,7 @@ first-asks : (w : Routes) (step : Step) → slice_get (steps_of w) 0 ≡ Some st
 unfolding steps_of
 first-asks w step e = by_legs (leg_count (map legs_of w.up)) refl where
   by_legs : (n : ℕ) → leg_count (map legs_of w.up) ≡ n → step.asked ≡ true
-  by_legs zero none = let same : start_step w (map legs_of w.up) ≡ step = cc in subst (λ (x : Step). x.asked ≡ true) same refl
+  by_legs zero none = let same : start_step w (lasts w.show) (map legs_of w.up) ≡ step = cc in subst (λ (x : Step). x.asked ≡ true) same refl
   by_legs (suc n) some = let same : arm_step w (map legs_of w.up) 0 ≡ step = cc in subst (λ (x : Step). x.asked ≡ true) same refl
 
 first_waits : (f : Flight) (w : Routes) → f.steps ≡ steps_of w → (s : State) (e : Event) → s.next ≡ 0 → ((happens f s e).next ≡ 0) ⊎ (e ≡ Said signal.Go)
@@ -212,7 +212,7 @@ get-map g [] d t e = absurd (cc)
 get-map g (u ∷ ts) zero t e = ap (λ (o : Option Traj). option_map g o) e
 get-map g (u ∷ ts) (suc d) t e = get-map g ts d t e
 
-starts_at : (f : Flight) (w : Routes) (s : State) (e : Event) (m : MayBegin f s e) → m.step ≡ start_step w (map legs_of w.up) → MayStart f w s e
+starts_at : (f : Flight) (w : Routes) (s : State) (e : Event) (m : MayBegin f s e) → m.step ≡ start_step w (lasts w.show) (map legs_of w.up) → MayStart f w s e
 starts_at f w s e m is = record {
   go = m.asked (ap (λ (x : Step). x.asked) is);
   over = subst (λ (x : Step). x.after ≤ (heard f s e).waited) is m.time;
@@ -233,13 +233,13 @@ may_start f w steps s e d has =
 
 -- ---- legs after the first
 
-pair-at : (a b : ℕ → Step) (i n k : ℕ) (rest : List Step) → k < n → slice_get (flat_map (λ j. a j ∷ b j ∷ []) (range_with_len i n) ++ rest) (twice k) ≡ Some (a (i + k))
+pub pair-at : (a b : ℕ → Step) (i n k : ℕ) (rest : List Step) → k < n → slice_get (flat_map (λ j. a j ∷ b j ∷ []) (range_with_len i n) ++ rest) (twice k) ≡ Some (a (i + k))
 pair-at a b i zero k rest l = absurd (omega (arith, l))
 pair-at a b i (suc n) zero rest l = let e : i ≡ i + 0 = omega arith in ap (λ j. Some (a j)) e
 pair-at a b i (suc n) (suc k) rest l =
     pair-at a b (i + 1) n k rest (omega (arith, l)) ∙ (let e : i + 1 + k ≡ i + suc k = omega arith in ap (λ j. Some (a j)) e)
 
-pair-past : (a b : ℕ → Step) (i n j : ℕ) (rest : List Step) → slice_get (flat_map (λ j. a j ∷ b j ∷ []) (range_with_len i n) ++ rest) (twice n + j) ≡ slice_get rest j
+pub pair-past : (a b : ℕ → Step) (i n j : ℕ) (rest : List Step) → slice_get (flat_map (λ j. a j ∷ b j ∷ []) (range_with_len i n) ++ rest) (twice n + j) ≡ slice_get rest j
 pair-past a b i zero j rest = let e : 0 + j ≡ j = omega arith in ap (λ k. slice_get rest k) e
 pair-past a b i (suc n) j rest =
     let e : twice (suc n) + j ≡ suc (suc (twice n + j)) = omega arith in
@@ -257,7 +257,7 @@ arm-step w k l =
     pair-at (arm_step w (map legs_of w.up)) (up_step w (map legs_of w.up)) 0 (leg_count (map legs_of w.up)) (suc k) _ l
     ∙ (let e : 0 + suc k ≡ suc k = omega arith in ap (λ j. Some (arm_step w (map legs_of w.up) j)) e)
 
-down-step : (w : Routes) (k : ℕ) → k < leg_count (map legs_of w.down) →
+pub down-step : (w : Routes) (k : ℕ) → k < leg_count (map legs_of w.down) →
     slice_get (steps_of w) (twice (leg_count (map legs_of w.up)) + suc k) ≡ Some (down_step w (lasts w.show) (map legs_of w.down) k)
 unfolding steps_of
 down-step w k l =
@@ -384,7 +384,7 @@ unfolding steps_of
 ends-with f w steps =
     ap (λ (xs : List Step). slice_get xs (length xs - 1)) steps
     ∙ (last-of (flat_map (λ k. arm_step w (map legs_of w.up) k ∷ up_step w (map legs_of w.up) k ∷ []) (range_with_len 0 (leg_count (map legs_of w.up))))
-    (start_step w (map legs_of w.up) ∷ map (down_step w (lasts w.show) (map legs_of w.down)) (range_with_len 0 (leg_count (map legs_of w.down))))
+    (start_step w (lasts w.show) (map legs_of w.up) ∷ map (down_step w (lasts w.show) (map legs_of w.down)) (range_with_len 0 (leg_count (map legs_of w.down))))
     (last_step w (map legs_of w.down)))
 
 or-cases : (a b : Bool) → a || b ≡ true → (a ≡ true) ⊎ (b ≡ true)

@@ -10,7 +10,7 @@ use Rattle.flight_model.specs.declared.events.Fault.TheVariants.{Silent, Astray,
 use Rattle.flight_model.specs.declared.events.Note.{Note}
 use Rattle.flight_model.specs.declared.flights.Step.{Step}
 use Rattle.flight_model.specs.declared.flights.Flight.{Flight}
-use Rattle.flight_model.specs.Directors.{Track, State, Steps, next_step, is_due, is_off, is_lost, later, heard, notes}
+use Rattle.flight_model.specs.Directors.{Track, State, Steps, next_step, is_due, is_off_hold, is_lost, later, heard, notes}
 use Rattle.flight_model.specs.Law.{Lands}
 
 abbrev pub note_of : ℕ → Fault → Note
@@ -41,7 +41,7 @@ pub record AlarmLaw : Type 0 where
   pub lost : (f : Flight) (s : State) (d : ℕ) (x : Sample) (t : Track) → slice_get s.tracks d ≡ Some t →
       is_lost t.seen ≡ false → x.lost ≡ true → Alarms f s (Seen d x) (note_of d Lost) (IsToLand f s)
   pub astray : (f : Flight) (s : State) (d : ℕ) (x : Sample) (t : Track) → slice_get s.tracks d ≡ Some t →
-      is_off f s d x ≡ true → HasLasted t.off t.seen x → Alarms f s (Seen d x) (note_of d Astray) (IsToLand f s)
+      is_off_hold f s d x ≡ true → HasLasted t.off t.seen x → Alarms f s (Seen d x) (note_of d Astray) (IsToLand f s)
   pub unsure : (f : Flight) (s : State) (d : ℕ) (x : Sample) (t : Track) → slice_get s.tracks d ≡ Some t →
       x.sure ≡ false → HasLasted t.unsure t.seen x → Alarms f s (Seen d x) (note_of d Unsure) (IsToLand f s)
   -- a step that waits for no go, and doesn't begin in 8 seconds

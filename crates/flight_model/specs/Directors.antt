@@ -1,8 +1,8 @@
 -- The flight director as a function of all that happened to it: its state after a list of events, and what it said.
 -- `happens` and `says` at the end of this file are one event; all above them is in the order in which an event passes.
-use Rattle.std.specs.Prelude.{ℕ, suc, ◌+◌, ◌-◌, Bool, true, false, not, ◌&&◌, ◌||◌, nat_le, nat_lt, ◌==◌, if◌then◌else◌}
+use Rattle.std.specs.Prelude.{ℕ, zero, suc, ◌+◌, ◌-◌, Bool, true, false, not, ◌&&◌, ◌||◌, nat_le, nat_lt, ◌==◌}
 use Rattle.std.specs.Prelude.{List, [], ◌∷◌, ◌++◌, length, map, take, slice_get, slice_set, Option, Some, None, min}
-use Rattle.std.specs.Prelude.{replicate}
+use Rattle.std.specs.Prelude.{replicate, if◌then◌else◌}
 use Rattle.std.specs.List.{list_any, list_all, range_with_len}
 use Rattle.flight_model.specs.declared.events.Order.{Order}
 use Rattle.flight_model.specs.declared.events.Order.TheVariants as order
@@ -18,9 +18,10 @@ use Rattle.flight_model.specs.declared.events.Frame.TheVariants.{To, ToAll, Note
 use Rattle.flight_model.specs.declared.flights.Condition.{Condition}
 use Rattle.flight_model.specs.declared.flights.Orders.{Orders}
 use Rattle.flight_model.specs.declared.flights.Orders.TheVariants.{Each, All as ToEach}
+use Rattle.flight_model.specs.declared.flights.Hold.{Hold}
 use Rattle.flight_model.specs.declared.flights.Step.{Step}
 use Rattle.flight_model.specs.declared.flights.Flight.{Flight}
-use Rattle.flight_model.specs.Samples.{is_fit, is_kept, stands_at}
+use Rattle.flight_model.specs.Samples.{is_fit, is_in_stretch, is_kept, stands_at}
 pub use Rattle.flight_model.specs.declared.states.Phase.{Phase}
 pub use Rattle.flight_model.specs.declared.states.Phase.TheVariants.{Steps, Landing, Off, Halted, Ended}
 pub use Rattle.flight_model.specs.declared.states.Track.{Track}
@@ -93,7 +94,31 @@ is_off f s d x = in_show f s x && not (is_kept f d (s.waited - x.age) x)
 abbrev pub is_doubtful : Flight → State → Sample → Bool
 is_doubtful f s x = in_show f s x && not x.sure
 
--- for how long samples have been off the curve, or unsure, with this one after the last
+abbrev pub is_flying : Phase → Bool
+is_flying Steps = true
+is_flying p = false
+
+abbrev pub held_by : Option Step → Option Hold
+held_by None = None
+held_by (Some step) = step.holds
+
+-- where drones are told to be after n steps, if anywhere
+abbrev pub last_hold : Flight → ℕ → Option Hold
+last_hold f zero = None
+last_hold f (suc n) = held_by (slice_get f.steps n)
+
+-- The sample, taken `ms` after the step, is where drone d is told to be: as far along the curve as time has passed, and
+-- at most to where that ends.
+abbrev pub keeps_hold : Flight → ℕ → Option Hold → ℕ → Sample → Bool
+keeps_hold f d None ms x = true
+keeps_hold f d (Some h) ms x = is_in_stretch f d h.stretch (later h.from (min ms h.ms)) x
+
+-- on the way the sample was taken after the last step, and off where its drone is told to be
+abbrev pub is_off_hold : Flight → State → ℕ → Sample → Bool
+is_off_hold f s d x =
+    is_flying s.phase && nat_le x.age s.waited && not (keeps_hold f d (last_hold f s.next) (s.waited - x.age) x)
+
+-- for how long samples have been off, or unsure, with this one after the last
 abbrev pub off_with : Option ℕ → Option Sample → Sample → ℕ
 off_with (Some ms) (Some last) x = later ms (last.age - x.age)
 off_with off last x = 0
@@ -102,7 +127,7 @@ off_with off last x = 0
 abbrev pub track_with : Flight → State → ℕ → Track → Sample → Track
 track_with f s d t x = record {
   seen = Some x;
-  off = if is_off f s d x then Some (off_with t.off t.seen x) else None;
+  off = if is_off_hold f s d x then Some (off_with t.off t.seen x) else None;
   unsure = if x.sure then None else Some (off_with t.unsure t.seen x);
 }
 
@@ -205,7 +230,7 @@ abbrev pub is_lost : Option Sample → Bool
 is_lost None = false
 is_lost (Some x) = x.lost
 
--- samples have been off the curve, or unsure, for 300 ms
+-- samples have been off, or unsure, for 300 ms
 abbrev pub is_astray : Option ℕ → Bool
 is_astray None = false
 is_astray (Some ms) = nat_le 300 ms
@@ -267,10 +292,6 @@ first_unfit silence d (w ∷ ws) (t ∷ ts) = if is_fit silence w t.seen then fi
 abbrev pub unfit_in : Flight → State → Option Step → ℕ
 unfit_in f s None = 0
 unfit_in f s (Some step) = first_unfit f.silence 0 step.conditions s.tracks
-
-abbrev pub is_flying : Phase → Bool
-is_flying Steps = true
-is_flying p = false
 
 -- the next step is late, for the sake of this drone
 abbrev pub overdue : Flight → State → Event → List Note
@@ -399,6 +420,10 @@ starts (Some step) = starts_with step.orders
 abbrev pub into : State → Phase → State
 into s p = record s { phase = p; waited = 0; steady = 0; stood = 0; showing = false }
 
+-- from a step on what is off or unsure is counted anew
+abbrev pub renewed : Track → Track
+renewed t = record t { off = None; unsure = None }
+
 unfoldable pub led : Flight → State → Choice → State
 led f s Rest = s
 led f s Begin = record s {
@@ -407,6 +432,7 @@ led f s Begin = record s {
   waited = 0;
   steady = 0;
   showing = starts (next_step f s);
+  tracks = map renewed s.tracks;
 }
 led f s Descend = into s Landing
 led f s Cut = into s Halted

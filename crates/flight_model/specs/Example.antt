@@ -1,6 +1,6 @@
 -- A small flight from pad to pad: two drones, one leg up, a show of one cue, one leg down. The laws' premises hold of
 -- it.
-use Rattle.std.specs.Prelude.{◌≡◌, Bool, true, false, not, List, [], ◌∷◌, ◌++◌, ℤ, pos}
+use Rattle.std.specs.Prelude.{◌≡◌, ℕ, Bool, true, false, not, List, [], ◌∷◌, ◌++◌, ℤ, pos}
 use Rattle.traj_codec.specs.declared.traj.Traj.{Traj}
 use Rattle.traj_codec.specs.declared.traj.Element.{Element}
 use Rattle.traj_codec.specs.declared.traj.Element.TheVariants.{Constant, Cubic, Seven}
@@ -11,6 +11,7 @@ use Rattle.flight_model.specs.declared.events.Event.{Event}
 use Rattle.flight_model.specs.declared.events.Event.TheVariants.{Clock, Seen, Said}
 use Rattle.flight_model.specs.declared.events.Frame.{Frame}
 use Rattle.flight_model.specs.declared.events.Frame.TheVariants.{To, ToAll, Over}
+use Rattle.flight_model.specs.declared.flights.Course.{Course}
 use Rattle.flight_model.specs.declared.flights.Flight.{Flight}
 use Rattle.flight_model.specs.Legs.{Routes, IsFlight, steps_of}
 use Rattle.flight_model.specs.Directors.{start, sent}
@@ -53,6 +54,10 @@ two t = t (pos 0) ∷ t (pos 2000) ∷ []
 abbrev pub routes : Routes
 routes = record { up = two up_at; show = two show_at; down = two down_at; stray = 100; near = 100; at_place = 50 }
 
+-- 100 mm aside and a fifth of a second late
+abbrev pub course : (ℤ → Traj) → ℕ → Course
+course t ms = record { curves = two t; ms = ms; stray = 100; late = 200 }
+
 unfoldable pub flight : Bool → Flight
 unfolding steps_of
 flight flies_on = record {
@@ -61,6 +66,8 @@ flight flies_on = record {
   show_ms = 1000;
   stray = 30;
   late = 2;
+  up = course up_at 2000;
+  down = course down_at 2500;
   silence = 500;
   flies_on = flies_on;
   floor = pos 0;
@@ -88,7 +95,7 @@ sample x y z armed down =
 abbrev pub both : ℤ → ℤ → Bool → Bool → List Event
 both y z armed down = Seen 0 (sample (pos 0) y z armed down) ∷ Seen 1 (sample (pos 2000) y z armed down) ∷ []
 
--- half a second later both are heard, z mm high
+-- half a second later both are heard, z mm high: on a way that is where their curves are, in whole millimetres
 abbrev pub half : ℤ → Bool → Bool → List Event
 half z armed down = Clock 500 ∷ both (pos 0) z armed down
 
@@ -101,7 +108,7 @@ lift_off = both (pos 0) (pos 0) false true ++ go ++ both (pos 0) (pos 0) true tr
 
 abbrev pub rising : List Event
 rising =
-    half (pos 500) true false ++ half (pos 500) true false ++ half (pos 500) true false ++ half (pos 1000) true false
+    half (pos 71) true false ++ half (pos 500) true false ++ half (pos 929) true false ++ half (pos 1000) true false
 
 abbrev pub hovering : List Event
 hovering = half (pos 1000) true false ++ half (pos 1000) true false ++ half (pos 1000) true false
@@ -112,11 +119,12 @@ show =
     ++ half (pos 1000) true false
 
 abbrev pub sinking : List Event
-sinking = half (pos 500) true false ++ half (pos 500) true false
+sinking =
+    half (pos 967) true false ++ half (pos 710) true false ++ half (pos 290) true false ++ half (pos 33) true false
 
 abbrev pub way_down : List Event
 way_down =
-    half (pos 1000) true false ++ half (pos 1000) true false ++ sinking ++ sinking ++ half (pos 0) true true
+    half (pos 1000) true false ++ half (pos 1000) true false ++ sinking ++ half (pos 0) true true
     ++ half (pos 0) true true
     ++ half (pos 0) true true ++ both (pos 0) (pos 0) false true
 

@@ -1,7 +1,7 @@
 -- From three shows to the steps of a flight: the way up, the show and the way down, each a trajectory for each drone
 -- with one segment a cue.
-use Rattle.std.specs.Prelude.{◌≡◌, ◌⊎◌, ℕ, suc, ◌-◌, ◌<◌, ◌≤◌, ◌==◌, Bool, true, false, not, ◌&&◌, if◌then◌else◌, List}
-use Rattle.std.specs.Prelude.{[], ◌∷◌, ◌++◌, length, map, take, drop, slice_index_or, slice_get, Option, Some, None, ℤ}
+use Rattle.std.specs.Prelude.{◌≡◌, ◌⊎◌, ℕ, zero, suc, ◌-◌, ◌<◌, ◌≤◌, ◌==◌, Bool, true, false, not, ◌&&◌, if◌then◌else◌}
+use Rattle.std.specs.Prelude.{List, [], ◌∷◌, ◌++◌, length, map, take, drop, slice_index_or, slice_get, Option, Some, None, ℤ}
 use Rattle.std.specs.Prelude.{int_le, All}
 use Rattle.std.specs.List.{flat_map, list_any, range_with_len, sum}
 use Rattle.fleet_math.specs.Bernstein.{at}
@@ -14,6 +14,10 @@ use Rattle.flight_model.specs.declared.flights.Position.{Position}
 use Rattle.flight_model.specs.declared.flights.Condition.{Condition}
 use Rattle.flight_model.specs.declared.flights.Orders.TheVariants.{Each, All as ToEach}
 use Rattle.flight_model.specs.declared.flights.Step.{Step}
+use Rattle.flight_model.specs.declared.flights.Stretch.{Stretch}
+use Rattle.flight_model.specs.declared.flights.Stretch.TheVariants as stretch
+use Rattle.flight_model.specs.declared.flights.Hold.{Hold}
+use Rattle.flight_model.specs.Directors.{later}
 pub use Rattle.flight_model.specs.declared.flights.Leg.{Leg}
 
 -- The routes of a flight: a trajectory for each drone up, in the show and down; and how near a drone has to be to its
@@ -173,6 +177,15 @@ leg_ms (legs ∷ rest) k = (leg legs k).ms
 abbrev pub ms_before : ℕ → List (List Leg) → ℕ → ℕ
 ms_before first all k = if k == 0 then first else leg_ms all (k - 1)
 
+-- how long the legs before leg k last
+abbrev pub ms_until : List (List Leg) → ℕ → ℕ
+ms_until all zero = 0
+ms_until all (suc k) = later (ms_until all k) (leg_ms all k)
+
+-- in a stretch from an instant on, for so long
+abbrev pub hold_in : Stretch → ℕ → ℕ → Option Hold
+hold_in s from ms = Some (record { stretch = s; from = from; ms = ms })
+
 -- How near to the leg's beginning a drone has to be: before its first move, and where it has just risen, as near as to
 -- its pad.
 abbrev pub up_bound : Routes → List Leg → ℕ → ℕ
@@ -211,6 +224,7 @@ arm_step w all k = record {
   settle = if k == 0 then 0 else 1000;
   conditions = map (arm_condition w k) all;
   orders = Each (map (λ legs. arm_order legs k) all);
+  holds = hold_in stretch.Up (ms_until all k) 0;
 }
 
 -- leg k of the way up
@@ -221,6 +235,7 @@ up_step w all k = record {
   settle = 0;
   conditions = map (up_condition w k) all;
   orders = Each (map (λ legs. up_order legs k) all);
+  holds = hold_in stretch.Up (ms_until all k) (leg_ms all k);
 }
 
 -- the start: each drone at the first position of its show
@@ -229,13 +244,14 @@ start_condition w bound t =
     record { position = position_of (way_begins t); bound = bound; ready = false; armed = true; down = false }
 
 -- the show, at the operator's go
-abbrev pub start_step : Routes → List (List Leg) → Step
-start_step w ups = record {
+abbrev pub start_step : Routes → ℕ → List (List Leg) → Step
+start_step w show_ms ups = record {
   asked = true;
   after = ms_before 0 ups (leg_count ups);
   settle = 1000;
   conditions = map (start_condition w w.at_place) w.show;
   orders = ToEach order.Start;
+  holds = hold_in stretch.Show 0 show_ms;
 }
 
 -- leg k of the way down, after the show or the leg before
@@ -256,6 +272,7 @@ down_step w show_ms all k = record {
   settle = 1000;
   conditions = map (down_condition w k) all;
   orders = Each (map (λ legs. down_order legs k) all);
+  holds = hold_in stretch.Down (ms_until all k) (leg_ms all k);
 }
 
 -- the end: each drone stands on its pad
@@ -270,6 +287,7 @@ last_step w downs = record {
   settle = 1000;
   conditions = map (last_condition w) w.down;
   orders = ToEach order.Disarm;
+  holds = None;
 }
 
 -- how long a show lasts
@@ -280,7 +298,7 @@ lasts (t ∷ rest) = sum (durations t.segments)
 abbrev pub steps_between : Routes → List (List Leg) → List (List Leg) → List Step
 steps_between w ups downs =
     flat_map (λ k. arm_step w ups k ∷ up_step w ups k ∷ []) (range_with_len 0 (leg_count ups))
-    ++ start_step w ups
+    ++ start_step w (lasts w.show) ups
     ∷ (map (down_step w (lasts w.show) downs) (range_with_len 0 (leg_count downs)) ++ last_step w downs ∷ [])
 
 -- All steps of a flight: leg by leg up, each after its drones are armed; the start; leg by leg down; and the end.

@@ -10,3 +10,5 @@ pub mod Plan
 pub mod Draws
 pub mod Example
 pub mod Rejected
+pub mod Holds
+pub mod Watched

@@ -1,5 +1,5 @@
 -- What `IsFit` and `IsKeptShow` reject, each beside a neighbour that they accept.
-use Rattle.std.specs.Prelude.{ℕ, Bool, true, false, not, List, [], ◌∷◌, ◌++◌, ℤ, pos, negsuc}
+use Rattle.std.specs.Prelude.{ℕ, Bool, true, false, not, List, [], ◌∷◌, ◌++◌, None, ℤ, pos, negsuc}
 use Rattle.flight_model.specs.declared.events.Order.TheVariants as order
 use Rattle.flight_model.specs.declared.events.Sample.{Sample}
 use Rattle.flight_model.specs.declared.events.Signal.TheVariants as signal
@@ -7,7 +7,9 @@ use Rattle.flight_model.specs.declared.events.Event.{Event}
 use Rattle.flight_model.specs.declared.events.Event.TheVariants.{Clock, Seen, Said}
 use Rattle.flight_model.specs.declared.flights.Condition.{Condition}
 use Rattle.flight_model.specs.declared.flights.Orders.TheVariants.{All as ToEach}
+use Rattle.flight_model.specs.declared.flights.Course.{Course}
 use Rattle.flight_model.specs.declared.flights.Flight.{Flight}
+use Rattle.flight_model.specs.declared.flights.Step.{Step}
 use Rattle.flight_model.specs.Law.{IsFit}
 use Rattle.flight_model.specs.Kept.{IsKeptShow}
 use Rattle.flight_model.specs.Example.{show_at}
@@ -99,17 +101,42 @@ hovering = record {
   down = false;
 }
 
--- A show of one drone, for a second: the start, and then the end. It may be 30 mm and a millisecond off.
+-- the start, and the end that waits so long
+abbrev pub begins : Step
+begins = record {
+  asked = true;
+  after = 0;
+  settle = 0;
+  conditions = hovering ∷ [];
+  orders = ToEach order.Start;
+  holds = None;
+}
+
+abbrev pub ends : ℕ → Step
+ends ms = record {
+  asked = false;
+  after = ms;
+  settle = 0;
+  conditions = hovering ∷ [];
+  orders = ToEach order.Disarm;
+  holds = None;
+}
+
+-- a way without curves
+abbrev pub no_course : Course
+no_course = record { curves = []; ms = 0; stray = 0; late = 0 }
+
+-- A show of one drone, for a second: the start, and then the end. It may be 30 mm and a millisecond off. Its steps
+-- watch nobody: what is kept is said of the show alone.
 abbrev pub brief : Flight
 brief = record {
-  steps =
-      record { asked = true; after = 0; settle = 0; conditions = hovering ∷ []; orders = ToEach order.Start }
-      ∷ record { asked = false; after = 1000; settle = 0; conditions = hovering ∷ []; orders = ToEach order.Disarm }
-      ∷ [];
+  steps = begins ∷ ends 1000 ∷ [];
   curves = show_at (pos 0) ∷ [];
   show_ms = 1000;
   stray = 30;
   late = 2;
+  up = no_course;
+  down = no_course;
   silence = 500;
   flies_on = true;
   floor = pos 0;
@@ -151,12 +178,7 @@ begun events = heard_at 0 (pos 0) true ∷ Said signal.Go ∷ events
 
 -- the same flight, whose end waits for another 200 ms
 abbrev pub unhurried : Flight
-unhurried = record brief {
-  steps =
-      record { asked = true; after = 0; settle = 0; conditions = hovering ∷ []; orders = ToEach order.Start }
-      ∷ record { asked = false; after = 1200; settle = 0; conditions = hovering ∷ []; orders = ToEach order.Disarm }
-      ∷ [];
-}
+unhurried = record brief { steps = begins ∷ ends 1200 ∷ [] }
 
 -- A sample that was taken after 900 ms of the show is heard after 1,100, where the drone should be 81 mm aside.
 abbrev pub late_news : ℤ → List Event

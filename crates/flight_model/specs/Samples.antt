@@ -6,7 +6,10 @@ use Rattle.fleet_math.specs.Bernstein.{at}
 use Rattle.traj_codec.specs.declared.traj.Traj.{Traj}
 use Rattle.integer_player.specs.Played.{played}
 use Rattle.flight_model.specs.declared.events.Sample.{Sample}
+use Rattle.flight_model.specs.declared.flights.Course.{Course}
 use Rattle.flight_model.specs.declared.flights.Flight.{Flight}
+use Rattle.flight_model.specs.declared.flights.Stretch.{Stretch}
+use Rattle.flight_model.specs.declared.flights.Stretch.TheVariants as stretch
 use Rattle.flight_model.specs.declared.flights.Position.{Position}
 use Rattle.flight_model.specs.declared.flights.Condition.{Condition}
 
@@ -62,3 +65,25 @@ is_on_curve f (Some t) ms x = list_any (λ i. is_within f.stray (played t i) x) 
 
 unfoldable pub is_kept : Flight → ℕ → ℕ → Sample → Bool
 is_kept f d ms x = is_on_curve f (slice_get f.curves d) ms x
+
+-- ---- on a way
+
+-- The instants of a way that are at most `late` before this one, in whole milliseconds: an order reaches its drone
+-- after its step. After the way's end this instant is the end.
+abbrev pub instants_until : (late total ms : ℕ) → List ℕ
+instants_until late total ms = range_with_len (min ms total - late) (min ms total + 1 - (min ms total - late))
+
+-- the sample, taken at the instant `ms` of the way, is within `stray` of where the curve is at one of those instants
+abbrev pub is_near_course : Course → Option Traj → ℕ → Sample → Bool
+is_near_course c None ms x = false
+is_near_course c (Some t) ms x = list_any (λ i. is_within c.stray (played t i) x) (instants_until c.late c.ms ms)
+
+-- the sample of drone d, taken at this instant of a way
+unfoldable pub is_on_course : Course → ℕ → ℕ → Sample → Bool
+is_on_course c d ms x = is_near_course c (slice_get c.curves d) ms x
+
+-- the sample of drone d, taken at this instant of a stretch; after the show that is its end
+abbrev pub is_in_stretch : Flight → ℕ → Stretch → ℕ → Sample → Bool
+is_in_stretch f d stretch.Up ms x = is_on_course f.up d ms x
+is_in_stretch f d stretch.Show ms x = is_kept f d (min ms f.show_ms) x
+is_in_stretch f d stretch.Down ms x = is_on_course f.down d ms x

@@ -85,7 +85,7 @@ pub enum Fault {
     /// Its last sample is older than the flight's `silence`.
     #[default]
     Silent,
-    /// For 300 ms its samples have been off its curve in the show.
+    /// For 300 ms its samples have been off where it is told to be, in the show, on a way or where it waits.
     Astray,
     /// A sample says that it is lost.
     Lost,

@@ -40,6 +40,35 @@ pub enum Orders {
     All { order: Order },
 }
 
+/// A stretch of a flight, each the text of a show.
+#[derive(Clone, Copy, Debug, PartialEq, Eq)]
+pub enum Stretch {
+    /// The way up.
+    Up,
+    Show,
+    /// The way down.
+    Down,
+}
+
+/// Where drones are told to be from a step on: on the curves of a stretch from an instant of it on, for so long, and
+/// from then on where that ends. Times in milliseconds.
+#[derive(Clone, Copy, Debug, PartialEq, Eq)]
+pub struct Hold {
+    pub stretch: Stretch,
+    pub from: u32,
+    pub ms: u32,
+}
+
+/// The curves of the way up or down, how long it lasts, and how far drones may be from their curves, and how late.
+/// Lengths in millimetres, times in milliseconds.
+#[derive(Debug, Drop)]
+pub struct Course {
+    pub curves: Listed<Traj>,
+    pub ms: u32,
+    pub stray: u16,
+    pub late: u16,
+}
+
 /// A step of a flight: when it begins, the condition of each drone for that, and its orders. Times in milliseconds.
 #[derive(Debug, Drop)]
 pub struct Step {
@@ -51,6 +80,8 @@ pub struct Step {
     pub settle: u32,
     pub conditions: Listed<Condition>,
     pub orders: Orders,
+    /// Where drones are watched from it on, until the next step; none are after the last one.
+    pub holds: Option<Hold>,
 }
 
 /// A flight. Lengths in millimetres, times in milliseconds.
@@ -64,6 +95,9 @@ pub struct Flight {
     /// How far drones may be from their curves, and how late they may be.
     pub stray: u16,
     pub late: u16,
+    /// The ways up and down.
+    pub up: Course,
+    pub down: Course,
     /// A drone whose last sample is older is silent.
     pub silence: u32,
     /// The show goes on where a drone is lost or astray.

@@ -5,11 +5,13 @@ ghost use Rattle.flight_model.specs.Plan.{PlanLaw};
 ghost use Rattle.flight_model.specs.Draws.{DrawLaw};
 ghost use Rattle.flight_model.specs.Law.{OnlyLaw, DueLaw, LandLaw, FaultLaw, HaltLaw, OverLaw, QuietLaw};
 ghost use Rattle.flight_model.specs.Alarms.{AlarmLaw};
+ghost use Rattle.flight_model.specs.Holds.{HoldLaw};
 ghost use Rattle.flight_model.specs.Rises.{RiseLaw};
 ghost use Rattle.flight_model.specs.Turns.{TurnLaw};
 ghost use Rattle.flight_model.specs.Kept.{KeptLaw};
 ghost use Rattle.flight_model.specs.Example.{ExampleLaw};
 ghost use Rattle.flight_model.specs.Rejected.{RejectedLaw};
+ghost use Rattle.flight_model.specs.Watched.{WatchedRows};
 
 /// The steps of three ways order of each drone: leg by leg up, the start, leg by leg down, and disarm. A drone that
 /// obeys the order of a leg from where the leg begins flies along the leg.
@@ -27,6 +29,7 @@ pub fn director_law()
     ensures land { LandLaw }
     ensures fault { FaultLaw }
     ensures alarm { AlarmLaw }
+    ensures hold { HoldLaw }
     ensures halt { HaltLaw }
     ensures over { OverLaw }
     ensures kept { KeptLaw }
@@ -41,4 +44,9 @@ pub fn example_law()
 /// Positions and shows that `IsFit` and `IsKeptShow` reject, each beside a neighbour that they accept.
 pub fn rejected_law()
     ensures { RejectedLaw }
+{}
+
+/// Whom `is_off_hold` finds off where drones are told to be, each beside a neighbour that it doesn't.
+pub fn watched_law()
+    ensures { WatchedRows }
 {}

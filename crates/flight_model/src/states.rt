@@ -17,8 +17,8 @@ pub enum Phase {
     Ended,
 }
 
-/// A drone's last sample, with its age by now; for how long its samples have been off its curve, if they are; and for
-/// how long they have been unsure.
+/// A drone's last sample, with its age by now; for how long its samples have been off where it is told to be, if they
+/// are; and for how long they have been unsure. Both are counted from the last step on.
 #[derive(Clone, Copy, Debug, Default, PartialEq, Eq)]
 pub struct Track {
     pub seen: Option<Sample>,

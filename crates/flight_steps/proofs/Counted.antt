@@ -44,4 +44,4 @@ sizes w f =
     (flat-all (IsStepOf n) (λ k. arm_step w ups k ∷ up_step w ups k ∷ []) (range_with_len 0 (leg_count ups))
     (λ k. All-cons (IsStepOf n) (arm_step w ups k) (up_step w ups k ∷ []) (arm-of w ups n k up_long)
     (All-cons (IsStepOf n) (up_step w ups k) [] (up-of w ups n k up_long) (All-nil (IsStepOf n)))))
-    (All-cons (IsStepOf n) (start_step w ups) _ (record { conditions = length-map w.show (start_condition w w.at_place); orders = tt }) below)
+    (All-cons (IsStepOf n) (start_step w (lasts w.show) ups) _ (record { conditions = length-map w.show (start_condition w w.at_place); orders = tt }) below)

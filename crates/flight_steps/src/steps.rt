@@ -6,7 +6,9 @@ ghost use Rattle.flight_model.specs.declared.flights.Step.{Step as StepWord};
 ghost use Rattle.flight_model.specs.Legs.{arm_step as word_arm, up_step as word_up, start_step as word_start};
 ghost use Rattle.flight_model.specs.Legs.{down_step as word_down, last_step as word_last, leg_count as word_count};
 ghost use Rattle.flight_model.specs.Legs.{leg_ms as word_ms, ms_before as word_before, lasts, legs_of as word_legs};
+ghost use Rattle.flight_model.specs.Legs.{hold_in as word_hold, ms_until as word_until};
 ghost use Rattle.flight_model.specs.Legs.{steps_between, steps_of as word_steps};
+ghost use Rattle.flight_model.specs.Directors.{later as word_later};
 ghost use Rattle.flight_steps.specs.Faults.{StepsGive};
 ghost use Rattle.flight_steps.specs.Ways.{routes, AreFitted};
 
@@ -19,12 +21,15 @@ use crate::lists::{
 };
 use crate::moves::leg;
 use crate::ways::{Crews, Ways};
-use flight_model::{Leg, Order, Orders, Step};
+use flight_model::{Hold, Leg, Order, Orders, Step, Stretch};
 use listed::Listed;
 use std::alloc::{AllocError, Global};
 
 // How long drones have to be at their places before a step that isn't the first.
 const SETTLE_MS: u32 = 1000;
+
+// Times are counted up to twelve days.
+const MOST_MS: u64 = 1_000_000_000;
 
 fn leg_count(all: &[Listed<Leg>]) -> usize
     ensures { result ≡ word_count all.now }
@@ -51,6 +56,30 @@ fn ms_before(first: u32, all: &[Listed<Leg>], k: usize) -> u32
     if k == 0 { first } else { leg_ms(all, k - 1) }
 }
 
+// A time, and more of it.
+fn later(ms: u32, more: u32) -> u32
+    ensures { result ≡ word_later ms more }
+{
+    (ms as u64 + more as u64).min(MOST_MS) as u32
+}
+
+// How long the legs before leg k last.
+fn ms_until(all: &[Listed<Leg>], k: usize) -> u32
+    ensures { result ≡ word_until all.now k }
+{
+    let mut ms = 0;
+    for i in 0..k {
+        ms = later(ms, leg_ms(all, i));
+    }
+    ms
+}
+
+fn hold_in(stretch: Stretch, from: u32, ms: u32) -> Option<Hold>
+    ensures { result ≡ word_hold stretch from ms }
+{
+    Some(Hold { stretch, from, ms })
+}
+
 // The step that arms those that rise in leg k.
 fn arm_step(alloc: Global, w: &Ways, all: &[Listed<Leg>], k: usize) -> Result<Step, AllocError>
     ensures { IfOk result (λ step. step ≡ word_arm (routes w.now) all.now k) }
@@ -63,6 +92,7 @@ fn arm_step(alloc: Global, w: &Ways, all: &[Listed<Leg>], k: usize) -> Result<St
         settle: if k == 0 { 0 } else { SETTLE_MS },
         conditions,
         orders: Orders::Each { orders },
+        holds: hold_in(Stretch::Up, ms_until(all, k), 0),
     })
 }
 
@@ -78,11 +108,12 @@ fn up_step(alloc: Global, w: &Ways, all: &[Listed<Leg>], k: usize) -> Result<Ste
         settle: 0,
         conditions,
         orders: Orders::Each { orders },
+        holds: hold_in(Stretch::Up, ms_until(all, k), leg_ms(all, k)),
     })
 }
 
 fn start_step(alloc: Global, w: &Ways, ups: &[Listed<Leg>]) -> Result<Step, AllocError>
-    ensures { IfOk result (λ step. step ≡ word_start (routes w.now) ups.now) }
+    ensures { IfOk result (λ step. step ≡ word_start (routes w.now) w.now.show_ms ups.now) }
 {
     let conditions = start_conditions(alloc, w)?;
     Ok(Step {
@@ -93,6 +124,7 @@ fn start_step(alloc: Global, w: &Ways, ups: &[Listed<Leg>]) -> Result<Step, Allo
         orders: Orders::All {
             order: Order::Start,
         },
+        holds: hold_in(Stretch::Show, 0, w.show_ms),
     })
 }
 
@@ -108,6 +140,7 @@ fn down_step(alloc: Global, w: &Ways, all: &[Listed<Leg>], k: usize) -> Result<S
         settle: SETTLE_MS,
         conditions,
         orders: Orders::Each { orders },
+        holds: hold_in(Stretch::Down, ms_until(all, k), leg_ms(all, k)),
     })
 }
 
@@ -123,6 +156,7 @@ fn last_step(alloc: Global, w: &Ways, downs: &[Listed<Leg>]) -> Result<Step, All
         orders: Orders::All {
             order: Order::Disarm,
         },
+        holds: None,
     })
 }
 

@@ -77,10 +77,10 @@ fn go_up(d: &mut Director, all: &mut Vec<Frame>) -> Result<(), AllocError> {
     hear_both(d, 0, 0, false, true, all)?;
     say(d, Signal::Go, all)?;
     hear_both(d, 0, 0, true, true, all)?;
-    for _ in 0..4 {
-        half(d, 0, 500, true, false, all)?;
+    for z in [71, 500, 929] {
+        half(d, 0, z, true, false, all)?;
     }
-    for _ in 0..3 {
+    for _ in 0..4 {
         half(d, 0, TOP, true, false, all)?;
     }
     Ok(())
@@ -93,8 +93,8 @@ fn fly_and_land(d: &mut Director, all: &mut Vec<Frame>) -> Result<(), AllocError
     for _ in 0..3 {
         half(d, 0, TOP, true, false, all)?;
     }
-    for _ in 0..4 {
-        half(d, 0, 500, true, false, all)?;
+    for z in [967, 710, 290, 33] {
+        half(d, 0, z, true, false, all)?;
     }
     for _ in 0..3 {
         half(d, 0, 0, true, true, all)?;
@@ -296,6 +296,34 @@ fn said_unsure(alloc: Global, ms: u32) -> Result<usize, AllocError> {
 fn waits_for_who_is_sure(rt: HostRuntime) -> Result<(), Fail> {
     for (ms, wanted) in [(0, 0), (299, 0), (300, 3)] {
         assert_eq!(rt; said_unsure(rt.alloc(), ms)?, wanted, "{ms}");
+    }
+    Ok(())
+}
+
+// What goes out where the first drone stays so far aside of its way up, 100 mm of which are allowed, for so long.
+fn said_aside(alloc: Global, x: i16, ms: u32) -> Result<usize, AllocError> {
+    let mut d = Director::make(flight(alloc)?);
+    let mut all = Vec::new(alloc);
+    hear_both(&mut d, 0, 0, false, true, &mut all)?;
+    say(&mut d, Signal::Go, &mut all)?;
+    hear_both(&mut d, 0, 0, true, true, &mut all)?;
+    all.clear();
+    let aside = Event::Seen {
+        drone: 0,
+        sample: sample(x, 0, 500, true, false),
+    };
+    hear(&mut d, Event::Clock { ms: 1000 }, &mut all)?;
+    hear(&mut d, aside, &mut all)?;
+    hear(&mut d, Event::Clock { ms }, &mut all)?;
+    hear(&mut d, aside, &mut all)?;
+    Ok(all.len())
+}
+
+// After 300 ms a note goes out, and both land.
+#[test]
+fn watches_the_way_up(rt: HostRuntime) -> Result<(), Fail> {
+    for (x, ms, wanted) in [(101, 299, 0), (101, 300, 3), (100, 300, 0)] {
+        assert_eq!(rt; said_aside(rt.alloc(), x, ms)?, wanted, "{x} {ms}");
     }
     Ok(())
 }

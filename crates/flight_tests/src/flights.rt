@@ -4,9 +4,9 @@ ghost use Rattle.std.specs.Prelude.{◌≡◌, ◌≤◌, length, IfOk, All};
 ghost use Rattle.traj_codec.specs.declared.traj.Traj.{Traj as TrajWord};
 ghost use Rattle.integer_player.specs.Played.{IsPlayable, duration_of};
 ghost use Rattle.flight_model.specs.declared.flights.Step.{Step as StepWord};
-ghost use Rattle.flight_director.specs.Held.{AreFew, IsHeld};
+ghost use Rattle.flight_director.specs.Held.{AreFew, IsCourse, IsHeld};
 
-use flight_model::{Condition, Flight, Order, Orders, Position, Step};
+use flight_model::{Condition, Course, Flight, Hold, Order, Orders, Position, Step, Stretch};
 use listed::Listed;
 use std::alloc::{AllocError, Global};
 use traj_codec::{Element, Segment, Traj};
@@ -52,7 +52,14 @@ fn each(alloc: Global, order: Order) -> Result<Orders, AllocError>
     })
 }
 
-fn step(asked: bool, after: u32, settle: u32, conditions: Listed<Condition>, orders: Orders) -> Step
+fn step(
+    asked: bool,
+    after: u32,
+    settle: u32,
+    conditions: Listed<Condition>,
+    orders: Orders,
+    holds: Option<Hold>,
+) -> Step
     ensures conditions { result.conditions ≡ conditions }
     ensures orders { result.orders ≡ orders }
 {
@@ -62,7 +69,55 @@ fn step(asked: bool, after: u32, settle: u32, conditions: Listed<Condition>, ord
         settle,
         conditions,
         orders,
+        holds,
     }
+}
+
+fn hold(stretch: Stretch, ms: u32) -> Option<Hold> {
+    Some(Hold {
+        stretch,
+        from: 0,
+        ms,
+    })
+}
+
+// Straight from one height to another, from rest to rest.
+fn column(alloc: Global, x: i16, from: i16, to: i16, ms: u16) -> Result<Traj, AllocError>
+    requires { 1 ≤ ms }
+    ensures playable { IfOk result (λ t. IsPlayable t) }
+    ensures lasts { IfOk result (λ t. ms ≤ duration_of t) }
+{
+    let mut segments = Vec::new(alloc);
+    segments.push(Segment {
+        ms,
+        elements: [
+            Element::Constant,
+            Element::Constant,
+            Element::Seven {
+                v: [from, from, from, to, to, to, to],
+            },
+            Element::Constant,
+        ],
+    })?;
+    Ok(Traj {
+        start: [x, 0, from, 0],
+        segments: Listed::from_vec(segments),
+    })
+}
+
+// Both columns: 100 mm aside and a fifth of a second late.
+fn course(alloc: Global, from: i16, to: i16, ms: u16) -> Result<Course, AllocError>
+    requires { 1 ≤ ms }
+    ensures { IfOk result IsCourse }
+{
+    let first = column(alloc, 0, from, to, ms)?;
+    let second = column(alloc, 2000, from, to, ms)?;
+    Ok(Course {
+        curves: Listed::from_vec(Vec::from_array(alloc, [first, second])?),
+        ms: ms as u32,
+        stray: 100,
+        late: 200,
+    })
 }
 
 // Aside by 300 mm control points, and back again.
@@ -104,11 +159,13 @@ fn steps(alloc: Global) -> Result<Listed<Step>, AllocError>
     let arm = each(alloc, Order::Arm)?;
     let rise = each(alloc, Order::Rise { z: TOP, ms: 2000 })?;
     let land = each(alloc, Order::Land { z: 0, ms: 2500 })?;
-    let arming = step(true, 0, 0, on_pads, arm);
-    let rising = step(false, 0, 0, armed, rise);
-    let starting = step(true, 2000, 1000, at_start, to_all(Order::Start));
-    let landing = step(false, 1000, 1000, at_end, land);
-    let ending = step(false, 2500, 1000, back, to_all(Order::Disarm));
+    let arming = step(true, 0, 0, on_pads, arm, hold(Stretch::Up, 0));
+    let rising = step(false, 0, 0, armed, rise, hold(Stretch::Up, 2000));
+    let show = hold(Stretch::Show, 1000);
+    let starting = step(true, 2000, 1000, at_start, to_all(Order::Start), show);
+    let sinking = hold(Stretch::Down, 2500);
+    let landing = step(false, 1000, 1000, at_end, land, sinking);
+    let ending = step(false, 2500, 1000, back, to_all(Order::Disarm), None);
     Ok(Listed::from_vec(Vec::from_array(alloc, [arming, rising, starting, landing, ending])?))
 }
 
@@ -127,12 +184,16 @@ pub fn flight(alloc: Global) -> Result<Flight, AllocError>
 {
     let steps = steps(alloc)?;
     let curves = curves(alloc)?;
+    let up = course(alloc, 0, TOP, 2000)?;
+    let down = course(alloc, TOP, 0, 2500)?;
     Ok(Flight {
         steps,
         curves,
         show_ms: 1000,
         stray: 30,
         late: 2,
+        up,
+        down,
         silence: 500,
         flies_on: true,
         floor: 0,

@@ -12,7 +12,10 @@ use std::test::Fail;
 // Heights, and a place aside, in two bytes.
 const GROUND: [u8; 2] = [0x00, 0x00];
 
-const HALFWAY: [u8; 2] = [0xF4, 0x01];
+// Half a second after the other, on the way up and down: 71, 500 and 929 mm; 967, 710, 290 and 33 mm.
+const RISING: [[u8; 2]; 3] = [[0x47, 0x00], [0xF4, 0x01], [0xA1, 0x03]];
+
+const SINKING: [[u8; 2]; 4] = [[0xC7, 0x03], [0xC6, 0x02], [0x22, 0x01], [0x21, 0x00]];
 
 const HIGH: [u8; 2] = [0xE8, 0x03];
 
@@ -51,10 +54,10 @@ fn go_up(bytes: &mut Vec<u8>) -> Result<(), AllocError> {
     hear(bytes, GROUND, GROUND, ON_PAD)?;
     bytes.extend_from_slice(GO)?;
     hear(bytes, GROUND, GROUND, ARMED)?;
-    for _ in 0..4 {
-        half(bytes, GROUND, HALFWAY, FLYING)?;
+    for z in RISING {
+        half(bytes, GROUND, z, FLYING)?;
     }
-    for _ in 0..3 {
+    for _ in 0..4 {
         half(bytes, GROUND, HIGH, FLYING)?;
     }
     Ok(())
@@ -67,8 +70,8 @@ fn fly_and_land(bytes: &mut Vec<u8>) -> Result<(), AllocError> {
     for _ in 0..3 {
         half(bytes, GROUND, HIGH, FLYING)?;
     }
-    for _ in 0..4 {
-        half(bytes, GROUND, HALFWAY, FLYING)?;
+    for z in SINKING {
+        half(bytes, GROUND, z, FLYING)?;
     }
     for _ in 0..3 {
         half(bytes, GROUND, GROUND, ARMED)?;

@@ -25,7 +25,7 @@ some_steps w =
     let downs = map legs_of w.down in
     let before = flat_map (λ k. arm_step w ups k ∷ up_step w ups k ∷ []) (range_with_len 0 (leg_count ups)) in
     let after = map (down_step w (lasts w.show) downs) (range_with_len 0 (leg_count downs)) ++ last_step w downs ∷ [] in
-    omega (arith, length-append before (start_step w ups ∷ after))
+    omega (arith, length-append before (start_step w (lasts w.show) ups ∷ after))
 
 -- a show has a trajectory for each of its names
 pub counted : (s : PlainShow) → length (trajectories_of s) ≡ length (names_of s)

@@ -15,12 +15,13 @@ use Rattle.traj_codec.specs.Positions.{durations}
 use Rattle.traj_codec.specs.Spelling.{IsSegment, IsTrajectory}
 use Rattle.traj_codec.specs.declared.traj.Segment.{Segment}
 use Rattle.traj_codec.specs.declared.traj.Traj.{Traj}
+use Rattle.flight_model.specs.declared.flights.Course.{Course}
 use Rattle.flight_model.specs.declared.flights.Flight.{Flight}
 use Rattle.flight_model.specs.declared.flights.Orders.{Orders}
 use Rattle.flight_model.specs.declared.flights.Orders.TheVariants.{Each, All as ToEach}
 use Rattle.flight_model.specs.declared.flights.Step.{Step}
 use Rattle.flight_model.specs.Legs.{Routes, lasts, steps_of}
-use Rattle.flight_director.specs.Held.{AreFew, IsHeld}
+use Rattle.flight_director.specs.Held.{AreFew, IsCourse, IsHeld}
 use Rattle.flight_steps.proofs.Judged.{fault-of}
 use Rattle.flight_steps.specs.declared.faults.FlightFault.{FlightFault}
 use Rattle.flight_steps.specs.declared.faults.StepsError.{StepsError}
@@ -39,7 +40,7 @@ use Rattle.show_plan.specs.Fitting.{IsFitted, IsValidFitted}
 use Rattle.show_plan.specs.Landing.{AreUploadable}
 use Rattle.show_judge.specs.Shows.{names_of, sent_of, trajectories_of}
 use Rattle.show_direct.specs.declared.options.Options.{Options}
-use Rattle.show_direct.specs.Flights.{ellipsoid_in, ellipsoid_of, fault_of, flight_of, most_silence, routes_of}
+use Rattle.show_direct.specs.Flights.{course_of, ellipsoid_in, ellipsoid_of, fault_of, flight_of, most_silence, routes_of}
 use Rattle.show_direct.specs.Steps.{FlightMade, StepsMade}
 
 -- ---- steps
@@ -158,55 +159,83 @@ steps_fitted o up show down u s d c w result is_up is_show is_down n_up n_show n
 
 -- ---- the flight
 
+-- a way's curves, with what its settings say
+abbrev pub course_from : List Traj → ℕ → Settings → Course
+course_from curves ms e = record { curves = curves; ms = ms; stray = e.stray; late = e.late }
+
+-- those of a fitted show are the show's
+pub course_is : (f : Fitted) (s : PlainShow) → IsValidFitted f → IsFitted f s → course_from f.sent f.duration f.settings ≡ course_of s
+course_is f s valid is =
+    ap (λ (ts : List Traj). course_from ts f.duration f.settings) is.sent
+    ∙ ap (λ (n : ℕ). course_from (sent_of s) n f.settings) (sym (fitted_lasts f valid) ∙ ap lasts is.trajs)
+    ∙ ap (λ (e : Settings). course_from (sent_of s) (lasts (trajectories_of s)) e) is.settings
+
+-- and may be played
+pub course_held : JoinLaw → (f : Fitted) → IsValidFitted f → AreUploadable f.settings f.sent → IsCourse (course_from f.sent f.duration f.settings)
+course_held law f valid up =
+    let total = total_short valid.times f.trajs (some_trajs f valid) valid.same_times valid.formed (omega (arith, valid.times_counted, valid.few_cues)) in
+    let lasting : All (λ (t : Traj). duration_of t ≡ f.duration) f.sent =
+    subst (All (λ (t : Traj). duration_of t ≡ f.duration)) (sym valid.sent) (sent_lasts law valid.times f.duration valid.duration f.trajs valid.same_times) in
+    record {
+      short = omega (arith, total, valid.duration);
+      curves = λ k t inside. record {
+        playable = record { some = up.segments k t inside; few = (up.sendable k t inside).few; durations = (up.sendable k t inside).last };
+        lasts = omega (arith, lasting k t inside);
+      };
+    }
+
 -- the flight of these steps and this show
-abbrev pub made_of : Options → ℤ → ℕ → List Step → List Traj → ℕ → Settings → Flight
-made_of o floor silence steps curves ms e = record {
+abbrev pub made_of : Options → ℤ → ℕ → List Step → List Traj → ℕ → Settings → Course → Course → Flight
+made_of o floor silence steps curves ms e up down = record {
   steps = steps;
   curves = curves;
   show_ms = ms;
   stray = e.stray;
   late = e.late;
+  up = up;
+  down = down;
   silence = silence;
   flies_on = not o.then_land;
   floor = floor;
   descent = o.descent;
 }
 
-flight_is : (o : Options) (floor : ℤ) (silence : ℕ) (u s d : PlainShow) (f : Fitted) (steps : List Step) → floor ≡ o.floor → silence ≡ min o.silence most_silence → IsValidFitted f → IsFitted f s →
-    steps ≡ steps_of (routes_of o u s d) → made_of o floor silence steps f.sent f.duration f.settings ≡ flight_of o u s d
-flight_is o floor silence u s d f steps low quiet valid is same =
+flight_is : (o : Options) (floor : ℤ) (silence : ℕ) (u s d : PlainShow) (f : Fitted) (steps : List Step) (up down : Course) → floor ≡ o.floor → silence ≡ min o.silence most_silence → IsValidFitted f → IsFitted f s →
+    steps ≡ steps_of (routes_of o u s d) → up ≡ course_of u → down ≡ course_of d → made_of o floor silence steps f.sent f.duration f.settings up down ≡ flight_of o u s d
+flight_is o floor silence u s d f steps up down low quiet valid is same rises returns =
     let ms : f.duration ≡ lasts (trajectories_of s) = sym (fitted_lasts f valid) ∙ ap lasts is.trajs in
     let most = min o.silence most_silence in
-    ap (λ (z : ℤ). made_of o z silence steps f.sent f.duration f.settings) low
-    ∙ ap (λ (n : ℕ). made_of o o.floor n steps f.sent f.duration f.settings) quiet
-    ∙ ap (λ (xs : List Step). made_of o o.floor most xs f.sent f.duration f.settings) same
-    ∙ ap (λ (ts : List Traj). made_of o o.floor most (steps_of (routes_of o u s d)) ts f.duration f.settings) is.sent
-    ∙ ap (λ (n : ℕ). made_of o o.floor most (steps_of (routes_of o u s d)) (sent_of s) n f.settings) ms
-    ∙ ap (λ (e : Settings). made_of o o.floor most (steps_of (routes_of o u s d)) (sent_of s) (lasts (trajectories_of s)) e) is.settings
+    let ready = steps_of (routes_of o u s d) in
+    ap (λ (z : ℤ). made_of o z silence steps f.sent f.duration f.settings up down) low
+    ∙ ap (λ (n : ℕ). made_of o o.floor n steps f.sent f.duration f.settings up down) quiet
+    ∙ ap (λ (xs : List Step). made_of o o.floor most xs f.sent f.duration f.settings up down) same
+    ∙ ap (λ (ts : List Traj). made_of o o.floor most ready ts f.duration f.settings up down) is.sent
+    ∙ ap (λ (n : ℕ). made_of o o.floor most ready (sent_of s) n f.settings up down) ms
+    ∙ ap (λ (e : Settings). made_of o o.floor most ready (sent_of s) (lasts (trajectories_of s)) e up down) is.settings
+    ∙ ap (λ (c : Course). made_of o o.floor most ready (sent_of s) (lasts (trajectories_of s)) s.settings c down) rises
+    ∙ ap (λ (c : Course). made_of o o.floor most ready (sent_of s) (lasts (trajectories_of s)) s.settings (course_of u) c) returns
 
-pub flight_made : (o : Options) (floor : ℤ) (silence : ℕ) (u s d : PlainShow) (f : Fitted) (steps : List Step) → floor ≡ o.floor → silence ≡ min o.silence most_silence → IsValidFitted f →
-    IsFitted f s → StepsMade o u s d (Ok steps) → FlightMade o u s d (Ok (made_of o floor silence steps f.sent f.duration f.settings))
-flight_made o floor silence u s d f steps low quiet valid is made = (flight_is o floor silence u s d f steps low quiet valid is made.0, made.1)
+pub flight_made : (o : Options) (floor : ℤ) (silence : ℕ) (u s d : PlainShow) (f : Fitted) (steps : List Step) (up down : Course) → floor ≡ o.floor → silence ≡ min o.silence most_silence → IsValidFitted f →
+    IsFitted f s → StepsMade o u s d (Ok steps) → up ≡ course_of u → down ≡ course_of d → FlightMade o u s d (Ok (made_of o floor silence steps f.sent f.duration f.settings up down))
+flight_made o floor silence u s d f steps up down low quiet valid is made rises returns =
+    (flight_is o floor silence u s d f steps up down low quiet valid is made.0 rises returns, made.1)
 
 few_orders : (n : ℕ) (x : Orders) → n ≤ 32 → AreOrdersOf n x → AreFew x
 few_orders n (Each orders) few are = omega (arith, few, are)
 few_orders n (ToEach order) few are = tt
 
 -- it fits the director
-pub is_held : JoinLaw → (o : Options) (floor : ℤ) (silence : ℕ) (f : Fitted) (steps : List Step) → IsValidFitted f → AreUploadable f.settings f.sent → All (IsStepOf (length f.trajs)) steps →
-    IsHeld (made_of o floor silence steps f.sent f.duration f.settings)
-is_held law o floor silence f steps valid up sizes =
+pub is_held : JoinLaw → (o : Options) (floor : ℤ) (silence : ℕ) (f : Fitted) (steps : List Step) (rise return : Course) → IsValidFitted f → AreUploadable f.settings f.sent → All (IsStepOf (length f.trajs)) steps →
+    IsCourse rise → IsCourse return → IsHeld (made_of o floor silence steps f.sent f.duration f.settings rise return)
+is_held law o floor silence f steps rise return valid up sizes rising returning =
     let few : length f.trajs ≤ 32 = omega (arith, valid.few_drones, valid.trajs_counted) in
-    let total = total_short valid.times f.trajs (some_trajs f valid) valid.same_times valid.formed (omega (arith, valid.times_counted, valid.few_cues)) in
-    let lasting : All (λ (t : Traj). duration_of t ≡ f.duration) f.sent =
-    subst (All (λ (t : Traj). duration_of t ≡ f.duration)) (sym valid.sent) (sent_lasts law valid.times f.duration valid.duration f.trajs valid.same_times) in
+    let show = course_held law f valid up in
     record {
       few = up.few;
-      short = omega (arith, total, valid.duration);
+      short = show.short;
       orders = All-weaker (IsStepOf (length f.trajs)) (λ (step : Step). AreFew step.orders) (λ step is. few_orders (length f.trajs) step.orders few is.orders) steps sizes;
       conditions = All-weaker (IsStepOf (length f.trajs)) (λ (step : Step). length step.conditions ≤ 32) (λ step is. omega (arith, few, is.conditions)) steps sizes;
-      curves = λ k t inside. record {
-        playable = record { some = up.segments k t inside; few = (up.sendable k t inside).few; durations = (up.sendable k t inside).last };
-        lasts = omega (arith, lasting k t inside);
-      };
+      curves = show.curves;
+      up = rising;
+      down = returning;
     }

@@ -3,6 +3,7 @@ use Rattle.std.specs.Prelude.{◌≡◌, ℕ, min, not, Option}
 use Rattle.std.specs.Option.{option_or}
 use Rattle.choreo_show.specs.Plain.{PlainShow}
 use Rattle.choreo_show.specs.declared.show.Settings.{Settings}
+use Rattle.flight_model.specs.declared.flights.Course.{Course}
 use Rattle.flight_model.specs.declared.flights.Flight.{Flight}
 use Rattle.flight_model.specs.Legs.{IsFlight, Routes, lasts, steps_of}
 use Rattle.flight_steps.specs.declared.faults.FlightFault.{FlightFault}
@@ -52,8 +53,13 @@ pub record AreFlight (o : Options) (up show down : PlainShow) : Type 0 where
 abbrev pub most_silence : ℕ
 most_silence = 999999999
 
+-- A way as it is watched: what its drones would be sent, and what its settings say of stray and lateness.
+abbrev pub course_of : PlainShow → Course
+course_of s =
+    record { curves = sent_of s; ms = lasts (trajectories_of s); stray = s.settings.stray; late = s.settings.late }
+
 -- The flight. Its curves are what the drones were sent for the show, and how far drones may be from them is what the
--- show's settings say.
+-- show's settings say; so it is of the ways.
 abbrev pub flight_of : Options → PlainShow → PlainShow → PlainShow → Flight
 flight_of o up show down = record {
   steps = steps_of (routes_of o up show down);
@@ -61,6 +67,8 @@ flight_of o up show down = record {
   show_ms = lasts (trajectories_of show);
   stray = show.settings.stray;
   late = show.settings.late;
+  up = course_of up;
+  down = course_of down;
   silence = min o.silence most_silence;
   flies_on = not o.then_land;
   floor = o.floor;

@@ -92,7 +92,7 @@ fn fly_down<S: Source, K: Sink>(
     show_law();
     match read_show(alloc, options.depth, parts, source) {
         Ok(down) => {
-            let made = make_flight(alloc, options, shows, &down.fitted);
+            let made = make_flight(alloc, options, shows, down.fitted);
             fly(made, parts, source, sink)
         }
         Err(why) => end_unread(sink, &why),

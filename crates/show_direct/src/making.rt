@@ -3,14 +3,14 @@
 ghost use Rattle.std.specs.Int.{w16};
 ghost use Rattle.std.specs.Prelude.{◌≡◌, length, min, All, FitsSigned, IfOk};
 ghost use Rattle.choreo_show.specs.Plain.{PlainShow};
-ghost use Rattle.flight_director.specs.Held.{IsHeld};
+ghost use Rattle.flight_director.specs.Held.{IsCourse, IsHeld};
 ghost use Rattle.flight_steps.specs.Sizes.{IsStepOf};
 ghost use Rattle.show_plan.specs.Fitting.{IsFitted, IsValidFitted};
-ghost use Rattle.show_direct.specs.Flights.{ellipsoid_in, most_silence};
+ghost use Rattle.show_direct.specs.Flights.{course_of as word_course, ellipsoid_in, most_silence};
 ghost use Rattle.show_direct.specs.Steps.{FlightMade, StepsMade};
 
 use crate::options::Options;
-use flight_model::{Flight, Step};
+use flight_model::{Course, Flight, Step};
 use flight_steps::{Crew, Crews, Ellipsoid, StepsError, Ways, steps_of};
 use listed::Listed;
 use show_plan::{Fitted, uploadable_law};
@@ -86,23 +86,41 @@ fn silence_of(options: &Options) -> u32
     options.silence.min(MOST_SILENCE)
 }
 
+// The curves of a way, as it is watched.
+fn course_of(way: Fitted) -> Course
+    requires { IsValidFitted way }
+    ensures value { (s : PlainShow) → IsFitted way s → result ≡ word_course s }
+    ensures held { IsCourse result }
+{
+    join_law();
+    uploadable_law(&way);
+    Course {
+        curves: way.sent,
+        ms: way.duration,
+        stray: way.settings.stray,
+        late: way.settings.late,
+    }
+}
+
 /// The flight of a way up, a show and a way down, or the first cause why they are none.
 pub fn make_flight(
     alloc: Global,
     options: &Options,
     shows: Shows,
-    down: &Fitted,
+    down: Fitted,
 ) -> Result<Flight, StepsError>
     requires up { IsValidFitted shows.up }
     requires show { IsValidFitted shows.show }
-    requires down { IsValidFitted down.now }
+    requires down { IsValidFitted down }
     ensures made { (rise middle return : PlainShow) → IsFitted shows.up rise → IsFitted shows.show middle
-        → IsFitted down.now return → FlightMade options.now rise middle return result }
+        → IsFitted down return → FlightMade options.now rise middle return result }
     ensures held { IfOk result IsHeld }
 {
     join_law();
     uploadable_law(&shows.show);
-    let steps = make_steps(alloc, options, &shows.up, &shows.show, down)?;
+    let steps = make_steps(alloc, options, &shows.up, &shows.show, &down)?;
+    let up = course_of(shows.up);
+    let down = course_of(down);
     let show = shows.show;
     Ok(Flight {
         steps,
@@ -110,6 +128,8 @@ pub fn make_flight(
         show_ms: show.duration,
         stray: show.settings.stray,
         late: show.settings.late,
+        up,
+        down,
         silence: silence_of(options),
         flies_on: !options.then_land,
         floor: floor_of(options),

@@ -149,7 +149,7 @@ class Bridge(Home):
             raise Trouble("the flight director ended: status %s" % said.status)
 
     def note(self, k: int, fault: int) -> None:
-        """Raises a fault that the director finds, as far as flying/watched.py doesn't."""
+        """Raises a fault that the director finds: who left its way, and what flying/watched.py doesn't find."""
         name = self.names[k] if k < len(self.names) else "a drone"
         if fault == director.REFUSED:
             raise Trouble("; ".join(self.refusals.values()) or "%s refuses an order" % name)
@@ -160,9 +160,14 @@ class Bridge(Home):
             raise Trouble(self.wrong_with(k) or "%s is lost" % name)
         if fault == director.UNSURE:
             raise Trouble(self.wrong_with(k) or "%s isn't sure of its place any more" % name)
+        if fault == director.ASTRAY and not self.in_show:
+            raise Trouble(self.wrong_with(k) or self.far_words(k))
         if fault == director.ASTRAY and self.ways.rules.show_stray:
             say("OUTSIDE OF THE PROMISE since %.1f s: %s is off its curve, and the show's `stray` is %d" % (
                 max(0.0, self.since(self.zero) / 1000 - 0.3), name, self.ways.rules.show_stray))
+
+    def is_led(self) -> bool:
+        return self.director.is_well and not self.in_show
 
     def unfit(self, k: int, flags: int) -> Optional[str]:
         """How a drone isn't as the next step wants it, which may want some of its flags, or None."""

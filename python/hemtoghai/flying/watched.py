@@ -156,9 +156,16 @@ class Watched(Descent):
         if self.is_away(k):
             x, y, z = state.where()
             return f"{name} is at ({x:.2f}, {y:.2f}, {z:.2f}) m, outside of the room of show and ways"
-        if clock.now() - self.far_since.get(k, math.inf) > FAR_FOR:
-            return "%s is %.0f mm from its %s" % (name, self.far[k], "curve" if self.in_show else "way")
+        if clock.now() - self.far_since.get(k, math.inf) > FAR_FOR and not self.is_led():
+            return self.far_words(k)
         return None
+
+    def far_words(self, k: int) -> str:
+        return "%s is %.0f mm from its %s" % (self.names[k], self.far[k], "curve" if self.in_show else "way")
+
+    def is_led(self) -> bool:
+        """Whether the flight director watches drones on the ways, and says itself who left them."""
+        return False
 
     def is_out(self, k: int) -> bool:
         """Whether a drone says that it doesn't fly any more."""

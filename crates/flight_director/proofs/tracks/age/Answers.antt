@@ -3,7 +3,7 @@ use Rattle.std.proofs.lemmas.Grind.{common_steps}
 use Rattle.std.proofs.lemmas.List.{get_or-set_other}
 use Rattle.flight_model.specs.declared.states.Track.{Track}
 use Rattle.flight_model.specs.Directors.{aged}
-use Rattle.flight_director.proofs.Walks.{age-step}
+use Rattle.flight_director.proofs.Walks.{map-step}
 use Rattle.flight_director.proofs.tracks.age.Goals as goal
 
 pub loop-d-preserved : goal.loop-d-preserved
@@ -15,6 +15,6 @@ loop-d-preserved c =
     record {
       older = ap (λ (t : Track). set c.loop-d.tracks d t) one
           ∙ (ap (λ ts. set ts d (aged c.args.ms (get_or c.args.tracks.now d none))) c.loop-d.invariant.older
-          ∙ age-step c.args.ms c.args.tracks.now d c.loop-d-test.true);
+          ∙ map-step (aged c.args.ms) c.args.tracks.now d c.loop-d-test.true);
       rest = λ j past. get_or-set_other c.loop-d.tracks d j c.aged_by.result none (λ same. omega (arith, same)) ∙ c.loop-d.invariant.rest j (omega arith);
     }
