@@ -37,6 +37,22 @@ fn put(word: &str, bytes: &[u8], out: &mut Vec<u8>) {
     out.push(b'\n');
 }
 
+/// The packets that load a trajectory: writes, and last the one that defines it.
+fn load<'a>(show: &'a Show, data: &'a [u8], pieces: usize) -> impl Iterator<Item = Vec<u8>> + 'a {
+    let writes = data.chunks(24).enumerate().map(|(k, chunk)| {
+        let [a, b, c, d] = (show.offset + 24 * k as u32).to_le_bytes();
+        [&[0x4E, show.memory, a, b, c, d], chunk].concat()
+    });
+    let [a, b, c, d] = show.offset.to_le_bytes();
+    writes.chain([vec![0x8C, 6, 0, 1, 1, a, b, c, d, pieces as u8]])
+}
+
+/// The packets that load the trajectory of a drone.
+pub fn load_of(show: &Show, drone: usize) -> Vec<Vec<u8>> {
+    let pieces = show.pieces(drone);
+    load(show, &bytes_of(&pieces), pieces.len()).collect()
+}
+
 /// The text of the plan of a show.
 pub fn plan(show: &Show) -> Vec<u8> {
     let mut out = b"plan 1\n".to_vec();
@@ -47,13 +63,9 @@ pub fn plan(show: &Show) -> Vec<u8> {
         out.extend_from_slice(name.as_bytes());
         out.extend_from_slice(format!(" bytes {} pieces {}\n", data.len(), pieces.len()).as_bytes());
         put("data", &data, &mut out);
-        for (k, chunk) in data.chunks(24).enumerate() {
-            let [a, b, c, d] = (show.offset + 24 * k as u32).to_le_bytes();
-            let head = [0x4E, show.memory, a, b, c, d];
-            put("write", &[&head, chunk].concat(), &mut out);
+        for packet in load(show, &data, pieces.len()) {
+            put(if packet[0] == 0x4E { "write" } else { "define" }, &packet, &mut out);
         }
-        let [a, b, c, d] = show.offset.to_le_bytes();
-        put("define", &[0x8C, 6, 0, 1, 1, a, b, c, d, pieces.len() as u8], &mut out);
         put("start", &[0x8C, 5, 0, 0, 0, 0, 0, 0, 0x80, 0x3F], &mut out);
     }
     out.extend_from_slice(b"end\n");

@@ -142,46 +142,24 @@ pub fn put(out: &mut Vec<u8>, v: i64) {
     out.extend_from_slice(&digits[at..]);
 }
 
-/// How much of the work is done: positions alone, or their digits too, or the writing too.
-#[derive(Clone, Copy, PartialEq)]
-#[allow(dead_code)] // only bench/play asks for a part of the work
-pub enum Work {
-    Positions,
-    Digits,
-    All,
-}
-
-/// Writes the rows of drones, or does a part of that work.
-pub fn write(drones: &mut [Drone], step: u64, work: Work, sink: &mut impl Write) -> io::Result<()> {
+/// Writes the rows of drones.
+pub fn write(drones: &mut [Drone], step: u64, sink: &mut impl Write) -> io::Result<()> {
     let end: u64 = drones[0].segments.iter().map(|it| it.ms).sum();
     let mut out = Vec::with_capacity(2 * BUFFER);
     let mut weights = Weights::of(1, 0);
-    let mut mixed = 0i64;
     let mut instant = 0;
     loop {
         for drone in &mut *drones {
             let row = drone.at(instant, &mut weights);
-            if work == Work::Positions {
-                mixed = row.iter().fold(mixed, |sum, v| sum.wrapping_mul(31).wrapping_add(*v));
-            } else {
-                drone.put(instant, row, &mut out);
-            }
+            drone.put(instant, row, &mut out);
         }
         if out.len() >= BUFFER {
-            if work == Work::All {
-                sink.write_all(&out)?;
-            }
-            mixed = mixed.wrapping_add(out[out.len() / 2] as i64);
+            sink.write_all(&out)?;
             out.clear();
         }
         if instant == end {
-            break;
+            return sink.write_all(&out);
         }
         instant = (instant + step).min(end);
     }
-    if work == Work::All {
-        return sink.write_all(&out);
-    }
-    eprintln!("{mixed}");
-    Ok(())
 }

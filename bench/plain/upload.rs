@@ -1,7 +1,6 @@
-//! A plain program that does what `upload` does, from a plan: for bench/upload, which compares the two. The host is
-//! that of docs/RADIO.md, but without read-back and starts.
-//!
-//!     upload PLAN < FRAMES
+//! The host of an upload, without read-back and starts.
+use crate::fleet::Show;
+use crate::plans::load_of;
 use std::io::{self, Read, Write};
 
 const MOST_FRAMES: u32 = 4_000_000;
@@ -115,27 +114,27 @@ impl Host {
         }
         None
     }
-}
 
-fn host_of(plan: &str) -> Host {
-    let mut drones: Vec<Drone> = Vec::new();
-    for line in plan.lines() {
-        let mut words = line.split(' ');
-        match words.next() {
-            Some("drone") => {
-                drones.push(Drone { packets: Vec::new(), writes: 0, acked: Vec::new(), ticks: Vec::new(), cursor: 0 })
+    /// Takes a whole frame, a tick or a packet of a drone, and says whether the upload ends with it.
+    #[inline(always)]
+    fn take(&mut self, frame: &[u8], out: &mut Vec<u8>) -> Option<u8> {
+        match frame {
+            [_] => self.tick(out),
+            [_, drone, _, answer @ ..] if usize::from(*drone) <= self.drones.len() => {
+                self.hear(usize::from(*drone) - 1, answer, out)
             }
-            Some(kind @ ("write" | "define")) => {
-                let packet = words.map(|it| u8::from_str_radix(it, 16).expect("a byte")).collect();
-                let drone = drones.last_mut().expect("a drone");
-                drone.packets.push(packet);
-                drone.writes += (kind == "write") as usize;
-                drone.acked.push(false);
-                drone.ticks.push(0);
-            }
-            _ => {}
+            _ => None,
         }
     }
+}
+
+fn host_of(show: &Show) -> Host {
+    let drone = |drone| {
+        let packets = load_of(show, drone);
+        let count = packets.len();
+        Drone { packets, writes: count - 1, acked: vec![false; count], ticks: vec![0; count], cursor: 0 }
+    };
+    let drones: Vec<Drone> = (0..show.drones()).map(drone).collect();
     let left = drones.iter().map(|it| it.packets.len()).sum();
     Host { drones, left }
 }
@@ -150,10 +149,9 @@ fn size_of(rest: &[u8]) -> Result<usize, ()> {
     }
 }
 
-fn main() -> io::Result<()> {
-    let path = std::env::args().nth(1).expect("a plan");
-    let mut host = host_of(&std::fs::read_to_string(path)?);
-    let (mut source, mut sink) = (io::stdin().lock(), io::stdout().lock());
+/// Uploads a show over a link, and says how that ended.
+pub fn run(show: &Show, source: &mut impl Read, sink: &mut impl Write) -> io::Result<u8> {
+    let mut host = host_of(show);
     let mut out = Vec::new();
     host.send_all(&mut out);
     let mut buffer = [0u8; 4096];
@@ -174,14 +172,7 @@ fn main() -> io::Result<()> {
             end += more;
             continue;
         }
-        let status = if size == 1 {
-            host.tick(&mut out)
-        } else if (rest[1] as usize) <= host.drones.len() {
-            host.hear(rest[1] as usize - 1, &rest[3..size], &mut out)
-        } else {
-            None
-        };
-        if let Some(status) = status {
+        if let Some(status) = host.take(&rest[..size], &mut out) {
             break status;
         }
         begin += size;
@@ -192,5 +183,5 @@ fn main() -> io::Result<()> {
     };
     out.extend_from_slice(&[0x45, status]);
     sink.write_all(&out)?;
-    std::process::exit(status as i32)
+    Ok(status)
 }

@@ -1,33 +1,29 @@
-#!/usr/bin/env python3
-"""Measures how much room is enough: the tables of docs/LANGUAGE.md, How much room is enough.
+"""How much room is enough: the tables of docs/LANGUAGE.md, by hemtoghai/geometry/separation.py and not the program."""
+from __future__ import annotations
 
-    bench/room [--seed N] [--cues N]
-
-It flies two drones with random acts for a cue, works out how near they come as a share of what their ellipsoids need,
-and counts of those that come to 90 to 130 % how many are accepted at depths 6 and 8. Then it looks for the place in
-which a drone that stands still has to be farthest: over all places around another, and over those at its height. It
-uses python/hemtoghai/geometry/separation.py, and not the program.
-"""
-import argparse
 import collections
 import os
 import random
 import sys
-from math import cos, pi, sin
+from math import cos, pi, sin, sqrt
+from typing import Counter, Iterable, List, Tuple
 
-sys.dont_write_bytecode = True  # so that importing leaves no file beside the scripts
-sys.path.insert(0, os.path.join(os.path.dirname(os.path.dirname(os.path.abspath(__file__))), "python"))
-from hemtoghai.language import choreo
+from scripts import TOP
+
+sys.path.insert(0, os.path.join(TOP, "python"))
 from hemtoghai.geometry import separation
+from hemtoghai.language import choreo
 
 R, H = 120, 300
+CUES = 24000
+SEED = 3
 
 
-def random_elements(choose):
+def random_elements(choose: random.Random) -> list[list[int]]:
     """The elements of a drone that does a random act from a random place."""
     at = [choose.randrange(-700000, 700000), choose.randrange(-700000, 700000), choose.randrange(700000, 1500000), 0]
 
-    def near():
+    def near() -> List[int]:
         return [at[0] + choose.randrange(-1500000, 1500000), at[1] + choose.randrange(-1500000, 1500000),
                 at[2] + choose.randrange(-700000, 700000)]
     act = choose.choice(["hold", "line", "move", "arc", "curve"])
@@ -36,10 +32,13 @@ def random_elements(choose):
     return [choreo.element(row, axis) for axis, row in enumerate(choreo.controls(act, at, to))]
 
 
-def print_moving(choose, cues):
-    """Prints how many random cues are accepted, by how near the two drones come."""
-    ruler, seen, accepted = separation.Ruler(R, H), collections.Counter(), collections.Counter()
-    while sum(seen.values()) < cues:
+def print_moving(choose: random.Random) -> None:
+    """Prints how many random cues are accepted, by how near the two drones come. Those count that come to 90 to 130 %
+    of what their ellipsoids need."""
+    ruler = separation.Ruler(R, H)
+    seen: Counter[int] = collections.Counter()
+    accepted: Counter[Tuple[int, int]] = collections.Counter()
+    while sum(seen.values()) < CUES:
         part = separation.difference(random_elements(choose), random_elements(choose))
         share = separation.Nearest(part, R, H).share
         if 0.9 <= share < 1.3:
@@ -50,28 +49,20 @@ def print_moving(choose, cues):
     for row in sorted(seen):
         print("%s %3d %%: %6d cues, accepted at depth 6 %6.2f %%, at depth 8 %6.2f %%" % (
             "below" if row == 98 else "from ", max(row, 100), seen[row],
-            *(100 * accepted[row, depth] / seen[row] for depth in (6, 8))))
+            100 * accepted[row, 6] / seen[row], 100 * accepted[row, 8] / seen[row]))
 
 
-def worst(points):
+def worst(points: Iterable[Tuple[float, float, float]]) -> float:
     """The greatest share of the touching distance that a drone at one of these points on the unit sphere needs."""
-    units = [[v / sum(w * w for w in n) ** 0.5 for v in n] for n in separation.TABLES[2]]
+    units = [[v / sqrt(sum(w * w for w in n)) for v in n] for n in separation.TABLES[2]]
     return max(1 / max(a * x + b * y + c * z for x, y, z in units) for a, b, c in points)
 
 
-def main():
-    parser = argparse.ArgumentParser()
-    parser.add_argument("--seed", type=int, default=3)
-    parser.add_argument("--cues", type=int, default=24000)
-    options = parser.parse_args()
-    choose = random.Random(options.seed)
-    print_moving(choose, options.cues)
-    circle = [(cos(k * pi / 4000), sin(k * pi / 4000), 0) for k in range(2001)]
+def room(_: str) -> None:
+    """How much room is enough: shares of random cues that are accepted, and distances for drones that stand still."""
+    print_moving(random.Random(SEED))
+    circle = [(cos(k * pi / 4000), sin(k * pi / 4000), 0.0) for k in range(2001)]
     heights = [k / 200 for k in range(201)]
     sphere = [((1 - z * z) ** 0.5 * x, (1 - z * z) ** 0.5 * y, z) for z in heights for x, y, _ in circle[::10]]
     print("standing still: %.3f times the touching distance is enough, %.3f at one height"
           % (worst(sphere), worst(circle)))
-
-
-if __name__ == "__main__":
-    main()
