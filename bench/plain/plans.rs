@@ -37,20 +37,22 @@ fn put(word: &str, bytes: &[u8], out: &mut Vec<u8>) {
     out.push(b'\n');
 }
 
-/// The packets that load a trajectory: writes, and last the one that defines it.
-fn load<'a>(show: &'a Show, data: &'a [u8], pieces: usize) -> impl Iterator<Item = Vec<u8>> + 'a {
-    let writes = data.chunks(24).enumerate().map(|(k, chunk)| {
+/// Hands on the packets that load a trajectory, each with its word: writes, and last the one that defines it.
+fn each_packet(show: &Show, data: &[u8], pieces: usize, mut take: impl FnMut(&str, &[u8])) {
+    for (k, chunk) in data.chunks(24).enumerate() {
         let [a, b, c, d] = (show.offset + 24 * k as u32).to_le_bytes();
-        [&[0x4E, show.memory, a, b, c, d], chunk].concat()
-    });
+        let head = [0x4E, show.memory, a, b, c, d];
+        take("write", &[&head, chunk].concat());
+    }
     let [a, b, c, d] = show.offset.to_le_bytes();
-    writes.chain([vec![0x8C, 6, 0, 1, 1, a, b, c, d, pieces as u8]])
+    take("define", &[0x8C, 6, 0, 1, 1, a, b, c, d, pieces as u8]);
 }
 
 /// The packets that load the trajectory of a drone.
 pub fn load_of(show: &Show, drone: usize) -> Vec<Vec<u8>> {
-    let pieces = show.pieces(drone);
-    load(show, &bytes_of(&pieces), pieces.len()).collect()
+    let (pieces, mut packets) = (show.pieces(drone), Vec::new());
+    each_packet(show, &bytes_of(&pieces), pieces.len(), |_, packet| packets.push(packet.to_vec()));
+    packets
 }
 
 /// The text of the plan of a show.
@@ -63,9 +65,7 @@ pub fn plan(show: &Show) -> Vec<u8> {
         out.extend_from_slice(name.as_bytes());
         out.extend_from_slice(format!(" bytes {} pieces {}\n", data.len(), pieces.len()).as_bytes());
         put("data", &data, &mut out);
-        for packet in load(show, &data, pieces.len()) {
-            put(if packet[0] == 0x4E { "write" } else { "define" }, &packet, &mut out);
-        }
+        each_packet(show, &data, pieces.len(), |word, packet| put(word, packet, &mut out));
         put("start", &[0x8C, 5, 0, 0, 0, 0, 0, 0, 0x80, 0x3F], &mut out);
     }
     out.extend_from_slice(b"end\n");

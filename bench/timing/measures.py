@@ -13,7 +13,7 @@ from typing import IO, Callable, Sequence
 from scripts import TOP
 
 RUNS = 5
-MOST_KIB = 1 << 20  # address space with which each measured command ends as it does with all
+MOST_KIB = 1 << 20
 
 
 def processor_ms() -> float:
@@ -23,7 +23,9 @@ def processor_ms() -> float:
 
 
 def least(fits: Callable[[int], bool], near: int = 16) -> int:
-    """The least KiB for which this holds, to so many KiB. It holds for MOST_KIB, which isn't asked."""
+    """The least KiB for which this holds, to so many KiB. The script ends if it doesn't hold for MOST_KIB."""
+    if not fits(MOST_KIB):
+        sys.exit("%d KiB of address space aren't enough; an unproved program's run-time tests take more" % MOST_KIB)
     low, high = 0, MOST_KIB
     while high - low > near:
         middle = (low + high) // 2
