@@ -58,6 +58,20 @@ class Streams(unittest.TestCase):
                 self.assertIn("%s: No space left on device\n" % tool, told)
                 self.assertNotIn("Traceback", told)
 
+    @wants_program
+    def test_lines_of_a_flight(self):
+        # They are written by a thread of their own: without them there is no 0. Another status stays.
+        words = "./show fly --simulate --yes --only look %s"
+        cured, refused = "examples/crossing_cured.choreo", "--battery 30 examples/crossing_cured.choreo"
+        self.assertEqual(shell(words % cured)[0], 0)
+        for stream, wanted, told in ((">/dev/full", 70, "fly: No space left on device\n"),
+                                     (">&-", 70, "fly: Bad file descriptor\n"), ("| true; exit ${PIPESTATUS[0]}", 141, "")):
+            line = "%s %s" % (words % cured, stream)
+            done = subprocess.run(["bash", "-c", line], cwd=TOP, stdin=subprocess.DEVNULL, stdout=subprocess.PIPE,
+                                  stderr=subprocess.PIPE, timeout=300)
+            self.assertEqual((done.returncode, done.stdout, done.stderr.decode()), (wanted, b"", told), stream)
+        self.assertEqual(shell(words % refused + " >/dev/full"), (1, "", ""))
+
     def test_nobody_reads_on(self):
         for tool in ("picture", "why"):
             source, sink = os.pipe()

@@ -15,6 +15,7 @@ if TYPE_CHECKING:
 
 NO_ANSWER = 70
 INTERRUPTED, NOBODY_READS = 128 + 2, 128 + 13  # as after SIGINT and SIGPIPE
+lost: list[OSError] = []  # why what a command writes past sys.stdout didn't go out, the first time
 OPEN_AS = {0: os.O_WRONLY, 1: os.O_RDONLY, 2: os.O_WRONLY}  # a stream that was closed can neither be read nor written
 
 
@@ -97,6 +98,8 @@ def status_of(main: Callable[[], int | None], who: str) -> int:
                 return NO_ANSWER
             status = ended.code
         sys.stdout.flush()
+        if lost and not status:
+            raise lost[0]  # no yes without its words
         return int(status or 0)
     except KeyboardInterrupt:
         drop_output()

@@ -66,9 +66,9 @@ def end_of(memory: bytearray, offset: int, pieces: int) -> int:
     return min(len(memory), at + 3)
 
 
-def write_memories(folder: str, names: Sequence[str], drones: Sequence[links.Drone]) -> None:
-    """Writes each drone's memory to FOLDER/NAME.memory."""
-    outputs.write_below(folder, {name + ".memory": bytes(drone.memory) for name, drone in zip(names, drones)})
+def write_memories(folder: str, names: Sequence[str], drones: Sequence[links.Drone], force: bool) -> None:
+    """Writes each drone's memory to FOLDER/NAME.memory, over files that came meanwhile only by force."""
+    outputs.write_below(folder, {name + ".memory": bytes(drone.memory) for name, drone in zip(names, drones)}, force)
 
 
 # ---- words
@@ -213,5 +213,5 @@ def main(words: list[str]) -> int:
             for line in memory_lines(drone, name, flown, data):
                 print(line)
         if options.memory:
-            write_memories(options.memory, flown.names, drones)
+            write_memories(options.memory, flown.names, drones, options.force)
     return status

@@ -78,7 +78,7 @@ def main(words: list[str]) -> int:
         except legs.NoWay as why:
             print("no way %s: %s" % (name, why))
             status = NO_WAY
-    outputs.write_all(files)
+    outputs.write_all(files, options.force)
     print("landing of all from the show:")
     for line in Landings(flown, [pad[2] for pad in pads], rules).lines():
         print("  " + line)

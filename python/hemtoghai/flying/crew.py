@@ -12,6 +12,7 @@ import threading
 import termios
 from typing import Callable, List, Optional
 
+from hemtoghai import streams
 from hemtoghai.flying import clock
 from hemtoghai.flying.crazyradio import Trouble
 
@@ -100,12 +101,14 @@ class Teller:
         self.thread.start()
 
     def run(self) -> None:
-        """Writes what comes; a terminal that is gone loses it."""
+        """Writes what comes; a terminal that is gone loses it, which is noted for the status."""
         while True:
             data = self.lines.get().encode(errors="replace")
-            with contextlib.suppress(OSError):
+            try:
                 while data:
                     data = data[os.write(1, data):]
+            except OSError as error:
+                streams.lost[:] = streams.lost or [error]
             self.lines.task_done()
 
     def finish(self, seconds: float = 2.0) -> None:
