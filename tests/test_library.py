@@ -3,6 +3,7 @@ each malloc failing in turn; and the programs of docs/CALLING.md. What is expect
 of the documents. What needs a compiler or a build that isn't there, or isn't of these sources, is skipped. From Python
 it is called in test_library_answers.py."""
 import ctypes
+import hashlib
 import json
 import os
 import re
@@ -14,6 +15,7 @@ import unittest
 
 sys.dont_write_bytecode = True
 sys.path.insert(0, os.path.dirname(os.path.abspath(__file__)))
+import common
 from common import PROGRAM, TOP, wants_program
 from hemtoghai import answering
 from hemtoghai.launching import records
@@ -108,6 +110,79 @@ class Room(unittest.TestCase):
                             os.path.join(self.lib, "libhemtoghai.a"), *flags, "-o", program)
         self.assertEqual((status, text), (0, b""))
         return program
+
+
+FAKE = """int hemtoghai_run(void) { return 7; }
+const char *hemtoghai_version(void) { return "none"; }
+"""
+
+
+class Writes(common.Folder, unittest.TestCase):
+    """What ./show library writes of an archive that it was told is the proved one."""
+
+    def setUp(self):
+        if not all(map(shutil.which, ("cc", "ld", "ar", "nm", "objcopy", "size"))):
+            self.skipTest("there is no C compiler, or no binutils")
+        # In memory where that is there: each file is waited for until it is on its disk.
+        folder = tempfile.TemporaryDirectory(dir="/dev/shm" if os.path.isdir("/dev/shm") else None)
+        self.addCleanup(folder.cleanup)
+        self.place = folder.name
+        self.write("fake.c", FAKE)
+        self.write("c/heap.c", "int of_the_heap;\n")
+        for name, archive in (("fake", "fake.a"), ("c/heap", "c/liblibc_c.a")):
+            self.assertEqual(said("cc", "-c", "-fPIC", name + ".c", "-o", name + ".o", place=self.place), (0, b""))
+            self.assertEqual(said("ar", "rcs", archive, name + ".o", place=self.place), (0, b""))
+
+    def made(self, *words, most=None):
+        """The status and the words of the command, which may write so many bytes to a file."""
+        code = ("import os, resource, sys\nsys.path[:0] = [%r]\nfrom unittest import mock\n"
+                "from hemtoghai import __main__, streams\nfrom hemtoghai.commands import library\nreal = library.said\n"
+                "library.toolchain = lambda: %r\nlibrary.prove = lambda *_: (%r, 'logic=proved nothing')\n"
+                "library.stamps = lambda: {'stamp': 'a', 'program_stamp': 'b'}\n"
+                "library.said = lambda *given, **more: 'rt 0' if given[0] == 'rt' else real(*given, **more)\n"
+                "if %r:\n    write = library.outputs.write_below\n"
+                "    def limited(*given):\n        resource.setrlimit(resource.RLIMIT_FSIZE, (%r, %r))\n        write(*given)\n"
+                "    library.outputs.write_below = limited\n"
+                "streams.run(lambda: __main__.main(['library', *sys.argv[1:]]), 'library')\n" % (
+                    os.path.join(TOP, "python"), self.place, self.path("fake.a"), most, most, most))
+        return said(sys.executable, "-IS", "-c", code, *words, place=self.place)
+
+    def found(self):
+        """All files below the folder of the library, with their bytes, and the links with what they lead to."""
+        out = {}
+        for folder, _, names in os.walk(self.path("out")):
+            for name in names:
+                path = os.path.join(folder, name)
+                with open(path, "rb") as file:
+                    out[os.path.relpath(path, self.path("out"))] = os.readlink(path) if os.path.islink(path) else file.read()
+        return out
+
+    def test_whole_files_or_none(self):
+        status, told = self.made("--out", "out", most=600)
+        self.assertEqual((status, os.path.exists(self.path("out"))), (70, False), told)
+        self.assertIn(b"File too large\n", told)
+        status, told = self.made("--out", "out")
+        self.assertEqual(status, 0, told)
+        shared = "libhemtoghai.so." + version()
+        first = self.found()
+        self.assertEqual(sorted(first), ["MANIFEST.json", "include/hemtoghai.h", "lib/libhemtoghai.a", "lib/libhemtoghai.so",
+                                         "lib/libhemtoghai.so.0", "lib/" + shared, "lib/pkgconfig/hemtoghai.pc"])
+        self.assertEqual((first["lib/libhemtoghai.so"], first["lib/libhemtoghai.so.0"]), (shared, shared))
+        record = json.loads(first["MANIFEST.json"])
+        self.assertEqual(record["files"], {path: hashlib.sha256(data).hexdigest() for path, data in first.items()
+                                           if isinstance(data, bytes) and path != "MANIFEST.json"})
+        self.assertEqual(ctypes.CDLL(self.path("out/lib/libhemtoghai.so")).hemtoghai_run(), 7)
+        # Files that are there are nobody's but by --force; where they can't be written anew all of them stay.
+        status, told = self.made("--out", "out")
+        self.assertEqual((status, self.found()), (70, first))
+        self.assertIn(b"is there already: --force overwrites it", told)
+        self.write("fake.c", FAKE.replace("7", "8"))
+        self.assertEqual(said("cc", "-c", "-fPIC", "fake.c", "-o", "fake.o", place=self.place), (0, b""))
+        self.assertEqual(said("ar", "rcs", "fake.a", "fake.o", place=self.place), (0, b""))
+        self.assertEqual((self.made("--force", "--out", "out", most=600)[0], self.found()), (70, first))
+        self.assertEqual(self.made("--force", "--out", "out")[0], 0)
+        self.assertEqual(ctypes.CDLL(self.path("out/lib/" + shared)).hemtoghai_run(), 8)
+        self.assertEqual(sorted(self.found()), sorted(first))
 
 
 class InC(Room):

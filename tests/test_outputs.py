@@ -189,12 +189,32 @@ class Files(common.Folder, unittest.TestCase):
     def test_all_or_none(self):
         self.write("a", OLD)
         with self.assertRaises(SystemExit):
-            outputs.write_below(self.path("new/deep"), {"b": b"x", "none/c": b"x"})
+            outputs.write_below(self.path("new/deep"), {"b": b"x", "more/b": b"x", "n" * 300: b"x"})
         with self.assertRaises(SystemExit):
             outputs.write_all({self.path("a"): b"x", self.path("none/c"): b"x"})
         self.assertEqual(os.listdir(self.place), ["a"])
+        with self.assertRaises(SystemExit):
+            outputs.write_below(self.path("a"), {"b": b"x"})
         with open(self.path("a"), "rb") as file:
             self.assertEqual(file.read(), OLD)
+        outputs.write_below(self.path("new/deep"), {"b": b"x", "more/still/b": b"y"})
+        with open(self.path("new/deep/more/still/b"), "rb") as file:
+            self.assertEqual(file.read(), b"y")
+
+    def test_links(self):
+        # What was there goes, be it a file, a link to another or one to nothing; a folder doesn't.
+        self.write("a", OLD)
+        for name, target in (("b", "a"), ("c", "nothing")):
+            os.symlink(target, self.path(name))
+        for name in ("a", "b", "c", "d"):
+            outputs.link_all({self.path(name): "lib.so.1"})
+            self.assertEqual(os.readlink(self.path(name)), "lib.so.1")
+        os.mkdir(self.path("e"))
+        for name in ("e", "none/f"):
+            with self.assertRaises(SystemExit) as ended:
+                outputs.link_all({self.path(name): "lib.so.1"})
+            self.assertEqual(ended.exception.code, 70)
+        self.assertEqual(sorted(os.listdir(self.place)), ["a", "b", "c", "d", "e"])
 
     def test_what_came_meanwhile(self):
         # Looked at before the work, a file may have come since: it stays, and of several files none is written.

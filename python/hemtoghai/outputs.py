@@ -160,7 +160,7 @@ def write_all(files: dict[str, bytes], force: bool = True) -> None:
     """Writes files, by their paths: all of them, or none, and then a line ends the tool. Without force it ends too
     where one is there by now."""
     new: list[New] = []
-    placed: list[str] = []
+    placed: list[str] = []  # where nothing was before
     path = ""
     try:
         for path, data in files.items():
@@ -171,20 +171,35 @@ def write_all(files: dict[str, bytes], force: bool = True) -> None:
                 new.append(New(os.path.realpath(path), data))  # so that a link stays one
         with unbroken():
             for it in new:
-                path = it.path
+                path, is_first = it.path, not os.path.lexists(it.path)
                 it.put(force)
-                placed.append(path)
+                placed += [path] * is_first
             for folder in {it.folder for it in new}:
                 sync_folder(folder)
-    except FileExistsError:
-        for other in placed:  # there was none of these before
-            os.unlink(other)
-        stop(is_there(path))
     except OSError as error:
-        stop(f"{path}: {error.strerror}")
+        for other in placed:
+            os.unlink(other)
+        stop(is_there(path) if isinstance(error, FileExistsError) else f"{path}: {error.strerror}")
     finally:
         for it in new:
             it.drop()
+
+
+def link_all(links: dict[str, str]) -> None:
+    """Makes links, by their paths with what they lead to, each at once in the place of what was there; a line ends the
+    tool where one can't be made."""
+    for path, target in links.items():
+        hidden = tempfile.mktemp(prefix=HIDDEN, dir=os.path.dirname(path))
+        try:
+            with unbroken():
+                os.symlink(target, hidden)
+                try:
+                    os.replace(hidden, path)
+                except OSError:
+                    os.unlink(hidden)
+                    raise
+        except OSError as error:
+            stop(f"{path}: {error.strerror}")
 
 
 def sync_folder(folder: str) -> None:
@@ -198,12 +213,15 @@ def sync_folder(folder: str) -> None:
 
 
 def write_below(folder: str, files: dict[str, bytes], force: bool = True) -> None:
-    """Writes files by their names in a folder, which is made where it isn't there: all, or none and no folder."""
+    """Writes files by their names in a folder, which is made where it isn't there, as those in it are that a name
+    begins with: all files, or none and no folder."""
+    made: list[str] = []
     try:
-        made = make_folders(folder)
-    except OSError as error:
-        stop(f"{folder}: {error.strerror}")
-    try:
+        for path in [folder, *(os.path.dirname(os.path.join(folder, name)) for name in files)]:
+            try:
+                made[:0] = make_folders(path)
+            except OSError as error:
+                stop(f"{path}: {error.strerror}")
         write_all({os.path.join(folder, name): data for name, data in files.items()}, force)
     except BaseException:
         remove_folders(made)

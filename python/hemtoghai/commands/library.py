@@ -1,6 +1,6 @@
 """Makes the library: the proved judge for programs in C and in languages that call C.
 
-    ./show library [--kept] [--out FOLDER]
+    ./show library [--kept] [--out FOLDER [--force]]
 
 FOLDER (library/out without the option) then has include/hemtoghai.h, lib/libhemtoghai.a, lib/libhemtoghai.so with its
 two other names, lib/pkgconfig/hemtoghai.pc, and MANIFEST.json: version, commit, toolchain, the SHA-256 of each file, of
@@ -9,7 +9,8 @@ rests. `import hemtoghai` takes the library of library/out if the program is of 
 the names hemtoghai_run and hemtoghai_version, and no other. The command needs the toolchain and a C compiler (the one
 that CC names, or cc) with ld, ar, nm, objcopy and size. If `rt ci` has proved these crates on this machine, only the
 crate itself is proved once more. Else `rt lib` first proves the missing ones, or with --kept nothing is made. The
-library runs on x86-64 with the instructions of x86-64-v2. Status 0: the library is written. 70: it isn't. 75: with
+library runs on x86-64 with the instructions of x86-64-v2. All files are written, or none; those of library/out are
+overwritten, and those of another FOLDER by --force alone. Status 0: the library is written. 70: it isn't. 75: with
 --kept, `rt ci` has kept too little on this machine.
 """
 from __future__ import annotations
@@ -18,28 +19,31 @@ import importlib.machinery
 import importlib.util
 import json
 import os
+import pathlib
 import re
-import shutil
 import subprocess
 import sys
 import tempfile
 from typing import Any, Optional
 
-from hemtoghai import program
+from hemtoghai import outputs, program
 from hemtoghai.companion import parser, stop
 from hemtoghai.launching import records
 from hemtoghai.launching.records import git
 
 TOP = program.TOP
 CRATE = "hemtoghai"
-ARCHIVE = "libhemtoghai.a"
+ARCHIVE, SHARED = "libhemtoghai.a", "libhemtoghai.so.%s"  # with the version
+LINKS = ["lib/libhemtoghai.so", "lib/libhemtoghai.so.0"]
 SOURCES = os.path.join(TOP, "library")
+OUT = os.path.join(SOURCES, "out")
+MANIFEST, HEADER, CONFIG = "MANIFEST.json", "include/hemtoghai.h", "lib/pkgconfig/hemtoghai.pc"
 NAMES = ["hemtoghai_run", "hemtoghai_version"]
 # What the objects take from the C library, and from the compiler's own; anything else would be a new thing to trust.
 WANTED = {"malloc", "realloc", "free", "memcpy", "memmove", "memset", "__udivti3", "_GLOBAL_OFFSET_TABLE_"}
 NOT_KEPT = 75
 VARIABLES = re.compile(r"\.(data|bss|tdata|tbss)\b(?!\.rel\.ro)")
-SHARED = "-Wl,-z,defs,-z,relro,-z,now,-z,noexecstack,--gc-sections,--build-id=none"
+LINKING = "-Wl,-z,defs,-z,relro,-z,now,-z,noexecstack,--gc-sections,--build-id=none"
 
 
 def said(*words: str, place: str = TOP) -> str:
@@ -145,42 +149,31 @@ def need_names(file: str, *flags: str) -> None:
         stop("%s exports other names: %s" % (file, " ".join(sorted(shown))))
 
 
-def make_libraries(lib: str, version: str, archives: list[str]) -> list[str]:
-    """Makes both libraries in a folder; their names, the links among them first."""
-    static, shared = ARCHIVE, "libhemtoghai.so." + version
-    links = ["libhemtoghai.so", "libhemtoghai.so.0"]
-    for name in (static, shared, *links):
-        if os.path.lexists(os.path.join(lib, name)):
-            os.remove(os.path.join(lib, name))
-    with tempfile.TemporaryDirectory() as room:
-        whole = one_object(room, archives)
-        said("ar", "rcsD", os.path.join(lib, static), whole)
-        said(os.environ.get("CC", "cc"), "-shared", "-static-libgcc", SHARED, "-Wl,-soname,libhemtoghai.so.0",
-             "-Wl,--version-script=" + os.path.join(SOURCES, "hemtoghai.map"), whole, "-o", os.path.join(lib, shared))
-    for name in links:
-        os.symlink(shared, os.path.join(lib, name))
-    need_names(os.path.join(lib, static), "--extern-only")
-    need_names(os.path.join(lib, shared), "--dynamic")
-    return [static, shared]
+def make_libraries(room: str, version: str, archives: list[str]) -> dict[str, bytes]:
+    """Makes both libraries in a folder; their bytes, by their paths in the library's."""
+    static, shared = (os.path.join(room, name) for name in (ARCHIVE, SHARED % version))
+    whole = one_object(room, archives)
+    said("ar", "rcsD", static, whole)
+    said(os.environ.get("CC", "cc"), "-shared", "-static-libgcc", LINKING, "-Wl,-soname,libhemtoghai.so.0",
+         "-Wl,--version-script=" + os.path.join(SOURCES, "hemtoghai.map"), whole, "-o", shared)
+    need_names(static, "--extern-only")
+    need_names(shared, "--dynamic")
+    return {"lib/" + os.path.basename(path): pathlib.Path(path).read_bytes() for path in (static, shared)}
 
 
-def make(out: str, version: str, only_kept: bool = False) -> tuple[list[str], str]:
-    """Makes the files of the library in a folder. They are named, and so is what the proof rests on."""
-    lib = os.path.join(out, "lib")
+def make(version: str, only_kept: bool = False) -> tuple[dict[str, bytes], str]:
+    """The bytes of the library's files, by their paths in its folder, and what the proof rests on."""
     with tempfile.TemporaryDirectory() as room:
         archive, rests_on = prove(room, only_kept)
         need_stateless(archive)
-        for folder in ("include", "lib/pkgconfig"):
-            os.makedirs(os.path.join(out, folder), exist_ok=True)
         heap = os.path.join(toolchain(), "c", "liblibc_c.a")  # which takes memory from malloc
         if not os.path.exists(heap):
             stop("%s is not there" % heap)
-        made = ["lib/" + name for name in make_libraries(lib, version, [archive, heap])]
-    shutil.copyfile(os.path.join(SOURCES, "hemtoghai.h"), os.path.join(out, "include", "hemtoghai.h"))
-    made += ["include/hemtoghai.h", "lib/pkgconfig/hemtoghai.pc"]
-    with open(os.path.join(SOURCES, "hemtoghai.pc.in")) as file, open(os.path.join(out, made[-1]), "w") as copy:
-        copy.write(file.read().replace("@VERSION@", version))
-    return sorted(made), rests_on
+        linked = os.path.join(room, "linked")
+        os.mkdir(linked)
+        made = make_libraries(linked, version, [archive, heap])
+    config = pathlib.Path(SOURCES, "hemtoghai.pc.in").read_text(encoding="utf-8").replace("@VERSION@", version)
+    return {**made, HEADER: pathlib.Path(SOURCES, "hemtoghai.h").read_bytes(), CONFIG: config.encode()}, rests_on
 
 
 def stamps() -> dict[str, str]:
@@ -189,27 +182,41 @@ def stamps() -> dict[str, str]:
             for name, crate in (("stamp", CRATE), ("program_stamp", records.LAST))}
 
 
+def refuse(out: str, version: str, force: bool) -> None:
+    """Ends the tool where a file that isn't its own would be overwritten."""
+    names = ["lib/" + ARCHIVE, "lib/" + SHARED % version, *LINKS, HEADER, CONFIG, MANIFEST]
+    outputs.refuse((os.path.join(out, name) for name in names), force or os.path.realpath(out) == os.path.realpath(OUT), [])
+
+
+def manifest_of(files: dict[str, bytes], version: str, rests_on: str, before: dict[str, str]) -> dict[str, Any]:
+    """The library's manifest: its files with their SHA-256, without the links, and what is known of their build."""
+    sums = {path: program.digest_of(data) for path, data in files.items()}
+    return {"version": version, "commit": git("rev-parse", "HEAD"),
+            "changed_since": git("status", "--porcelain") != "", "toolchain": said("rt", "version").strip(),
+            "rests_on": rests_on, **before, "files": dict(sorted(sums.items()))}
+
+
 def main(words: list[str]) -> int:
     reader = parser(__doc__)
-    reader.add_argument("--out", default=os.path.join(SOURCES, "out"), metavar="FOLDER",
+    reader.add_argument("--out", default=OUT, metavar="FOLDER",
                         help="the folder of the library; without it library/out")
     reader.add_argument("--kept", action="store_true",
                         help="only over crates that rt ci has proved and kept on this machine")
+    outputs.add_force(reader)
     given = reader.parse_args(words)
-    out = os.path.abspath(given.out)
+    out, version = os.path.abspath(given.out), records.version()
     if os.path.exists(program.MANIFEST):
         stop("this is a release: its library is in library/out")
+    refuse(out, version, given.force)
     before = stamps()
-    made, rests_on = make(out, records.version(), given.kept)
+    files, rests_on = make(version, given.kept)
     if stamps() != before:
         stop("the sources were changed while they were proved: run it again")
-    sums = {path: records.sha256(os.path.join(out, path)) for path in made}
-    with open(os.path.join(out, "MANIFEST.json"), "w") as file:
-        json.dump({"version": records.version(), "commit": git("rev-parse", "HEAD"),
-                   "changed_since": git("status", "--porcelain") != "", "toolchain": said("rt", "version").strip(),
-                   "rests_on": rests_on, **before, "files": sums}, file, indent=1)
-        file.write("\n")
-    for path, data in sums.items():
+    manifest = manifest_of(files, version, rests_on, before)
+    files[MANIFEST] = (json.dumps(manifest, indent=1) + "\n").encode()
+    outputs.write_below(out, files)
+    outputs.link_all({os.path.join(out, link): SHARED % version for link in LINKS})
+    for path, data in manifest["files"].items():
         print("%s  %s" % (data, path))
     print("proof: " + rests_on)
     return 0
