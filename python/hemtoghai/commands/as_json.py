@@ -15,7 +15,6 @@ from __future__ import annotations
 
 import json
 import sys
-from itertools import combinations
 from math import hypot
 from typing import Any
 
@@ -29,7 +28,10 @@ from hemtoghai.writing.margins import margins_of
 
 
 def put(command: str, verdict: judging.Verdict, **more: Any) -> int:
+    """Writes an answer, and says too why there is none; its status."""
     sys.stdout.write(json.dumps({"command": command, **verdict.as_data(), **more}) + "\n")
+    if verdict.status == streams.NO_ANSWER:
+        streams.tell(companion.tool_name(), verdict.line)
     return verdict.status
 
 
@@ -94,16 +96,15 @@ def by_why(words: list[str]) -> int:
     return put("why", verdict, **{"blocked": places, **({"room": room} if verdict.status == 4 else {})})
 
 
-def drone_data(flown: choreo.Flown, drone: int, motions: dict[str, dict[str, Any]]) -> dict[str, Any]:
-    fastest, box = summary.look(flown, drone)
+def drone_data(flown: choreo.Flown, drone: int, places: int, motions: dict[str, dict[str, Any]]) -> dict[str, Any]:
+    fastest, box = summary.look(flown, drone, places)
     return {"name": flown.names[drone], "bytes": len(flown.data()[drone]), "room": flown.room(),
             "pieces": len(flown.sent[drone]), "top_speed": round(1e6 * fastest),
             "box": [[round(1000 * low), round(1000 * high)] for low, high in box],
             **motions.get(flown.names[drone], {})}
 
 
-def pair_data(flown: choreo.Flown, i: int, j: int) -> dict[str, Any]:
-    share, _, _, cue, u = summary.nearest_of(flown, i, j)
+def pair_data(flown: choreo.Flown, share: float, i: int, j: int, cue: int, u: float) -> dict[str, Any]:
     first, second = (companion.place(flown, k, cue, u) for k in (i, j))
     return {"first": flown.names[i], "second": flown.names[j], "share": share, "cue": cue + 1,
             "at_ms": companion.begins(flown)[cue] + flown.cues[cue].milliseconds * u,
@@ -125,10 +126,10 @@ def by_summary(words: list[str]) -> int:
              "acts": {name: act for name, (_, act, _) in cue.acts.items()}}
             for cue, begin, end in zip(flown.cues, times, times[1:])]
     settings = {word: list(row) for word, row in flown.show.settings.items()}
+    places, (pairs, left_out) = summary.places_in(flown), summary.nearest_pairs(flown)
     more = {"duration_ms": flown.milliseconds, "settings": settings,
-            "drones": [drone_data(flown, k, motions) for k in range(len(flown.names))], "cues": cues,
-            "pairs": sorted((pair_data(flown, i, j) for i, j in combinations(range(len(flown.names)), 2)),
-                            key=lambda row: float(row["share"]))}
+            "drones": [drone_data(flown, k, places, motions) for k in range(len(flown.names))], "instants": places,
+            "cues": cues, "pairs": [pair_data(flown, *row) for row in pairs], "pairs_maybe_nearer": left_out}
     if options.margin:
         more["margin"] = None if companion.no_program() else {"ellipsoid_percent" if word == "ellipsoid" else word: most
                           for word, most, _ in margins_of(flown, text, options.depth)}

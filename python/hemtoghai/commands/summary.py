@@ -2,7 +2,8 @@
 down, settings.
 
 Bounds on acceleration and jumps of speed are those of the program's `dynamics`, on x, y and z; without the program
-there are none. Speeds are sampled at 32 instants of each cue, from the curves that are sent, and prove nothing. With
+there are none. Speeds are sampled at 32 instants of each cue, from the curves that are sent, and prove nothing; what is
+left out of a long show is said. With
 --margin the ellipsoid, the stray and the lateness are each increased as far as `check` accepts the show, with the other
 two as they are set. The status is 0, or that of a faulty show. 70: no answer.
 """
@@ -22,19 +23,28 @@ from hemtoghai.program import COMMAND
 from hemtoghai.writing.flyable import MOST
 from hemtoghai.writing.margins import margins_of
 
-PLACES = 32
+PLACES, LEAST_PLACES = 32, 4  # instants of a cue at which speeds are looked at, and of one of a long show
+MOST_PLACES = 100000  # of all drones in all cues
+MOST_NEAR = 10000  # cues of pairs that are looked at closely
+MOST_ASKED = 1000  # questions to `check` in a search for a way
 LEAST = MOST["jump"] / 1000  # metres a second: what a jump is at most that comes of rounding, as `check` has it
 
 
-def look(flown: Flown, drone: int) -> tuple[float, list[tuple[float, float]]]:
-    """A drone's top speed in metres a second, and its box in mm."""
+def places_in(flown: Flown) -> int:
+    """The instants of each cue at which speeds and boxes are looked at."""
+    flights = sum(len({(ms, id(elements)) for ms, elements in row}) for row in flown.by_cue)
+    return max(LEAST_PLACES, min(PLACES, MOST_PLACES // max(1, flights)))
+
+
+def look(flown: Flown, drone: int, places: int = PLACES) -> tuple[float, list[tuple[float, float]]]:
+    """A drone's top speed in metres a second, and its box in mm, by so many instants of each cue."""
     speed = 0.0
     box: list[list[float]] = [[], [], []]
     for milliseconds, elements in {(flight[0], id(flight[1])): flight for flight in flown.by_cue[drone]}.values():
         first = [[(len(row) - 1) * (b - a) / (milliseconds / 1000) for a, b in zip(row, row[1:])] or [0.0]
                  for row in elements[:3]]  # the control values of the rate of change in a second
-        for at in range(PLACES + 1):
-            u = at / PLACES
+        for at in range(places + 1):
+            u = at / places
             speed = max(speed, hypot(*(value(row, u) / 1000 for row in first)))
             for axis in range(3):
                 box[axis].append(value(elements[axis], u))
@@ -46,18 +56,20 @@ def triple(numbers: Iterable[float]) -> str:
 
 
 def print_drones(flown: Flown, motions: dict[str, Motion] | None) -> None:
-    room = flown.room()
+    room, places = flown.room(), places_in(flown)
     print("%-16s %6s %6s %6s %8s  %-19s %-19s %-8s %s" % (
         "drone", "bytes", "of", "pieces", "m/s", "m/s2: x, y, z", "jump m/s: x, y, z", "in cues", "box in mm: x, y, z"))
     most = 0.0
     for k, (name, data, segments) in enumerate(zip(flown.names, flown.data(), flown.sent)):
-        speed, box = look(flown, k)
+        speed, box = look(flown, k, places)
         forces, jumps, cues = motions[name] if motions else ((), (), ())
         most = max(most, *jumps, 0)
         where = ", ".join(str(cue) for jump, cue in zip(jumps, cues) if jump > LEAST)
         print("%-16s %6d %6d %6d %8.2f  %-19s %-19s %-8s %s" % (
             name, len(data), room, len(segments), speed, triple(forces) or "-", triple(jumps) or "-", where or "-",
             ", ".join("%d to %d" % (round(low), round(high)) for low, high in box)))
+    if places < PLACES:
+        print("Speeds and boxes are of %d instants of each cue: the show is long." % places)
     if not motions:
         print("Accelerations and jumps were not asked: the program isn't built, or refuses the show.")
     if most > LEAST:
@@ -81,27 +93,46 @@ def print_cues(flown: Flown) -> None:
             k + 1, seconds(times[k]), seconds(times[k + 1]), cue.number, "; ".join(words) or "all hold"))
 
 
-def nearest_of(flown: Flown, i: int, j: int) -> tuple[float, int, int, int, float]:
-    """Where two drones come nearest, measured by their ellipsoids: their share of the distance at which these touch,
-    the two, the cue and the fraction of it."""
-    (r, h), best = flown.show.settings["ellipsoid"], (inf, i, j, 0, 0.0)
-    seen = set[tuple[int, int]]()  # what both fly, which a repeat has often
+def least_shares(flown: Flown, i: int, j: int) -> list[tuple[float, int]]:
+    """What two drones' share of the distance at which their ellipsoids touch isn't less than in each cue, by the boxes of
+    their curves, with the cue; the least first. Of what both fly again, as in a repeat, there is the first cue alone."""
+    (r, h), found = flown.show.settings["ellipsoid"], dict[tuple[int, int], tuple[float, int]]()
     for cue in range(len(flown.cues)):
         first, second = flown.by_cue[i][cue][1], flown.by_cue[j][cue][1]
-        if (both := (id(first), id(second))) in seen:
-            continue
-        seen.add(both)
-        gap = [max(0, min(b) - max(a), min(a) - max(b)) for a, b in zip(first[:3], second[:3])]
-        if hypot(gap[0] / r, gap[1] / r, gap[2] / h) / 2 < best[0]:
-            near = separation.nearest_in(flown, i, j, cue)
-            best = (near.share, i, j, cue, near.at) if near.share < best[0] else best
-    return best
+        if (both := (id(first), id(second))) not in found:
+            gap = [max(0, min(b) - max(a), min(a) - max(b)) for a, b in zip(first[:3], second[:3])]
+            found[both] = hypot(gap[0] / r, gap[1] / r, gap[2] / h) / 2, cue
+    return sorted(found.values())
+
+
+def nearest_of(flown: Flown, i: int, j: int, most: int) -> tuple[tuple[float, int, int, int, float], bool]:
+    """Where two drones come nearest, measured by their ellipsoids: their share of the distance at which these touch,
+    the two, the cue and the fraction of it; and whether no cue was left out, where so many are looked at closely."""
+    best = (inf, i, j, 0, 0.0)
+    for number, (least, cue) in enumerate(least_shares(flown, i, j)):
+        if least >= best[0]:
+            break
+        if number == most:
+            return best, False
+        near = separation.nearest_in(flown, i, j, cue)
+        best = (near.share, i, j, cue, near.at) if (near.share, cue) < (best[0], best[3]) else best
+    return best, True
+
+
+def nearest_pairs(flown: Flown) -> tuple[list[tuple[float, int, int, int, float]], int]:
+    """Where each pair comes nearest, as `nearest_of` has it, the nearest first; and of how many pairs cues were left
+    out."""
+    pairs = list(combinations(range(len(flown.names)), 2))
+    found = [nearest_of(flown, i, j, max(1, MOST_NEAR // len(pairs))) for i, j in pairs]
+    return sorted(row for row, _ in found), sum(not is_whole for _, is_whole in found)
 
 
 def print_nearest(flown: Flown, most: int) -> None:
     times = begins(flown)
-    rows = [nearest_of(flown, i, j) for i, j in combinations(range(len(flown.names)), 2)]
-    for share, i, j, cue, u in sorted(rows)[:most]:
+    rows, more = nearest_pairs(flown)
+    if more:
+        print("%s may come nearer than is said here: cues were left out, since the show is long." % many(more, "pair"))
+    for share, i, j, cue, u in rows[:most]:
         at, other = place(flown, i, cue, u), place(flown, j, cue, u)
         words = "%s and %s: %.0f %% of the distance at which their ellipsoids touch, %.0f mm to the side and %.0f " \
                 "up, at %s in cue %d"
@@ -137,17 +168,28 @@ def print_margin(flown: Flown, text: bytes, deep: int) -> None:
                 word, most, unit, others, and_above or ", which is the most there is"))
 
 
+class Bounded(legs.Rules):
+    """What a leg is judged by, where a search for it asks so many questions to `check` and no more."""
+    left = MOST_ASKED
+
+    def spend(self, questions: int) -> None:
+        self.left -= questions
+        if self.left < 0:
+            raise legs.NoWay("looked for by %d questions to `check` and no further; %s legs goes on" % (MOST_ASKED, COMMAND))
+
+
 def print_ways(flown: Flown) -> None:
     """Prints the ways up from pads straight below the first places, and down to them, or why there are none."""
-    rules, pads = legs.Rules({**flown.show.settings}), legs.below(legs.places_of(flown)[0])
+    pads = legs.below(legs.places_of(flown)[0])
     for name in ("up", "down"):
+        rules = Bounded({**flown.show.settings})
         try:
             leg = legs.way_of(name, flown, pads, rules)
             print("way %s with pads below the first places: %s, %.1f s, judged %s; %s legs has the rest" % (
                 name, many(len(leg.stages), "stage"), leg.milliseconds() / 1000,
                 "as a whole" if leg.whole else "stage by stage", COMMAND))
         except legs.NoWay as why:
-            print("no way %s with pads below the first places: %s" % (name, why))
+            print("%s way %s with pads below the first places: %s" % ("no" if rules.left >= 0 else "no answer on a", name, why))
 
 
 def main(words: list[str]) -> int:

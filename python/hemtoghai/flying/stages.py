@@ -68,6 +68,9 @@ class Rules:
         return "ellipsoid %d %d, stray %d (the show's %d, and %d for the pads), late %d (the show's %d)" % (
             self.radius, self.height, self.stray, self.show_stray, self.aim, self.late, self.show_late)
 
+    def spend(self, questions: int) -> None:
+        """Is told how many questions to `check` a search is about to ask: one that is bounded raises NoWay."""
+
     def side(self) -> int:
         """How far apart from above two places are that need no further look; a check says so only from here on."""
         return 2 * (self.radius + self.stray)
@@ -192,6 +195,7 @@ class Leg:
     def judge(self, pads: Dict[int, Place]) -> Optional[str]:
         """Judges the leg, as a whole or else stage by stage; the refusal, or None."""
         self.late = self.rules.late
+        self.rules.spend(1)
         self.whole = refusal_of(self.text()) is None
         if self.whole:
             return None
@@ -258,6 +262,7 @@ def judge_stages(leg: Leg, stages: Iterable[Stage], pads: Dict[int, Place], at: 
         found += stage_texts(leg.names, leg.yaws, stage, standing, at, leg.rules, leg.rules.stray,
                              0 if is_alone else leg.rules.late)
         at.update(stage.to)
+    leg.rules.spend(len(found))
     return next(filter(None, side_by_side(lambda it: it if isinstance(it, str) else refusal_of(it), found)), None)
 
 
