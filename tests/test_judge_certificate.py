@@ -122,6 +122,12 @@ class Judge(unittest.TestCase):
         self.assertEqual(self.judged(show=show.replace("choreo 2", "choreo 02") + drones)[0], 70)
         self.assertEqual(self.judged(show=self.show.replace("1000000 0\n", "1m 0\n", 1))[0], 70)
 
+    def test_control_characters(self):
+        # No name of a file moves a cursor or sets a colour.
+        for name, shown in (("\x1b[31mred", "\\x1b[31mred"), (b"\xff\x07".decode(errors="surrogateescape"), "\\udcff\\x07")):
+            status, said, told = run("judge", os.path.join(self.room, name), "plan", "certificate")
+            self.assertEqual((status, said, told), (70, "", "judge: %s: No such file or directory\n" % os.path.join(self.room, shown)))
+
     def test_files_without_end(self):
         # No more is read than a text may have.
         self.file("certificate", GOOD)

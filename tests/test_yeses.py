@@ -235,6 +235,7 @@ class Liars(unittest.TestCase):
                 for words in ASKING:
                     status, said, told = self.ended(path, words)
                     self.assertNotEqual(status, 0, (how, words, said, told))
+                    self.assertTrue(status != 70 or told.strip(), (how, words, said))
                     self.assertNotRegex(said + told, r"(?m)^(check: )?ok |APART: |all drones are apart|\"ok\": true", (how, words))
 
     def test_ways(self):

@@ -69,8 +69,10 @@ COUNTED = {"ellipsoid": MILLIMETRES, "stray": MILLIMETRES, "late": MILLISECONDS}
 
 
 def stop(text: str, status: int = 70) -> NoReturn:
-    """Ends with a line: on standard output where the certificate was judged."""
+    """Ends with a line: on standard output where the certificate was judged. A control character, as in the name of a
+    file, is written by its escape."""
     stream = sys.stderr if status == 70 else sys.stdout
+    text = "".join(letter if letter.isprintable() else ascii(letter)[1:-1] for letter in text)
     try:
         if stream is None:
             raise OSError
