@@ -19,7 +19,7 @@ from hemtoghai import judging, program
 from hemtoghai.flying import stages
 
 PACKAGE = os.path.join(PYTHON, "hemtoghai")
-WORDS = re.compile(r"\b(valid|KEPT|APART|PROVED|proved|accepted|accepts|apart|ok|kept|landed|stored)\b")
+WORDS = re.compile(r"\b(valid|KEPT|APART|PROVED|proved|accepted|accepts|apart|ok|kept|landed|stored|land now)\b")
 STATUSES = re.compile("commands/|exchange/export|launching/|__main__|geometry/separation")  # modules that end with one
 
 # What a yes may rest on.
@@ -31,7 +31,10 @@ NUMBER = "a number that is no status"
 NO = "says no, or names what isn't: a no needs no proof"
 WHAT = "a word of another meaning: of files, words, libraries or places"
 OWN = "its own arithmetic, as its words and docs/TOOLS.md say: a second opinion that no proof stands behind"
-FLIGHT = "the flight: the proved director, `check` of each way and landing, and what drones say of themselves"
+UPLOAD = "the end frame of the program's `upload`, and the status with which the program ended, which have to agree"
+DIRECTOR = "the end frame of the proved director, and `check` of the show and of each way before the take-off"
+LANDING = "`check` of the landing at each instant, or of each stage, by the file that was hashed: stages.refusal_of"
+DRONES = "what drones say of themselves, as its words say; no proof stands behind that"
 # By module and function the words that are found there, and what they rest on.
 YESES = {
     "__main__.py main": ("handed handed handed handed proved", RUN),
@@ -47,10 +50,22 @@ YESES = {
     "commands/as_json.py by_why": ("handed", PROGRAM + "; 70 without it"),
     "commands/as_json.py main": ("handed handed", PROGRAM),
     "commands/as_json.py put": ("handed", PROGRAM),
+    "commands/bridge.py end_of": ("handed", NUMBER),
+    "commands/bridge.py main": ("handed handed", UPLOAD),
+    "commands/bridge.py print_end": ("handed", UPLOAD),
     "commands/convert.py main": ("0", WRITTEN),
     "commands/deal.py judged": ("handed handed", PROGRAM + "; 70 without it"),
     "commands/deal.py main": ("handed handed", PROGRAM + "; 70 without it"),
     "commands/export.py main": ("2 handed", WRITTEN),
+    "commands/flown.py judge_all.outside": ("handed", NUMBER),
+    "commands/flown.py main": ("0 apart", OWN + ": of samples"),
+    "commands/flown.py print_verdict": ("KEPT KEPT KEPT", OWN + ": of samples"),
+    "commands/fly.py -": ("apart apart", WHAT),
+    "commands/fly.py emergency": ("handed", DRONES),
+    "commands/fly.py fly": ("0 handed", DIRECTOR + "; --only look: the preflight alone; --only upload: " + UPLOAD),
+    "commands/fly.py main": ("handed handed handed handed", DIRECTOR),
+    "commands/fly.py only": ("0 handed handed", DRONES),
+    "commands/fly.py show": ("handed", DIRECTOR),
     "commands/importing.py head_of": ("kept", WHAT),
     "commands/importing.py judge": ("0 APART handed handed", PROGRAM + " of each stretch, and the bound on what was cut"),
     "commands/importing.py main": ("0 handed handed", WRITTEN),
@@ -59,13 +74,20 @@ YESES = {
     "commands/judge.py judge": ("0 0 valid valid", OWN),
     "commands/judge.py main": ("0 handed", OWN),
     "commands/judge.py trajectory.number": ("handed", NUMBER),
+    "commands/legs.py main": ("handed handed", PROGRAM + " of the show, and of each way by stages.refusal_of"),
     "commands/library.py main": ("0 kept proved", WRITTEN),
     "commands/library.py over_kept": ("kept proved proved", NO),
     "commands/library.py prove": ("proved", RECORD),
+    "commands/picture.py main": ("0 0", WRITTEN),
+    "commands/picture.py step": ("handed", NUMBER),
     "commands/release.py contents_of": ("proved", RECORD),
     "commands/release.py judged_record": ("proved", RECORD),
     "commands/release.py main": ("0", WRITTEN),
+    "commands/studio.py main": ("0", WRITTEN),
+    "commands/studio.py port": ("handed", NUMBER),
+    "commands/studio.py serve": ("PROVED proved", NO),
     "commands/summary.py main": ("0", WRITTEN),
+    "commands/summary.py places_in": ("handed", NUMBER),
     "commands/summary.py print_margin": ("accepted accepted", PROGRAM),
     "commands/why.py explain_separation": ("0 handed ok", "how many are blocked: none is no yes by itself, see main"),
     "commands/why.py main": ("4 apart handed", PROGRAM + "; 70 without it"),
@@ -75,6 +97,22 @@ YESES = {
     "exchange/export_csv.py main": ("0", WRITTEN),
     "exchange/export_skyc.py main": ("0", WRITTEN),
     "exchange/foreign.py checked": ("apart", WHAT),
+    "flying/bridge.py Bridge.down": ("kept", DIRECTOR + "; the line says that drones' own estimates are the premise"),
+    "flying/bridge.py Bridge.say_spread": ("apart", NO),
+    "flying/bridge.py Bridge.tell_crew": ("apart apart land now", LANDING),
+    "flying/descent.py Descent.finish": ("landed landed", DRONES),
+    "flying/home.py Home.break_off": ("apart", NO),
+    "flying/home.py Home.come_home": ("apart", NO),
+    "flying/home.py Home.fly_on": ("apart", NO),
+    "flying/home.py Home.go_home": ("apart apart", NO),
+    "flying/home.py Home.home": ("apart", NO),
+    "flying/home.py Home.note_quiet": ("APART", NO),
+    "flying/home.py Home.warn": ("APART", NO),
+    "flying/home.py Home.way_beside": ("apart", NO),
+    "flying/landings.py Landings.lines": ("land now", LANDING),
+    "flying/landings.py Landings.words": ("apart land now", LANDING),
+    "flying/routes.py Planner.words": ("apart apart apart", NO),
+    "flying/stages.py judge_stages": ("apart", NO),
     "geometry/separation.py judged": ("0 ok", "taken for a refusal alone, but where words say that nothing is proved"),
     "geometry/separation.py most_borne": ("handed", NUMBER),
     "language/cures.py -": ("apart apart", WHAT),
@@ -100,21 +138,13 @@ YESES = {
     "launching/running.py ended": ("handed", RUN),
     "launching/running.py fed": ("handed", RUN),
     "launching/running.py started": ("handed", NUMBER),
+    "seeing/sampling.py mark_of": ("apart apart", NO),
+    "seeing/studio_program.py Program.now": ("proved proved", RECORD),
+    "seeing/studio_server.py Handler.of_worker": ("proved", NO),
     "writing/flyable.py stacked": ("apart", NO),
 }
-# Modules with one entry each, whose words are looked at by tests of their own: what may be found there, and why.
-WHOLE = {
-    "commands/bridge.py": ("handed", FLIGHT + ": the end frame of the program's `upload`, and its status"),
-    "commands/flown.py": ("0 KEPT apart handed", OWN + ": what samples say, which it says"),
-    "commands/fly.py": ("0 apart handed", FLIGHT + "; 0 of --only look and --only upload"),
-    "commands/legs.py": ("handed", PROGRAM + " of the show, and of each way"),
-    "commands/picture.py": ("0 handed", WRITTEN), "commands/studio.py": ("0 KEPT PROVED handed proved", RECORD),
-    "flying/bridge.py": ("apart kept", FLIGHT), "flying/descent.py": ("landed", FLIGHT),
-    "flying/home.py": ("APART apart", FLIGHT), "flying/landings.py": ("apart", FLIGHT),
-    "flying/routes.py": ("apart", FLIGHT), "flying/stages.py": ("apart", FLIGHT), "seeing/sampling.py": ("apart", NO),
-    "seeing/studio_program.py": ("proved", RECORD), "seeing/studio_server.py": ("proved", RECORD),
-}
-
+# Scripts of the studio's page that may say so, and why. Their words are tried in tests/test_studio_safety.py.
+SCRIPTS = {"seeing/studio_found.js": PROGRAM + " of the text as it stands, and its record; else it says NOT PROVED"}
 
 def is_status(node):
     """What a value that is returned says as a status: `0`, another number, `handed` on, or nothing."""
@@ -169,17 +199,21 @@ def modules():
 
 class Places(unittest.TestCase):
     def test_each_has_an_entry(self):
-        found = {}
-        for path, text in modules():
-            for name, words in sites_of(text, STATUSES.match(path) is not None).items():
-                if path in WHOLE or path.startswith("flying/"):
-                    allowed = WHOLE.get(path, ("", ""))[0].split()
-                    self.assertEqual([word for word in words if word not in allowed], [], "%s, %s: no entry" % (path, name))
-                else:
-                    found["%s %s" % (path, name)] = " ".join(sorted(words))
+        found = {"%s %s" % (path, name): " ".join(sorted(words)) for path, text in modules()
+                 for name, words in sites_of(text, STATUSES.match(path) is not None).items()}
         wanted = {name: words for name, (words, _) in YESES.items()}
         self.assertEqual({name: (found.get(name), wanted.get(name)) for name in {*found, *wanted}
                           if found.get(name) != wanted.get(name)}, {}, "found, and as the entry has it")
+
+    def test_scripts(self):
+        found = set()
+        for folder, _, names in os.walk(PACKAGE):
+            for name in names:
+                if name.endswith((".js", ".html", ".css")):
+                    with open(os.path.join(folder, name), encoding="utf-8") as file:
+                        if re.search(r"\b(PROVED|APART|KEPT)\b", re.sub("//.*", "", file.read())):
+                            found.add(os.path.relpath(os.path.join(folder, name), PACKAGE))
+        self.assertEqual(found, {*SCRIPTS})
 
     def test_what_is_found(self):
         text = '"""ok"""\nA = "ok"\ndef f() -> int:\n    "kept"\n    return 0 if A else 5\n' \

@@ -49,7 +49,8 @@ def fill() -> None:
 def shown(text: str) -> str:
     """A text as a terminal may have it: a control character, as in the name of a file, by its escape."""
     return text if text.isprintable() else "".join(
-        letter if letter == "\n" or letter.isprintable() else letter.encode("unicode_escape").decode() for letter in text)
+        letter if letter == "\n" or letter.isprintable() else letter.encode("unicode_escape").decode()
+        for letter in text)
 
 
 def tell(who: str, text: str) -> None:

@@ -185,7 +185,8 @@ def stamps() -> dict[str, str]:
 def refuse(out: str, version: str, force: bool) -> None:
     """Ends the tool where a file that isn't its own would be overwritten."""
     names = ["lib/" + ARCHIVE, "lib/" + SHARED % version, *LINKS, HEADER, CONFIG, MANIFEST]
-    outputs.refuse((os.path.join(out, name) for name in names), force or os.path.realpath(out) == os.path.realpath(OUT), [])
+    is_own = os.path.realpath(out) == os.path.realpath(OUT)
+    outputs.refuse((os.path.join(out, name) for name in names), force or is_own, [])
 
 
 def manifest_of(files: dict[str, bytes], version: str, rests_on: str, before: dict[str, str]) -> dict[str, Any]:

@@ -94,8 +94,8 @@ def print_cues(flown: Flown) -> None:
 
 
 def least_shares(flown: Flown, i: int, j: int) -> list[tuple[float, int]]:
-    """What two drones' share of the distance at which their ellipsoids touch isn't less than in each cue, by the boxes of
-    their curves, with the cue; the least first. Of what both fly again, as in a repeat, there is the first cue alone."""
+    """What two drones' share of the distance at which their ellipsoids touch isn't less than in each cue, by the boxes
+    of their curves, with the cue; the least first. Of what both fly again, as in a repeat, there is the first cue."""
     (r, h), found = flown.show.settings["ellipsoid"], dict[tuple[int, int], tuple[float, int]]()
     for cue in range(len(flown.cues)):
         first, second = flown.by_cue[i][cue][1], flown.by_cue[j][cue][1]
@@ -175,7 +175,8 @@ class Bounded(legs.Rules):
     def spend(self, questions: int) -> None:
         self.left -= questions
         if self.left < 0:
-            raise legs.NoWay("looked for by %d questions to `check` and no further; %s legs goes on" % (MOST_ASKED, COMMAND))
+            raise legs.NoWay("looked for by %d questions to `check`, and no further; %s legs goes on" % (
+                MOST_ASKED, COMMAND))
 
 
 def print_ways(flown: Flown) -> None:
@@ -189,7 +190,8 @@ def print_ways(flown: Flown) -> None:
                 name, many(len(leg.stages), "stage"), leg.milliseconds() / 1000,
                 "as a whole" if leg.whole else "stage by stage", COMMAND))
         except legs.NoWay as why:
-            print("%s way %s with pads below the first places: %s" % ("no" if rules.left >= 0 else "no answer on a", name, why))
+            begin = "no" if rules.left >= 0 else "no answer on a"
+            print("%s way %s with pads below the first places: %s" % (begin, name, why))
 
 
 def main(words: list[str]) -> int:
