@@ -16,7 +16,8 @@ from hemtoghai.language import choreo
 DRONES = 32
 HEAD = "choreo 1\n" + "".join("drone d%d 0 0 1000000 0\n" % k for k in range(DRONES))
 ALL = HEAD + "repeat 1000\ncue 1000\n" + "".join("d%d move 1000000 0 1000000 0\n" % k for k in range(DRONES)) + "end\nend\n"
-COMMANDS = [["check", "--json"], ["why"], ["why", "--json"], ["why", "--force", "--cured", os.devnull], ["picture"]]
+COMMANDS = [["check", "--json"], ["why"], ["why", "--json"], ["why", "--force", "--cured", os.devnull], ["summary"],
+            ["summary", "--json"], ["picture"]]
 SECONDS = 12.0  # six times what is promised of a machine with nothing else to do
 
 
@@ -37,7 +38,7 @@ class Blocked(common.Folder, unittest.TestCase):
             self.write("show", ALL)
             for words in COMMANDS:
                 status, said, seconds, _ = used([*common.AS_BUILT, *words, self.path("show")], self.place)
-                self.assertIn(status, (0,) if words == ["picture"] else (5,), words)
+                self.assertIn(status, (0,) if words in (["picture"], ["summary"]) else (5,), words)
                 self.assertLess(seconds, SECONDS, words)
             self.assertIn("more may be blocked than the 200 places that are marked", said)
 
