@@ -614,6 +614,52 @@ class Wheel(unittest.TestCase):
         self.assertEqual((status, "check: ok drones 1" in out), (0, True), error)
 
 
+class Checkout(unittest.TestCase):
+    """What pip makes of a checkout, where the package has no program."""
+    LINE = "hemtoghai: a checkout has no proved program to install. Take the wheel of a release, or make one by ./show release"
+
+    def setUp(self):
+        folder = tempfile.TemporaryDirectory()
+        self.addCleanup(folder.cleanup)
+        self.room, self.place = folder.name, os.path.join(folder.name, "checkout")
+        os.mkdir(self.place)
+        shutil.copytree(os.path.join(TOP, "python"), os.path.join(self.place, "python"),
+                        ignore=shutil.ignore_patterns("__pycache__", "*.egg-info"))
+        for name in ("pyproject.toml", "VERSION"):
+            shutil.copy(os.path.join(TOP, name), self.place)
+
+    def hook(self, name):
+        """What a hook of pip's says of the checkout: its status, outputs, and the files that it left."""
+        code = "import sys\nsys.path[:0] = ['python']\nimport checkout\nprint(checkout.%s(sys.argv[1]))" % name
+        os.makedirs(os.path.join(self.room, "out"), exist_ok=True)
+        status, out, error = done([sys.executable, "-B", "-c", code, os.path.join(self.room, "out")], self.place)
+        return status, out, error, os.listdir(os.path.join(self.room, "out"))
+
+    @unittest.skipIf(release.lacking(), "this Python has no setuptools, or no wheel")
+    def test_refused(self):
+        for name in ("build_wheel", "prepare_metadata_for_build_wheel"):
+            status, out, error, made = self.hook(name)
+            self.assertEqual((status, out, made, error.startswith(self.LINE)), (1, "", [], True), error)
+
+    @unittest.skipIf(release.lacking(), "this Python has no setuptools, or no wheel")
+    def test_editable(self):
+        status, out, error, made = self.hook("build_editable")
+        if "has no attribute 'build_editable'" in error:
+            self.skipTest("this setuptools makes no editable wheels")
+        self.assertEqual((status, len(made), made[0][-4:]), (0, 1, ".whl"), error)
+
+    @unittest.skipIf(release.lacking(), "this Python has no setuptools, or no wheel")
+    def test_pip(self):
+        if subprocess.run([sys.executable, "-m", "pip", "--version"], stdout=subprocess.DEVNULL, stderr=subprocess.DEVNULL).returncode:
+            self.skipTest("this Python has no pip")
+        out = os.path.join(self.room, "out")
+        status, said, error = done([sys.executable, "-m", "pip", "install", "--no-index", "--no-build-isolation", "--no-deps",
+                                    "--target", out, self.place], self.room)
+        self.assertNotEqual(status, 0)
+        self.assertIn(self.LINE, said + error)
+        self.assertFalse(os.path.exists(out))
+
+
 class Machine(unittest.TestCase):
     def test_machines(self):
         # What the launcher and the tools of a release say, by the machine's processor and C library.
