@@ -2,9 +2,11 @@
 
 import {colour, dashes, faint} from "./colours.js";
 import {box, byId, line, node, text} from "./elements.js";
-import {endOfCue, farAt, metres, time} from "./flight.js";
+import {endOfCue, farAt, metres, sampleAt, time} from "./flight.js";
 import {move} from "./player.js";
 import {state} from "./state.js";
+import {drawStrip} from "./strip.js";
+import {lastShown, scaleOf, spanOf} from "./timespan.js";
 
 function ticks(low, high, most) {
   let step = 1;
@@ -14,70 +16,74 @@ function ticks(low, high, most) {
   return out;
 }
 function timeTicks(most) {
-  const steps = [100, 200, 500, 1000, 2000, 5000, 10000, 15000, 30000, 60000, 120000, 300000, 600000, 1800000, 3600000];
-  const step = steps.find(it => state.flight.end / it <= most) || 7200000, out = [];
-  for (let v = 0; v <= state.flight.end; v += step) out.push(v);
+  const steps = [10, 20, 50, 100, 200, 500, 1000, 2000, 5000, 10000, 15000, 30000, 60000, 120000, 300000, 600000,
+    1800000, 3600000];
+  const step = steps.find(it => spanOf() / it <= most) || 7200000, out = [];
+  for (let v = Math.ceil(state.timeFrom / step) * step; v <= lastShown(); v += step) out.push(v);
   return out;
 }
 
 function chart(svg, low, high, marks, words, height) {
-  const width = svg.clientWidth, left = 46, right = 14, [above, below] = state.chartEdges[svg.id] || [24, 34];
-  const floor = height - below, x = ms => left + (width - left - right) * ms / state.flight.end;
-  const y = v => floor - (floor - above) * (v - low) / (high - low);
+  const width = svg.clientWidth, [above, below] = state.chartEdges[svg.id] || [24, 34], floor = height - below;
+  const scale = scaleOf(width), {left, right, x} = scale, y = v => floor - (floor - above) * (v - low) / (high - low);
   svg.replaceChildren();
   svg.setAttribute("viewBox", `0 0 ${width} ${height}`);
   svg.style.height = `${height}px`;
+  // What is drawn in the plot ends at its edges.
+  const plot = node("svg", {x: left, width: right - left, height, viewBox: `${left} 0 ${right - left} ${height}`});
+  svg.append(plot);
   for (const mark of [...state.flight.marks, state.broken].filter(Boolean)) {
-    box(svg, [x(mark.from), above, Math.max(x(mark.from) + 3, x(mark.to)), floor], {fill: state.paint.mark});
+    box(plot, [x(mark.from), above, Math.max(x(mark.from) + 3, x(mark.to)), floor], {fill: state.paint.mark});
   }
-  drawCues(svg, x, above, floor);
+  drawCues(plot, scale, above, floor);
   for (const [v, label] of marks) {
-    line(svg, left, y(v), width - right, y(v), state.paint.grid);
+    line(plot, left, y(v), right, y(v), state.paint.grid);
     text(svg, left - 6, y(v) + 4, label, "end");
   }
-  for (const ms of timeTicks((width - left - right) / 56)) {
+  for (const ms of timeTicks((right - left) / 56)) {
     line(svg, x(ms), floor, x(ms), floor + Math.min(5, below), state.paint.label);
     if (below > 20) text(svg, x(ms), floor + 17, time(ms), "middle");
   }
-  box(svg, [left, above, width - right, floor], {fill: "none", stroke: state.paint.axis});
+  box(svg, [left, above, right, floor], {fill: "none", stroke: state.paint.axis});
   if (above > 20) text(svg, 2, 12, "cue", "start");
-  if (below > 20) text(svg, width - right, height - 3, `time in ${state.unit}`, "end");
+  if (below > 20) text(svg, right, height - 3, `time in ${state.unit}`, "end");
   if (below > 20) text(svg, 2, height - 3, words, "start");
   else text(svg, left + 5, floor - 5, words, "start", {class: "name"});
   if (state.flight.marks.length) {
     const px = x(state.flight.marks[0].nearest);
-    line(svg, px, above - 3, px, floor, state.paint.touch, {"stroke-width": 1.5, "stroke-dasharray": "5 3"});
+    line(plot, px, above - 3, px, floor, state.paint.touch, {"stroke-width": 1.5, "stroke-dasharray": "5 3"});
   }
   const cursor = node("line", {y1: above, y2: floor, stroke: state.paint.ink, "stroke-width": 1.3});
-  bindChart(svg, left, width - left - right);
-  if (state.onStretch && above > 20) drawGrips(svg, x, above, floor);
+  bindChart(svg, scale);
+  const strip = above > 20 && state.cueNames ? drawStrip(svg, scale, above, floor) : () => {};
+  if (state.onStretch && above > 20) drawGrips(svg, scale, above, floor);
   const place = () => {
     for (const end of ["x1", "x2"]) cursor.setAttribute(end, `${x(Math.min(state.flight.end, state.now))}`);
+    strip();
   };
-  return {x, y, cursor, left, right: width - right, set: place};
+  return {x, y, cursor, plot, left, right, set: place};
 }
-// Every cue, or every second, fifth, tenth .. where they are many.
-function drawCues(svg, x, above, floor) {
+// Every cue, or every second, fifth, tenth .. where they are many; and their numbers, where no strip has them.
+function drawCues(plot, {x, left, right}, above, floor) {
   const each = (x(state.flight.end) - x(0)) / state.flight.cues.length;
   const stride = room => [1, 2, 5, 10, 20, 50, 100].find(it => it * each >= room) || 200;
   const lines = stride(5), labels = stride(8 * String(state.flight.cues.length).length + 4);
   let free = -Infinity;
   state.flight.cues.forEach(([from], k) => {
     const middle = (x(from) + x(endOfCue(k))) / 2, half = 4 * String(k + 1).length + 2;
-    if (k % lines === 0) line(svg, x(from), above, x(from), floor, state.paint.grid);
-    if (above > 20 && (k + 1) % labels === 0 && middle - half >= free) {
-      text(svg, middle, above - 8, k + 1, "middle");
+    if (x(from) > right || x(endOfCue(k)) < left) return;
+    if (k % lines === 0) line(plot, x(from), above, x(from), floor, state.paint.grid);
+    if (above > 20 && !state.cueNames && (k + 1) % labels === 0 && middle - half >= free) {
+      text(plot, middle, above - 8, k + 1, "middle");
       free = middle + half;
     }
   });
 }
 const NEAR_END = 4;  // pixels from the end of a cue at which a click is one on it
-function bindChart(svg, left, wide) {
+function bindChart(svg, scale) {
   const go = event => {
-    const box = svg.getBoundingClientRect(), ms = (event.clientX - box.left - left) / wide * state.flight.end;
-    const near = NEAR_END * state.flight.end / wide, ends = state.flight.cues.map((_, k) => endOfCue(k));
-    const end = ends.find(it => Math.abs(it - ms) < near);
-    move(end ?? ms);
+    const ms = scale.ms(event.clientX - svg.getBoundingClientRect().left), near = NEAR_END * scale.perPixel;
+    move(state.flight.cues.map((_, k) => endOfCue(k)).find(it => Math.abs(it - ms) < near) ?? ms);
   };
   svg.onpointerdown = go;
   svg.onpointermove = event => { if (event.buttons) go(event); };
@@ -86,20 +92,20 @@ function bindChart(svg, left, wide) {
 // Pixels at either side of the end of a cue, more for a finger; cues that are narrower than both together have no grip.
 const GRIP = matchMedia("(pointer: coarse)").matches ? 11 : 5;
 // Grips above a chart, by which the end of a cue is dragged.
-function drawGrips(svg, x, above, floor) {
+function drawGrips(svg, scale, above, floor) {
+  const {x, left, right} = scale;
   state.flight.cues.forEach(([from], k) => {
     const end = x(endOfCue(k));
-    if (end - x(from) < 2 * GRIP) return;
+    if (end - x(from) < 2 * GRIP || end < left || end > right + GRIP) return;
     const grip = node("rect", {x: end - GRIP, width: 2 * GRIP, y: 0, height: above, fill: "#0000", class: "grip"});
     grip.append(node("title", {}, `drag: cue ${k + 1} longer or shorter`));
     line(svg, end, above - 7, end, above, state.paint.soft, {"stroke-width": 1.5});
-    bindGrip(svg, grip, k, x, above, floor);
+    bindGrip(svg, grip, k, scale, above, floor);
     svg.append(grip);
   });
 }
-function bindGrip(svg, grip, k, x, above, floor) {
+function bindGrip(svg, grip, k, {x, perPixel, left, right}, above, floor) {
   const from = state.flight.cues[k][0], length = endOfCue(k) - from;
-  const perPixel = state.flight.end / (x(state.flight.end) - x(0));
   const snap = [1, 5, 10, 20, 50, 100, 200, 500, 1000].find(it => it >= perPixel) || 1000;
   const dashed = {"stroke-width": 1.5, "stroke-dasharray": "4 3"};
   const shown = node("line", {y1: 0, y2: floor, stroke: state.paint.grip, ...dashed});
@@ -115,7 +121,7 @@ function bindGrip(svg, grip, k, x, above, floor) {
   const drag = event => {
     const wanted = length + (event.clientX - begun) * perPixel;
     at = event.clientX === begun ? length : Math.max(snap, Math.min(65535, Math.round(wanted / snap) * snap));
-    const px = x(from + at), isRight = px > (x(0) + x(state.flight.end)) / 2;
+    const px = x(from + at), isRight = px > (left + right) / 2;
     for (const end of ["x1", "x2"]) shown.setAttribute(end, px);
     label.setAttribute("x", px + (isRight ? -6 : 6));
     label.setAttribute("text-anchor", isRight ? "end" : "start");
@@ -134,12 +140,14 @@ function bindGrip(svg, grip, k, x, above, floor) {
 }
 export const charts = [];
 const tenth = v => Math.round(10 * v) / 10;
+// The samples that a chart shows, from one before its left edge to one after its right one.
+const shownSamples = () => [Math.max(0, sampleAt(state.timeFrom) - 1), Math.min(state.last, sampleAt(lastShown()) + 1)];
 // The points of a line in a chart by the x of each sample, without those inside a level part.
 function graph(xs, height) {
-  const out = [];
-  let before = NaN, here = tenth(height(0));
-  for (let s = 0; s <= state.last; s += 1) {
-    const next = s < state.last ? tenth(height(s + 1)) : NaN;
+  const out = [], [first, last] = shownSamples();
+  let before = NaN, here = tenth(height(first));
+  for (let s = first; s <= last; s += 1) {
+    const next = s < last ? tenth(height(s + 1)) : NaN;
     if (here !== before || here !== next) out.push(`${xs[s]},${here}`);
     [before, here] = [here, next];
   }
@@ -156,13 +164,13 @@ export function drawHeights() {
     if (state.chosen.has(k)) {
       const edge = by => graph(xs, s => it.y(Math.max(low, Math.min(high, xyz[3 * s + 2] + by))));
       const upper = edge(state.flight.h), lower = edge(-state.flight.h).reverse();
-      svg.append(node("polygon", {points: [...upper, ...lower].join(" "), fill: colour(k), "fill-opacity": 0.12}));
+      it.plot.append(node("polygon", {points: [...upper, ...lower].join(" "), fill: colour(k), "fill-opacity": 0.12}));
     }
-    svg.append(node("polyline", {points: graph(xs, s => it.y(xyz[3 * s + 2])).join(" "), fill: "none",
-                                 stroke: colour(k), "stroke-width": 1.8, "stroke-dasharray": dashes(k),
-                                 opacity: faint(k) ? 0.1 : 0.9}));
+    it.plot.append(node("polyline", {points: graph(xs, s => it.y(xyz[3 * s + 2])).join(" "), fill: "none",
+                                     stroke: colour(k), "stroke-width": 1.8, "stroke-dasharray": dashes(k),
+                                     opacity: faint(k) ? 0.1 : 0.9}));
   });
-  svg.append(it.cursor);
+  it.plot.append(it.cursor);
   charts.push(it);
 }
 export function drawShares() {
@@ -175,11 +183,12 @@ export function drawShares() {
   line(svg, it.left, it.y(100), it.right, it.y(100), state.paint.touch, {"stroke-width": 1.5});
   const xs = state.flight.times.map(ms => tenth(it.x(ms)));
   const points = graph(xs, s => it.y(Math.min(high, state.flight.nearest[s][0])));
-  svg.append(node("polyline", {points: points.join(" "), fill: "none", stroke: state.paint.ink, "stroke-width": 1.8}));
+  const stroke = {stroke: state.paint.ink, "stroke-width": 1.8};
+  it.plot.append(node("polyline", {points: points.join(" "), fill: "none", ...stroke}));
   nameDips(svg, it, high);
   const clipped = `what is above ${high.toFixed(0)} % is drawn there`;
   if (most > high && state.chartHeight > 200) text(svg, it.left + 4, it.y(high) + 14, clipped, "start");
-  svg.append(it.cursor);
+  it.plot.append(it.cursor);
   charts.push(it);
 }
 
@@ -189,8 +198,8 @@ function isLevel(from, to, share) {
 }
 // Names at the lowest dips, with the distance in metres, as far as they have room.
 function nameDips(svg, it, high) {
-  const dips = [];
-  for (let s = 0; s <= state.last; s += 1) {
+  const dips = [], [first, last] = shownSamples();
+  for (let s = first; s <= last; s += 1) {
     const v = state.flight.nearest[s][0], falls = s === 0 || v < state.flight.nearest[s - 1][0];
     if (v < high && falls && (s === state.last || v <= state.flight.nearest[s + 1][0])) dips.push(s);
   }
@@ -203,6 +212,7 @@ function nameDips(svg, it, high) {
     const words = `${state.flight.names[i]}, ${state.flight.names[j]} ${v.toFixed(0)} % · ${metres(farAt(i, j, s))} m`;
     const wide = 7.2 * words.length;
     const px = it.x(state.flight.times[s]);
+    if (px < it.left - 1 || px > it.right + 1) continue;
     const middle = Math.max(it.left + wide / 2 + 2, Math.min(it.right - wide / 2 - 2, px));
     if (taken.some(([m, w]) => Math.abs(m - middle) < (w + wide) / 2 + 6)) continue;
     taken.push([middle, wide]);

@@ -1,10 +1,13 @@
 // The flight that is drawn: where drones are at an instant, and how far apart. It is given by seeing/sampling.py.
 
 import {set, state} from "./state.js";
+import {keepTime} from "./timespan.js";
 
 // Takes another flight; the page draws it then.
 export function setFlight(data) {
+  const oldEnd = state.flight ? state.flight.end : 0;
   set({flight: data, broken: null, ghosts: new Map()});
+  keepTime(oldEnd);
   set({last: state.flight.times.length - 1});
   set({drones: state.flight.names.length});
   set({unit: state.flight.end >= 600000 ? "min:s" : "s"});

@@ -49,6 +49,10 @@ const values = {
   isRough: false,  // while it is turned, paths are drawn with fewer points
   paint: /** @type {Palette} */ (LIGHT),
   chartHeight: 250,
+  // The part of the show that the charts have: how many times nearer than all of it, and the instant at its left.
+  timeZoom: 1, timeFrom: 0,
+  // By cue its name or nothing, where the charts have a strip of cues.
+  cueNames: /** @type {string[] | null} */ (null),
   shareWords: "share",  // below the chart of the nearest pair
   // By the id of a chart the room above and below it; without it that for cue numbers and times.
   chartEdges: /** @type {Record<string, [number, number]>} */ ({}),
@@ -61,6 +65,8 @@ const values = {
   // with a drag in space, given its event and drone, and with a cue whose end is dragged;
   onGrab: /** @type {((event: PointerEvent, drone: number | null) => Grab | null) | null} */ (null),
   onStretch: /** @type {((cue: number, milliseconds: number) => void) | null} */ (null),
+  // with a cue that is carried before or behind another one, or a copy of it;
+  onCarry: /** @type {((cue: number, other: number, isBehind: boolean, isCopy: boolean) => void) | null} */ (null),
   // once the playhead was moved, and once other drones are chosen.
   onMove: /** @type {(() => void) | null} */ (null), onChoose: /** @type {(() => void) | null} */ (null),
 

@@ -10,6 +10,7 @@ import {keep, onOtherTab} from "./studio_kept.js";
 import {bindDrawings, dark, isSmall, onCursor, repaint, resize, toCue} from "./studio_layout.js";
 import {closeOffer, download, endStudio, offer, onOfferKey} from "./studio_offer.js";
 import {begin, listen, onKey, save, tell} from "./studio_text.js";
+import {bindTimeline} from "./studio_timeline.js";
 import {bindTools} from "./studio_tools.js";
 import {zoomBy} from "./view_hand.js";
 import {state} from "./state.js";
@@ -72,6 +73,7 @@ if (given.watch) for (const id of ["editor", "cursor", "save", "cure", "deal"]) 
 buildControls();
 bindDrawings();
 bindTools();
+bindTimeline();
 bindText();
 bindButtons();
 dark.addEventListener("change", repaint);

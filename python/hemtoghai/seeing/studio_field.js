@@ -190,11 +190,16 @@ function afterWriting() {
 const writeOver = words => writeText(selectionFrom(), selectionTo(), words);
 // Puts another text in; what is the same at both ends stays.
 export function replaceText(text) {
+  if (wholeText() !== text) field.focus({preventScroll: true});
+  replaceAside(text);
+}
+// The same, and the keys stay where they are.
+export function replaceAside(text) {
   const old = wholeText(), most = Math.min(old.length, text.length);
   let from = 0, end = 0;
   while (from < most && old[from] === text[from]) from += 1;
   while (end < most - from && old[old.length - 1 - end] === text[text.length - 1 - end]) end += 1;
-  if (old !== text) writeText(from, old.length - end, text.slice(from, text.length - end));
+  if (old !== text) writeAside(from, old.length - end, text.slice(from, text.length - end));
 }
 function takeStep(step) {
   if (!step) return;

@@ -4,11 +4,13 @@ import {byId} from "./elements.js";
 import {endOfCue, setFlight} from "./flight.js";
 import {nearestAt, nearestPairs} from "./nearest.js";
 import {buildLegend, press, setSlider, stop} from "./player.js";
+import {namesOf} from "./studio_cues.js";
 import {cursorLine, field, pointAt} from "./studio_field.js";
 import {showFound, showVerdict} from "./studio_found.js";
 import {draw, drawInParts, onCursor} from "./studio_layout.js";
 import {carried, digestOf, runs, textLength, wholeText} from "./studio_lines.js";
 import {LONG, markLines, showState} from "./studio_text.js";
+import {drawLanes} from "./studio_timeline.js";
 import {set, state} from "./state.js";
 
 const PAUSE = 30;  // milliseconds without a key until the text is judged
@@ -128,7 +130,10 @@ export async function take(stage) {
     await takeFlight(stage.flight);
     if (mine !== state.version) return;
   }
-  if (stage.stage === "lines") markLines();
+  if (stage.stage === "lines") {
+    markLines();
+    drawLanes();
+  }
   if (stage.stage === "regions" && stage.fault && state.flight) {
     set({broken: stage.fault});
     markLines();
@@ -174,6 +179,7 @@ function showFlight(data) {
   const names = state.flight ? [...state.chosen].map(k => state.flight.names[k]) : [], isFirst = state.flight === null;
   const same = state.flight && `${state.flight.names}` === `${data.names}`;
   setFlight(data);
+  set({cueNames: data.lines ? namesOf(data.lines) : data.names.map(() => "")});
   set({chosen: new Set(data.names.map((_, k) => k).filter(k => names.includes(data.names[k])))});
   if (state.isChosenByMark && !data.marks.length) set({chosen: new Set(), isChosenByMark: false});
   const {goal} = state, isThere = goal && goal.version === state.version && goal.cue < data.cues.length;

@@ -9,9 +9,11 @@ import {DARK, LIGHT} from "./palettes.js";
 import {buildLegend, move, stop} from "./player.js";
 import {grab} from "./studio_drag.js";
 import {pickDrone, showNumber, stretchCue} from "./studio_edit.js";
+import {carryCue} from "./studio_cues.js";
 import {cursorLine, field, pointAt, resizeField, within} from "./studio_field.js";
 import {isStill, rest} from "./studio_judge.js";
 import {drawPaper} from "./studio_paper.js";
+import {drawLanes, followPlayhead, placeScroll} from "./studio_timeline.js";
 import {renewTool} from "./studio_tools.js";
 import {drawSpace} from "./view.js";
 import {set, state} from "./state.js";
@@ -26,7 +28,8 @@ function layOut() {
   byId("share").style.display = state.drones > 1 ? "" : "none";
 }
 const DRAWING = [layOut, () => drawSpace(), () => { if (!isStill()) drawHeights(); },
-  () => { if (state.drones > 1 && !isStill()) drawShares(); }, () => move(state.now)];
+  () => { if (state.drones > 1 && !isStill()) drawShares(); }, () => { if (!isStill()) drawLanes(); placeScroll(); },
+  () => move(state.now)];
 export function draw() {
   if (state.flight) for (const part of DRAWING) part();
 }
@@ -37,6 +40,16 @@ export async function drawInParts() {
     part();
     await rest();
   }
+}
+// Draws what has an axis of time, once another part of the show is looked at.
+export function drawTimes() {
+  if (!state.flight || isStill()) return;
+  charts.length = 0;
+  drawHeights();
+  if (state.drones > 1) drawShares();
+  drawLanes();
+  placeScroll();
+  for (const it of charts) it.set();
 }
 // As in studio.css: a low window has the charts beside the view in space, a small one is scrolled.
 const isLow = () => innerHeight <= 640 && innerWidth >= 560;
@@ -50,6 +63,7 @@ function markCue() {
     playingCue = cue;
     drawPaper();
   }
+  followPlayhead();
 }
 // A click into a chart puts the cursor before the cue. The lines that an older text had stand elsewhere in this one.
 function pickCue(ms) {
@@ -63,10 +77,11 @@ function onChosen() {
 export function bindDrawings() {
   set({shareWords: "nearest two, % of touching distance", spaceHeight: heightOfSpace});
   set({onMove: markCue, onChoose: onChosen, onPick: pickCue, onDrone: pickDrone});
-  if (!given.watch) set({onGrab: grab, onStretch: stretchCue});
+  if (!given.watch) set({onGrab: grab, onStretch: stretchCue, onCarry: carryCue});
   for (const id of ["room", "editor"]) watcher.observe(byId(id));
 }
-const BESIDE_CHARTS = 104;  // pixels above, between and below the two charts of a low window
+// Pixels above, between and below the two charts of a low window, beside the timeline.
+const BESIDE_CHARTS = 104;
 // The drawings follow the page from light to dark.
 export const dark = matchMedia("(prefers-color-scheme: dark)");
 export function repaint() {
@@ -75,8 +90,8 @@ export function repaint() {
   draw();
 }
 export function resize() {
-  set({chartHeight: isLow() ? within((byId("flight").clientHeight - BESIDE_CHARTS) / 2, 84, 200) :
-    isSmall() || innerHeight > 860 ? 130 : 108});
+  const left = byId("flight").clientHeight - BESIDE_CHARTS - byId("timeline").clientHeight;
+  set({chartHeight: isLow() ? within(left / 2, 84, 200) : isSmall() || innerHeight > 860 ? 130 : 108});
   draw();
   drawPaper();
 }

@@ -115,8 +115,10 @@ export function newCue(cue, places) {
   return cue < 0 ? blockAt(beginOf(0), block, true) : blockAt(afterCue(cue), block);
 }
 const performOf = cue => state.flight.lines[cue].filter(([from, to]) => from === to).map(([from]) => from);
-const beginOf = cue => Math.min(state.flight.lines[cue][0][0], ...performOf(cue));
-const afterCue = cue => isPerformed(cue) ? Math.max(...performOf(cue)) + 1 : state.flight.lines[cue][0][1] + 1;
+// The first and the last line of a cue, or of the `perform` lines that fly it.
+export const beginOf = cue => isPerformed(cue) ? Math.min(...performOf(cue)) : state.flight.lines[cue][0][0];
+export const lastOf = cue => isPerformed(cue) ? Math.max(...performOf(cue)) : state.flight.lines[cue][0][1];
+const afterCue = cue => lastOf(cue) + 1;
 // A block of lines before a line of the text, or behind its last one, with an empty line between.
 export function blockAt(line, block, isBefore = false) {
   if (line > state.lines.length) {
