@@ -2,7 +2,8 @@
 
 import {colour, dashes, faint} from "./colours.js";
 import {box, byId, line, node, text} from "./elements.js";
-import {endOfCue, farAt, metres, sampleAt, time} from "./flight.js";
+import {endOfCue, farAt, gapAt, metres, sampleAt, time} from "./flight.js";
+import {shareAt} from "./nearest.js";
 import {move} from "./player.js";
 import {state} from "./state.js";
 import {drawStrip} from "./strip.js";
@@ -140,75 +141,124 @@ function bindGrip(svg, grip, k, {x, perPixel, left, right}, above, floor) {
 }
 export const charts = [];
 const tenth = v => Math.round(10 * v) / 10;
-// The samples that a chart shows, from one before its left edge to one after its right one.
-const shownSamples = () => [Math.max(0, sampleAt(state.timeFrom) - 1), Math.min(state.last, sampleAt(lastShown()) + 1)];
-// The points of a line in a chart by the x of each sample, without those inside a level part.
-function graph(xs, height) {
-  const out = [], [first, last] = shownSamples();
+// The instants that a chart shows, from one before its left edge to one after its right one.
+const shownOf = times => [Math.max(0, sampleAt(state.timeFrom, {times}) - 1),
+  Math.min(times.length - 1, sampleAt(lastShown(), {times}) + 1)];
+// The points of a line in a chart by the height at each instant, without those inside a level part.
+function graph(times, x, height) {
+  const out = [], [first, last] = shownOf(times);
   let before = NaN, here = tenth(height(first));
   for (let s = first; s <= last; s += 1) {
     const next = s < last ? tenth(height(s + 1)) : NaN;
-    if (here !== before || here !== next) out.push(`${xs[s]},${here}`);
+    if (here !== before || here !== next) out.push(`${tenth(x(times[s]))},${here}`);
     [before, here] = [here, next];
   }
   return out;
 }
 const chartTicks = (low, high) => ticks(low, high, Math.round(state.chartHeight / 42));
+const inMetres = (low, high) => chartTicks(low, high).map(v => [v, metres(v)]);
+function drawCurve(it, k, points) {
+  it.plot.append(node("polyline", {points: points.join(" "), fill: "none", stroke: colour(k), "stroke-width": 1.8,
+                                   "stroke-dasharray": dashes(k), opacity: faint(k) ? 0.1 : 0.9}));
+}
+const AXES = {x: 0, y: 1, z: 2};
+// The upper chart: where drones are on an axis, or how they move.
 export function drawHeights() {
-  const svg = byId("heights");
-  const low = Math.min(0, state.lowest[2]), high = state.highest[2] + (state.chosen.size ? state.flight.h : 0) + 200;
-  const it = chart(svg, low, high, chartTicks(low, high).map(v => [v, metres(v)]), "z in m", state.chartHeight);
-  const xs = state.flight.times.map(ms => tenth(it.x(ms)));
-  state.flight.names.forEach((_, k) => {
-    const xyz = state.flight.xyz[k];
-    if (state.chosen.has(k)) {
-      const edge = by => graph(xs, s => it.y(Math.max(low, Math.min(high, xyz[3 * s + 2] + by))));
-      const upper = edge(state.flight.h), lower = edge(-state.flight.h).reverse();
+  const it = state.chartKind in AXES ? drawPlaces(AXES[state.chartKind]) : drawMotion(state.chartKind);
+  it.plot.append(it.cursor);
+  charts.push(it);
+}
+function drawPlaces(axis) {
+  const {flight, lowest, highest, chosen} = state, {times} = flight, isUp = axis === 2, size = isUp ? flight.h : flight.r;
+  const beyond = (chosen.size ? size : 0) + 200, low = isUp ? Math.min(0, lowest[2]) : lowest[axis] - beyond;
+  const high = highest[axis] + beyond;
+  const it = chart(byId("heights"), low, high, inMetres(low, high), `${"xyz"[axis]} in m`, state.chartHeight);
+  for (const [kind, ...limits] of flight.regions) {
+    for (const limit of kind === "volume" ? [limits[axis], limits[axis + 3]] : []) {
+      if (low < limit && limit < high) drawLimit(it, limit, state.paint.volume);
+    }
+  }
+  flight.names.forEach((_, k) => {
+    const xyz = flight.xyz[k];
+    if (chosen.has(k)) {
+      const edge = by => graph(times, it.x, s => it.y(Math.max(low, Math.min(high, xyz[3 * s + axis] + by))));
+      const upper = edge(size), lower = edge(-size).reverse();
       it.plot.append(node("polygon", {points: [...upper, ...lower].join(" "), fill: colour(k), "fill-opacity": 0.12}));
     }
-    it.plot.append(node("polyline", {points: graph(xs, s => it.y(xyz[3 * s + 2])).join(" "), fill: "none",
-                                     stroke: colour(k), "stroke-width": 1.8, "stroke-dasharray": dashes(k),
-                                     opacity: faint(k) ? 0.1 : 0.9}));
+    drawCurve(it, k, graph(times, it.x, s => it.y(xyz[3 * s + axis])));
   });
-  it.plot.append(it.cursor);
-  charts.push(it);
+  return it;
 }
-export function drawShares() {
-  const svg = byId("share");
-  let low = Infinity, most = 0;
-  for (const [v] of state.flight.nearest) { low = Math.min(low, v); most = Math.max(most, v); }
-  const high = Math.max(150, Math.min(most + 20, Math.max(state.chartHeight < 200 ? 260 : 400, 1.5 * low)));
-  const it = chart(svg, 0, high, chartTicks(0, high).map(v => [v, `${v} %`]), state.shareWords, state.chartHeight);
-  box(svg, [it.left, it.y(100), it.right, it.y(0)], {fill: state.paint.touch, "fill-opacity": 0.07});
-  line(svg, it.left, it.y(100), it.right, it.y(100), state.paint.touch, {"stroke-width": 1.5});
-  const xs = state.flight.times.map(ms => tenth(it.x(ms)));
-  const points = graph(xs, s => it.y(Math.min(high, state.flight.nearest[s][0])));
-  const stroke = {stroke: state.paint.ink, "stroke-width": 1.8};
-  it.plot.append(node("polyline", {points: points.join(" "), fill: "none", ...stroke}));
-  nameDips(svg, it, high);
-  const clipped = `what is above ${high.toFixed(0)} % is drawn there`;
-  if (most > high && state.chartHeight > 200) text(svg, it.left + 4, it.y(high) + 14, clipped, "start");
-  it.plot.append(it.cursor);
-  charts.push(it);
+function drawLimit(it, v, stroke) {
+  line(it.plot, it.left, it.y(v), it.right, it.y(v), stroke, {"stroke-width": 1.5, "stroke-dasharray": "6 4", class: "limit"});
+}
+function drawMotion(kind) {
+  const {motion} = state, rows = Object.entries(motion ? motion[kind] : {}), isForce = kind === "force";
+  let most = 100;
+  for (const [, row] of rows) for (const v of row) most = Math.max(most, v);
+  const limit = isForce && motion ? motion.limit : Infinity, high = 1.15 * Math.max(most, limit < 2 * most ? limit : 0);
+  const name = isForce ? "acceleration on an axis, m/s²" : "speed on an axis, m/s";
+  const words = !motion ? `${name}: working it out` : isForce ? `${name}; a drone flies at most ${metres(limit)}` : name;
+  const it = chart(byId("heights"), 0, high, inMetres(0, high), words, state.chartHeight);
+  if (limit < high) drawLimit(it, limit, state.paint.touch);
+  for (const [k, row] of rows) drawCurve(it, Number(k), graph(motion.times, it.x, s => it.y(row[s])));
+  return it;
 }
 
-// Whether the nearest pair stays below a share from one sample to another.
-function isLevel(from, to, share) {
-  return state.flight.nearest.slice(Math.min(from, to), Math.max(from, to) + 1).every(([it]) => it < share);
+// ---- how near
+
+// By sample how near two are, as [share, first, second]: the chosen two, or else those that are nearest then.
+function nearRows() {
+  if (state.chosen.size !== 2) return state.flight.nearest;
+  const [i, j] = [...state.chosen].sort((a, b) => a - b);
+  return state.flight.times.map((_, s) => [shareAt(state.flight, i, j, s), i, j]);
 }
+export function drawShares() {
+  const rows = nearRows(), isFar = state.farIn === "m", {times} = state.flight;
+  const far = rows.map(([v, i, j], s) => isFar ? Math.hypot(...gapAt(i, j, s)) : v);
+  const touch = s => isFar ? far[s] / Math.max(1, rows[s][0]) * 100 : 100;
+  let low = Infinity, most = 0;
+  for (const v of far) { low = Math.min(low, v); most = Math.max(most, v); }
+  const much = state.chartHeight < 200 ? 260 : 400;
+  const high = isFar ? Math.max(500, Math.min(1.05 * most, Math.max(2000, 2 * low))) :
+    Math.max(150, Math.min(most + 20, Math.max(much, 1.5 * low)));
+  const marks = isFar ? inMetres(0, high) : chartTicks(0, high).map(v => [v, `${v} %`]);
+  const it = chart(byId("share"), 0, high, marks, wordsOfShares(), state.chartHeight);
+  const limit = graph(times, it.x, s => it.y(Math.min(high, touch(s)))), below = `${it.right},${it.y(0)} ${it.left},${it.y(0)}`;
+  const edges = isFar ? limit : [`${it.left},${it.y(100)}`, `${it.right},${it.y(100)}`], red = state.paint.touch;
+  it.plot.append(node("polygon", {points: `${edges.join(" ")} ${below}`, fill: red, "fill-opacity": 0.07}));
+  it.plot.append(node("polyline", {points: edges.join(" "), fill: "none", stroke: red, "stroke-width": 1.5, class: "limit"}));
+  const points = graph(times, it.x, s => it.y(Math.min(high, far[s]))).join(" ");
+  it.plot.append(node("polyline", {points, fill: "none", stroke: state.paint.ink, "stroke-width": 1.8, class: "near"}));
+  nameDips(byId("share"), it, rows, far, high);
+  const clipped = `what is above ${isFar ? `${metres(Math.round(high))} m` : `${high.toFixed(0)} %`} is drawn there`;
+  if (most > high && state.chartHeight > 200) text(byId("share"), it.left + 4, it.y(high) + 14, clipped, "start");
+  it.plot.append(it.cursor);
+  charts.push(it);
+}
+function wordsOfShares() {
+  if (state.farIn === "%" && state.chosen.size !== 2) return state.shareWords;
+  const [i, j] = [...state.chosen].sort((a, b) => a - b), {names} = state.flight;
+  const two = state.chosen.size === 2 ? `${names[i]} and ${names[j]}` : "nearest two";
+  return `${two}, ${state.farIn === "m" ? "metres; red: there they touch" : "% of touching distance"}`;
+}
+
+// Whether the pair stays below a share from one sample to another.
+const isLevel = (rows, from, to, share) =>
+  rows.slice(Math.min(from, to), Math.max(from, to) + 1).every(([it]) => it < share);
 // Names at the lowest dips, with the distance in metres, as far as they have room.
-function nameDips(svg, it, high) {
-  const dips = [], [first, last] = shownSamples();
+function nameDips(svg, it, rows, far, high) {
+  const dips = [], [first, last] = shownOf(state.flight.times);
   for (let s = first; s <= last; s += 1) {
-    const v = state.flight.nearest[s][0], falls = s === 0 || v < state.flight.nearest[s - 1][0];
-    if (v < high && falls && (s === state.last || v <= state.flight.nearest[s + 1][0])) dips.push(s);
+    const v = rows[s][0], falls = s === 0 || v < rows[s - 1][0];
+    if (far[s] < high && falls && (s === state.last || v <= rows[s + 1][0])) dips.push(s);
   }
-  dips.sort((a, b) => state.flight.nearest[a][0] - state.flight.nearest[b][0]);
+  dips.sort((a, b) => rows[a][0] - rows[b][0]);
   const taken = [], named = [];
   for (const s of dips.slice(0, 400)) {
     if (taken.length === 6) break;
-    const [v, i, j] = state.flight.nearest[s];
-    if (named.some(other => isLevel(other, s, v + 2))) continue;  // no dip of its own, but for rounding
+    const [v, i, j] = rows[s], at = it.y(far[s]), edge = it.y(state.farIn === "%" ? 100 : far[s] / Math.max(1, v) * 100);
+    if (named.some(other => isLevel(rows, other, s, v + 2))) continue;  // no dip of its own, but for rounding
     const words = `${state.flight.names[i]}, ${state.flight.names[j]} ${v.toFixed(0)} % · ${metres(farAt(i, j, s))} m`;
     const wide = 7.2 * words.length;
     const px = it.x(state.flight.times[s]);
@@ -217,9 +267,9 @@ function nameDips(svg, it, high) {
     if (taken.some(([m, w]) => Math.abs(m - middle) < (w + wide) / 2 + 6)) continue;
     taken.push([middle, wide]);
     named.push(s);
-    let py = it.y(v) + (it.y(v) + 20 > it.y(0) ? -10 : 17);
-    if (Math.abs(py - 4 - it.y(100)) < 10) py = it.y(100) + (py - 4 < it.y(100) && py - 10 > it.y(high) ? -8 : 18);
-    svg.append(node("circle", {cx: px, cy: it.y(v), r: 3, fill: v <= 100 ? state.paint.touch : state.paint.ink}));
+    let py = at + (at + 20 > it.y(0) ? -10 : 17);
+    if (Math.abs(py - 4 - edge) < 10) py = edge + (py - 4 < edge && py - 10 > it.y(high) ? -8 : 18);
+    svg.append(node("circle", {cx: px, cy: at, r: 3, fill: v <= 100 ? state.paint.touch : state.paint.ink}));
     text(svg, middle, py, words, "middle", {class: "name"});
   }
 }

@@ -32,8 +32,13 @@ export function cueAt(ms) {
   while (cue + 1 < state.flight.cues.length && state.flight.cues[cue + 1][0] < ms) cue += 1;
   return cue;
 }
-// The sample of a flight that is nearest to an instant.
-export function sampleAt(ms, {times} = state.flight) {
+/**
+ * The sample of a flight that is nearest to an instant.
+ * @param {number} ms
+ * @param {{times: number[]}} flight
+ */
+export function sampleAt(ms, flight = state.flight) {
+  const {times} = flight;
   let low = 0, high = times.length - 1;
   while (low < high) {
     const middle = (low + high) >> 1;

@@ -2,6 +2,11 @@
 // at these instants alone and proves nothing.
 
 export const shareOf = squared => Math.round(1000 * Math.sqrt(squared)) / 10;
+// How near two drones are at a sample.
+export function shareAt(data, i, j, s) {
+  const [dx, dy, dz] = [0, 1, 2].map(axis => data.xyz[j][3 * s + axis] - data.xyz[i][3 * s + axis]);
+  return shareOf((dx * dx + dy * dy) / (4 * data.r * data.r) + dz * dz / (4 * data.h * data.h));
+}
 // The nearest pair at a sample, as a share of the distance at which its ellipsoids touch. By pair the sample at which
 // it is nearest so far, and how near, is kept in `least`.
 export function nearestAt(data, s, least) {

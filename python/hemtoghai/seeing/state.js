@@ -13,6 +13,10 @@ import {LIGHT} from "./palettes.js";
  *   touch: boolean, cause: string, words: string, lines: number[]}} Mark
  * A region that isn't kept.
  * @typedef {{region: number, drone: number, cue: number, from: number, to: number, lines: number[]}} Broken
+ * How fast drones fly, by their numbers, at instants in milliseconds: millimetres a second, and a second squared, of
+ * which no drone flies more than the limit; and of which version of the text, for which drones.
+ * @typedef {{times: number[], speed: Record<number, number[]>, force: Record<number, number[]>, limit: number,
+ *   asked: string}} Motion
  * The view in space: the pen, where a point of space is on the canvas, and pixels a millimetre.
  * @typedef {{pen: CanvasRenderingContext2D, to: (point: number[]) => number[], scale: number, width: number,
  *   height: number, se: number, ce: number, origin: number[], steps: number[][],
@@ -51,6 +55,9 @@ const values = {
   chartHeight: 250,
   // The part of the show that the charts have: how many times nearer than all of it, and the instant at its left.
   timeZoom: 1, timeFrom: 0,
+  // What the upper chart shows of drones: a place on an axis, or how they move; and the lower one: percent or metres.
+  chartKind: /** @type {"x" | "y" | "z" | "speed" | "force"} */ ("z"), farIn: /** @type {"%" | "m"} */ ("%"),
+  motion: /** @type {Motion | null} */ (null),
   // By cue its name or nothing, where the charts have a strip of cues.
   cueNames: /** @type {string[] | null} */ (null),
   shareWords: "share",  // below the chart of the nearest pair

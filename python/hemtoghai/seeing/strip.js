@@ -22,19 +22,25 @@ function wordsOf(k, room) {
  * @param {number} floor
  */
 export function drawStrip(svg, scale, above, floor) {
-  const {x, left, right} = scale, blocks = new Map();
+  const {x, left, right} = scale, blocks = new Map(), digits = String(state.flight.cues.length).length;
+  // Where blocks are narrow every second, fifth, tenth .. has its number.
+  const each = (x(state.flight.end) - x(0)) / state.flight.cues.length;
+  const stride = [1, 2, 5, 10, 20, 50, 100].find(it => it * each >= LETTER * digits + 6) || 200;
+  const at = {y: above - 8, "text-anchor": "middle", class: "cue-name"}, labels = /** @type {Element[]} */ ([]);
   state.flight.cues.forEach(([from], k) => {
     const a = Math.max(left, x(from)), b = Math.min(right, x(endOfCue(k)));
+    const middle = (x(from) + x(endOfCue(k))) / 2, isIn = left < middle && middle < right;
+    const words = wordsOf(k, b - a) || ((k + 1) % stride || stride === 1 || !isIn ? "" : `${k + 1}`);
+    if (b - a > 0 && words) labels.push(node("text", {...at, x: (a + b) / 2}, words));
     if (b - a < NARROW) return;
     const block = node("rect", {x: a + 0.5, y: 1.5, width: b - a - 1, height: above - 4, rx: 3, class: "cue"});
     block.append(node("title", {}, `cue ${k + 1}${state.cueNames[k] ? `: ${state.cueNames[k]}` : ""}` +
       (state.onCarry ? "; drag: elsewhere; Ctrl and drag: a copy" : "")));
     svg.append(block);
-    const words = wordsOf(k, b - a), at = {x: (a + b) / 2, y: above - 8, "text-anchor": "middle", class: "cue-name"};
-    if (words) svg.append(node("text", at, words));
     if (state.onCarry) bindBlock(svg, block, k, scale, floor);
     blocks.set(k, block);
   });
+  svg.append(...labels);
   let shown = /** @type {Element | undefined} */ (undefined);
   return () => {
     const here = blocks.get(cueAt(Math.min(state.flight.end, state.now)));

@@ -13,7 +13,7 @@ import {carryCue} from "./studio_cues.js";
 import {cursorLine, field, pointAt, resizeField, within} from "./studio_field.js";
 import {isStill, rest} from "./studio_judge.js";
 import {drawPaper} from "./studio_paper.js";
-import {drawLanes, followPlayhead, placeScroll} from "./studio_timeline.js";
+import {askMotion, drawLanes, followPlayhead, placeScroll} from "./studio_timeline.js";
 import {renewTool} from "./studio_tools.js";
 import {drawSpace} from "./view.js";
 import {set, state} from "./state.js";
@@ -21,6 +21,7 @@ import {set, state} from "./state.js";
 // The charts get their heights first: what is left is that of the view in space.
 function layOut() {
   charts.length = 0;
+  askMotion();
   // cue numbers above both, times below both
   set({chartEdges: {heights: [22, state.drones > 1 ? 6 : 32], share: [6, 32]}});
   for (const id of ["heights", "share"]) byId(id).style.height = `${state.chartHeight}px`;

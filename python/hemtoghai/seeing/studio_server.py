@@ -98,8 +98,8 @@ class Handler(BaseHTTPRequestHandler):
 
     def do_POST(self) -> None:
         works: dict[str, Callable[[Asked], None]] = {
-            "judge": self.judge, "places": self.places, "preview": self.preview, "save": self.save, "cure": self.cure, "deal": self.deal,
-            "fly": self.fly, "end": self.end, "compile": lambda asked: self.download("compile", asked),
+            "judge": self.judge, "places": self.places, "preview": self.preview, "motion": self.motion, "save": self.save,
+            "cure": self.cure, "deal": self.deal, "fly": self.fly, "end": self.end, "compile": lambda asked: self.download("compile", asked),
             "certify": lambda asked: self.download("certify", asked)}
         self.route({name: partial(self.with_body, work) for name, work in works.items()})
 
@@ -287,21 +287,26 @@ class Handler(BaseHTTPRequestHandler):
         line = asked.get("line")
         if not isinstance(line, int) or not 1 <= line <= MOST_TEXT:
             return self.send_words(400, "at which line?")
-        job = Job()
-        with self.studio.slots:
-            try:
-                self.head(200, "application/x-ndjson")
-                self.from_worker(job, self.studio.head(want="places", line=line) + asked["text"], asked["text"])
-            finally:
-                job.cancel()
+        self.worked_out(asked["text"], want="places", line=line)
 
     def preview(self, asked: Asked) -> None:
         """What another text would fly; it is judged by nobody."""
+        self.worked_out(asked["text"], want="preview")
+
+    def motion(self, asked: Asked) -> None:
+        """How fast drones fly over time, by their numbers."""
+        drones = asked.get("drones")
+        if not isinstance(drones, list) or not all(isinstance(k, int) for k in drones):
+            return self.send_words(400, "of which drones?")
+        self.worked_out(asked["text"], want="motion", drones=drones[:choreo.MOST_DRONES])
+
+    def worked_out(self, text: bytes, **more: object) -> None:
+        """What a worker finds of a text, as it finds it."""
         job = Job()
         with self.studio.slots:
             try:
                 self.head(200, "application/x-ndjson")
-                self.from_worker(job, self.studio.head(want="preview") + asked["text"], asked["text"])
+                self.from_worker(job, self.studio.head(**more) + text, text)
             finally:
                 job.cancel()
 

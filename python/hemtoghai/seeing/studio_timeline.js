@@ -9,8 +9,10 @@ import {given} from "./given.js";
 import {move, stop} from "./player.js";
 import {carryCue} from "./studio_cues.js";
 import {pickDrone} from "./studio_edit.js";
+import {readStages} from "./studio_judge.js";
 import {drawTimes} from "./studio_layout.js";
-import {state} from "./state.js";
+import {post} from "./studio_text.js";
+import {set, state} from "./state.js";
 import {lastShown, scaleOf, showTime, spanOf, zoomTime} from "./timespan.js";
 
 const STEP = 1.5;  // how much nearer a button goes
@@ -88,6 +90,41 @@ export function followPlayhead() {
   drawSoon();
 }
 
+// ---- what the charts show
+
+let asking = null;  // ends the request of the motion that isn't there yet
+// Asks how the drones move that are drawn, where the chart shows that and it isn't known of this flight.
+export async function askMotion() {
+  if (["x", "y", "z"].includes(state.chartKind) || !state.flight || state.flightVersion !== state.version) return;
+  const drones = state.chosen.size ? [...state.chosen] : state.flight.names.map((_, k) => k);
+  const asked = `${state.version} ${drones}`;
+  if (state.motion && state.motion.asked === asked || state.flight.begun) return;
+  set({motion: null});
+  if (asking) asking.abort();
+  asking = new AbortController();
+  try {
+    await readStages(await post("motion", {drones}, asking.signal), stage => {
+      if (stage.stage === "motion" && asked.startsWith(`${state.version} `)) set({motion: {...stage, asked}});
+    }, () => false);
+  } catch (error) {
+    if (error.name !== "AbortError") console.error(error);
+    return;
+  }
+  if (state.motion && state.motion.asked === asked) drawTimes();
+}
+function bindCharts() {
+  byId("chart-kind").onchange = () => {
+    set({chartKind: /** @type {any} */ (byId("chart-kind").value)});
+    byId("heights").setAttribute("aria-label", `${byId("chart-kind").selectedOptions[0].text} over time`);
+    askMotion();
+    drawTimes();
+  };
+  byId("far-in").onchange = () => {
+    set({farIn: /** @type {any} */ (byId("far-in").value)});
+    drawTimes();
+  };
+}
+
 // ---- lanes
 
 // What a drone does in each cue, as [first cue, last cue, word]: neighbours that are drawn narrow are one.
@@ -107,11 +144,12 @@ const wordOf = line => {
 };
 export function drawLanes() {
   if (byId("lanes").hidden || !state.flight) return;
-  const svg = byId("lane-rows"), width = svg.clientWidth, height = ROW * state.drones, {left, right, x} = scaleOf(width);
+  const svg = byId("lane-rows"), height = ROW * state.drones;
+  const width = byId("heights").clientWidth, {left, right, x} = scaleOf(width);  // also where a bar scrolls the lanes
   const own = state.flightVersion === state.version ? state.found.lines : null;
   svg.replaceChildren();
   svg.setAttribute("viewBox", `0 0 ${width} ${height}`);
-  svg.style.height = `${height}px`;
+  [svg.style.width, svg.style.height] = [`${width}px`, `${height}px`];
   const plot = node("svg", {x: left, width: right - left, height, viewBox: `${left} 0 ${right - left} ${height}`});
   state.flight.names.forEach((name, k) => {
     text(svg, left - 6, ROW * k + 12, name, "end");
@@ -166,6 +204,7 @@ export function bindTimeline() {
   byId("cue-copy").onclick = () => carryHere(0);
   byId("cue-later").onclick = () => carryHere(1);
   byId("time-scroll").addEventListener("scroll", onScroll);
+  bindCharts();
   for (const id of ["heights", "share", "lane-rows"]) {
     byId(id).addEventListener("wheel", onWheel, {passive: false});
     bindFingers(byId(id));

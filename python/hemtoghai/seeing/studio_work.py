@@ -6,7 +6,7 @@ text comes:
 Standard input has a line of JSON and then the show's text. The line has the path of the `program` or null, and what
 the page `want`s: "places", with a `line`, is what stands around that line (seeing/studio_places.py); "preview" is what
 a text would fly that isn't the page's yet; "remedies" is what helps in the first cue in which two are blocked, "formed"
-are the names of formations that are formed; "flight", with the
+are the names of formations that are formed; "motion" is how fast `drones` fly, by their numbers; "flight", with the
 status and the words of `check` as `answer`, or null where the tools are to judge, is all the rest. Each line of
 standard output is a stage in JSON, as soon as it is known: `verdict` where the tools judged, `flight`, which is that of
 the longest right beginning where the text is faulty, and then nothing follows, `explained` of a
@@ -31,6 +31,7 @@ from hemtoghai.companion import ask, ask_dynamics, begins, speeds_in
 from hemtoghai.geometry import separation
 from hemtoghai.language import choreo
 from hemtoghai.seeing.sampling import boxes_said, flight_of, Mark, mark_of, regions_of, rows_of_play, step_of
+from hemtoghai.seeing.studio_motion import motion_of
 from hemtoghai.seeing.studio_places import begun, places_at
 from hemtoghai.writing.dealing import form_lines
 from hemtoghai.writing.flyable import below, MOST as FASTEST, motion_if_known, small
@@ -202,6 +203,12 @@ def put_formed(text: bytes) -> None:
         put("formed", name=name)
 
 
+def put_motion(text: bytes, drones: list[int]) -> None:
+    """Writes how fast drones fly in a text that is right."""
+    flown = choreo.flown_of(choreo.parts_of(text)[0])
+    put("motion", **motion_of(flown, [k for k in drones if 0 <= k < len(flown.names)]))
+
+
 def put_flight(text: bytes, deep: int, program: str, answer: list[Any] | None, path: str | None) -> None:
     """Writes all that is known of a text, given what `check` said of it, or null."""
     status, said = answer or judged(text, deep)
@@ -253,6 +260,8 @@ def main(words: list[str]) -> int:
         put_remedies(text, deep)
     elif asked["want"] == "formed":
         put_formed(text)
+    elif asked["want"] == "motion":
+        put_motion(text, asked["drones"])
     else:
         put_flight(text, deep, program, asked["answer"], path)
     return 0
