@@ -6,9 +6,9 @@ import unittest
 
 sys.dont_write_bytecode = True
 sys.path.insert(0, os.path.dirname(os.path.abspath(__file__)))
+from test_studio_timeline import Timeline
 from hemtoghai.language import choreo
 from hemtoghai.seeing.studio_motion import MOST_POINTS, motion_of
-from test_studio_timeline import Timeline
 
 # A `move` of L in T has at most 35/16 L / T, halfway, and 84/5/sqrt(5) L / T^2: docs/LANGUAGE.md. A `line` has L / T.
 SHOW = "choreo 2\ndrone a 0 0 1m 0\ndrone b 2m 0 1m 0\ncue 4s\na move 0 2m 1m 0\nend\ncue 2s\nb line 2m 1m 1m 0\nend\n"
