@@ -129,7 +129,8 @@ class Studio:
     def page(self, nonce: str) -> bytes:
         """The page, with what it has to know at first."""
         given = {"name": self.file.name, "watch": self.watch, "most": choreo.LONGEST_TEXT, "depth": self.depth,
-                 "regions": bool(self.regions), "drones": choreo.MOST_DRONES, "language": words_of_language()}
+                 "regions": bool(self.regions), "music": os.path.basename(self.file.music() or ""),
+                 "drones": choreo.MOST_DRONES, "language": words_of_language()}
         words = json.dumps(given).replace("<", "\\u003C")  # in a script `<` could begin an end tag
         page = page_of("studio.html").replace("/*STYLE*/", read("studio.css"))
         return page.replace("/*NONCE*/", nonce).replace("/*GIVEN*/", words).encode()

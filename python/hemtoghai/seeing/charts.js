@@ -1,5 +1,6 @@
 // The charts over time: heights, and the nearest pair. A page has elements with the ids heights and share.
 
+import {beatNear} from "./beats.js";
 import {colour, dashes, faint} from "./colours.js";
 import {box, byId, line, node, text} from "./elements.js";
 import {endOfCue, farAt, gapAt, metres, sampleAt, time} from "./flight.js";
@@ -37,6 +38,7 @@ function chart(svg, low, high, marks, words, height) {
     box(plot, [x(mark.from), above, Math.max(x(mark.from) + 3, x(mark.to)), floor], {fill: state.paint.mark});
   }
   drawCues(plot, scale, above, floor);
+  drawBeats(plot, scale, above, floor);
   for (const [v, label] of marks) {
     line(plot, left, y(v), right, y(v), state.paint.grid);
     text(svg, left - 6, y(v) + 4, label, "end");
@@ -80,6 +82,14 @@ function drawCues(plot, {x, left, right}, above, floor) {
     }
   });
 }
+// Beats as far as there is room for each.
+function drawBeats(plot, {x, perPixel}, above, floor) {
+  const beats = state.beats.filter(ms => state.timeFrom <= ms && ms <= lastShown());
+  if (beats.length * 4 * perPixel > spanOf()) return;
+  const look = {"stroke-opacity": 0.4, class: "beat"};
+  for (const ms of beats) line(plot, x(ms), above > 20 ? above - 5 : above, x(ms), floor, state.paint.grip, look);
+}
+const NEAR_BEAT = 8;  // pixels from a beat at which the end of a cue that is dragged goes to it
 const NEAR_END = 4;  // pixels from the end of a cue at which a click is one on it
 function bindChart(svg, scale) {
   const go = event => {
@@ -121,12 +131,14 @@ function bindGrip(svg, grip, k, {x, perPixel, left, right}, above, floor) {
   };
   const drag = event => {
     const wanted = length + (event.clientX - begun) * perPixel;
-    at = event.clientX === begun ? length : Math.max(snap, Math.min(65535, Math.round(wanted / snap) * snap));
+    const beat = beatNear(state.beats, from + wanted, NEAR_BEAT * perPixel), isBeat = beat !== null && beat > from;
+    const near = isBeat ? beat - from : Math.max(snap, Math.round(wanted / snap) * snap);
+    at = event.clientX === begun ? length : Math.min(65535, near);
     const px = x(from + at), isRight = px > (left + right) / 2;
     for (const end of ["x1", "x2"]) shown.setAttribute(end, px);
     label.setAttribute("x", px + (isRight ? -6 : 6));
     label.setAttribute("text-anchor", isRight ? "end" : "start");
-    label.textContent = `cue ${k + 1}: ${(at / 1000).toFixed(2)} s`;
+    label.textContent = `cue ${k + 1}: ${(at / 1000).toFixed(2)} s${isBeat ? ", on a beat" : ""}`;
   };
   grip.onpointermove = event => { event.stopPropagation(); if (at !== null) drag(event); };
   grip.onpointerup = grip.onpointercancel = event => {

@@ -7,7 +7,7 @@
  *   "find-words": HTMLInputElement, "offer-more": HTMLDetailsElement, save: HTMLButtonElement, cure: HTMLButtonElement,
  *   deal: HTMLButtonElement, fly: HTMLButtonElement, compile: HTMLButtonElement, certify: HTMLButtonElement,
  *   undo: HTMLButtonElement, redo: HTMLButtonElement, "tools-where": HTMLSelectElement, "chart-kind": HTMLSelectElement,
- *   "far-in": HTMLSelectElement}} Elements
+ *   "far-in": HTMLSelectElement, "music-file": HTMLInputElement}} Elements
  */
 
 /**

@@ -57,8 +57,10 @@ function play(stamp) {
   requestAnimationFrame(play);
 }
 export function stop() {
+  const plays = before !== null;
   before = null;
   byId("go").textContent = "Play";
+  if (plays && state.onPlay) state.onPlay(false);
 }
 export function playOrStop() {
   if (before !== null) return stop();
@@ -66,6 +68,7 @@ export function playOrStop() {
   byId("go").textContent = "Pause";
   requestAnimationFrame(stamp => { before = stamp; play(stamp); });
   before = performance.now();
+  if (state.onPlay) state.onPlay(true);
   return null;
 }
 // Binds the controls of the page; it is called once.

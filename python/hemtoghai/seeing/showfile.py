@@ -17,6 +17,9 @@ from hemtoghai.program import digest_of, looks
 
 MOST_TEXT = choreo.LONGEST_TEXT + 4096  # a little more than a show may have, so that the program can say so
 MOST_DIFF = 30000  # lines that are compared
+# What a file with music is called beside a show, and what it is.
+MUSIC = {".ogg": "audio/ogg", ".opus": "audio/ogg", ".mp3": "audio/mpeg", ".m4a": "audio/mp4", ".flac": "audio/flac",
+         ".wav": "audio/wav"}
 
 
 def stamp_of(data: bytes | None) -> str:
@@ -40,6 +43,11 @@ class ShowFile:
                 return file.read(MOST_TEXT + 1)
         except FileNotFoundError:
             return None
+
+    def music(self) -> str | None:
+        """The path of the file with music beside it, which has its name with another ending, or None."""
+        paths = [os.path.splitext(self.path)[0] + ending for ending in MUSIC]
+        return next(filter(os.path.isfile, paths), None)
 
     def save(self, data: bytes, stamp: str | None) -> str | None:
         """Writes the file at once as a whole, and keeps what was there as `SHOW~`; the stamp of what is there instead
@@ -78,6 +86,13 @@ class ShowFile:
         finally:
             with contextlib.suppress(FileNotFoundError):
                 os.unlink(path)
+
+
+def read_at_most(path: str, most: int) -> bytes | None:
+    """A file's bytes, or None where it has more than so many; raises OSError."""
+    with open(path, "rb") as file:
+        data = file.read(most + 1)
+    return None if len(data) > most else data
 
 
 def text_of(data: bytes) -> tuple[str, str, bool]:

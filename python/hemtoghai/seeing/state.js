@@ -58,6 +58,7 @@ const values = {
   // What the upper chart shows of drones: a place on an axis, or how they move; and the lower one: percent or metres.
   chartKind: /** @type {"x" | "y" | "z" | "speed" | "force"} */ ("z"), farIn: /** @type {"%" | "m"} */ ("%"),
   motion: /** @type {Motion | null} */ (null),
+  beats: /** @type {number[]} */ ([]),  // of the music, in milliseconds
   // By cue its name or nothing, where the charts have a strip of cues.
   cueNames: /** @type {string[] | null} */ (null),
   shareWords: "share",  // below the chart of the nearest pair
@@ -74,8 +75,9 @@ const values = {
   onStretch: /** @type {((cue: number, milliseconds: number) => void) | null} */ (null),
   // with a cue that is carried before or behind another one, or a copy of it;
   onCarry: /** @type {((cue: number, other: number, isBehind: boolean, isCopy: boolean) => void) | null} */ (null),
-  // once the playhead was moved, and once other drones are chosen.
+  // once the playhead was moved, once other drones are chosen, and once the flight is played or stopped.
   onMove: /** @type {(() => void) | null} */ (null), onChoose: /** @type {(() => void) | null} */ (null),
+  onPlay: /** @type {((plays: boolean) => void) | null} */ (null),
 
   // The text: its lines, where in it each begins, its widest line in columns, and how many lines begin with `form`.
   lines: [""], starts: [0], widest: 0, formLines: 0,

@@ -12,6 +12,7 @@ import {pickDrone, showNumber, stretchCue} from "./studio_edit.js";
 import {carryCue} from "./studio_cues.js";
 import {cursorLine, field, pointAt, resizeField, within} from "./studio_field.js";
 import {isStill, rest} from "./studio_judge.js";
+import {followMusic, playMusic} from "./studio_music.js";
 import {drawPaper} from "./studio_paper.js";
 import {askMotion, drawLanes, followPlayhead, placeScroll} from "./studio_timeline.js";
 import {renewTool} from "./studio_tools.js";
@@ -65,6 +66,7 @@ function markCue() {
     drawPaper();
   }
   followPlayhead();
+  followMusic();
 }
 // A click into a chart puts the cursor before the cue. The lines that an older text had stand elsewhere in this one.
 function pickCue(ms) {
@@ -77,7 +79,7 @@ function onChosen() {
 // What the drawings do in this page.
 export function bindDrawings() {
   set({shareWords: "nearest two, % of touching distance", spaceHeight: heightOfSpace});
-  set({onMove: markCue, onChoose: onChosen, onPick: pickCue, onDrone: pickDrone});
+  set({onPlay: playMusic, onMove: markCue, onChoose: onChosen, onPick: pickCue, onDrone: pickDrone});
   if (!given.watch) set({onGrab: grab, onStretch: stretchCue, onCarry: carryCue});
   for (const id of ["room", "editor"]) watcher.observe(byId(id));
 }

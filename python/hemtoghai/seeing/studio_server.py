@@ -24,7 +24,7 @@ from urllib.parse import urlsplit
 from hemtoghai import program
 from hemtoghai.companion import seconds, tool_name
 from hemtoghai.language import choreo
-from hemtoghai.seeing.showfile import bytes_of, difference, MOST_TEXT, stamp_of, text_of
+from hemtoghai.seeing.showfile import bytes_of, difference, MOST_TEXT, MUSIC, read_at_most, stamp_of, text_of
 from hemtoghai.seeing.studio_opening import Opening
 from hemtoghai.seeing.studio_program import answer, Answer, Cancelled, end, Job, LIMIT
 from hemtoghai.seeing.studio_texts import TooLarge, Unknown
@@ -40,6 +40,7 @@ SETTLE = 0.12  # seconds without a newer text until the flight is worked out; th
 FLIGHT, FASTER = 8, 40  # seconds that a simulated flight is to take, and how many times faster than real at most
 LOOK = 0.3  # seconds from one look at the file to the next
 MOST_ALONE = 6  # formations that are dealt alone, for the choice
+MOST_MUSIC = 1 << 27  # bytes of a file with music
 QUIET = 10  # seconds after which a page that listens is sent a word, which fails where it is gone
 
 
@@ -72,13 +73,20 @@ class Handler(BaseHTTPRequestHandler):
         """The same of each request but for the one that opens the page: the path begins with the token, too."""
         if status := self.foreign():
             return status
-        token = urlsplit(self.path).path.split("/")[1:2] or [""]
+        token = self.parts()[:1] or [""]
         return None if hmac.compare_digest(token[0].encode(), self.studio.token.encode()) else 403
+
+    def parts(self) -> list[str]:
+        """The parts of the path; of one that is no address none."""
+        try:
+            return urlsplit(self.path).path.split("/")[1:]
+        except ValueError:
+            return []
 
     def route(self, routes: Mapping[str, Callable[[], object]]) -> None:
         """Answers by the last part of the path."""
         status = self.refusal()
-        name = urlsplit(self.path).path.split("/", 2)[2:]
+        name = ["/".join(self.parts()[1:])] if self.parts()[1:] else []
         with contextlib.suppress(BrokenPipeError, ConnectionResetError, TimeoutError):
             if status is None and name and name[0] in routes:
                 routes[name[0]]()
@@ -87,14 +95,14 @@ class Handler(BaseHTTPRequestHandler):
 
     def is_opening(self) -> bool:
         """Whether this is the link that the browser was given, under this machine's own name."""
-        word = urlsplit(self.path).path[1:]
+        word = "/".join(self.parts())
         return self.foreign() is None and self.server.opening.leads(word, self.client_address[1])
 
     def do_GET(self) -> None:
         if self.is_opening():
             self.head(303, "text/plain; charset=utf-8", ("Location", "/%s/" % self.studio.token))
             return
-        self.route({"": self.get_page, "text": self.get_text, "events": self.get_events})
+        self.route({"": self.get_page, "text": self.get_text, "events": self.get_events, "music": self.get_music})
 
     def do_POST(self) -> None:
         works: dict[str, Callable[[Asked], None]] = {
@@ -148,7 +156,7 @@ class Handler(BaseHTTPRequestHandler):
         """The page; no script runs in it but its own."""
         nonce = secrets.token_urlsafe(16)
         policy = ("default-src 'none'; script-src 'nonce-%s'; style-src 'nonce-%s'; connect-src 'self'; img-src data: "
-                  "blob:; base-uri 'none'; form-action 'none'; frame-ancestors 'none'" % (nonce, nonce))
+                  "blob:; media-src blob:; base-uri 'none'; form-action 'none'; frame-ancestors 'none'" % (nonce, nonce))
         self.head(200, "text/html; charset=utf-8", ("Content-Security-Policy", policy))
         self.wfile.write(self.studio.page(nonce))
 
@@ -157,6 +165,19 @@ class Handler(BaseHTTPRequestHandler):
             self.send_data(self.studio.text())
         except OSError as error:
             self.send_data({"words": self.fault_of_file(error)}, 500)
+
+    def get_music(self) -> None:
+        """The file with music beside the show."""
+        try:
+            path = self.studio.file.music()
+            data = None if path is None else read_at_most(path, MOST_MUSIC)
+        except OSError as error:
+            return self.send_data({"words": error.strerror or str(error)}, 500)
+        if path is None or data is None:
+            return self.send_data({"words": "there is none" if path is None else "it is too large"}, 404)
+        self.head(200, MUSIC[os.path.splitext(path)[1]])
+        self.wfile.write(data)
+        return None
 
     def fault_of_file(self, error: OSError) -> str:
         return "%s: %s" % (self.studio.file.name, error.strerror or error)

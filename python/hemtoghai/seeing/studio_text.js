@@ -12,6 +12,7 @@ import {regionFault, setBar} from "./studio_found.js";
 import {isStill, judge, judgeSoon} from "./studio_judge.js";
 import {keep, keepSoon, kept} from "./studio_kept.js";
 import {setContent, textLength, wholeText} from "./studio_lines.js";
+import {markBeat} from "./studio_music.js";
 import {closeOffer} from "./studio_offer.js";
 import {drawPaper} from "./studio_paper.js";
 import {leaveTool} from "./studio_tools.js";
@@ -70,6 +71,7 @@ function flyingOfKey(event) {
   if (key === "ArrowDown") return () => { stop(); move(ends.find(ms => ms > state.now + 1) ?? state.flight.end); };
   const step = {ArrowLeft: -by, ArrowRight: by, Home: -Infinity, End: Infinity}[key];
   if (step) return () => { stop(); move(state.now + step); };
+  if (key.toLowerCase() === "b") return markBeat;
   return key === " " ? playOrStop : null;
 }
 // Undo reaches the text also from the flight, in which a cue can be dragged.
