@@ -58,6 +58,10 @@ const values = {
   // What the upper chart shows of drones: a place on an axis, or how they move; and the lower one: percent or metres.
   chartKind: /** @type {"x" | "y" | "z" | "speed" | "force"} */ ("z"), farIn: /** @type {"%" | "m"} */ ("%"),
   motion: /** @type {Motion | null} */ (null),
+  // Of a page that was there before: the names of the drones that were chosen, and whether there was one.
+  wantedNames: /** @type {string[]} */ ([]), isRestored: false,
+  // Words in the view in space while it is recorded.
+  caption: /** @type {(() => string) | null} */ (null),
   beats: /** @type {number[]} */ ([]),  // of the music, in milliseconds
   // By cue its name or nothing, where the charts have a strip of cues.
   cueNames: /** @type {string[] | null} */ (null),

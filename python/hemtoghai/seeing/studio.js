@@ -10,9 +10,11 @@ import {keep, onOtherTab} from "./studio_kept.js";
 import {bindDrawings, dark, isSmall, onCursor, repaint, resize, toCue} from "./studio_layout.js";
 import {beginMusic, bindMusic} from "./studio_music.js";
 import {closeOffer, download, endStudio, offer, onOfferKey} from "./studio_offer.js";
+import {bindSplitter, keepSession, takeSession} from "./studio_session.js";
 import {begin, listen, onKey, save, tell} from "./studio_text.js";
 import {bindTimeline} from "./studio_timeline.js";
 import {bindTools} from "./studio_tools.js";
+import {film} from "./studio_video.js";
 import {zoomBy} from "./view_hand.js";
 import {state} from "./state.js";
 
@@ -22,6 +24,7 @@ function bindText() {
   addEventListener("keydown", onKey);
   addEventListener("resize", resize);
   addEventListener("pagehide", keep);
+  addEventListener("pagehide", keepSession);
   addEventListener("visibilitychange", () => { if (document.hidden) keep(); });
   addEventListener("storage", onOtherTab);
   byId("number-value").addEventListener("mousedown", event => {
@@ -46,6 +49,7 @@ function bindButtons() {
   byId("compile").onclick = () => download("compile", ".plan");
   byId("certify").onclick = () => download("certify", ".certificate");
   byId("end").onclick = endStudio;
+  byId("film").onclick = film;
   byId("undo").onclick = undo;
   byId("redo").onclick = redo;
   byId("leave").onclick = closeOffer;
@@ -76,6 +80,7 @@ bindDrawings();
 bindTools();
 bindTimeline();
 bindMusic();
+bindSplitter();
 bindText();
 bindButtons();
 dark.addEventListener("change", repaint);
@@ -84,5 +89,6 @@ resize();
 begin().then(() => {
   addEventListener("visibilitychange", listen);
   listen();
+  takeSession();
   beginMusic();
 }, () => tell("The studio doesn't answer."));

@@ -176,7 +176,8 @@ async function takeFlight(data) {
 }
 // Puts a flight in the place of the one that is shown; what was chosen stays, as far as it is there.
 function showFlight(data) {
-  const names = state.flight ? [...state.chosen].map(k => state.flight.names[k]) : [], isFirst = state.flight === null;
+  const isFirst = state.flight === null && !state.isRestored;
+  const names = state.flight ? [...state.chosen].map(k => state.flight.names[k]) : state.wantedNames;
   const same = state.flight && `${state.flight.names}` === `${data.names}`;
   setFlight(data);
   set({cueNames: data.lines ? namesOf(data.lines) : data.names.map(() => "")});

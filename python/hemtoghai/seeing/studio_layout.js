@@ -16,6 +16,7 @@ import {followMusic, playMusic} from "./studio_music.js";
 import {drawPaper} from "./studio_paper.js";
 import {askMotion, drawLanes, followPlayhead, placeScroll} from "./studio_timeline.js";
 import {renewTool} from "./studio_tools.js";
+import {filmStopped} from "./studio_video.js";
 import {drawSpace} from "./view.js";
 import {set, state} from "./state.js";
 
@@ -72,6 +73,10 @@ function markCue() {
 function pickCue(ms) {
   if (state.flightVersion === state.version && state.flight.lines) pointAt(...state.flight.lines[cueAt(ms)][0]);
 }
+function onPlaying(plays) {
+  playMusic(plays);
+  if (!plays) filmStopped();
+}
 function onChosen() {
   draw();
   renewTool();
@@ -79,7 +84,7 @@ function onChosen() {
 // What the drawings do in this page.
 export function bindDrawings() {
   set({shareWords: "nearest two, % of touching distance", spaceHeight: heightOfSpace});
-  set({onPlay: playMusic, onMove: markCue, onChoose: onChosen, onPick: pickCue, onDrone: pickDrone});
+  set({onPlay: onPlaying, onMove: markCue, onChoose: onChosen, onPick: pickCue, onDrone: pickDrone});
   if (!given.watch) set({onGrab: grab, onStretch: stretchCue, onCarry: carryCue});
   for (const id of ["room", "editor"]) watcher.observe(byId(id));
 }

@@ -146,6 +146,11 @@ function joinStep(last, step) {
   keptLetters += lettersOf(last) - before;
   return true;
 }
+// Takes the steps of the same text in an earlier page.
+export function takeSteps(steps, stepsBack) {
+  set({steps: steps.map(step => ({...step, typed: false})), stepsBack});
+  keptLetters = state.steps.reduce((sum, step) => sum + lettersOf(step), 0);
+}
 // What undoes the last step, or does it again: the part to change, and the selection then. Null where nothing is left.
 export function stepBack() {
   const step = state.steps.pop();

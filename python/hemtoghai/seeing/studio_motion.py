@@ -10,7 +10,7 @@ from hemtoghai.companion import value
 from hemtoghai.language import choreo
 from hemtoghai.writing.flyable import MOST
 
-MOST_POINTS = 16000  # of all drones together
+MOST_POINTS = 16000  # of all drones together, but for the two that each cue has
 LEAST_STEP = 20  # milliseconds from one instant to the next, as far as there is room
 
 
@@ -29,9 +29,9 @@ def motion_of(flown: choreo.Flown, drones: Sequence[int]) -> dict[str, Any]:
     """For drones by their numbers the speed and the acceleration on that axis on which it is greatest, in millimetres
     a second and a second squared. Each cue has its own instants from its begin to its end, so that a jump is one."""
     parts = [max(1, cue.milliseconds // LEAST_STEP) for cue in flown.cues]
-    room = MOST_POINTS // max(1, len(drones))
-    if sum(parts) + len(parts) > room:
-        parts = [max(1, part * room // (sum(parts) + len(parts))) for part in parts]
+    room, whole = MOST_POINTS // max(1, len(drones)) - len(parts), sum(parts)  # a cue has one more instant than parts
+    if whole > room:
+        parts = [max(1, part * room // whole) for part in parts]
     times = [begin + cue.milliseconds * k / part for begin, cue, part in zip(flown.begins, flown.cues, parts)
              for k in range(part + 1)]
     speeds: dict[int, list[int]] = {k: [] for k in drones}

@@ -16,6 +16,7 @@ import {markBeat} from "./studio_music.js";
 import {closeOffer} from "./studio_offer.js";
 import {drawPaper} from "./studio_paper.js";
 import {leaveTool} from "./studio_tools.js";
+import {endFilm} from "./studio_video.js";
 import {set, state} from "./state.js";
 
 export const LONG = 200000;  // letters of a long text
@@ -41,6 +42,7 @@ export function markLines() {
 function newVersion() {
   leaveTool();
   closeOffer();
+  endFilm(false);
   set({version: state.version + 1});
   if (state.asking) state.asking.abort();
   byId("verdict").classList.add("old");

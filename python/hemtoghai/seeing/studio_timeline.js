@@ -178,9 +178,8 @@ function drawAct(plot, k, [first, last, word], x) {
     plot.append(node("text", {x: middle, y: ROW * k + 12, "text-anchor": "middle", class: "cue-name"}, word));
   }
 }
-function openLanes() {
-  const lanes = byId("lanes"), isOpen = lanes.hidden;
-  lanes.hidden = !isOpen;
+export function showLanes(isOpen) {
+  byId("lanes").hidden = !isOpen;
   byId("lanes-open").setAttribute("aria-pressed", `${isOpen}`);
   dispatchEvent(new Event("resize"));  // the view in space gets what is left
 }
@@ -198,7 +197,7 @@ export function bindTimeline() {
   byId("time-nearer").onclick = () => nearer(STEP);
   byId("time-farther").onclick = () => nearer(1 / STEP);
   byId("time-all").onclick = () => nearer(0);
-  byId("lanes-open").onclick = openLanes;
+  byId("lanes-open").onclick = () => showLanes(byId("lanes").hidden);
   byId("cue-tools").hidden = given.watch;
   byId("cue-earlier").onclick = () => carryHere(-1);
   byId("cue-copy").onclick = () => carryHere(0);

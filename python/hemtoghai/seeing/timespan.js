@@ -25,7 +25,8 @@ export function zoomTime(factor, ms) {
 }
 // Keeps as much of another flight in view as of the one before, whose end this was.
 export function keepTime(oldEnd) {
-  showTime(state.timeFrom, state.timeZoom > 1 && oldEnd ? state.timeZoom * state.flight.end / oldEnd : 1);
+  const isPart = state.timeZoom > 1 && oldEnd;
+  showTime(state.timeFrom, isPart ? state.timeZoom * state.flight.end / oldEnd : state.timeZoom);
 }
 // Of a chart of this width: its edges, the pixel of a millisecond, and the millisecond of a pixel.
 export function scaleOf(width) {

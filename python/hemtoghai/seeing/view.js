@@ -235,6 +235,7 @@ export function moveDrones() {
   pen.globalAlpha = 1;
   for (const [k, by] of state.ghosts) drawGhost(places[k].slice(0, 3), by);
   drawPreview();
+  if (state.caption) words(pen, 10, state.view.height - 12, state.caption(), state.paint.ink, "left");
 }
 // What another text would fly: the ways of its drones that fly otherwise, and where they would be. A ghost has one
 // colour, since drones have green ones, and green is a proof.

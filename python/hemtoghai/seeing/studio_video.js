@@ -1,0 +1,72 @@
+// A film of the flight in ./show studio, from the present view: the browser's own recorder takes what is drawn while it
+// is played, so it takes as long as that.
+
+import {byId, element} from "./elements.js";
+import {cueAt, time} from "./flight.js";
+import {given} from "./given.js";
+import {move, playOrStop, stop} from "./player.js";
+import {tell} from "./studio_text.js";
+import {moveDrones} from "./view.js";
+import {set, state} from "./state.js";
+
+const FRAMES = 30, BITS = 8e6, LAST = 400;  // a second; a second; milliseconds that the last picture stays
+const KINDS = ["video/webm;codecs=vp9", "video/webm;codecs=vp8", "video/webm"];
+let recorder = /** @type {MediaRecorder | null} */ (null);
+
+// What stands in each picture: the time, and the cue with its name.
+export function captionNow() {
+  const cue = cueAt(state.now), name = state.cueNames && state.cueNames[cue];
+  return `${given.name} · ${time(Math.round(state.now / 100) * 100)} ${state.unit} · cue ${cue + 1}${name ? `: ${name}` : ""}`;
+}
+export function film() {
+  if (recorder) return endFilm(false);
+  const kind = globalThis.MediaRecorder && KINDS.find(it => MediaRecorder.isTypeSupported(it));
+  if (!kind) return tell("This browser records no video.");
+  if (!state.flight || state.flightVersion !== state.version) return tell("There is no flight of this text to record yet.");
+  const seconds = (state.flight.end / 1000 / Number(byId("speed").value)).toFixed(0), parts = [];
+  stop();
+  byId("loop").checked = false;
+  move(0);
+  set({caption: captionNow});
+  recorder = new MediaRecorder(byId("space").captureStream(FRAMES), {mimeType: kind, videoBitsPerSecond: BITS});
+  recorder.ondataavailable = event => parts.push(event.data);
+  recorder.onstop = () => takeFilm(parts);
+  recorder.start();
+  byId("film").setAttribute("aria-pressed", "true");
+  tell(`Recording takes as long as the flight is played: ${seconds} s at this speed. Leave this tab in view.`,
+    ["Stop", () => endFilm(false)]);
+  playOrStop();
+  return null;
+}
+// Once it was played to its end the film is kept; where somebody stops it before, or the text changes, it isn't.
+export function endFilm(isWhole) {
+  const own = recorder;
+  if (!own) return;
+  recorder = null;
+  stop();
+  if (isWhole) {
+    moveDrones();
+    setTimeout(() => own.stop(), LAST);
+  } else {
+    own.onstop = null;
+    own.stop();
+    tell("The recording was stopped, and nothing is kept.");
+  }
+  for (const track of isWhole ? [] : own.stream.getTracks()) track.stop();
+  set({caption: isWhole ? state.caption : null});
+  byId("film").setAttribute("aria-pressed", "false");
+}
+// The flight was stopped while it was recorded: at its end, or by somebody.
+export function filmStopped() {
+  if (recorder) endFilm(state.now >= state.flight.end);
+}
+function takeFilm(parts) {
+  set({caption: null});
+  moveDrones();
+  const link = element("a", ""), name = `${given.name.replace(/\.choreo$/, "")}.webm`;
+  link.href = URL.createObjectURL(new Blob(parts, {type: "video/webm"}));
+  link.download = name;
+  link.click();
+  setTimeout(() => URL.revokeObjectURL(link.href), 60000);
+  tell(`${name} is among your downloads.`);
+}
