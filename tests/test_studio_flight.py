@@ -482,9 +482,9 @@ class Drag(Flight):
         self.assertEqual(self.browser.faults(), [])
 
     def test_not_there(self):
-        """Between ends, at the end of an arc and in a turned view a drag turns the view."""
+        """In the middle and at the end of an arc, and in a turned view, a drag turns the view."""
         self.begin(PLACED, 2000)
-        for ms, view, k in ((2000, "from above", 0), (12000, "from above", 0), (4000, "in space", 0)):
+        for ms, view, k in ((10000, "from above", 0), (12000, "from above", 0), (4000, "in space", 0), (2000, "in space", 0)):
             self.turn(ms, view)
             before = self.browser.run("return turn")
             self.carry(k, 0.5, 0.1)

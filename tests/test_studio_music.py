@@ -18,6 +18,8 @@ from test_studio_flight import TWO
 from test_studio_page import CONTROL
 from test_studio_timeline import SHOW, Timeline
 
+LONG = TWO.replace("cue 3000", "cue 60000")
+
 
 def tone(seconds):
     """A file of sound, so many seconds long: a quiet tone of 440 Hz."""
@@ -52,7 +54,7 @@ class Music(Timeline):
 
     def test_with_the_flight(self):
         """The file beside the show is played from where the playhead is, as fast as the flight, and stops with it."""
-        self.begin_with(TWO, tone(30))
+        self.begin_with(LONG, tone(63))
         self.wait(lambda: self.heard() is not None, "no music was read")
         self.browser.run("move(1000)")
         self.assertEqual(self.heard()[1], False)
@@ -72,7 +74,7 @@ class Music(Timeline):
         self.assertEqual((plays, rate), (True, 0.5))
         self.assertAlmostEqual(at, now, delta=0.5)
         self.browser.click("#go")
-        self.assertEqual((self.text(), self.browser.faults()), (TWO, []))
+        self.assertEqual((self.text(), self.browser.faults()), (LONG, []))
 
     def test_ends(self):
         """Music that is shorter than the flight ends, and the flight goes on."""

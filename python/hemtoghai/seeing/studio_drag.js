@@ -1,11 +1,13 @@
 // Placing drones by hand in ./show studio. Where a cue ends at the playhead, a drone is dragged to another place in a
 // view from above, from the front or from the right, or moved by the arrows: the numbers of the line by which it is
 // there are written anew, and one that stays in the cue gets a line. Several that are chosen go together, and one undo
-// takes all of them back.
+// takes all of them back. In the middle of a cue a figure through the place is offered (studio_through.js).
 
 import {byId} from "./elements.js";
+import {placeAt} from "./flight.js";
 import {pointAt, writeAside} from "./studio_field.js";
 import {cueEnding, isTooFar, joined, spotOf} from "./studio_placing.js";
+import {offerThrough, throughAt} from "./studio_through.js";
 import {moveDrones, VIEWS} from "./view.js";
 import {set, state} from "./state.js";
 
@@ -61,27 +63,37 @@ function movedOn(old, drones, by) {
   for (const k of drones.keys()) out.set(k, by.map((v, axis) => v + (old.get(k) || [0, 0, 0])[axis]));
   return out;
 }
-// A drag that begins on a drone: what the page does with each step and at the end, or null where the view is turned.
+// By how far a drone goes on x, y and z with a drag: on each axis along which it is moved to a round place, in millimetres.
+function snapped(event, from, axes, place) {
+  const snap = event.altKey ? FINE : SNAP, along = [event.clientX - from[0], from[1] - event.clientY], by = [0, 0, 0];
+  axes.forEach((axis, side) => {
+    const far = along[side] / state.view.scale;
+    if (Math.abs(far) >= snap / 2) by[axis] = Math.round((place[axis] + far) / snap) * snap - place[axis];
+  });
+  return by;
+}
+// A drag that begins on a drone: what the page does with each step and at the end, or null where the view is turned, or
+// where nothing can be placed.
 export function grab(event, k) {
-  const axes = axesOfView(), drones = axes && k !== null ? placeable(k) : new Map();
-  if (!axes || !drones.has(k)) return null;
-  const from = [event.clientX, event.clientY], before = state.ghosts, {place} = drones.get(k);
+  const axes = axesOfView();
+  if (!axes || k === null) return null;
+  const drones = placeable(k), spot = drones.has(k) ? null : throughAt(k);
+  if (!spot && !drones.has(k)) return null;
+  const own = spot ? new Map([[k, null]]) : drones, from = [event.clientX, event.clientY], before = state.ghosts;
+  const place = spot ? placeAt(k, state.now).slice(0, 3).map(Math.round) : drones.get(k).place.map(it => it / 1000);
   let by = [0, 0, 0];
-  // The one that is dragged goes to a round place on each axis along which it is moved, and the others as far as it.
+  // The one that is dragged goes to a round place, and the others as far as it.
   const step = it => {
-    const snap = it.altKey ? FINE : SNAP, along = [it.clientX - from[0], from[1] - it.clientY];
-    by = [0, 0, 0];
-    axes.forEach((axis, side) => {
-      const far = along[side] / state.view.scale, at = place[axis] / 1000;
-      if (Math.abs(far) >= snap / 2) by[axis] = Math.round((at + far) / snap) * snap - at;
-    });
-    set({ghosts: movedOn(before, drones, by)});
+    by = snapped(it, from, axes, place);
+    set({ghosts: movedOn(before, own, by)});
     moveDrones();
   };
   const end = isDone => {
+    const isMoved = isDone && by.some(Boolean);
     set({ghosts: before});
-    if (isDone && by.some(Boolean)) placeBy(drones, by);
-    else moveDrones();
+    if (isMoved && spot) offerThrough(spot, place.map((v, axis) => 1000 * (v + by[axis])));
+    else if (isMoved) placeBy(drones, by);
+    moveDrones();
   };
   return {step, end};
 }

@@ -30,7 +30,7 @@ export function endOf(k, cue) {
   return {place: [x, y, z].map(Math.round), yaw: 10 * Math.round(yaw)};
 }
 // Whether a cue is flown by a figure, whose numbers are in its own frame.
-const isPerformed = cue => state.flight.lines[cue].some(([from, to]) => from === to);
+export const isPerformed = cue => state.flight.lines[cue].some(([from, to]) => from === to);
 
 const linesOfFlight = () => state.flightVersion === state.version ? state.found.lines : null;
 

@@ -15,6 +15,7 @@ import {setContent, textLength, wholeText} from "./studio_lines.js";
 import {markBeat} from "./studio_music.js";
 import {closeOffer} from "./studio_offer.js";
 import {drawPaper} from "./studio_paper.js";
+import {leaveThrough} from "./studio_through.js";
 import {leaveTool} from "./studio_tools.js";
 import {endFilm} from "./studio_video.js";
 import {set, state} from "./state.js";
@@ -43,6 +44,7 @@ function newVersion() {
   leaveTool();
   closeOffer();
   endFilm(false);
+  leaveThrough();
   set({version: state.version + 1});
   if (state.asking) state.asking.abort();
   byId("verdict").classList.add("old");
