@@ -7,6 +7,7 @@ import json
 import os
 import re
 import signal
+import socket
 import subprocess
 import sys
 import tempfile
@@ -205,6 +206,20 @@ class WhoAsks(Case):
 
 
 class Judging(Case):
+    def test_no_address(self):
+        """A path that is no address gets an answer as any other, and the studio says nothing of it."""
+        studio = Running(GOOD)
+        for path in (b"//[x/", b"//[x", b"http://[", b"/[/", b"//]/%s/" % studio.token.encode()):
+            for method in (b"GET", b"POST"):
+                with socket.create_connection(("127.0.0.1", int(studio.port)), WAIT) as link:
+                    link.sendall(method + b" " + path + b" HTTP/1.0\r\nHost: 127.0.0.1:%d\r\nOrigin: http://127.0.0.1:%d\r\n"
+                                 b"Content-Length: 0\r\n\r\n" % (int(studio.port), int(studio.port)))
+                    said = b"".join(iter(lambda: link.recv(4096), b""))
+                self.assertIn(b" 403 ", said.split(b"\r\n")[0], (method, path, said))
+        _, _, told = studio.end()
+        self.assertNotIn("failed", told)
+        self.assertNotIn("Traceback", told)
+
     def test_accepted(self):
         found = self.studio.stages(GOOD)
         self.assertEqual((found["verdict"]["status"], found["verdict"]["judge"], found["verdict"]["proved"]),
@@ -678,6 +693,41 @@ class Program(unittest.TestCase):
                 self.assertEqual(studio.stages(GOOD)["verdict"]["proved"], proved, record)
                 studio.end()
 
+    def test_liars(self):
+        """A program that ends well without the words of its command gives no answer: no verdict, no plan."""
+        with tempfile.TemporaryDirectory() as folder:
+            program = os.path.join(folder, "program")
+            for body in ("exit 0", "echo ok", "echo error 5 pair a b cue 1 part 0 of 64",
+                         "echo ok drones 2 cues 1 duration_ms 1; echo more"):
+                with open(program, "w") as file:
+                    file.write("#!/bin/sh\ncat > /dev/null\n%s\n" % body)
+                os.chmod(program, 0o755)
+                studio = Running(GOOD, ("--program", program))
+                found = studio.stages(GOOD)
+                self.assertNotIn("verdict", found)
+                self.assertIn("isn't the program", found["none"]["words"])
+                for command in ("compile", "certify"):
+                    status, words = studio.post(command, text=GOOD)
+                    self.assertEqual((status, "isn't the program" in words["words"]), (409, True), (body, words))
+                studio.end()
+
+    def test_recorded_without_proof(self):
+        """A program whose record has no proof isn't called one without a record; and what the buttons ask is named where
+        it is another program than the one that judges."""
+        with tempfile.TemporaryDirectory() as folder:
+            program = os.path.join(folder, "program")
+            with open(program, "w") as file:
+                file.write("#!/bin/sh\ncat > /dev/null\necho ok drones 2 cues 1 duration_ms 2000\n")
+            os.chmod(program, 0o755)
+            with open(program, "rb") as file, open(program + ".built", "w") as record:
+                json.dump({"sha256": hashlib.sha256(file.read()).hexdigest()}, record)
+            studio = Running(GOOD, ("--program", program))
+            self.addCleanup(studio.end)
+            found = studio.stages(GOOD)["verdict"]
+            self.assertEqual((found["proved"], "without" in found["why"], "no record" in found["why"]), (False, True, False))
+            for button in ("cure", "deal"):
+                self.assertIn("not that of --program", studio.post(button, text=GOOD)[1]["said"])
+
     def test_fails(self):
         """A program that says nothing, and one that is ended."""
         with tempfile.TemporaryDirectory() as folder:
@@ -717,14 +767,15 @@ class Words(unittest.TestCase):
 
     def test_same_port(self):
         """The same file has the same port, so that the browser finds the text that wasn't saved; two studios get
-        two."""
+        two, and the second one says what it doesn't see."""
         first = Running(GOOD)
         second = subprocess.Popen([SHOW, "studio", "--no-open", first.path],
-                                  stdout=subprocess.PIPE, stderr=subprocess.DEVNULL, universal_newlines=True)
+                                  stdout=subprocess.PIPE, stderr=subprocess.PIPE, universal_newlines=True)
         other = re.search(r":(\d+)/", second.stdout.readline())[1]
         second.send_signal(signal.SIGINT)
-        second.communicate(timeout=WAIT)
+        _, told = second.communicate(timeout=WAIT)
         self.assertNotEqual(first.port, other)
+        self.assertIn("the usual port %s" % first.port, told)
         first.end()
 
     def test_signals(self):

@@ -492,7 +492,15 @@ class Page(Led):
             os.chmod(program, 0o755)
             self.open(NEAR, "--program", program)
             self.wait(lambda: "they touch at 1.41 s (explain)" in self.verdict(), "no touch")
-            self.assertIn("TOO NEAR: a and b in cue 1", self.verdict())
+            said = self.verdict()
+            self.assertIn("TOO NEAR: a and b in cue 1", said)
+            self.assertIn("lines 5, 6: nearest at 1.5 s with", said)  # the other instant, and what it is
+
+    def test_most_margin(self):
+        """A show that is accepted with the most that the language has isn't said to have that limit of its own."""
+        self.open("choreo 2\ndrone a 0 0 1m 0\ndrone b 9m 0 1m 0\ncue 2s\na move 0 1m 1m 0\nend\n")
+        self.says("accepted")
+        self.wait(lambda: "late 1,000 ms, the most that the language has" in self.words("found"), "not said")
 
     def test_menu(self):
         """A cue with a line for each drone, with the numbers of where they are; then a drone, by keys."""

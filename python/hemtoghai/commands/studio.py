@@ -30,7 +30,7 @@ from hemtoghai.language.cures import cure_of, shown
 from hemtoghai.seeing.page import page_of, read
 from hemtoghai.seeing.sampling import regions_of
 from hemtoghai.seeing.showfile import MOST_TEXT, ShowFile, stamp_of, text_of
-from hemtoghai.seeing.studio_program import answer, Answer, begin, end, Job, Program
+from hemtoghai.seeing.studio_program import Answer, asked, begin, end, Job, Program
 from hemtoghai.seeing.studio_server import Server
 from hemtoghai.seeing.studio_texts import digest_of, Texts
 from hemtoghai.seeing.studio_words import words_of_language
@@ -115,7 +115,7 @@ class Studio:
         state, path = self.program.now()
         if not state["program"]:
             return None, state
-        return answer(job, [path, command, "--depth", str(self.depth)], text), state
+        return asked(job, path, [command, "--depth", str(self.depth)], text), state
 
     def close(self) -> None:
         self.ending.set()
@@ -170,6 +170,9 @@ def server_of(options: argparse.Namespace) -> Server:
             return Server(("127.0.0.1", wanted), studio)
         except OSError as error:
             why = "%s: %s" % ("port %d" % wanted if wanted else "no port is free", error.strerror)
+            if wanted == usual and not options.port:
+                print("%s: another program listens at the usual port %d: where that is a studio of this file, the text "
+                      "that isn't saved there isn't seen here" % (tool_name(), usual), file=sys.stderr)
     return stop(why)
 
 

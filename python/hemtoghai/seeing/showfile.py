@@ -10,9 +10,9 @@ import shutil
 import tempfile
 import threading
 from collections.abc import Iterator
-from typing import BinaryIO
 
 from hemtoghai.language import choreo
+from hemtoghai.outputs import New, sync_folder
 from hemtoghai.program import digest_of, looks
 
 MOST_TEXT = choreo.LONGEST_TEXT + 4096  # a little more than a show may have, so that the program can say so
@@ -47,7 +47,7 @@ class ShowFile:
     def music(self) -> str | None:
         """The path of the file with music beside it, which has its name with another ending, or None."""
         paths = [os.path.splitext(self.path)[0] + ending for ending in MUSIC]
-        return next(filter(os.path.isfile, paths), None)
+        return next((path for path in paths if os.path.isfile(path)), None)
 
     def save(self, data: bytes, stamp: str | None) -> str | None:
         """Writes the file at once as a whole, and keeps what was there as `SHOW~`; the stamp of what is there instead
@@ -60,29 +60,25 @@ class ShowFile:
             return None
 
     def replace(self, data: bytes, old: bytes | None) -> None:
-        """Writes a file beside it, and gives it the name; what was there gets another name in the same way."""
-        with self.beside() as (path, file):
-            file.write(data)
-            file.flush()
-            os.fsync(file.fileno())
-            if old is None:
-                mask = os.umask(0)
-                os.umask(mask)
-                os.chmod(path, 0o666 & ~mask)
-            else:
-                shutil.copymode(self.path, path)
-                with self.beside() as (kept, _):
+        """Writes the file beside it, as a whole, and gives it the name once what was there has another one."""
+        new = New(self.path, data)
+        try:
+            if old is not None:
+                with self.beside() as kept:
                     shutil.copy2(self.path, kept)
                     os.replace(kept, self.path + "~")
-            os.replace(path, self.path)
+            new.put(True)
+            sync_folder(new.folder)
+        finally:
+            new.drop()
 
     @contextlib.contextmanager
-    def beside(self) -> Iterator[tuple[str, BinaryIO]]:
-        """A new file in the same folder, with its path; it is gone where it got no other name."""
+    def beside(self) -> Iterator[str]:
+        """The path of a new file in the same folder; it is gone where it got no other name."""
         number, path = tempfile.mkstemp(prefix=".%s." % self.name[:80], dir=os.path.dirname(self.path))
+        os.close(number)
         try:
-            with os.fdopen(number, "wb") as file:
-                yield path, file
+            yield path
         finally:
             with contextlib.suppress(FileNotFoundError):
                 os.unlink(path)

@@ -10,6 +10,7 @@ import {draw} from "./studio_layout.js";
 import {set, state} from "./state.js";
 
 const MOST_LISTED = 60;
+const MOST_MARGIN = 1000;  // millimetres of a stray, and milliseconds of lateness, in the language
 // ---- the verdict in words
 
 export const grouped = count => Number(count).toLocaleString("en");
@@ -104,14 +105,14 @@ function showNear(verdict, by) {
   const headline = touch || mark.touch ? "TOO NEAR" : mark.cause ? "TOO LITTLE ROOM" : "NOT SHOWN APART";
   const lines = `line${mark.lines.length > 1 ? "s" : ""} ${mark.lines.join(", ")}`;
   const share = `${mark.share.toFixed(0)} % of the distance at which they touch`;
-  const room = touch ? `${share}; they touch at ${inSeconds(touch.at)}${verdict.proved ? ", proved" : ""} (explain)` :
-    mark.touch ? share :
+  const room = touch ? `nearest at ${inSeconds(mark.nearest)} with ${share}` : mark.touch ? share :
     mark.cause ? `apart while they fly exactly; the cause is ${plain(mark.cause)}` :
     `${share}, but apart along no direction: leave a tenth more room`;
   const places = state.found.marks && state.found.marks.many > 1 ?
     `${many(state.found.marks.many, "place")} ${state.found.marks.all ? "in all" : "so far"}` : "";
   setBar("bad", `${headline}: ${pair} in cue ${mark.cue + 1}`,
-    [`at ${inSeconds(mark.nearest)}, ${lines}: ${room}`, places, state.found.notes && state.found.notes.small, by],
+    [touch ? `they touch at ${inSeconds(touch.at)} (explain)${verdict.proved ? ", proved" : ""}; ${lines}: ${room}` :
+      `at ${inSeconds(mark.nearest)}, ${lines}: ${room}`, places, state.found.notes && state.found.notes.small, by],
     () => showMark(mark, true));
 }
 function roomWords(line) {
@@ -240,7 +241,8 @@ function listMargin(add) {
   if (state.found.verdict.status !== 0 || state.drones < 2) return;
   const part = (name, unit) => {
     const margin = state.found.margin && state.found.margin[name];
-    return !margin ? `${name} ..` : margin.most === null ? `no ${name}` : `${name} ${grouped(margin.most)} ${unit}`;
+    return !margin ? `${name} ..` : margin.most === null ? `no ${name}` :
+      `${name} ${grouped(margin.most)} ${unit}${margin.most < MOST_MARGIN ? "" : ", the most that the language has"}`;
   };
   const asked = ["stray", "late"].filter(name => state.flight[name]);
   const now = asked.length ? ` (now: ${asked.map(name => `${name} ${state.flight[name]}`).join(", ")})` : "";

@@ -17,6 +17,7 @@ from typing import Any, IO, NamedTuple
 from hemtoghai import program
 
 NO_RECORD = "there is no record of how the program was built"
+NO_PROOF = "the record of the program has no proof: it was built without one"
 LIMIT = 120  # seconds for one process
 
 
@@ -90,11 +91,17 @@ class Program:
         """The state and the path to run, both of the same file."""
         try:
             path, proof = program.runs(self.path), None
-            if os.path.exists(program.record_path(self.path)):
+            recorded = os.path.exists(program.record_path(self.path))
+            if recorded:
                 path, proof = program.copy_of(self.path)
         except program.Unusable as why:
             return {"program": False, "proved": False, "why": str(why)}, self.path
-        return {"program": True, "proved": proof is not None, "why": proof or NO_RECORD}, path
+        return {"program": True, "proved": proof is not None, "why": proof or (NO_PROOF if recorded else NO_RECORD)}, path
+
+    @property
+    def is_own(self) -> bool:
+        """Whether it is the program that the other commands ask, too."""
+        return self.path == os.path.abspath(program.PROGRAM)
 
     def state(self) -> dict[str, Any]:
         """Whether the program can be run (`program`), whether it is known to be proved (`proved`), and what is known of
@@ -121,3 +128,15 @@ def answer(job: Job, words: list[str], text: bytes) -> Answer:
     if job.cancelled:
         raise Cancelled
     return Answer(process.returncode, said, told)
+
+
+def asked(job: Job, path: str, words: list[str], text: bytes) -> Answer:
+    """What the program at a path answers to a command. One that accepts in no words of that command gave no answer: its
+    status is None then, and what it said on standard error is why."""
+    found = answer(job, [path, *words], text)
+    try:
+        if found.status is not None:
+            program.need_answer(words, found.status, found.said)
+    except program.Unusable as why:
+        return Answer(None, b"", str(why).encode())
+    return found

@@ -41,6 +41,7 @@ FLIGHT, FASTER = 8, 40  # seconds that a simulated flight is to take, and how ma
 LOOK = 0.3  # seconds from one look at the file to the next
 MOST_ALONE = 6  # formations that are dealt alone, for the choice
 MOST_MUSIC = 1 << 27  # bytes of a file with music
+OTHER_PROGRAM = "This asked the program of %s, and not that of --program, of which the bar speaks." % program.COMMAND
 QUIET = 10  # seconds after which a page that listens is sent a word, which fails where it is gone
 
 
@@ -364,7 +365,9 @@ class Handler(BaseHTTPRequestHandler):
                 known.add(new)
                 after = new.decode("utf-8", "surrogateescape")
                 choices.append({"words": words, "text": after, "diff": difference(before, after)})
-        self.send_data({"status": status, "said": said, "more": more, "choices": choices})
+        if not self.studio.program.is_own:
+            said += "\n" + OTHER_PROGRAM
+        self.send_data({"status": status, "said": said.strip(), "more": more, "choices": choices})
 
     def cure(self, asked: Asked) -> None:
         with tempfile.TemporaryDirectory() as folder:
@@ -412,7 +415,7 @@ class Handler(BaseHTTPRequestHandler):
             answered, state = self.studio.ask(Job(), command, asked["text"])
         if not answered:
             return self.send_data({"words": state["why"]}, 409)
-        if answered.status:
+        if answered.status != 0:
             words = (answered.said or answered.told).decode(errors="replace").strip()
             return self.send_data({"words": words or "no answer"}, 409)
         self.head(200, "application/octet-stream")

@@ -225,7 +225,7 @@ export function listen() {
     lost = true;
     newVersion();
     setBar("", "The studio has ended",
-      given.watch ? "start it again" : "the text stays in this browser; start the studio again");
+      given.watch ? "start it again" : "the text stays in this browser; the studio that is started again opens a page of its own");
   };
   events.onopen = () => {
     if (lost && (state.file || given.watch)) judge();
