@@ -212,8 +212,8 @@ class Judging(Case):
         for path in (b"//[x/", b"//[x", b"http://[", b"/[/", b"//]/%s/" % studio.token.encode()):
             for method in (b"GET", b"POST"):
                 with socket.create_connection(("127.0.0.1", int(studio.port)), WAIT) as link:
-                    link.sendall(method + b" " + path + b" HTTP/1.0\r\nHost: 127.0.0.1:%d\r\nOrigin: http://127.0.0.1:%d\r\n"
-                                 b"Content-Length: 0\r\n\r\n" % (int(studio.port), int(studio.port)))
+                    link.sendall(b"%s %s HTTP/1.0\r\nHost: 127.0.0.1:%d\r\nOrigin: http://127.0.0.1:%d\r\n"
+                                 b"Content-Length: 0\r\n\r\n" % (method, path, int(studio.port), int(studio.port)))
                     said = b"".join(iter(lambda: link.recv(4096), b""))
                 self.assertIn(b" 403 ", said.split(b"\r\n")[0], (method, path, said))
         _, _, told = studio.end()

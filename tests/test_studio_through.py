@@ -52,7 +52,7 @@ class Through(Drag):
         for found, wanted in zip(ghost[1], (500, 520, 1000)):
             self.assertAlmostEqual(found, wanted, delta=2)
         self.press_told("Take it")
-        line = self.text().split("\n")[10]
+        line = next(row for row in self.text().split("\n") if row.startswith("a curve"))
         self.assertEqual(self.text(), PLACED.replace("a move 0 1.04m 1m 0  #", line.split("  #")[0] + "  #"))
         points = points_of(line)
         self.assertEqual(points[2], [0, 1.04, 1])

@@ -27,10 +27,13 @@ export function beatNear(beats, ms, most) {
 export function evened(beats, end) {
   if (beats.length < 3) return null;
   const gaps = beats.slice(1).map((it, k) => it - beats[k]).sort((a, b) => a - b), gap = gaps[gaps.length >> 1];
-  const turns = beats.map(it => Math.round((it - beats[0]) / gap)), mean = row => row.reduce((a, b) => a + b) / row.length;
+  const turns = beats.map(it => Math.round((it - beats[0]) / gap));
+  const mean = row => row.reduce((a, b) => a + b) / row.length;
   const [middle, at] = [mean(turns), mean(beats)];
   const slope = mean(turns.map((k, i) => (k - middle) * (beats[i] - at))) / mean(turns.map(k => (k - middle) ** 2));
   const first = at - slope * middle, out = [];
-  for (let ms = first - Math.floor(first / slope) * slope; ms <= end && out.length < MOST; ms += slope) out.push(Math.round(ms));
+  for (let ms = first - Math.floor(first / slope) * slope; ms <= end && out.length < MOST; ms += slope) {
+    out.push(Math.round(ms));
+  }
   return out;
 }

@@ -181,7 +181,8 @@ export function drawHeights() {
   charts.push(it);
 }
 function drawPlaces(axis) {
-  const {flight, lowest, highest, chosen} = state, {times} = flight, isUp = axis === 2, size = isUp ? flight.h : flight.r;
+  const {flight, lowest, highest, chosen} = state, {times} = flight, isUp = axis === 2;
+  const size = isUp ? flight.h : flight.r;
   const beyond = (chosen.size ? size : 0) + 200, low = isUp ? Math.min(0, lowest[2]) : lowest[axis] - beyond;
   const high = highest[axis] + beyond;
   const it = chart(byId("heights"), low, high, inMetres(low, high), `${"xyz"[axis]} in m`, state.chartHeight);
@@ -202,7 +203,8 @@ function drawPlaces(axis) {
   return it;
 }
 function drawLimit(it, v, stroke) {
-  line(it.plot, it.left, it.y(v), it.right, it.y(v), stroke, {"stroke-width": 1.5, "stroke-dasharray": "6 4", class: "limit"});
+  const look = {"stroke-width": 1.5, "stroke-dasharray": "6 4", class: "limit"};
+  line(it.plot, it.left, it.y(v), it.right, it.y(v), stroke, look);
 }
 function drawMotion(kind) {
   const {motion} = state, rows = Object.entries(motion ? motion[kind] : {}), isForce = kind === "force";
@@ -210,7 +212,7 @@ function drawMotion(kind) {
   for (const [, row] of rows) for (const v of row) most = Math.max(most, v);
   const limit = isForce && motion ? motion.limit : Infinity, high = 1.15 * Math.max(most, limit < 2 * most ? limit : 0);
   const name = isForce ? "acceleration on an axis, m/s²" : "speed on an axis, m/s";
-  const words = !motion ? `${name}: working it out` : isForce ? `${name}; a drone flies at most ${metres(limit)}` : name;
+  const words = !motion ? `${name}: working it out` : name + (isForce ? `; a drone flies at most ${metres(limit)}` : "");
   const it = chart(byId("heights"), 0, high, inMetres(0, high), words, state.chartHeight);
   if (limit < high) drawLimit(it, limit, state.paint.touch);
   for (const [k, row] of rows) drawCurve(it, Number(k), graph(motion.times, it.x, s => it.y(row[s])));
@@ -236,10 +238,12 @@ export function drawShares() {
     Math.max(150, Math.min(most + 20, Math.max(much, 1.5 * low)));
   const marks = isFar ? inMetres(0, high) : chartTicks(0, high).map(v => [v, `${v} %`]);
   const it = chart(byId("share"), 0, high, marks, wordsOfShares(), state.chartHeight);
-  const limit = graph(times, it.x, s => it.y(Math.min(high, touch(s)))), below = `${it.right},${it.y(0)} ${it.left},${it.y(0)}`;
+  const limit = graph(times, it.x, s => it.y(Math.min(high, touch(s))));
+  const below = `${it.right},${it.y(0)} ${it.left},${it.y(0)}`;
   const edges = isFar ? limit : [`${it.left},${it.y(100)}`, `${it.right},${it.y(100)}`], red = state.paint.touch;
   it.plot.append(node("polygon", {points: `${edges.join(" ")} ${below}`, fill: red, "fill-opacity": 0.07}));
-  it.plot.append(node("polyline", {points: edges.join(" "), fill: "none", stroke: red, "stroke-width": 1.5, class: "limit"}));
+  const look = {fill: "none", stroke: red, "stroke-width": 1.5, class: "limit"};
+  it.plot.append(node("polyline", {points: edges.join(" "), ...look}));
   const points = graph(times, it.x, s => it.y(Math.min(high, far[s]))).join(" ");
   it.plot.append(node("polyline", {points, fill: "none", stroke: state.paint.ink, "stroke-width": 1.8, class: "near"}));
   nameDips(byId("share"), it, rows, far, high);
@@ -269,7 +273,8 @@ function nameDips(svg, it, rows, far, high) {
   const taken = [], named = [];
   for (const s of dips.slice(0, 400)) {
     if (taken.length === 6) break;
-    const [v, i, j] = rows[s], at = it.y(far[s]), edge = it.y(state.farIn === "%" ? 100 : far[s] / Math.max(1, v) * 100);
+    const [v, i, j] = rows[s], at = it.y(far[s]);
+    const edge = it.y(state.farIn === "%" ? 100 : far[s] / Math.max(1, v) * 100);
     if (named.some(other => isLevel(rows, other, s, v + 2))) continue;  // no dip of its own, but for rounding
     const words = `${state.flight.names[i]}, ${state.flight.names[j]} ${v.toFixed(0)} % · ${metres(farAt(i, j, s))} m`;
     const wide = 7.2 * words.length;

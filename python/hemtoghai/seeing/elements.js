@@ -6,8 +6,8 @@
  *   speed: HTMLSelectElement, loop: HTMLInputElement, follow: HTMLInputElement, "number-value": HTMLInputElement,
  *   "find-words": HTMLInputElement, "offer-more": HTMLDetailsElement, save: HTMLButtonElement, cure: HTMLButtonElement,
  *   deal: HTMLButtonElement, fly: HTMLButtonElement, compile: HTMLButtonElement, certify: HTMLButtonElement,
- *   undo: HTMLButtonElement, redo: HTMLButtonElement, "tools-where": HTMLSelectElement, "chart-kind": HTMLSelectElement,
- *   "far-in": HTMLSelectElement, "music-file": HTMLInputElement}} Elements
+ *   undo: HTMLButtonElement, redo: HTMLButtonElement, "tools-where": HTMLSelectElement,
+ *   "chart-kind": HTMLSelectElement, "far-in": HTMLSelectElement, "music-file": HTMLInputElement}} Elements
  */
 
 /**

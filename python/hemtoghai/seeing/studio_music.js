@@ -9,7 +9,8 @@ import {drawTimes} from "./studio_layout.js";
 import {tell} from "./studio_text.js";
 import {set, state} from "./state.js";
 
-const FAR = 0.12, REST = 1000;  // seconds that the music may be away from the flight; milliseconds between two corrections
+const FAR = 0.12;  // seconds that the music may be away from the flight
+const REST = 1000;  // milliseconds from one correction to the next
 let audio = /** @type {HTMLAudioElement | null} */ (null), isPlaying = false, corrected = 0;
 
 function takeMusic(blob, name) {
@@ -55,7 +56,9 @@ function follow(isNew) {
     corrected = performance.now();
     audio.currentTime = at;
   }
-  if (audio.paused) audio.play().catch(error => { if (error.name !== "AbortError") tell(`No music: ${error.message}`); });
+  if (audio.paused) {
+    audio.play().catch(error => { if (error.name !== "AbortError") tell(`No music: ${error.message}`); });
+  }
   return null;
 }
 

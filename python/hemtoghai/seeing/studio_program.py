@@ -94,9 +94,10 @@ class Program:
             recorded = os.path.exists(program.record_path(self.path))
             if recorded:
                 path, proof = program.copy_of(self.path)
-        except program.Unusable as why:
-            return {"program": False, "proved": False, "why": str(why)}, self.path
-        return {"program": True, "proved": proof is not None, "why": proof or (NO_PROOF if recorded else NO_RECORD)}, path
+        except program.Unusable as error:
+            return {"program": False, "proved": False, "why": str(error)}, self.path
+        why = proof or (NO_PROOF if recorded else NO_RECORD)
+        return {"program": True, "proved": proof is not None, "why": why}, path
 
     @property
     def is_own(self) -> bool:

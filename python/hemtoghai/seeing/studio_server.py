@@ -107,8 +107,9 @@ class Handler(BaseHTTPRequestHandler):
 
     def do_POST(self) -> None:
         works: dict[str, Callable[[Asked], None]] = {
-            "judge": self.judge, "places": self.places, "preview": self.preview, "motion": self.motion, "save": self.save,
-            "cure": self.cure, "deal": self.deal, "fly": self.fly, "end": self.end, "compile": lambda asked: self.download("compile", asked),
+            "judge": self.judge, "places": self.places, "preview": self.preview, "motion": self.motion,
+            "save": self.save, "cure": self.cure, "deal": self.deal, "fly": self.fly, "end": self.end,
+            "compile": lambda asked: self.download("compile", asked),
             "certify": lambda asked: self.download("certify", asked)}
         self.route({name: partial(self.with_body, work) for name, work in works.items()})
 

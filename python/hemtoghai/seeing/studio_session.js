@@ -1,5 +1,5 @@
-// What stays of ./show studio over a reload of its tab: the playhead, the view, what the charts show, the chosen drones,
-// and as long as the text is the same the cursor and undo. The browser keeps it for the tab.
+// What stays of ./show studio over a reload of its tab: playhead, view, what the charts show, the chosen drones, and as
+// long as the text is the same the cursor and undo. The browser keeps it for the tab.
 
 import {byId} from "./elements.js";
 import {LONG} from "./studio_text.js";
@@ -9,7 +9,8 @@ import {showLanes} from "./studio_timeline.js";
 import {set, state} from "./state.js";
 
 const NAME = "studio", PART = "studio part";
-const VIEW = /** @type {const} */ (["now", "turn", "tilt", "zoom", "aside", "timeZoom", "timeFrom", "chartKind", "farIn"]);
+const VIEW = /** @type {const} */ (
+  ["now", "turn", "tilt", "zoom", "aside", "timeZoom", "timeFrom", "chartKind", "farIn"]);
 
 export function keepSession() {
   if (!state.flight) return;
@@ -19,7 +20,8 @@ export function keepSession() {
   const {anchor, head, steps, stepsBack} = state;
   try {
     sessionStorage.setItem(NAME, JSON.stringify(kept));  // where there is no room for undo
-    if (isShort) sessionStorage.setItem(NAME, JSON.stringify({...kept, text: wholeText(), anchor, head, steps, stepsBack}));
+    const all = {...kept, text: isShort && wholeText(), anchor, head, steps, stepsBack};
+    if (isShort) sessionStorage.setItem(NAME, JSON.stringify(all));
   } catch (error) { /* no room */ }
 }
 // Takes what was kept, before the first flight is there.

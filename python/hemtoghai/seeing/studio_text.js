@@ -225,7 +225,8 @@ export function listen() {
     lost = true;
     newVersion();
     setBar("", "The studio has ended",
-      given.watch ? "start it again" : "the text stays in this browser; the studio that is started again opens a page of its own");
+      given.watch ? "start it again" :
+        "the text stays in this browser; the studio that is started again opens a page of its own");
   };
   events.onopen = () => {
     if (lost && (state.file || given.watch)) judge();

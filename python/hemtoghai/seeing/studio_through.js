@@ -19,11 +19,12 @@ const OWN_ACTS = ["move", "line", "curve", "hold"];
 let offered = false;
 
 /**
- * What a drone flies at the playhead, in the middle of a cue, in micrometres and milliseconds: where it begins and ends,
+ * What a drone flies at the playhead in the middle of a cue, in micrometres and milliseconds: where it begins and ends,
  * how much of the cue has passed, its line or 0, and whether it alone flies. Null where no figure is offered.
  */
 export function throughAt(k) {
-  if (given.watch || isStill() || !state.found.lines || state.flightVersion !== state.version || state.flight.begun) return null;
+  if (given.watch || isStill() || !state.found.lines || state.flight.begun) return null;
+  if (state.flightVersion !== state.version) return null;
   const cue = cueAt(state.now), from = state.flight.cues[cue][0], lasts = endOfCue(cue) - from;
   const share = (state.now - from) / lasts, {acts} = state.found.lines, line = acts[k][cue];
   if (share < EDGE || share > 1 - EDGE || isPerformed(cue)) return null;
@@ -51,9 +52,9 @@ function ownLine(spot, words) {
   return {from: at + spot.words[0].at, to: at + end.at + end.text.length, line, word: words};
 }
 /**
- * The changes by which a drone is at a place, in micrometres, at the playhead. Where others fly in the cue, too, it is one
- * curve, which begins and ends at speed. Where it flies alone the cue becomes two, whose curves join there without a stop
- * and are at rest at both ends.
+ * The changes by which a drone is at a place, in micrometres, at the playhead. Where others fly in the cue, too, it is
+ * one curve, which begins and ends at speed. Where it flies alone the cue becomes two, whose curves join there without a
+ * stop and are at rest at both ends.
  * @returns {Edit[] | null}
  */
 export function editsThrough(spot, place) {

@@ -30,7 +30,8 @@ function drawSoon() {
     drawTimes();
   });
 }
-const middle = () => state.timeFrom <= state.now && state.now <= lastShown() ? state.now : state.timeFrom + spanOf() / 2;
+const isSeen = ms => state.timeFrom <= ms && ms <= lastShown();
+const middle = () => isSeen(state.now) ? state.now : state.timeFrom + spanOf() / 2;
 function nearer(factor, ms = middle()) {
   if (!state.flight) return;
   zoomTime(factor, ms);
@@ -49,7 +50,9 @@ function onWheel(event) {
 const fingers = new Map();
 // Two fingers that part zoom in time.
 function bindFingers(svg) {
-  svg.addEventListener("pointerdown", event => { if (event.pointerType === "touch") fingers.set(event.pointerId, event.clientX); });
+  svg.addEventListener("pointerdown", event => {
+    if (event.pointerType === "touch") fingers.set(event.pointerId, event.clientX);
+  });
   svg.addEventListener("pointermove", event => {
     if (!fingers.has(event.pointerId)) return;
     const span = () => { const [a, b] = [...fingers.values()]; return Math.max(10, Math.abs(a - b)); };
@@ -85,7 +88,7 @@ let followed = 0;  // where the playhead was
 export function followPlayhead() {
   const isMoved = followed !== state.now;
   followed = state.now;
-  if (!isMoved || state.timeZoom === 1 || state.timeFrom <= state.now && state.now <= lastShown()) return;
+  if (!isMoved || state.timeZoom === 1 || isSeen(state.now)) return;
   showTime(state.now - spanOf() / 10);
   drawSoon();
 }

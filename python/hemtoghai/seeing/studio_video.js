@@ -16,13 +16,15 @@ let recorder = /** @type {MediaRecorder | null} */ (null);
 // What stands in each picture: the time, and the cue with its name.
 export function captionNow() {
   const cue = cueAt(state.now), name = state.cueNames && state.cueNames[cue];
-  return `${given.name} · ${time(Math.round(state.now / 100) * 100)} ${state.unit} · cue ${cue + 1}${name ? `: ${name}` : ""}`;
+  const instant = `${time(Math.round(state.now / 100) * 100)} ${state.unit}`;
+  return `${given.name} · ${instant} · cue ${cue + 1}${name ? `: ${name}` : ""}`;
 }
 export function film() {
   if (recorder) return endFilm(false);
   const kind = globalThis.MediaRecorder && KINDS.find(it => MediaRecorder.isTypeSupported(it));
   if (!kind) return tell("This browser records no video.");
-  if (!state.flight || state.flightVersion !== state.version) return tell("There is no flight of this text to record yet.");
+  const isThere = state.flight && state.flightVersion === state.version;
+  if (!isThere) return tell("There is no flight of this text to record yet.");
   const seconds = (state.flight.end / 1000 / Number(byId("speed").value)).toFixed(0), parts = [];
   stop();
   byId("loop").checked = false;
