@@ -43,15 +43,7 @@ function chart(svg, low, high, marks, words, height) {
     line(plot, left, y(v), right, y(v), state.paint.grid);
     text(svg, left - 6, y(v) + 4, label, "end");
   }
-  for (const ms of timeTicks((right - left) / 56)) {
-    line(svg, x(ms), floor, x(ms), floor + Math.min(5, below), state.paint.label);
-    if (below > 20) text(svg, x(ms), floor + 17, time(ms), "middle");
-  }
-  box(svg, [left, above, right, floor], {fill: "none", stroke: state.paint.axis});
-  if (above > 20) text(svg, 2, 12, "cue", "start");
-  if (below > 20) text(svg, right, height - 3, `time in ${state.unit}`, "end");
-  if (below > 20) text(svg, 2, height - 3, words, "start");
-  else text(svg, left + 5, floor - 5, words, "start", {class: "name"});
+  drawAxes(svg, scale, [above, below], words, height);
   if (state.flight.marks.length) {
     const px = x(state.flight.marks[0].nearest);
     line(plot, px, above - 3, px, floor, state.paint.touch, {"stroke-width": 1.5, "stroke-dasharray": "5 3"});
@@ -65,6 +57,19 @@ function chart(svg, low, high, marks, words, height) {
     strip();
   };
   return {x, y, cursor, plot, left, right, set: place};
+}
+// The frame, the axis of time, and what is drawn.
+function drawAxes(svg, {left, right, x}, [above, below], words, height) {
+  const floor = height - below;
+  for (const ms of timeTicks((right - left) / 56)) {
+    line(svg, x(ms), floor, x(ms), floor + Math.min(5, below), state.paint.label);
+    if (below > 20) text(svg, x(ms), floor + 17, time(ms), "middle");
+  }
+  box(svg, [left, above, right, floor], {fill: "none", stroke: state.paint.axis});
+  if (above > 20) text(svg, 2, 12, "cue", "start");
+  if (below > 20) text(svg, right, height - 3, `time in ${state.unit}`, "end");
+  if (below > 20) text(svg, 2, height - 3, words, "start");
+  else text(svg, left + 5, floor - 5, words, "start", {class: "name"});
 }
 // Every cue, or every second, fifth, tenth .. where they are many; and their numbers, where no strip has them.
 function drawCues(plot, {x, left, right}, above, floor) {

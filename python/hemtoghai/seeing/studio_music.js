@@ -82,8 +82,8 @@ function takeBeats(beats) {
   drawTimes();
 }
 function showBeats() {
-  byId("beats-even").toggleAttribute("disabled", state.beats.length < 3);
-  byId("beats-none").toggleAttribute("disabled", !state.beats.length);
+  byId("beats-even").hidden = state.beats.length < 3;
+  byId("beats-none").hidden = !state.beats.length;
 }
 // A beat at the playhead, or none there any more.
 export const markBeat = () => takeBeats(toggled(state.beats, state.now));
