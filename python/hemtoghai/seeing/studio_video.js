@@ -19,7 +19,7 @@ export function captionNow() {
   const instant = `${time(Math.round(state.now / 100) * 100)} ${state.unit}`;
   return `${given.name} · ${instant} · cue ${cue + 1}${name ? `: ${name}` : ""}`;
 }
-export function film() {
+export async function film() {
   if (recorder) return endFilm(false);
   const kind = globalThis.MediaRecorder && KINDS.find(it => MediaRecorder.isTypeSupported(it));
   if (!kind) return tell("This browser records no video.");
@@ -28,6 +28,11 @@ export function film() {
   const seconds = (state.flight.end / 1000 / Number(byId("speed").value)).toFixed(0), parts = [];
   stop();
   byId("loop").checked = false;
+  tell(`Recording takes as long as the flight is played: ${seconds} s at this speed. Leave this tab in view.`,
+    ["Stop", () => endFilm(false)]);
+  // Below that line the view gets another size, and a film has one.
+  await new Promise(go => requestAnimationFrame(() => requestAnimationFrame(go)));
+  if (recorder) return null;
   move(0);
   set({caption: captionNow});
   recorder = new MediaRecorder(byId("space").captureStream(FRAMES), {mimeType: kind, videoBitsPerSecond: BITS});
@@ -35,8 +40,6 @@ export function film() {
   recorder.onstop = () => takeFilm(parts);
   recorder.start();
   byId("film").setAttribute("aria-pressed", "true");
-  tell(`Recording takes as long as the flight is played: ${seconds} s at this speed. Leave this tab in view.`,
-    ["Stop", () => endFilm(false)]);
   playOrStop();
   return null;
 }
