@@ -2,13 +2,14 @@
 // long as the text is the same the cursor and undo. The browser keeps it for the tab.
 
 import {byId} from "./elements.js";
+import {given} from "./given.js";
 import {LONG} from "./studio_text.js";
 import {takeSteps, textLength, wholeText} from "./studio_lines.js";
 import {cursorLine, scrollToLines, select} from "./studio_field.js";
 import {showLanes} from "./studio_timeline.js";
 import {set, state} from "./state.js";
 
-const NAME = "studio", PART = "studio part";
+const PART = "studio part", nameOf = () => `${state.file ? state.file.key : given.name} page`;
 const VIEW = /** @type {const} */ (
   ["now", "turn", "tilt", "zoom", "aside", "timeZoom", "timeFrom", "chartKind", "farIn"]);
 
@@ -19,16 +20,16 @@ export function keepSession() {
     loop: byId("loop").checked, lanes: !byId("lanes").hidden};
   const {anchor, head, steps, stepsBack} = state;
   try {
-    sessionStorage.setItem(NAME, JSON.stringify(kept));  // where there is no room for undo
+    sessionStorage.setItem(nameOf(), JSON.stringify(kept));  // where there is no room for undo
     const all = {...kept, text: isShort && wholeText(), anchor, head, steps, stepsBack};
-    if (isShort) sessionStorage.setItem(NAME, JSON.stringify(all));
+    if (isShort) sessionStorage.setItem(nameOf(), JSON.stringify(all));
   } catch (error) { /* no room */ }
 }
 // Takes what was kept, before the first flight is there.
 export function takeSession() {
   let kept = null;
   try {
-    kept = JSON.parse(sessionStorage.getItem(NAME));
+    kept = JSON.parse(sessionStorage.getItem(nameOf()));
   } catch (error) { /* none */ }
   if (!kept || !kept.view) return;
   set(Object.fromEntries(VIEW.filter(key => key in kept.view).map(key => [key, kept.view[key]])));
