@@ -47,7 +47,7 @@ class Range(unittest.TestCase):
     def test_others(self):
         """Where no number is found, and of other faults, it is the row of the table."""
         self.assertEqual(cures.cure_of("range", b"a b c"), cures.row_of("range"))
-        for word, line in (("bad-count", b"stray 2000"), ("bad-count", b"figure f"), ("bad-word", b"takeoff 1m"),
+        for word, line in (("bad-count", b"stray 2000"), ("bad-word", b"takeoff 1m"),
                            ("bad-word", b"end"), ("header", b"drone a 0 0 0 0")):
             self.assertEqual(cures.cure_of(word, line), cures.row_of(word))
 

@@ -64,6 +64,29 @@ class Warnings(unittest.TestCase):
         rows[2] = "drone b 241000 0 2000000 0"
         self.assertIsNone(flyable.warning(STAND_IN, "\n".join(rows).encode()))
 
+    def test_at_the_centre(self):
+        # A drone at 0, 0 that swings around 0, 0 stays there; after a quarter circle around 1, 0 it is at 1, -1, and a
+        # circle around that place is one of no radius too.
+        own = "line %d, cue %d: a is at the centre of its own `%s`, so it stays there and turns alone: CX and CY are the " \
+            "centre of the circle"
+        self.assertEqual(warning("cue 2000", "a swing ccw 0 0 900", "end"), own % (4, 1, "swing"))
+        self.assertIsNone(warning("cue 2000", "a swing ccw 1000000 0 900", "end"))
+        twice = ["cue 4000", "a swing ccw 1000000 0 900", "end", "cue 4000", "a swing cw 1000000 -1000000 900", "end"]
+        self.assertEqual(warning(*twice), own % (7, 2, "swing"))
+        figure = ["figure f p", "cue 2000", "p swing cw 0 0 0", "end", "end"]
+        self.assertEqual(warning(*figure, "perform f none 0 0 0 0 a"), own % (5, 1, "swing"))
+        self.assertIsNone(warning(*figure, "perform f none 0 1000000 0 0 a"))
+
+    def test_a_short_look(self):
+        # ./show reads a show as one only where a short look finds that it may be so; that look misses none of these.
+        from hemtoghai.launching import glance
+        head = b"choreo 1\ndrone a 0 0 1000000 0\nformation f\nat a 500000 0 1000000 0\nend\n"
+        for line, wanted in ((b"a swing ccw 0 0 0", True), (b"a swing ccw 500000 0 0", True), (b"a arc cw 1000000 0 0", False),
+                             (b"a swing cw 1 0 0\nend\ncue 1\na swing cw 1 -1 0", True), (b"a move 0 0 0 0", False),
+                             (b"a move 7 7 0 0\nend\ncue 1\na swing cw 7 7 0", True), (b"a arc", False), (b"a", False),
+                             (b"a curve 0 0 0 0 0 0 7 8 0 0\nend\ncue 1\na swing cw 7 8 0", True)):
+            self.assertEqual(glance.may_stay(head + b"cue 1\n" + line + b"\nend\n"), wanted, line)
+
     def test_several(self):
         text = b"choreo 1\ndrone a 0 0 -1000 0\ncue 1\na line 1000 0 -1000 0\nend\n"
         self.assertEqual(flyable.warning(STAND_IN, text), "line 3, cue 1: a jumps by 1.00 m/s on x, more than 0.03" +

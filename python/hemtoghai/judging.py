@@ -52,7 +52,7 @@ class Blocked:
 class Caution:
     """Something that no drone flies, or that is seldom meant, in a show that is accepted. Cues count from 1, and the
     one after the last is the end."""
-    kind: str  # "motion", "low", "small" or "stacked"
+    kind: str  # "motion", "low", "small", "stacked" or "still"
     words: str
     drone: Optional[str] = None
     cue: Optional[int] = None
@@ -104,9 +104,8 @@ class Verdict:
             return None
         if is_path(self.text):
             return "a show's text is wanted, and this is the name of a file: check(open(name).read())"
-        line = b"".join(self.text.split(b"\n")[self.fault - 1:self.fault])
-        row = cures.cure_of(self.line.split(" ")[4], line, choreo.form_of(self.text))
-        return str(row[-1]) if row else None
+        row = cures.cure_in(self.text, self.fault, self.line.split(" ")[4])
+        return row[-1] if row else None
 
     @cached_property
     def places(self) -> tuple[tuple[Blocked, ...], bool]:
@@ -212,7 +211,7 @@ def cautions_of(text: bytes) -> tuple[Caution, ...]:
     flown, out = choreo.flown_of(text), []
     motion = flyable.motion_if_known(program.PROGRAM, flown, text)
     for kind, words in (("motion", motion), ("low", flyable.below(flown)), ("small", flyable.small(flown)),
-                        ("stacked", flyable.stacked(flown))):
+                        ("stacked", flyable.stacked(flown)), ("still", flyable.still(flown))):
         found = CAUTION.match(words) if words else None
         if words and found:
             line, cue, drone = found.groups()

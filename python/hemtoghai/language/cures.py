@@ -1,20 +1,23 @@
 """What a faulty line of a show needs, by the table 'Faults' of docs/LANGUAGE.md; of a number that is none, or is out of
-its range, by the number that it is, in the form of the language that the text has. For ./show and the tools.
+its range, by the number that it is, in the form of the language that the text has; of words, names and blocks by the
+text around the line (text_cures.py). For ./show and the tools.
 """
 from __future__ import annotations
 
 import os
 import re
 import sys
-from collections.abc import Iterable, Iterator
+from collections.abc import Iterator
 from fractions import Fraction
-from typing import List, Tuple
+from typing import Tuple
 
-from hemtoghai.language.choreo import ACTS, ARCS, form_of, LINES, Number, number_of, YAW
+from hemtoghai.language.choreo import ACTS, form_of, is_name, LINES, Number, number_of, parts_of, YAW
 from hemtoghai.language.quantities import Counts, FAR, in_unit, KINDS, value_of, written
+from hemtoghai.language.text_cures import (alone_row, around, block_row, byte_row, fixed_row, header_row, length_row,
+                                           listed, LONGEST_SHOWN, name_row, names_row, open_row, Row, show_row,
+                                           unit_row, word_row, words_of)
 from hemtoghai.program import TOP
 
-Row = List[str]  # what a fault means, its commonest cause or nothing, and its cure
 Meaning = Tuple[str, str, str, str]  # of a number: what it is, its unit, a cause of being out of range, the cure
 
 LANGUAGE = "docs/LANGUAGE.md"
@@ -58,7 +61,6 @@ IN_UNITS = {
     "R of `ellipsoid`": ("a unit too large", "the half axis to the side, at most 2m: `ellipsoid 120mm 300mm`"),
     "H of `ellipsoid`": ("a unit too large", "the half axis up and down, at most 2m: `ellipsoid 120mm 300mm`"),
 }
-LONGEST_SHOWN = 40  # bytes of a word of which other ways of writing it are named
 
 
 def row_of(word: str) -> Row | None:
@@ -109,7 +111,9 @@ def number_row(line: bytes, form: int) -> Row | None:
                 return None
             if slot.counts is None:
                 found = re.fullmatch("(-?[0-9]+)([a-z]+)", word)
-                return [f"{name} is {word}, and has no unit", "", f"write {found[1]}"] if found else None
+                return [f"{name} is {word}, and has no unit", "", f"write {found[1]}"] if found else [
+                    f"{name} is {word}, which is no whole number", "",
+                    f"write digits alone, without a unit: {slot.least} to {slot.most}"]
             return (quantity_row if form == 2 else whole_row)(name, slot, slot.counts, word)
     return None
 
@@ -134,17 +138,13 @@ def whole_row(name: str, slot: Number, counts: Counts, word: str) -> Row | None:
                          f"`choreo 2`, and write {meant}: there each length, time and angle has a unit"]
 
 
-def listed(words: Iterable[str]) -> str:
-    *others, last = words
-    return ", ".join(others) + " or " * bool(others) + last
-
-
 def quantity_row(name: str, slot: Number, counts: Counts, word: str) -> Row:
     """The row of a word that is no quantity in its place, in `choreo 2`."""
     (sign, whole, point, fraction, unit), = re.findall(r"\A([+-]?)([0-9]*)([.,]?)([0-9]*)(.*)\Z", word, re.S)
     units = counts.units
     if not whole + fraction:
-        return [f"{name} is {word}, which has no digits", "", f"write a number with its unit: {listed(units)}"]
+        return [f"{name} is {word}, which has no digits", "a number is missing before it" if is_name(word) and word not in KINDS else "",
+                f"write a number with its unit: {listed(units)}"]
     if not unit:
         return bare_row(name, slot, counts, word, point == "")
     if unit not in units:
@@ -186,93 +186,49 @@ def bare_row(name: str, slot: Number, counts: Counts, word: str, is_whole: bool)
     return [what, "", f"write {listed(fitting)}{meant}; `choreo 1` reads it as {first}"]
 
 
-# The words after an act, or after the first word of a line that has always as many.
-AFTER = {
-    **{act: "X Y Z YAW" for act in ("line", "move")}, "hold": "", "turn": "YAW", "curve": "X Y Z X Y Z X Y Z YAW",
-    **{act: "SENSE CX CY YAW" for act in ARCS}, "memory": "ID OFFSET", "trajectory": "ID", "ellipsoid": "R H",
-    "stray": "MM", "late": "MS", "drone": "NAME X Y Z YAW", "formation": "NAME", "at": "NAME X Y Z YAW", "cue": "TIME",
-    "repeat": "COUNT", "form": "NAME line, or NAME move", "end": "",
-}
-
-
-def words_of(line: bytes) -> list[str]:
-    """The words of a line without its comment."""
-    return line.partition(b"#")[0].decode("ascii", "replace").split()
-
-
-def named(words: str) -> str:
-    return words or "no word"
-
-
-def length_row(line: bytes) -> Row | None:
-    """The row of a line that has too many or too few words; None where it isn't known how many are wanted."""
-    words = words_of(line)
-    what, given = (words[1], words[2:]) if words[1:] and words[1] in ACTS else ("".join(words[:1]), words[1:])
-    if what not in AFTER or any(word.startswith("//") for word in words):  # which is no comment
-        return None
-    wanted = 2 if what == "form" else len(AFTER[what].split())
-    if len(given) == wanted:
-        return None
-    return [f"`{what}` takes {wanted} word{'s' * (wanted != 1)} after it, and here {'is' if len(given) == 1 else 'are'} "
-            f"{len(given)}", "", f"write `{what}` and then {named(AFTER[what])}"]
-
-
-def word_row(line: bytes) -> Row | None:
-    """The row of a fixed word that isn't one of those that may stand there; None where none is found."""
-    words = words_of(line)
-    if words[:1] == ["form"] and words[2:]:
-        act = words[2]
-        if act in ACTS and act not in LINES["form"][1]:
-            return [f"`form` takes `line` or `move`, not `{act}`", "", f"give each drone a line of its own, as "
-                    f"`NAME {act} {AFTER[act]}`".rstrip(" `") + "`"]
-    if words[1:2] and words[1] in ARCS and words[2:] and words[2] not in ("ccw", "cw"):
-        return [f"the sense of `{words[1]}` is {short_word(words[2])}", "",
-                f"write `{words[1]} ccw ..` for a turn counter-clockwise as seen from above, or `{words[1]} cw ..`"]
-    if words[:1] == ["perform"] and words[2:] and words[2] not in LINES["perform"][1]:
-        return [f"the mirror of `perform` is {short_word(words[2])}", "",
-                "write `none`, or `x` or `y` for the axis whose sign changes"]
-    return None
-
-
-def short_word(word: str) -> str:
-    return word if len(word) <= LONGEST_SHOWN else word[:LONGEST_SHOWN] + ".."
-
-
-def header_row(line: bytes) -> Row | None:
-    """The row of a first line that begins as a header does; None where it doesn't."""
-    words = words_of(line)
-    if words[:1] != ["choreo"]:
-        return None
-    return [f"the first line is `{short_word(' '.join(words))}`", "", "write `choreo 2` where numbers have units, and "
-            "`choreo 1` where they are whole: there is no other form"]
-
-
-def count_row(line: bytes) -> Row | None:
-    """The row of a line that has a word too many, since a unit stands alone; None where none does."""
-    found = re.search(rb"(?<!\S)(-?[0-9.]+)\s+(" + "|".join(KINDS).encode() + rb")(?!\S)", line.partition(b"#")[0])
-    row = row_of("bad-count")
-    if not found or not row:
-        return None
-    number, unit = found[1].decode(), found[2].decode()
-    return [row[0], f"a blank between a number and its unit, which makes two words: `{number} {unit}`",
-            f"write {number}{unit}"]
-
-
 def cure_of(word: str, line: bytes, form: int = 1) -> Row | None:
-    """What a fault of a line means, its commonest cause or nothing, and its cure; None where there is none. `form` is
-    that of the text: choreo.form_of gives it."""
+    """What a fault of a line means, its commonest cause or nothing, and its cure, by the line alone; None where there is
+    none. `form` is that of the text: choreo.form_of gives it. `cure_in` looks at the text around the line too."""
     row = None
     if word == "range":
         row = range_row(line, form)
     elif word == "bad-number":
         row = number_row(line, form)
     elif word == "bad-count":
-        row = (count_row(line) if form == 2 else None) or length_row(line)
+        row = (unit_row(line) if form == 2 else None) or length_row(words_of(line))
     elif word == "bad-word":
-        row = word_row(line)
+        row = fixed_row(words_of(line))
     elif word == "header":
         row = header_row(line)
+    elif word == "bad-byte" and (place := shown(line)[1]) is not None:
+        row = byte_row(line, place)
     return row or row_of(word)
+
+
+def row_in(text: bytes, number: int, word: str) -> Row | None:
+    """The row of a fault of a line, by the text around it; None where that says no more than the line does."""
+    if word == "no-end":
+        return open_row(text)
+    if word in ("no-cue", "too-many-cues", "out-of-range"):
+        return show_row(text, word)
+    if word in ("unknown-name", "double-act", "double-name", "role-count"):
+        return names_row(text, number)
+    if word in ("bad-byte", "header") or (at := around(text, number)) is None:
+        return None
+    if word == "bad-word":
+        return word_row(at)
+    if word == "bad-name":
+        return name_row(at)
+    if word == "bad-count":
+        return alone_row(at)
+    return block_row(at, word)
+
+
+def cure_in(text: bytes, number: int, word: str) -> Row | None:
+    """What a fault of a line of a show's text means, its commonest cause or nothing, and its cure; None where there is
+    none. The line counts from 1, and the word is the one of the fault line."""
+    text = parts_of(text)[0]
+    return row_in(text, number, word) or cure_of(word, b"".join(text.split(b"\n")[number - 1:number]), form_of(text))
 
 
 def shown(line: bytes) -> tuple[str, int | None]:
@@ -294,7 +250,7 @@ def print_cure(who: str, number: int, word: str, text: bytes) -> None:
     print("%6d | %s" % (number, words[:200]), file=sys.stderr)
     if word == "bad-byte" and place is not None:
         print("%s: byte %d of the line is %02X" % (who, place + 1, line[place]), file=sys.stderr)
-    if row := cure_of(word, line, form_of(text)):
+    if row := cure_in(text, number, word):
         for label, cell in zip((word, "most often", "cure"), row):
             if cell:
                 print("%s: %s: %s" % (who, label, cell), file=sys.stderr)

@@ -44,11 +44,32 @@ def begin_badly(text: bytes) -> bool:
     return near or all(abs(v) <= SMALL for place in places for v in place)
 
 
+ARCS = b"arc", b"swing", b"arc_in", b"arc_out"
+
+
+def may_stay(text: bytes) -> bool:
+    """Whether a drone may be at the centre of its own quarter circle: where that is a place that is written for it, or it
+    flies around several centres, or a figure has such acts."""
+    places: dict[bytes, set[bytes]] = {}
+    centres: dict[bytes, set[bytes]] = {}
+    has_figure = False
+    for line in text.split(b"\n"):
+        words = line.partition(b"#")[0].split()
+        has_figure = has_figure or words[:1] == [b"figure"]
+        if words[:1] in ([b"drone"], [b"at"]) and len(words) == 6:
+            places.setdefault(words[1], set()).add(b" ".join(words[2:4]))
+        elif words[1:2] and words[1] in ARCS:
+            centres.setdefault(words[0], set()).add(b" ".join(words[3:5]))
+        elif words[1:2] and words[1] in (b"move", b"line", b"curve"):
+            places.setdefault(words[0], set()).add(b" ".join(words[8:10] if words[1] == b"curve" else words[2:4]))
+    return any(has_figure or len(own) > 1 or own & places.get(name, set()) for name, own in centres.items())
+
+
 def may_be_unflyable(file: str, text: bytes) -> bool:
     """Whether something of an accepted show may be nothing that drones fly; also where the program doesn't say."""
     null = os.open(os.devnull, os.O_WRONLY)
     try:
-        return (begin_badly(text)
+        return (begin_badly(text) or may_stay(text)
                 or running.fed(file, ["dynamics", "--accel", str(ACCEL), "--jump", str(JUMP)], [text], null) != 0
                 or running.fed(file, ["boxes"], [texts.joined(text, ABOVE)], null) != 0)
     finally:

@@ -86,6 +86,17 @@ def stacked(flown: Flown) -> str | None:
     return None
 
 
+def still(flown: Flown) -> str | None:
+    """The first drone and cue in which it shall fly a quarter circle around the place where it is, and so stays there; or
+    None."""
+    for number, cue in enumerate(flown.cues, 1):
+        for name, (line, act, to) in cue.acts.items():
+            if act in choreo.ARCS and list(to[1:3]) == flown.places[flown.names.index(name)][number - 1][:2]:
+                return ("line %d, cue %d: %s is at the centre of its own `%s`, so it stays there and turns alone: CX and CY "
+                        "are the centre of the circle" % (line, number, name, act))
+    return None
+
+
 def motion_if_known(program: str, flown: Flown, text: bytes) -> str | None:
     """What `dynamics` refuses, or None, also where it doesn't answer."""
     try:
@@ -100,7 +111,7 @@ def warning(program: str, text: bytes) -> str | None:
         flown = choreo.flown_of(text)
     except choreo.Refused:
         return None
-    found = motion_if_known(program, flown, text), below(flown), small(flown) or stacked(flown)
+    found = motion_if_known(program, flown, text), below(flown), small(flown) or stacked(flown), still(flown)
     if found[0] and " jumps by " in found[0]:
         found = found[0] + AT_SPEED, *found[1:]
     return "; ".join(filter(None, found)) or None
