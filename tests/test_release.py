@@ -711,7 +711,8 @@ class Manual(unittest.TestCase):
             self.assertIn(word, self.completed("./show", ""))
         for words, wanted in ((("sp",), ["speed"]), (("--un",), ["--unproved"]), (("--unproved", "dr"), ["drill"]),
                               (("--pr",), ["--proved"]), (("--proved", "dr"), ["drill"]),
-                              (("stu",), ["studio"]), (("why", "--"), ["--json", "--help"]),
+                              (("stu",), ["studio"]),
+                              (("why", "--"), ["--depth", "--most", "--cured", "--force", "--json", "--help"]),
                               (("check", "--d"), ["--depth"]), (("check", "examples/so"), ["examples/solo.choreo"]),
                               (("check", "--depth", ""), list("012345678")),
                               (("explain", "--fine", ""), list("012345")),

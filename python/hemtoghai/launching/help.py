@@ -63,7 +63,7 @@ PURPOSES = {
     "flown": "whether the drones of a flight's log stayed within the premises of the proof",
     "bridge": "the upload alone, over a link",
     "library": "the judge as a library for C, C++ and Rust",
-    "manual": "the manual page, and completion for Bash",
+    "manual": "the manual page, and completion for Bash, Zsh and Fish",
     "release": "an archive and a wheel",
 }
 

@@ -1,70 +1,35 @@
-"""The manual page and the completion for Bash of ./show, made from the tables of docs/COMMANDS.md.
+"""The manual page of ./show and its completion for a shell, made from the tables of docs/COMMANDS.md and from the words
+that each tool reads.
 
     ./show manual page > show.1; man ./show.1
     ./show manual completion > show.bash; . ./show.bash
+    ./show manual completion zsh > show.zsh; . ./show.zsh
+    ./show manual completion fish > show.fish; source show.fish
 
-./show release puts both into share/. Status 0: written. 2: wrong words.
+./show release puts the page and the completion for Bash into share/. Status 0: written. 2: wrong words.
 """
 from __future__ import annotations
 
 import re
 import sys
 
-from hemtoghai.companion import parser
 from hemtoghai.__main__ import WITH_JSON
+from hemtoghai.companion import parser
 from hemtoghai.launching import records, words as commands
+from hemtoghai.launching.completion import all_words, completion as completion, SHELLS, Word
 from hemtoghai.launching.help import PURPOSES as OTHERS
-
-COMPLETION = """# Completion of ./show for Bash: . show.bash
-_show() {
-  local word=${COMP_WORDS[COMP_CWORD]} command= at=1
-  [[ ${COMP_WORDS[1]} != --@(proved|unproved) ]] || at=2
-  [ "$COMP_CWORD" -le "$at" ] || command=${COMP_WORDS[at]}
-  local options=
-  case $command in
-  '')
-    options='%s --help --version'
-    [ "$at" = 2 ] || options+=' --proved --unproved' ;;
-%s
-  esac
-  case ${COMP_WORDS[COMP_CWORD-1]} in
-%s
-  esac
-  if [ -z "$command" ] || [ "${word:0:1}" = - ]; then
-    mapfile -t COMPREPLY < <(compgen -W "$options" -- "$word")
-  else
-    mapfile -t COMPREPLY < <(compgen -f -- "$word")
-  fi
-}
-complete -o filenames -F _show show ./show hemtoghai
-"""
-
-
-def completion() -> str:
-    """The text of the completion: commands, then each one's options, numbers where few are possible, and files."""
-    options, choices, numbers = [], [], {}
-    for command in commands.FORMS:
-        known = commands.options_of(command)
-        json = ["--json"] if command in WITH_JSON else []
-        options.append("  %s) options='%s' ;;" % (command, " ".join([*known, *json, "--help"])))
-        for option, number in known.items():
-            if number and commands.choices_of(number):
-                choices.append((option, commands.choices_of(number)))
-            elif number and commands.NUMBERS[number][1] < 10:
-                low, high = commands.NUMBERS[number]
-                numbers[option] = [str(k) for k in range(low, high + 1)]
-    few = ["  %s) mapfile -t COMPREPLY < <(compgen -W '%s' -- \"$word\"); return ;;" % (option, " ".join(words))
-           for option, words in [*choices, *sorted(numbers.items())]]
-    for word in OTHERS:
-        json = ["--json"] if word in WITH_JSON else []
-        options.append("  %s) options='%s' ;;" % (word, " ".join([*json, "--help"])))
-    return COMPLETION % (" ".join([*commands.FORMS, *OTHERS]), "\n".join(options), "\n".join(few))
-
 
 def roff(text: str) -> str:
     text = re.sub(r"\[([^]]*)\]\([^)]*\)", r"\1", text).replace("\\", "\\e").replace("-", "\\-")
     text = re.sub(r"`([^`]*)`", r"\\fB\1\\fR", text).replace("**", "")
     return re.sub(r"^([.'])", r"\\&\1", text)
+
+
+def options_of(word: Word) -> list[str]:
+    """The line with the options of a word that is none of the program's own."""
+    rows = [f"{it.name} {it.number}".strip() for it in word.options if it.name != "--help"]
+    firsts = [f"The next word is {' or '.join(word.first)}."] if word.first else []
+    return [*firsts, *[".br", "Options: %s." % ", ".join("\\fB%s\\fR" % row.replace("-", "\\-") for row in rows)] * bool(rows)]
 
 
 def page(version: str) -> str:
@@ -80,9 +45,12 @@ def page(version: str) -> str:
         out += [".TP", ".B " + roff(form), roff(what[0].upper() + what[1:]) + "."]
         if second:
             out.append("Link frames follow the show." if second == "frames" else "The second part: %s." % second)
+        if form.split()[0] in WITH_JSON:
+            out.append("With \\fB\\-\\-json\\fR it answers in one line of JSON.")
+    words = {it.name: it for it in all_words()}
     out.append(".SH OTHER COMMANDS")
     for word, what in OTHERS.items():
-        out += [".TP", ".B " + word, roff(what[0].upper() + what[1:]) + "."]
+        out += [".TP", ".B " + word, roff(what[0].upper() + what[1:]) + ".", *options_of(words[word])]
     out += [".SH OPTIONS", "Options may stand before and behind the files."]
     for option, number, without in commands.table(commands.page, "| Option | Number | Without it |"):
         out += [".TP", roff(option), "%s. Without it: %s." % (roff(number[0].upper() + number[1:]), roff(without))]
@@ -98,6 +66,8 @@ def page(version: str) -> str:
 def main(words: list[str]) -> int:
     reader = parser(__doc__)
     reader.add_argument("kind", choices=("page", "completion"), help="the manual page, or the completion")
+    reader.add_argument("shell", nargs="?", choices=tuple(SHELLS), default="bash",
+                        help="the shell that reads the completion; without it bash")
     options = reader.parse_args(words)
-    sys.stdout.write(page(records.version()) if options.kind == "page" else completion())
+    sys.stdout.write(page(records.version()) if options.kind == "page" else completion(options.shell))
     return 0
