@@ -7,7 +7,7 @@ import unittest
 from unittest import mock
 
 import common
-from hemtoghai import __main__
+from hemtoghai import __main__, answering, program
 from hemtoghai.launching import launcher
 from test_module import Case
 
@@ -18,10 +18,16 @@ class Answers(Case):
         out, said = io.StringIO(), io.StringIO()
         with mock.patch.object(launcher, "file_for"), contextlib.redirect_stdout(out), contextlib.redirect_stderr(said):
             status = __main__.main([*words[:1], "--json", *words[1:]])
-        self.assertEqual((out.getvalue().count("\n"), said.getvalue()), (1, ""))
         found = json.loads(out.getvalue())
+        self.assertEqual((out.getvalue().count("\n"), said.getvalue() != ""), (1, "error" in found))
         self.assertEqual((found["command"], found["status"]), (words[0], status))
         return found
+
+    def no_answer(self, *words):
+        """The status and the words of an answer that is none; standard error has the words too."""
+        found = self.asked(*words)
+        self.assertEqual((found["ok"], found["proved"]), (False, False))
+        return found["status"], found["error"]
 
     def example(self, name):
         """The path of an example."""
@@ -68,6 +74,66 @@ class Answers(Case):
         self.assertEqual(found["drones"]["solo"]["acceleration"], [15031153, 0, 0])
         self.assertEqual(self.asked("dynamics", "--accel", "10000", self.example("too_fast.choreo"))["line"],
                          "error 18 drone solo cue 1 accel x 15031153")
+
+    def test_compile(self):
+        drone, = self.asked("compile", self.example("solo.choreo"))["drones"]
+        # docs/TRAJECTORY.md reads these bytes one by one, and docs/RADIO.md the packets.
+        data = "00000000e803000003d007000000000000e803e803e803e803000000"
+        self.assertEqual((drone["name"], drone["pieces"], drone["data"]), ("solo", 1, data))
+        self.assertEqual([(it["kind"], it["data"]) for it in drone["packets"]], [
+            ("write", "4e0200000000" + data[:48]), ("write", "4e0218000000" + data[48:]),
+            ("define", "8c060001010000000001"), ("start", "8c05000000000000803f")])
+        found = self.asked("compile", self.example("crossing.choreo"))
+        self.assertEqual((found["status"], found["ok"], "drones" in found, len(found["blocked"])), (5, False, False, 1))
+
+    @common.wants_program
+    def test_certificates(self):
+        found = self.asked("certify", self.example("crossing_cured.choreo"))
+        self.assertEqual(found["certificate"], "version 2\ncertificate 6\n58\n47\n00\n")
+        with open(self.path_of("certificate"), "w") as file:
+            file.write(found["certificate"])
+        found = self.asked("verify", self.example("crossing_cured.choreo"), self.path_of("certificate"))
+        self.assertEqual((found["ok"], found["depth"], found["trees"]), (True, 6, 3))
+        found = self.asked("verify", self.example("crossing.choreo"), self.path_of("certificate"))
+        self.assertEqual((found["ok"], found["status"], "trees" in found), (False, 12, False))
+
+    @common.wants_program
+    def test_explain(self):
+        # docs/COMMANDS.md has both answers; `ok` is true of drones that are separated alone, though both end with 0.
+        found = self.asked("explain", self.example("crossing.choreo"))
+        self.assertEqual([found[word] for word in ("status", "ok", "blocked_part", "closest", "touch", "no_touch_instants")], [
+            0, False, {"first": "a", "second": "b", "cue": 1, "part": 28, "parts": 64},
+            {"first": "a", "second": "b", "cue": 1, "at": 16, "of": 32, "level": 0},
+            {"first": "a", "second": "b", "cue": 1, "at": 15, "of": 32}, None])
+        found = self.asked("explain", self.example("crossing_cured.choreo"))
+        self.assertEqual((found["ok"], found["blocked_part"], found["closest"]["level"], found["touch"]), (True, None, 1777, None))
+        # Apart while they fly exactly, and not with a stray of 40 mm: 300 mm to the side, of the 320 that they need then.
+        with open(self.path_of("near"), "w") as file:
+            file.write("choreo 1\nstray 40\ndrone a 0 0 1000000 0\ndrone b 300000 0 1000000 0\ncue 1000\nend\n")
+        found = self.asked("explain", self.path_of("near"))
+        self.assertEqual((found["ok"], found["touch"], found["no_touch_instants"]), (False, None, 33))
+
+    def test_no_answer(self):
+        # A file that isn't there or can't be read, and words that are wrong: one line of JSON all the same.
+        missing = self.path_of("missing")
+        self.assertEqual(self.no_answer("check", missing), (2, "there is no file " + missing))
+        self.assertEqual(self.no_answer("check", common.TOP), (2, common.TOP + " is a directory"))
+        self.assertEqual(self.no_answer("check", "--dept", "6", missing), (2, "check has no option --dept; did you mean --depth?"))
+        self.assertEqual(self.no_answer("why", missing), (70, missing + ": No such file or directory"))
+        self.assertEqual(self.no_answer("summary", common.TOP)[0], 70)
+        status, words = self.no_answer("why", "--most", "x", missing)
+        self.assertEqual((status, "--most" in words), (2, True))
+        with mock.patch.object(program, "PROGRAM", missing), mock.patch.object(answering, "_chosen", answering.Process()):
+            self.assertEqual(self.no_answer("check", self.example("solo.choreo")), (
+                70, "the program isn't built; ./show check FILE builds it"))
+
+    def test_faulty_shows(self):
+        with open(self.path_of("faulty"), "w") as file:
+            file.write("choreo 2\ndrone alpha 0 0 1m 0\ncue 2s\nalpa hold\nend\n")
+        for command in ("check", "compile", "why", "summary"):
+            found = self.asked(command, self.path_of("faulty"))
+            self.assertEqual([found[word] for word in ("status", "ok", "line", "fault", "cure")], [
+                3, False, "error 3 line 4 unknown-name", 4, "write `alpha`; or declare it: `drone alpa X Y Z YAW`"])
 
     @common.wants_program
     def test_speed_and_boxes(self):

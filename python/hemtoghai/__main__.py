@@ -23,7 +23,8 @@ COMMANDS = {
     "manual": "hemtoghai.launching.manual",
     "studio_work": "hemtoghai.seeing.studio_work",  # a process of the studio
 }
-WITH_JSON = "check", "dynamics", "speed", "boxes", "why", "summary"  # as values, in place of lines
+# As values, in place of lines.
+WITH_JSON = "check", "compile", "certify", "verify", "explain", "dynamics", "speed", "boxes", "why", "summary"
 WITH_INSTALLED = "bridge", "fly"  # they may need the radio's library, which was installed
 
 

@@ -1,6 +1,10 @@
-"""The answers of six commands as one line of JSON, for programs.
+"""The answers of ten commands as one line of JSON, for programs.
 
     ./show check --json [--depth D] SHOW
+    ./show compile --json [--depth D] SHOW
+    ./show certify --json [--depth D] SHOW
+    ./show verify --json SHOW CERTIFICATE
+    ./show explain --json [--depth D] [--fine E] SHOW
     ./show dynamics --json [--depth D] [--accel A] [--jump J] SHOW
     ./show speed --json [--depth D] [--limit V] SHOW
     ./show boxes --json [--depth D] SHOW REGIONS
@@ -8,12 +12,16 @@
     ./show summary --json [--depth D] SHOW
 
 Instants are milliseconds from the begin of the show, places micrometres, speeds and accelerations micrometres per
-second and per second squared. The status is that of the command; what is wrong with words and files is said as without
---json.
+second and per second squared. Bytes are hexadecimal. The status is that of the command. Where words or files are wrong,
+or there is no answer, the line has `error` with the words that standard error has, and `ok` is false.
 """
 from __future__ import annotations
 
+import argparse
+import contextlib
+import io
 import json
+import re
 import sys
 from math import hypot
 from typing import Any
@@ -22,8 +30,8 @@ from hemtoghai import companion, judging, streams, texts
 from hemtoghai.commands import summary, why
 from hemtoghai.geometry import separation
 from hemtoghai.language import choreo
-from hemtoghai.launching import help, launcher, words as commands
-from hemtoghai.program import Unusable
+from hemtoghai.launching import launcher, words as commands
+from hemtoghai.program import NAME, Unusable
 from hemtoghai.writing.margins import margins_of
 
 
@@ -35,28 +43,98 @@ def put(command: str, verdict: judging.Verdict, **more: Any) -> int:
     return verdict.status
 
 
+def put_failure(command: str, status: int, said: str) -> int:
+    """Writes that there is no answer, and why: the last line of what was said."""
+    words = said.strip().split("\n")[-1]
+    for who in (NAME, companion.tool_name()):
+        words = words[len(who) + 2:] if words.startswith(who + ": ") else words
+    line = "error 2 usage" if status == 2 else words
+    sys.stdout.write(json.dumps({"command": command, "status": status, "ok": False, "line": line, "proved": False,
+                                 "error": words}) + "\n")
+    return status
+
+
+EXPLAINED = re.compile(r"(?:separated|blocked pair (\S+) (\S+) cue (\d+) part (\d+) of (\d+))\n"
+                       r"(?:closest pair (\S+) (\S+) cue (\d+) at (\d+) of (\d+) level (\d+)\n)?"
+                       r"(?:touch pair (\S+) (\S+) cue (\d+) at (\d+) of (\d+)\n|no-touch instants (\d+)\n)?")
+
+
+def pair_of(words: tuple[str | None, ...], *numbers: str) -> dict[str, Any] | None:
+    """Two drones and what is said of them; None where nothing is."""
+    if words[0] is None:
+        return None
+    return {"first": words[0], "second": words[1], **{name: int(it or 0) for name, it in zip(numbers, words[2:])}}
+
+
+def explained(output: str) -> dict[str, Any]:
+    """What `explain` writes. `ok` is whether all drones are separated: it ends with 0 of others too."""
+    found = EXPLAINED.fullmatch(output)
+    if found is None:
+        raise Unusable("what was run isn't the program: it gave no answer of `explain`")
+    row = found.groups()
+    return {"ok": output.startswith("separated\n"), "blocked_part": pair_of(row[:5], "cue", "part", "parts"),
+            "closest": pair_of(row[5:11], "cue", "at", "of", "level"),
+            "touch": pair_of(row[11:16], "cue", "at", "of"), "no_touch_instants": int(row[16]) if row[16] else None}
+
+
+def compiled(output: bytes) -> dict[str, Any]:
+    """What `compile` writes: each drone's bytes and packets."""
+    return {"drones": [{"name": name, "pieces": pieces, "data": data.hex(), "packets": [
+        {"kind": kind, "data": bytes.fromhex(digits).hex()} for kind, digits in packets]}
+        for name, data, pieces, packets in companion.parts_of_plan(output, "the plan")]}
+
+
+def more_of(command: str, verdict: judging.Verdict) -> dict[str, Any]:
+    """The values that a command has beside its verdict."""
+    output = verdict.output
+    if command == "check":
+        row = verdict.line.split(" ")[1:] if verdict.ok else []  # drones, cues and duration_ms, each with its number
+        return {**dict(zip(row[::2], map(int, row[1::2]))),
+                "cautions": [dict(vars(caution)) for caution in verdict.cautions]}
+    if not verdict.ok or command == "boxes":
+        return {}
+    if command == "certify":
+        return {"certificate": output.decode()}
+    if command == "verify":
+        row = verdict.line.split(" ")[1:]  # depth and trees
+        return {name: int(number) for name, number in zip(row[::2], row[1::2])}
+    if command == "explain":
+        return explained(output.decode())
+    if command == "compile":
+        return compiled(output)
+    return {"drones": (companion.motions_in if command == "dynamics" else companion.speeds_in)(output.decode())}
+
+
 def by_program(words: list[str]) -> int:
     """Asks the program, which is proved and built first where it isn't the one of these sources."""
     front, files, fault = commands.split(words)
     fault = fault or launcher.fault_of_files(front, files)
     if fault:
-        return help.refuse(front, fault)
+        streams.tell(NAME, fault)
+        sys.exit(2)
     launcher.file_for(False)
     if len(files) == 2:
-        whole = texts.joined(*(texts.front_of(file, texts.SHOW + 1) for file in files))
+        most = texts.CERTIFICATE if front[0] == "verify" else texts.SHOW
+        whole = texts.joined(texts.front_of(files[0], texts.SHOW + 1), texts.front_of(files[1], most + 1))
     else:
-        whole = texts.front_of(files[0] if files else "-", 2 * texts.SHOW)
+        whole = texts.front_of(files[0] if files else "-", texts.SHOW + (
+            texts.CERTIFICATE if front[0] == "verify" else texts.SHOW))
     depth = int(front[front.index("--depth") + 1]) if "--depth" in front else choreo.DEPTH
     verdict = judging.verdict_of(front, choreo.parts_of(whole)[0], whole, depth)
-    more: dict[str, Any] = {}
-    if front[0] == "check":
-        row = verdict.line.split(" ")[1:] if verdict.ok else []  # drones, cues and duration_ms, each with its number
-        more = {**dict(zip(row[::2], map(int, row[1::2]))),
-                "cautions": [dict(vars(caution)) for caution in verdict.cautions]}
-    elif front[0] != "boxes" and verdict.ok:
-        found = companion.motions_in if front[0] == "dynamics" else companion.speeds_in
-        more = {"drones": found(verdict.output.decode())}
-    return put(front[0], verdict, **more)
+    return put(front[0], verdict, **more_of(front[0], verdict))
+
+
+def shown(reader: argparse.ArgumentParser, words: list[str]) -> tuple[argparse.Namespace, bytes, choreo.Flown | None]:
+    """Reads a tool's words, of which the last is the file of a show, and that show; None where it is faulty."""
+    reader.add_argument("show", metavar="SHOW", help="a file with a show, or - for standard input")
+    options = reader.parse_args(words)
+    text = companion.read_front(options.show, choreo.LONGEST_TEXT)
+    if len(text) <= choreo.LONGEST_TEXT and choreo.parts_of(text)[2]:
+        companion.stop("%s: a tool reads a show alone, without a marker line" % options.show)
+    try:
+        return options, text, choreo.flown_of(text)
+    except choreo.Refused:
+        return options, text, None
 
 
 def verdict_of(text: bytes, depth: int) -> judging.Verdict:
@@ -85,8 +163,10 @@ def by_why(words: list[str]) -> int:
     companion.add_depth(reader)
     reader.add_argument("--most", type=int, default=20, metavar="N",
                         help="remedies for at most N places, without it 20")
-    options, text, flown = companion.words_and_show(reader, words)
+    options, text, flown = shown(reader, words)
     verdict = verdict_of(text, options.depth)
+    if flown is None:
+        return put("why", verdict)
     begin = separation.looked[0]
     places = [{**vars(place), **(helped(flown, place, options.depth) if number < options.most and
                                  separation.looked[0] - begin < why.MOST_TRIED else {})}
@@ -116,8 +196,11 @@ def by_summary(words: list[str]) -> int:
     reader = companion.parser(__doc__)
     companion.add_depth(reader)
     reader.add_argument("--margin", action="store_true", help="how far ellipsoid, stray and lateness can grow")
-    options, text, flown = companion.words_and_show(reader, words)
-    verdict, times = verdict_of(text, options.depth), companion.begins(flown)
+    options, text, flown = shown(reader, words)
+    verdict = verdict_of(text, options.depth)
+    if flown is None:
+        return put("summary", verdict)
+    times = companion.begins(flown)
     try:
         motions = judging.dynamics(text)
     except (Unusable, judging.Refused):
@@ -136,7 +219,29 @@ def by_summary(words: list[str]) -> int:
     return put("summary", verdict, **more)
 
 
+class Tee(io.StringIO):
+    """Keeps what is said, and says it all the same."""
+
+    def __init__(self, out: Any) -> None:
+        super().__init__()
+        self.out = out
+
+    def write(self, text: str) -> int:
+        self.out.write(text)
+        return super().write(text)
+
+
 def main(words: list[str]) -> int:
     left = [word for word in words if word != "--json"]
     call = {"why": by_why, "summary": by_summary}.get(left[0])
-    return call(left[1:]) if call else by_program(left)
+    with contextlib.redirect_stderr(Tee(sys.stderr)) as said:
+        try:
+            return call(left[1:]) if call else by_program(left)
+        except SystemExit as ended:
+            if not ended.code:  # --help
+                raise
+            return put_failure(left[0], ended.code if isinstance(ended.code, int) else streams.NO_ANSWER,
+                               said.getvalue())
+        except (OSError, Unusable) as error:
+            streams.tell(NAME, streams.fault_of(error))
+            return put_failure(left[0], streams.NO_ANSWER, streams.fault_of(error))

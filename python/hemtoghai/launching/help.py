@@ -85,7 +85,7 @@ def usage_of(command: str) -> str:
     lines += ["%s is %d to %d" % (name, *commands.NUMBERS[name])
               for name in dict.fromkeys(numbers) if name and not commands.choices_of(name)]
     if command in WITH_JSON:
-        lines.append("--json writes the answer as values: docs/TOOLS.md")
+        lines.append("--json writes the answer as values, in one line of JSON")
     return "\n".join(lines) + "\nMore: docs/COMMANDS.md#%s\n" % command
 
 
