@@ -330,7 +330,7 @@ class Page(unittest.TestCase):
     def test_programs(self):
         with open(os.path.join(common.TOP, "docs", "PYTHON.md"), encoding="utf-8") as file:
             programs = re.findall(r"^```python\n(.*?)^```\n\n```text\n(.*?)^```", file.read(), re.M | re.S)
-        self.assertEqual(len(programs), 4)
+        self.assertEqual(len(programs), 5)
         for code, wanted in programs:
             done = subprocess.run([sys.executable, "-B", "-c", code], cwd=common.TOP, stdout=subprocess.PIPE,
                                   stderr=subprocess.PIPE, universal_newlines=True, timeout=120,

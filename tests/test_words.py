@@ -31,7 +31,7 @@ def forms():
 
 
 # The words that a companion has after its own, or None of what no user types.
-TOOLS = {word: ((word, "csv"), (word, "skyc")) if word == "export" else ((word,),)
+TOOLS = {word: tuple((word, kind) for kind in completion.FORMATS[word]) if word in completion.FORMATS else ((word,),)
          for word in __main__.COMMANDS if word != "studio_work"}
 
 

@@ -17,7 +17,7 @@ from hemtoghai import program, streams
 
 COMMANDS = {
     **{word: "hemtoghai.commands." + word for word in (
-        "bridge", "convert", "deal", "export", "flown", "fly", "judge", "legs", "library", "picture", "release",
+        "bridge", "convert", "deal", "export", "figures", "flown", "fly", "judge", "legs", "library", "picture", "release",
         "studio", "summary", "why", "without")},
     "import": "hemtoghai.commands.importing",
     "manual": "hemtoghai.launching.manual",

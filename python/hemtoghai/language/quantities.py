@@ -31,6 +31,12 @@ TENTHS = Counts("tenths of a degree", "angle", "deg", {"deg": 1})
 KINDS = {unit: counts.kind for counts in (MICROMETRES, MILLISECONDS, TENTHS) for unit in counts.units}
 
 
+def listed_units(counts: Counts) -> str:
+    """The units of a place, in words."""
+    *others, last = counts.units
+    return ", ".join(others) + " or " * bool(others) + last
+
+
 def number_of(digits: str) -> int:
     """The number of some digits, or FAR where it has more than twelve."""
     digits = digits.lstrip("0") or "0"

@@ -12,7 +12,7 @@ from hemtoghai.__main__ import COMMANDS, WITH_JSON
 from hemtoghai.launching import words as commands
 from hemtoghai.launching.help import PURPOSES
 
-FORMATS = {"export": ("csv", "skyc")}  # words after a tool's own, each with options of its own
+FORMATS = {"export": ("csv", "skyc"), "figures": ("ring", "rows", "turn", "wave")}  # words after a tool's own, each with options of its own
 FRONT = "--help", "--version"  # beside the words
 BEFORE = "--proved", "--unproved"  # before a word
 
@@ -43,7 +43,7 @@ class Found(Exception):
         self.reader = reader
 
 
-def reader_of(call: Callable[[List[str]], int], name: str) -> argparse.ArgumentParser | None:
+def reader_of(call: Callable[[List[str]], int], name: str, words: list[str]) -> argparse.ArgumentParser | None:
     """The reader with which a tool reads its words; None of a tool without one. The tool goes no further."""
     def found(reader: argparse.ArgumentParser, *_: object) -> None:
         raise Found(reader)
@@ -51,7 +51,7 @@ def reader_of(call: Callable[[List[str]], int], name: str) -> argparse.ArgumentP
     companion.set_tool(name)
     setattr(companion.Parser, "parse_args", found)
     try:
-        call([])
+        call(words)
     except Found as it:
         return it.reader
     finally:
@@ -65,9 +65,8 @@ def readers_of(word: str) -> list[argparse.ArgumentParser]:
     if word == "judge":  # which shares nothing with the others, and has no options
         return []
     call: Callable[[List[str]], int] = importlib.import_module(COMMANDS[word]).main
-    calls = [(call, word)] + [(importlib.import_module(f"hemtoghai.exchange.{word}_{it}").main, f"{word} {it}")
-                              for it in FORMATS.get(word, ())]
-    return [reader for it, name in calls if (reader := reader_of(it, name))]
+    calls: List[List[str]] = [[], *([it] for it in FORMATS.get(word, ()))]
+    return [reader for it in calls if (reader := reader_of(call, word, it))]
 
 
 def few_of(number: str) -> list[str]:

@@ -52,6 +52,7 @@ PURPOSES = {
     "why": "where and when drones come too close, and remedies",
     "summary": "room, speeds, jumps of speed, nearest pairs, settings",
     "picture": "the flight as one page for any browser",
+    "figures": "rings, whole circles, helices and waves, as a show",
     "deal": "the show with formations dealt so that ways are short",
     "without": "the show without some of its drones",
     "convert": "the show in the other form of the language",
