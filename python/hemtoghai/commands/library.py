@@ -7,11 +7,14 @@ two other names, lib/pkgconfig/hemtoghai.pc, and MANIFEST.json: version, commit,
 the sources and of the program's, and the last line of the proof of crates/hemtoghai, which lists everything on which it
 rests. `import hemtoghai` takes the library of library/out if the program is of the same sources. Both libraries export
 the names hemtoghai_run and hemtoghai_version, and no other. The command needs the toolchain and a C compiler (the one
-that CC names, or cc) with ld, ar, nm, objcopy and size. If `rt ci` has proved these crates on this machine, only the
-crate itself is proved once more. Else `rt lib` first proves the missing ones, or with --kept nothing is made. The
-library runs on x86-64 with the instructions of x86-64-v2. All files are written, or none; those of library/out are
-overwritten, and those of another FOLDER by --force alone. Status 0: the library is written. 70: it isn't. 75: with
---kept, `rt ci` has kept too little on this machine.
+that CC names, or cc) with ld, ar, nm, objcopy and size.
+
+If `rt ci` has proved these crates on this machine, only the crate itself is proved once more. Else it takes up the
+crates that ./show has proved and built in this checkout, and proves the others and the crate itself; or with --kept
+nothing is made. Each minute a line on standard error says how far that is. What is proved is kept: if the command is
+ended and run again it goes on there. The library runs on x86-64 with the instructions of x86-64-v2. All files are
+written, or none; those of library/out are overwritten, and those of another FOLDER by --force alone. Status 0: the
+library is written. 70: it isn't. 75: with --kept, `rt ci` has kept too little on this machine.
 """
 from __future__ import annotations
 
@@ -24,12 +27,14 @@ import re
 import subprocess
 import sys
 import tempfile
+import time
 from typing import Any, Optional
 
 from hemtoghai import outputs, program
-from hemtoghai.companion import parser, stop
-from hemtoghai.launching import records
+from hemtoghai.companion import many, parser, stop, tool_name
+from hemtoghai.launching import building, records, running
 from hemtoghai.launching.records import git
+from hemtoghai.streams import tell
 
 TOP = program.TOP
 CRATE = "hemtoghai"
@@ -59,6 +64,42 @@ def said(*words: str, place: str = TOP) -> str:
     return text
 
 
+def watched(*words: str, place: str, doing: str, every: float = 60) -> str:
+    """What a command says that may take long. A line tells that it begins, and one each minute how far it is, by its last
+    line. It is ended where this tool is; where it fails the tool ends with all that it said."""
+    tell(tool_name(), doing)
+    begun = told = time.monotonic()
+    process = None
+    with tempfile.TemporaryFile() as log:
+        try:
+            with running.Noted():  # a signal that comes while it is started ends it too
+                process = building.start(list(words), place, stdin=subprocess.DEVNULL, stdout=log,
+                                         stderr=subprocess.STDOUT)
+            while process.poll() is None:
+                time.sleep(min(0.2, every))
+                if time.monotonic() - told >= every:
+                    told = time.monotonic()
+                    last = last_line(os.pread(log.fileno(), 1 << 20, max(0, os.fstat(log.fileno()).st_size - 4096)))
+                    tell(tool_name(), "%s for %s so far%s" % (" ".join(words[:2]), many(round((told - begun) / 60), "minute"),
+                                                              "; " + last if last else ""))
+        except OSError as error:
+            stop("%s: %s" % (words[0], error.strerror))
+        finally:
+            if process:
+                building.end(process)
+        log.seek(0)
+        text = log.read().decode(errors="replace")
+    if process.returncode:
+        stop("%s\n%s failed with status %d" % (text.rstrip("\n"), " ".join(words), process.returncode))
+    return text
+
+
+def last_line(data: bytes) -> str:
+    """The last whole line of what was said, and not the one that is being written."""
+    lines = data.rpartition(b"\n")[0].split(b"\n")
+    return lines[-1].decode(errors="replace").strip()
+
+
 def toolchain() -> str:
     return os.path.dirname(said("rt", "doc").strip())
 
@@ -86,7 +127,7 @@ def over_kept(room: str) -> Optional[tuple[str, str]]:
     kept = rt.Kept(crates)
     for below in crate.below():
         if not kept.give(below, False, kept.key(below)):
-            print("%s isn't kept by rt ci" % below.name, file=sys.stderr)
+            tell(tool_name(), "%s was not proved by `rt ci` on this machine, or has changed since" % below.name)
             return None
         kept.is_built(below)
     archive = os.path.join(crate.folder, "out", ARCHIVE)
@@ -101,6 +142,17 @@ def over_kept(room: str) -> Optional[tuple[str, str]]:
     return archive, text
 
 
+def over_built(place: str) -> tuple[str, str]:
+    """The archive and what its proof says, over the crates that ./show built here; those that it didn't are proved too.
+    `rt check` keeps what it proved function by function, and `rt lib` takes that up."""
+    below = [crate for crate in records.crates_below(CRATE) if crate != CRATE]
+    built = sum(os.path.exists(os.path.join(records.CRATES, crate, building.LIBRARY, "stamp")) for crate in below)
+    watched("rt", "check", place=place, doing="proving crates/%s over %s, of which %d are built here; where they changed "
+            "they are proved first. Some minutes, if all are; ended and run again it goes on" % (
+                CRATE, many(len(below), "crate"), built))
+    return os.path.join(place, "out", ARCHIVE), watched("rt", "lib", place=place, doing="making the archive")
+
+
 def prove(room: str, only_kept: bool = False) -> tuple[str, str]:
     """The archive of the proved crate, and the last line of its proof."""
     place = os.path.join(TOP, "crates", CRATE)
@@ -111,7 +163,7 @@ def prove(room: str, only_kept: bool = False) -> tuple[str, str]:
         made = None
     if made is None and only_kept:
         raise SystemExit(NOT_KEPT)
-    archive, text = made or (os.path.join(place, "out", ARCHIVE), said("rt", "lib", place=place))
+    archive, text = made or over_built(place)
     lines = re.findall(r"^logic=proved .*$", text, re.M)
     if not lines:
         stop("there is no last line of a proof")
@@ -209,6 +261,7 @@ def main(words: list[str]) -> int:
     if os.path.exists(program.MANIFEST):
         stop("this is a release: its library is in library/out")
     refuse(out, version, given.force)
+    running.watch_signals()
     before = stamps()
     files, rests_on = make(version, given.kept)
     if stamps() != before:
