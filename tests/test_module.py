@@ -135,9 +135,32 @@ class Verdicts(Case):
         self.assertEqual((found["status"], found["blocked"][0]["lines"]), (5, [10, 11, 12]))
 
     def test_wrong_calls(self):
-        for depth in (-1, 9):
-            with self.assertRaises(ValueError):
-                hemtoghai.check(CURED, depth)
+        # One kind of error for one kind of mistake: a number that is out of its limits, and what is no text or number.
+        for call, words in ((lambda: hemtoghai.check(CURED, -1), "the depth is 0 to 8, and not -1"),
+                            (lambda: hemtoghai.certify(CURED, 9), "the depth is 0 to 8, and not 9"),
+                            (lambda: hemtoghai.play(CURED, 0), "step_ms is 1 to 60000, and not 0"),
+                            (lambda: hemtoghai.play(CURED, 60001), "step_ms"),
+                            (lambda: hemtoghai.speed(CURED, 0), "limit is 1 to 999999999, and not 0"),
+                            (lambda: hemtoghai.dynamics(CURED, accel=-1), "accel is 0 to"),
+                            (lambda: hemtoghai.dynamics(CURED, jump=10 ** 9), "jump is 0 to")):
+            with self.assertRaises(ValueError) as refused:
+                call()
+            self.assertIn(words, str(refused.exception))
+        for wrong in (None, 5, ["choreo 1"]):
+            for call in (hemtoghai.check, hemtoghai.compile, hemtoghai.play, lambda it: hemtoghai.boxes(CURED, it),
+                         lambda it: hemtoghai.verify(CURED, it), lambda it: hemtoghai.run("check", it)):
+                with self.assertRaises(TypeError) as refused:
+                    call(wrong)
+                self.assertEqual(str(refused.exception), "a text is a str or bytes, and not " + type(wrong).__name__)
+        with self.assertRaises(TypeError):
+            hemtoghai.check(CURED, 6.0)
+
+    def test_limits(self):
+        # They are those of the options of the program.
+        from hemtoghai.launching import words
+        options = {option: number for form in words.FORMS for option, number in words.options_of(form).items() if number}
+        for name, limits in judging.LIMITS.items():
+            self.assertEqual(words.NUMBERS[options["--" + name]], limits, name)
 
     def test_any_command(self):
         verdict = hemtoghai.run("check --depth 4", CROSSING)

@@ -225,7 +225,25 @@ def cautions_of(text: bytes) -> tuple[Caution, ...]:
 
 def bytes_of(text: Text) -> bytes:
     """The bytes of a text; raises TypeError where it is neither a text nor bytes."""
-    return text.encode("utf-8", "surrogateescape") if isinstance(text, str) else bytes(memoryview(text))
+    if isinstance(text, str):
+        return text.encode("utf-8", "surrogateescape")
+    try:
+        return bytes(memoryview(text))
+    except TypeError:
+        raise TypeError("a text is a str or bytes, and not %s" % type(text).__name__) from None
+
+
+# The least and the greatest number of each parameter, as docs/COMMANDS.md has those of the options.
+LIMITS = {"depth": (0, 8), "step": (1, 60000), "limit": (1, 999999999), "accel": (0, 999999999), "jump": (0, 999999999)}
+
+
+def within(name: str, number: int) -> int:
+    """A number of a parameter; raises TypeError where it is none, and ValueError where it is out of its limits."""
+    (least, most), whole = LIMITS[name], operator.index(number)
+    if not least <= whole <= most:
+        raise ValueError("%s is %d to %d, and not %d" % (
+            {"depth": "the depth", "step": "step_ms"}.get(name, name), least, most, whole))
+    return whole
 
 
 def verdict_of(words: list[str], show: bytes, whole: bytes, depth: int = DEPTH) -> Verdict:
@@ -239,11 +257,9 @@ def verdict_of(words: list[str], show: bytes, whole: bytes, depth: int = DEPTH) 
 
 def asked(command: str, text: Text, depth: int, second: Text = b"", **options: Optional[int]) -> Verdict:
     """The same of a command with a depth and the options that are given, over a show and maybe a second text."""
-    if not 0 <= operator.index(depth) <= 8:
-        raise ValueError("the depth is 0 to 8, not %r" % depth)
-    show, words = bytes_of(text), [command, "--depth", "%d" % depth]
+    show, words = bytes_of(text), [command, "--depth", "%d" % within("depth", depth)]
     for word, number in options.items():
-        words += [] if number is None else ["--" + word, "%d" % operator.index(number)]
+        words += [] if number is None else ["--" + word, "%d" % within(word, number)]
     return verdict_of(words, show, texts.joined(show, bytes_of(second)) if command == "boxes" else show, depth)
 
 
