@@ -87,14 +87,18 @@ class Forms(Case):
 
     def test_one_place(self):
         # Two that begin in one place: what --starts is. With it, and where they begin apart, nothing is said.
-        zero, away = "2," + ",".join(["0"] * 32) + "\n", "2,1," + ",".join(["0"] * 31) + "\n"
+        zero = "2," + ",".join(["0"] * 32) + "\n"
         names = [self.file("a.csv", zero), self.file("b.csv", zero)]
         said = self.body(*names)[1]
         self.assertIn("all 2 drones begin in one place", said)
         self.assertIn("--starts FILE adds it", said)
         starts = self.file("starts.csv", "a,0,0,1\nb,1,0,1\n")
-        for words in (["--starts", starts, *names], names[:1], [names[0], self.file("c.csv", away)]):
+        high = "2," + ",".join(["1"] + ["0"] * 15 + ["1"] + ["0"] * 15) + "\n"  # from (1, 0, 1)
+        for words in (["--starts", starts, *names], [self.file("c.csv", high)]):
             self.assertNotIn("--starts", self.body(*words)[1])
+        # One at z 0, and one of two: that it is on the floor.
+        for words in (names[:1], [names[0], self.file("d.csv", high)]):
+            self.assertIn("a begins at z 0, on the floor", self.body(*words)[1])
 
 
 class Bound(Case):

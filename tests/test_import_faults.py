@@ -123,8 +123,7 @@ class Faults(Case):
     def test_files(self):
         self.file("b.csv", DURATION)
         os.mkdir(self.file("c"))
-        again = self.file("c/b.csv", DURATION)
-        self.assertIn("two drones have the name 'b'", self.refused(self.file("b.csv"), again))
+        self.assertIn("two drones have the name 'b'", self.refused(self.file("b.csv"), self.file("b.csv")))
         for starts, words in (("a,0,0,0\n", "no place for b"), ("b,0,0\n", "name,x,y,z"), ("b,0,0,0\nc,0,0,0\n", "'c'"),
                               ("b,0,x,0\n", "'x' is no number"), ("b,0,0,0\nb,0,0,0\n", "once")):
             self.assertIn(words, self.refused("--starts", self.file("starts", starts), self.file("b.csv")))

@@ -1,6 +1,6 @@
-"""Writes the trajectories of a plan as files of other programs.
+"""Writes the trajectories of a plan or a show as files of other programs.
 
-    ./show export csv PLAN FOLDER                            Crazyswarm2 and uav_trajectories: NAME.csv a drone
+    ./show export csv PLAN|SHOW FOLDER                       Crazyswarm2 and uav_trajectories: NAME.csv a drone
     ./show export skyc [--tolerance MM] PLAN|SHOW OUT.skyc   Skybrush
 
 Each format says more: ./show export csv --help. Status 0: written. 2: wrong words. 3, 4, 5: the show is refused with

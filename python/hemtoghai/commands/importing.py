@@ -238,7 +238,8 @@ def options_of(words: list[str]) -> argparse.Namespace:
     reader.add_argument("--form", type=int, choices=sorted(choreo.FORMS.values()), default=NEWEST,
                         help="the form of the language: 2, with units, or 1, in whole numbers; without it 2")
     reader.add_argument("--starts", metavar="FILE",
-                        help="a CSV file with name,x,y,z a row (metres), added to polynomials")
+                        help="a CSV file with name,x,y,z a row (metres), added to polynomials; or Crazyswarm2's "
+                             "crazyflies.yaml, whose robots are called as the files")
     reader.add_argument("--comparisons", type=numbers((1, 99999999)), default=COMPARISONS, metavar="N",
                         help="comparisons of pieces with curves after which the search for cues ends; without it %d"
                              % COMPARISONS)
@@ -301,11 +302,17 @@ def say_left_out(options: argparse.Namespace, paths: Paths) -> None:
     for what, count in options.left_out.items():
         say("LEFT OUT: %s, of %s%s" % (what, many(count, "drone"), (
             "; drones turn by the setpoints alone, which the file may not mean" if what == foreign.AUTOMATIC else "")))
+    if options.skyc or options.waypoints or options.smooth:
+        return
     firsts = [[row[0] for row in path.pieces[0][2][:3]] for path in paths]
-    if not (options.skyc or options.waypoints or options.smooth or options.starts) and len(paths) > 1 and all(
+    adds = "--starts FILE adds it, by a row name,x,y,z in metres for each file, or as Crazyswarm2's crazyflies.yaml"
+    if not options.starts and len(paths) > 1 and all(
             max(column) - min(column) <= 1000 for column in zip(*firsts)):  # within a millimetre
-        say("all %d drones begin in one place: polynomials may count from each drone's start. --starts FILE adds it, "
-            "by a row name,x,y,z in metres for each file" % len(paths))
+        say("all %d drones begin in one place: polynomials may count from each drone's start. %s" % (len(paths), adds))
+    elif low := [path.name for path, place in zip(paths, firsts) if abs(place[2]) <= 1000]:
+        say("%s at z 0, on the floor: polynomials may count from where the drone hovers, %s" % (
+            "%s begins" % low[0] if len(low) == 1 else "%d drones begin" % len(low),
+            "and these places are on the floor: give their heights" if options.starts else "in x, y and z. " + adds))
 
 
 def head_of(options: argparse.Namespace, bound: Fraction, turned: Fraction, factor: Fraction, large: Axes) -> list[str]:

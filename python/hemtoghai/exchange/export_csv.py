@@ -1,21 +1,22 @@
-"""Writes a plan's trajectories as CSV files that Crazyswarm2 and the uav_trajectories tools read: one a drone,
-NAME.csv.
+"""Writes the trajectories of a plan or a show as CSV files that Crazyswarm2 and the uav_trajectories tools read: one a
+drone, NAME.csv.
 
-    ./show export csv PLAN FOLDER
+    ./show export csv PLAN|SHOW FOLDER
 
-Each line after the head is a segment: its duration in seconds, then for x, y, z (metres) and yaw (radians) the
+A show is compiled by the proved program first, and isn't written where that refuses it. Each line after the head is a segment: its duration in seconds, then for x, y, z (metres) and yaw (radians) the
 coefficients of t^0 to t^7, t in seconds from the segment's begin. They are worked out in whole numbers and then
 rounded to doubles; how far the rounded polynomial may leave the exact curve is written for each drone. The evaluation
-in doubles or floats comes on top. Nothing is proved of these files. Status 0: all files are written. 70: a file can't
-be read or written, or isn't a plan.
+in doubles or floats comes on top. Nothing is proved of these files. Status 0: all files are written. 3, 4, 5: a show
+that is refused so. 70: a file can't be read or written, or isn't a plan.
 """
 from __future__ import annotations
 
 import os
 from fractions import Fraction
 
-from hemtoghai import outputs, texts
-from hemtoghai.companion import decoded, many, parser, plan_in, read_file, stop
+from hemtoghai import outputs
+from hemtoghai.companion import decoded, many, parser, stop
+from hemtoghai.exchange.plans import drones_of
 from hemtoghai.geometry.curves import powers
 from hemtoghai.geometry.paths import PI
 from hemtoghai.language.choreo import Row, Segment
@@ -50,10 +51,10 @@ def lines_of(segments: list[Segment]) -> tuple[list[str], Fraction, Fraction]:
 def main(words: list[str]) -> int:
     reader = parser(__doc__)
     outputs.add_force(reader)
-    reader.add_argument("plan", metavar="PLAN", help="a file with what ./show compile wrote, or - for standard input")
+    reader.add_argument("plan", metavar="PLAN|SHOW", help="what ./show compile wrote, or a show; - for standard input")
     reader.add_argument("folder", metavar="FOLDER", help="where the files go; it is made where it isn't there")
     options = reader.parse_args(words)
-    drones = plan_in(read_file(options.plan, texts.PLAN), options.plan)
+    drones = drones_of(options.plan)
     outputs.refuse((os.path.join(options.folder, name + ".csv") for name, _, _ in drones), options.force,
                    [options.plan])
     files, said = {}, []

@@ -21,8 +21,9 @@ from collections.abc import Sequence
 from fractions import Fraction
 from typing import Any, List
 
-from hemtoghai import outputs, program, texts
-from hemtoghai.companion import decoded, many, parser, plan_in, read_file, stop, value
+from hemtoghai import outputs
+from hemtoghai.companion import decoded, many, parser, stop, value
+from hemtoghai.exchange.plans import drones_of
 from hemtoghai.geometry import paths
 from hemtoghai.language.choreo import Segment
 from hemtoghai.streams import shown
@@ -100,19 +101,6 @@ def drone_of(name: str, start: Sequence[int], segments: list[Segment],
                 "trajectory": {"version": 1, "points": points, "takeoffTime": 0}, "lights": {"version": 1, "data": ""},
                 "yawControl": {"version": 1, "setpoints": yaws, "autoYaw": False}}
     return {"type": "generic", "settings": settings}, len(points) - 1, worst, turned
-
-
-def drones_of(path: str) -> list[tuple[str, bytes, int]]:
-    """The drones of a plan, or of a show, which the program compiles: names, bytes and numbers of segments."""
-    text = read_file(path, texts.PLAN)
-    if not text.startswith(b"plan 1"):
-        try:
-            status, text = program.ask(["compile"], text)
-        except program.Unusable as why:
-            return stop("the show can't be compiled: %s" % why)
-        if status:
-            stop("%s: %s" % (path, text.decode(errors="replace").strip()), status)
-    return plan_in(text, path)
 
 
 def amount(word: str) -> Fraction:

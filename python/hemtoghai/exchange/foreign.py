@@ -487,7 +487,9 @@ def joined(points: list[Timed], smooth: bool) -> list[Piece]:
 
 
 def read_starts(path: str) -> dict[str, Row]:
-    """Places in micrometres by names, from name,x,y,z a row, in metres."""
+    """Places in micrometres by names, from name,x,y,z a row, in metres; or those of Crazyswarm2's list of robots."""
+    if path.lower().endswith(FLEET):
+        return read_fleet(path)
     out: dict[str, Row] = {}
     counter = Counter(NUMBERS)
     for line, cells in Table(limited(path)).rows:
@@ -497,24 +499,88 @@ def read_starts(path: str) -> dict[str, Row]:
     return out
 
 
+FLEET = (".yaml", ".yml")  # how the name of Crazyswarm2's list of robots ends
+LIST = re.compile(r"\[([^]]*)\]")
+
+
+def fleet_rows(text: str) -> Iterator[tuple[int, str, str, str]]:
+    """Of Crazyswarm2's crazyflies.yaml what stands below `robots`: the line, the robot, a key of it and its value. Values
+    over several lines, as a list with a line an item, are put together."""
+    robots, names, name, key, value, begun = -1, -1, "", "", "", 0
+    for number, whole in enumerate([*text.splitlines(), "end:"], 1):
+        line = re.sub(r"(^|\s)#.*", "", whole).rstrip()
+        indent = len(line) - len(line.lstrip(" "))
+        word, colon, rest = line.strip().partition(":")
+        if not word and not colon:
+            continue
+        if line[indent] == "\t":
+            raise Unreadable("line %d: a tab, which YAML doesn't allow there" % number)
+        if key and (word.startswith("-") or not colon):
+            value += "," * (value != "") + line.strip().lstrip("- ")
+            continue
+        if key:
+            yield begun, name, key, value if LIST.fullmatch(value) or "," not in value else "[%s]" % value
+            key = ""
+        if robots >= 0 and indent <= robots:
+            robots = -1
+        if robots < 0:
+            robots, names = (indent, -1) if line.strip() == "robots:" else (-1, -1)
+        elif names < 0 or indent == names:
+            names, name = indent, word.strip("'\"")
+        else:
+            key, value, begun = word, rest.strip(), number
+
+
+def read_fleet(path: str) -> dict[str, Row]:
+    """The first places in micrometres by robot, of Crazyswarm2's crazyflies.yaml; without those that aren't enabled."""
+    out: dict[str, Row] = {}
+    off: set[str] = set()
+    counter = Counter(NUMBERS)
+    for number, name, key, value in fleet_rows(limited(path).decode("utf-8", "replace")):
+        if key == "enabled" and value.lower() == "false":
+            off.add(name)
+        if key == "initial_position":
+            found = LIST.fullmatch(value)
+            cells = [cell.strip() for cell in found[1].split(",")] if found else []
+            if len(cells) != 3:
+                raise Unreadable("line %d: initial_position of %.40s is x, y and z, as [0.0, 0.5, 0.0]" % (number, name))
+            out[name] = counter.numbers(number, cells, [6] * 3)
+    if not out:
+        raise Unreadable("no robot has an initial_position below `robots`")
+    return {name: place for name, place in out.items() if name not in off}
+
+
 def is_archive(data: bytes) -> bool:
     return data[:2] == b"PK"
 
 
-def members_of(path: str) -> list[tuple[str, str, bytes]]:
-    """The CSV files that a path leads to, as (where, stem, bytes): itself, or those of a zip."""
+def members_of(path: str, stem: str) -> list[tuple[str, str, bytes]]:
+    """The CSV files that a path leads to, as (where, stem, bytes): itself, under this stem, or those of a zip."""
     data = limited(path)
     if not is_archive(data):
-        return [(path, stem_of(path), data)]
+        return [(path, stem, data)]
     archive = Archive(data)
     names = [name for name in sorted(archive.names()) if name.lower().endswith(".csv")]
     if not names:
         raise Unreadable("%s: a zip without a CSV file, and without a show.json" % path)
-    return [("%s, %.60s" % (path, name), stem_of(name), archive.data(name)) for name in names]
+    return [("%s, %.60s" % (path, name), stem, archive.data(name)) for name, stem in zip(names, stems_of(names))]
 
 
 def stem_of(path: str) -> str:
     return posixpath.splitext(posixpath.basename(path))[0]
+
+
+def stems_of(files: Sequence[str]) -> list[str]:
+    """The names of files without their endings; of those that have one name, the names of their folders."""
+    stems = [stem_of(path) for path in files]
+    folders = [posixpath.basename(posixpath.dirname(posixpath.abspath(path))) for path in files]
+    out = list(stems)
+    for stem in set(stems):
+        own = [k for k, it in enumerate(stems) if it == stem]
+        if len(own) > 1 and len({folders[k] for k in own}) == len(own):
+            for k in own:
+                out[k] = folders[k] or stem
+    return out
 
 
 def read_csv(files: Sequence[str], waypoints: bool, smooth: bool = False,
@@ -533,16 +599,17 @@ def read_csv(files: Sequence[str], waypoints: bool, smooth: bool = False,
         if places is not None and stem not in places:
             raise Unreadable("the file of --starts has no place for %.40s" % stem)
         return {stem: read_polynomials(table, (places or {}).get(stem, [Fraction(0)] * 3), counter)}
-    for where, stem, data in (member for path in files for member in members_of(path)):
+    members = (member for path, stem in zip(files, stems_of(files)) for member in members_of(path, stem))
+    for where, stem, data in members:
         try:
             cells.take(data.count(b",") + data.count(b";") + data.count(b"\t"))
             for word, pieces in paths_in(data, stem).items():
                 if word in found:
-                    raise Unreadable("two drones have the name %.40r" % word)
+                    raise Unreadable("two drones have the name %.40r: name the files or their folders otherwise" % word)
                 found[word] = checked(name_of(word, taken), pieces)
                 limit_drones(len(found))
         except Unreadable as error:
             raise Unreadable("%s: %s" % (where, error))
-    if lost := [word for word in places or () if word not in found]:
+    if not (starts or "").lower().endswith(FLEET) and (lost := [word for word in places or () if word not in found]):
         raise Unreadable("%s: no file is called %.40r" % (starts, lost[0]))
     return list(found.values())
