@@ -361,6 +361,25 @@ class Page(unittest.TestCase):
             self.assertEqual((done.returncode, done.stdout, done.stderr), (0, wanted, ""), code)
 
 
+    def test_names(self):
+        """All public names and members are in the page, each with its cost."""
+        with open(os.path.join(common.TOP, "docs", "PYTHON.md"), encoding="utf-8") as file:
+            page = file.read()
+        part = page[page.index("## The calls"):]
+        for name in hemtoghai.__all__:
+            kind = getattr(hemtoghai, name)
+            row = re.search(r"^\| `%s\b.*$" % name, part, re.M)
+            self.assertTrue(row, name)
+            is_value = isinstance(kind, type) and not issubclass(kind, Exception)
+            found = {*getattr(kind, "__annotations__", {}), *vars(kind)} if is_value else set()
+            for member in sorted(it for it in found if not it.startswith("_")):
+                self.assertRegex(row[0], r"`%s\b" % member, name)
+        self.assertIn("`hemtoghai.__version__`", part)
+        rows = re.findall(r"^\| `([a-z]+)\(.*?\)` \| .* \| (.+) \|$", part, re.M)
+        self.assertEqual([name for name, _ in rows], [
+            "check", "compile", "certify", "verify", "play", "report", "dynamics", "speed", "boxes", "run"])
+
+
 class Package(unittest.TestCase):
     def said(self, *words):
         """What Python says where the package is on its path."""
