@@ -30,6 +30,7 @@ pub mod DepthRows
 pub mod GridRows
 pub mod BlockedRows
 pub mod CalledRows
+pub mod RunRows
 pub mod RadiusCoefficients
 pub mod RadiusHalves
 pub mod Radii

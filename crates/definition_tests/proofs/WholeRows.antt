@@ -7,7 +7,7 @@ use Rattle.definition_tests.specs.Wholes.{FlyAsOneRows, no_text}
 use Rattle.definition_tests.proofs.LandedRows.{touch}
 use Rattle.definition_tests.proofs.StandsRows.{begins_so}
 
-no_show : (s : PlainShow) → StandsFor no_text s → ⊥
+pub no_show : (s : PlainShow) → StandsFor no_text s → ⊥
 no_show s is = let letters : ◌≡◌ {A = ℕ} 108 99 = begins_so no_text s is in omega (arith, letters)
 
 pub wholes : FlyAsOneRows

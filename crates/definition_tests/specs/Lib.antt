@@ -27,4 +27,5 @@ pub mod Depths
 pub mod Grids
 pub mod Blocked
 pub mod Called
+pub mod Runs
 pub mod Radius

@@ -27,6 +27,7 @@ ghost use Rattle.definition_tests.specs.Radius.{RadiusLaw};
 ghost use Rattle.definition_tests.specs.Ranges.{NameRows, NumberRows, SettingRows};
 ghost use Rattle.definition_tests.specs.Regions.{RegionRows};
 ghost use Rattle.definition_tests.specs.Rights.{RightRows};
+ghost use Rattle.definition_tests.specs.Runs.{BegunRows, BehavesRows, OutcomeRows, RunsRows, SaysRows, TakenRows, VerbRows};
 ghost use Rattle.definition_tests.specs.Shapes.{FigureRows, FilledRows, NestingRows};
 ghost use Rattle.definition_tests.specs.Shows.{CueRows, PlanRows, WholeRows};
 ghost use Rattle.definition_tests.specs.Stands.{StandsRows};
@@ -401,6 +402,50 @@ pub fn blocked_rows()
 #[tactic(auto, using(crate::proofs::CalledRows::called))]
 pub fn called_rows()
     ensures { CalledRows }
+{}
+
+/// A law. What is taken and given is the front of what there was, and a count of faults rises by a fault.
+#[tactic(auto, using(crate::proofs::RunRows::taken))]
+pub fn taken_rows()
+    ensures { TakenRows }
+{}
+
+/// A law. An upload begins with a packet, and a flight with what is neither an end nor a cause.
+#[tactic(auto, using(crate::proofs::RunRows::begun))]
+pub fn begun_rows()
+    ensures { BegunRows }
+{}
+
+/// A law. A command that judges nothing has one outcome; a text that is no show's has none that is safe.
+#[tactic(auto, using(crate::proofs::RunRows::outcomes))]
+pub fn outcome_rows()
+    ensures { OutcomeRows }
+{}
+
+/// A law. A command with two outcomes, with none, or whose promise or shortest statement doesn't hold keeps no rules.
+#[tactic(auto, using(crate::proofs::RunRows::verbs))]
+pub fn verb_rows()
+    ensures { VerbRows }
+{}
+
+/// A law. Small runs, and what each clause on a run refuses of them.
+#[tactic(auto, using(crate::proofs::RunRows::runs))]
+pub fn runs_rows()
+    ensures { RunsRows }
+{}
+
+/// A law. A run reads as little as it should, ends with 0 where its input lacks nothing, and keeps what its command
+/// says besides.
+#[tactic(auto, using(crate::proofs::RunRows::behaves))]
+pub fn behaves_rows()
+    ensures { BehavesRows }
+{}
+
+/// A law. What status 0 says isn't said of a text that is no show's, of drones that touch or are faster, or where
+/// nothing was written.
+#[tactic(auto, using(crate::proofs::RunRows::says_of))]
+pub fn says_rows()
+    ensures { SaysRows }
 {}
 
 /// A law. At every instant `arc` is 1 to 1.00028 radii away from its centre, `swing` 0.99906 to 1.00094, and `arc_in`
