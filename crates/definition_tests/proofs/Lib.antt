@@ -31,6 +31,7 @@ pub mod GridRows
 pub mod BlockedRows
 pub mod CalledRows
 pub mod RunRows
+pub mod OptionRows
 pub mod RadiusCoefficients
 pub mod RadiusHalves
 pub mod Radii

@@ -28,4 +28,5 @@ pub mod Grids
 pub mod Blocked
 pub mod Called
 pub mod Runs
+pub mod Options
 pub mod Radius

@@ -22,6 +22,7 @@ ghost use Rattle.definition_tests.specs.Motion.{AccelerationRows, GreatestRows, 
 ghost use Rattle.definition_tests.specs.Halves.{HalfRows};
 ghost use Rattle.definition_tests.specs.Meetings.{ExplainRows, MeetRows};
 ghost use Rattle.definition_tests.specs.Near.{ShowRows};
+ghost use Rattle.definition_tests.specs.Options.{OptionRows};
 ghost use Rattle.definition_tests.specs.Pairs.{BothReadRows, PairRows, UploadsRows};
 ghost use Rattle.definition_tests.specs.Radius.{RadiusLaw};
 ghost use Rattle.definition_tests.specs.Ranges.{NameRows, NumberRows, SettingRows};
@@ -446,6 +447,12 @@ pub fn behaves_rows()
 #[tactic(auto, using(crate::proofs::RunRows::says_of))]
 pub fn says_rows()
     ensures { SaysRows }
+{}
+
+/// A law. Each option takes both ends of its range, and nothing beyond.
+#[tactic(auto, using(crate::proofs::OptionRows::options))]
+pub fn option_rows()
+    ensures { OptionRows }
 {}
 
 /// A law. At every instant `arc` is 1 to 1.00028 radii away from its centre, `swing` 0.99906 to 1.00094, and `arc_in`
