@@ -22,6 +22,11 @@ def module_of(folder: str, name: str) -> Any:
 
 
 class Faults(unittest.TestCase):
+    held: Any
+    reached: List[Tuple[str, str, str]]
+    rows: Any
+    named: Held
+
     @classmethod
     def setUpClass(cls) -> None:
         cls.held = module_of(".ci", "held")

@@ -52,9 +52,9 @@ front (x ∷ y ∷ zs) same = let e : 1 ≡ length (x ∷ y ∷ (zs ++ 2 ∷ [])
 
 other_front : AppendsFront (Some []) (Some (8 ∷ [])) (7 ∷ 8 ∷ []) → ⊥
 other_front is =
-    let sent : 8 ∷ [] ≡ is.0 = is.1.1.1 in
-    let whole : 7 ∷ 8 ∷ [] ≡ (8 ∷ []) ++ is.1.0 = is.1.1.0 ∙ ap (λ (bytes : List ℕ). bytes ++ is.1.0) (sym sent) in
-    let e : ◌≡◌ {A = ℕ} 7 8 = first (7 ∷ 8 ∷ []) (8 ∷ is.1.0) whole in omega (arith, e)
+    let sent : 8 ∷ [] ≡ is.0 = is.3 in
+    let whole : 7 ∷ 8 ∷ [] ≡ (8 ∷ []) ++ is.1 = is.2 ∙ ap (λ (bytes : List ℕ). bytes ++ is.1) (sym sent) in
+    let e : ◌≡◌ {A = ℕ} 7 8 = first (7 ∷ 8 ∷ []) (8 ∷ is.1) whole in omega (arith, e)
 
 pub taken : TakenRows
 taken = record {
@@ -66,7 +66,7 @@ taken = record {
   took_another = λ is. front is.0 is.1;
   took_two = omega arith;
   took_more = λ is. let e : 2 ≤ 1 = is in omega (arith, e);
-  wrote_front = (7 ∷ [], (8 ∷ [], (refl, refl)));
+  wrote_front = (7 ∷ [], 8 ∷ [], refl, refl);
   wrote_another = other_front;
   gave = record { bytes = 2 ∷ []; given = refl; left = tt; at_end = λ old new. tt; later = omega arith };
   gave_another = λ is. let e : ◌≡◌ {A = ℕ} 2 1 = first (2 ∷ []) (1 ∷ is.bytes) is.given in omega (arith, e);
@@ -88,13 +88,13 @@ byte_is (b ∷ before) later bytes byte old new = let e : Some [] ≡ Some (b �
 
 pub begun : BegunRows
 begun = record {
-  packet = (7 ∷ [], (1 ∷ [], (refl, refl)));
-  upload_ends = λ is. let e : ◌≡◌ {A = ℕ} 69 80 = byte_is is.0 is.1.0 (69 ∷ 9 ∷ []) 80 is.1.1.0 is.1.1.1 in omega (arith, e);
-  nothing = λ is. nothing_begun is.0 is.1.0 80 is.1.1.0 is.1.1.1;
-  order = (7 ∷ [], (0 ∷ [], (1, (refl, (refl, ((λ e. omega (arith, e)), (λ e. omega (arith, e))))))));
-  flight_ends = λ is. let e : 69 ≡ is.1.1.0 = byte_is is.0 is.1.0 (69 ∷ 9 ∷ []) is.1.1.0 is.1.1.1.0 is.1.1.1.1.0 in is.1.1.1.1.1.0 (sym e);
-  no_flight = λ is. let e : 5 ≡ is.1.1.0 = byte_is is.0 is.1.0 (5 ∷ 1 ∷ []) is.1.1.0 is.1.1.1.0 is.1.1.1.1.0 in is.1.1.1.1.1.1 (sym e);
-  nobody = λ is. nothing_begun is.0 is.1.0 is.1.1.0 is.1.1.1.0 is.1.1.1.1.0;
+  packet = (7 ∷ [], 1 ∷ [], refl, refl);
+  upload_ends = λ is. let e : ◌≡◌ {A = ℕ} 69 80 = byte_is is.0 is.1 (69 ∷ 9 ∷ []) 80 is.2 is.3 in omega (arith, e);
+  nothing = λ is. nothing_begun is.0 is.1 80 is.2 is.3;
+  order = (7 ∷ [], 0 ∷ [], 1, refl, refl, (λ e. omega (arith, e)), (λ e. omega (arith, e)));
+  flight_ends = λ is. let e : 69 ≡ is.2 = byte_is is.0 is.1 (69 ∷ 9 ∷ []) is.2 is.3 is.4 in is.5 (sym e);
+  no_flight = λ is. let e : 5 ≡ is.2 = byte_is is.0 is.1 (5 ∷ 1 ∷ []) is.2 is.3 is.4 in is.6 (sym e);
+  nobody = λ is. nothing_begun is.0 is.1 is.2 is.3 is.4;
 }
 
 other_output : outcome 0 [] ≡ outcome 0 (7 ∷ []) → ⊥
@@ -151,10 +151,10 @@ verbs = record {
 says_eight : (output : List ℕ) → IsOutput says (run_of (Some []) (Some []) 0 0 (Some []) (Some (8 ∷ [])) 0 1) output →
     AppendsFront (Some []) (Some (8 ∷ [])) output → ⊥
 says_eight output (inl is) sent =
-    let of : output ≡ 7 ∷ [] = is.1.1 ∙ ap (λ (o : Outcome). o.output) is.1.0 in
-    let eight : 8 ∷ [] ≡ sent.0 = sent.1.1.1 in
-    let whole : 7 ∷ [] ≡ (8 ∷ []) ++ sent.1.0 = sym of ∙ sent.1.1.0 ∙ ap (λ (bytes : List ℕ). bytes ++ sent.1.0) (sym eight) in
-    let e : ◌≡◌ {A = ℕ} 7 8 = first (7 ∷ []) (8 ∷ sent.1.0) whole in omega (arith, e)
+    let of : output ≡ 7 ∷ [] = is.2 ∙ ap (λ (o : Outcome). o.output) is.1 in
+    let eight : 8 ∷ [] ≡ sent.0 = sent.3 in
+    let whole : 7 ∷ [] ≡ (8 ∷ []) ++ sent.1 = sym of ∙ sent.2 ∙ ap (λ (bytes : List ℕ). bytes ++ sent.1) (sym eight) in
+    let e : ◌≡◌ {A = ℕ} 7 8 = first (7 ∷ []) (8 ∷ sent.1) whole in omega (arith, e)
 says_eight output (inr is) sent = not_rose 0 (omega arith) is.0
 
 -- what judges nothing ends with 0 and its byte, or with 7
@@ -162,7 +162,7 @@ always_says : (status : ℕ) (output : List ℕ) → status ≤ 6 → (status �
 always_says status output low (inl is) = absurd (omega (arith, low, is))
 always_says status output low (inr is) = is
 
-no_byte : [] ≡ 7 ∷ [] → ⊥
+no_byte : ◌≡◌ {A = List ℕ} [] (7 ∷ []) → ⊥
 no_byte same = let e : ◌≡◌ {A = ℕ} 0 7 = first [] (7 ∷ []) same in omega (arith, e)
 
 -- a status that no command has is none of the list
@@ -171,7 +171,7 @@ unlisted : (status : ℕ) → Contains (0 ∷ 1 ∷ 3 ∷ 4 ∷ 5 ∷ 6 ∷ 7 �
 unlisted status is others = grind (arith, common_steps, is, others)
 
 -- what a command that judges nothing writes
-lines_of : Judges → List ℕ
+abbrev lines_of : Judges → List ℕ
 lines_of (nothing output) = output
 lines_of the_input = []
 lines_of (own_text text) = []
@@ -180,9 +180,9 @@ pub runs : RunsRows
 unfolding part_of rest_of
 runs = record {
   lines = record {
-    outcome = λ judged. (outcome 0 (7 ∷ []), (refl, (refl, refl)));
+    outcome = λ judged. (outcome 0 (7 ∷ []), refl, refl, refl);
     exact = λ none o is. inl (sym (ap (λ (it : Outcome). it.status) is), sym (ap (λ (it : Outcome). it.output) is));
-    safe = λ zero. (outcome 0 (7 ∷ []), (refl, refl));
+    safe = λ zero. (outcome 0 (7 ∷ []), refl, refl);
     whole = λ zero all. refl;
     one = λ e. absurd (omega (arith, e));
     always = λ output is. inr (refl, ap lines_of is);
@@ -191,7 +191,7 @@ runs = record {
     seven = λ e. absurd (omega (arith, e));
     prompt = λ e. tt;
     unread = λ none. (refl, refl);
-    known = (0, (omega arith, refl));
+    known = (0, omega arith, refl);
     taken = ([], refl);
     reads_later = omega arith;
     writes_later = omega arith;
@@ -199,17 +199,17 @@ runs = record {
   unwritten = λ is. no_byte (always_says 0 [] (omega arith) (is.always (7 ∷ []) refl)).1;
   other_status = λ is.
       let both = always_says 3 (7 ∷ []) (omega arith) (is.always (7 ∷ []) refl) in let e : ◌≡◌ {A = ℕ} 3 0 = both.0 in omega (arith, e);
-  no_show = λ is. let safe = is.safe refl in no_show safe.1.0.s safe.1.0.stands;
+  no_show = λ is. let safe = is.safe refl in no_show safe.1.s safe.1.stands;
   left = λ is. let e : Some (10 ∷ []) ≡ Some [] = is.whole refl refl in absurd (cc);
   wrote = λ is. let e : Some (7 ∷ []) ≡ Some [] = (is.one refl).0 in absurd (cc);
   read_well = λ is. not_rose 0 (omega arith) (is.six refl).0;
   unstopped = λ is.
       let stopped = is.stopped refl in
-      let line : stopped.0 ≡ read_line = stopped.1.0.1.1.1.1 in
-      let none : [] ≡ stopped.0 = stopped.1.1 in
+      let line : stopped.0 ≡ read_line = stopped.1.4 in
+      let none : [] ≡ stopped.0 = stopped.2 in
       let e : ◌≡◌ {A = ℕ} 0 101 = first [] read_line (none ∙ line) in omega (arith, e);
   wrote_well = λ is. not_rose 0 (omega arith) (is.seven refl).0;
-  cut = λ is. let seven = (is.seven refl).1 in says_eight seven.0 seven.1.0 seven.1.1;
+  cut = λ is. let seven = is.seven refl in says_eight seven.1 seven.2 (seven.3, seven.4, seven.5, seven.6);
   late = λ is. is.prompt refl;
   read = λ is. let e : Some [] ≡ Some (1 ∷ []) = (is.unread refl).0 in absurd (cc);
   usage = λ is. unlisted 2 is.known (inl refl);
