@@ -307,12 +307,13 @@ fn said_aside(alloc: Global, x: i16, ms: u32) -> Result<usize, AllocError> {
     hear_both(&mut d, 0, 0, false, true, &mut all)?;
     say(&mut d, Signal::Go, &mut all)?;
     hear_both(&mut d, 0, 0, true, true, &mut all)?;
+    half(&mut d, 0, 71, true, false, &mut all)?;
+    half(&mut d, 0, 500, true, false, &mut all)?;
     all.clear();
     let aside = Event::Seen {
         drone: 0,
         sample: sample(x, 0, 500, true, false),
     };
-    hear(&mut d, Event::Clock { ms: 1000 }, &mut all)?;
     hear(&mut d, aside, &mut all)?;
     hear(&mut d, Event::Clock { ms }, &mut all)?;
     hear(&mut d, aside, &mut all)?;
