@@ -112,7 +112,7 @@ fn three_milliseconds(rt: HostRuntime) -> Result<(), Fail> {
 }
 
 // A hold and a curve.
-const JOINED: &[Segment] = &[
+const JOINED: [Segment; 2] = [
     Segment {
         ms: 400,
         elements: [Element::Constant; 4],
@@ -131,7 +131,7 @@ const JOINED: &[Segment] = &[
 ];
 
 // Three segments that last as long together.
-const APART: &[Segment] = &[
+const APART: [Segment; 3] = [
     Segment {
         ms: 200,
         elements: [
@@ -173,9 +173,9 @@ fn drones_have_their_own_segments(rt: HostRuntime) -> Result<(), Fail> {
     let alloc = rt.alloc();
     let names = [name_of(b"a"), name_of(b"b"), name_of(b"c")];
     let trajs = [
-        traj(alloc, [0, 0, 1000, 0], JOINED)?,
-        traj(alloc, [-5, 0, 1000, 1], APART)?,
-        traj(alloc, [0, 0, 1000, 0], JOINED)?,
+        traj(alloc, [0, 0, 1000, 0], &JOINED)?,
+        traj(alloc, [-5, 0, 1000, 1], &APART)?,
+        traj(alloc, [0, 0, 1000, 0], &JOINED)?,
     ];
     assert!(rt; plays_as(alloc, &names, &trajs, 500, 150, EVERY_150)?);
     Ok(())
@@ -186,9 +186,9 @@ fn a_sink_fails(rt: HostRuntime) -> Result<(), Fail> {
     let alloc = rt.alloc();
     let names = [name_of(b"a"), name_of(b"b"), name_of(b"c")];
     let trajs = [
-        traj(alloc, [0, 0, 1000, 0], JOINED)?,
-        traj(alloc, [-5, 0, 1000, 1], APART)?,
-        traj(alloc, [0, 0, 1000, 0], JOINED)?,
+        traj(alloc, [0, 0, 1000, 0], &JOINED)?,
+        traj(alloc, [-5, 0, 1000, 1], &APART)?,
+        traj(alloc, [0, 0, 1000, 0], &JOINED)?,
     ];
     for room in 0..EVERY_150.len() {
         let mut sink = MemSink::make(alloc, room, 100, Vec::new(alloc))?;

@@ -118,7 +118,7 @@ type Failure<'a> = (
     &'a [u8],
 );
 
-const FAILURES: &[Failure] = &[
+const FAILURES: [Failure; 23] = [
     ("compile", SHOW, b"", manner!(30, 1), FINE, 6, READ, b""),
     ("compile", SHOW, b"", manner!(30, 2), FINE, 6, READ, b""),
     ("compile", SHOW, b"", manner!(40, 3), FINE, 6, READ, b""),
@@ -198,14 +198,14 @@ fn fails_so(alloc: Global, row: &Failure) -> Result<bool, AllocError> {
 
 #[test]
 fn failures(rt: HostRuntime) -> Result<(), Fail> {
-    for row in FAILURES {
+    for row in &FAILURES {
         assert!(rt; fails_so(rt.alloc(), row)?);
     }
     Ok(())
 }
 
 // A word, the status, and what is written, over ends that never fail.
-const SURE: &[(&str, u8, &[u8])] = &[
+const SURE: [(&str, u8, &[u8]); 3] = [
     ("check", 0, b"ok drones 1 cues 1 duration_ms 2000\n"),
     ("compile", 0, PLAN),
     ("upload", 8, b"P\x01\x1eN\x02\x00"),
@@ -223,7 +223,7 @@ fn ends_so(alloc: Global, word: &str, status: u8, written: &[u8]) -> Result<bool
 
 #[test]
 fn ends_that_never_fail(rt: HostRuntime) -> Result<(), Fail> {
-    for &(word, status, written) in SURE {
+    for (word, status, written) in SURE {
         assert!(rt; ends_so(rt.alloc(), word, status, written)?);
     }
     Ok(())

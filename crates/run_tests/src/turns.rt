@@ -33,7 +33,7 @@ type Row<'a> = (&'a [&'a str], &'a [u8], &'a [u8], u8, &'a [&'a [u8]]);
 const CERTIFICATE: &[u8] = b"%%\ncertificate 6\nr\nl\na\n";
 
 // The rows of the commands that read their input to its end.
-const TO_THE_END: &[Row] = &[
+const TO_THE_END: [Row; 15] = [
     (
         &["check"],
         APART,
@@ -184,7 +184,7 @@ fn fails_at_each_read(alloc: Global, row: &Row) -> Result<bool, AllocError> {
 
 #[test]
 fn each_write_fails(rt: HostRuntime) -> Result<(), Fail> {
-    for row in TO_THE_END {
+    for row in &TO_THE_END {
         assert!(rt; fails_at_each_write(rt.alloc(), row)?);
     }
     for row in &OTHERS {
@@ -195,7 +195,7 @@ fn each_write_fails(rt: HostRuntime) -> Result<(), Fail> {
 
 #[test]
 fn each_read_fails(rt: HostRuntime) -> Result<(), Fail> {
-    for row in TO_THE_END {
+    for row in &TO_THE_END {
         assert!(rt; fails_at_each_read(rt.alloc(), row)?);
     }
     // These read nothing.
@@ -207,7 +207,7 @@ fn each_read_fails(rt: HostRuntime) -> Result<(), Fail> {
 
 // Five reads bring the show and the marker line, two the three answers, and after them the upload is done: the read
 // that fails, the status, and what is written, in two halves.
-const READS_OF_AN_UPLOAD: &[(u64, u8, &[u8], &[u8])] = &[
+const READS_OF_AN_UPLOAD: [(u64, u8, &[u8], &[u8]); 8] = [
     (1, 6, b"", NOT_READ),
     (2, 6, b"", NOT_READ),
     (3, 6, b"", NOT_READ),
@@ -235,14 +235,14 @@ fn uploads_so(
 
 #[test]
 fn each_read_of_an_upload_fails(rt: HostRuntime) -> Result<(), Fail> {
-    for &(read, status, begun, end) in READS_OF_AN_UPLOAD {
+    for (read, status, begun, end) in READS_OF_AN_UPLOAD {
         assert!(rt; uploads_so(rt.alloc(), read, status, begun, end)?);
     }
     Ok(())
 }
 
 // Second texts that a marker line ends, which may not be there.
-const MARKED: &[Row] = &[
+const MARKED: [Row; 3] = [
     (
         &["verify"],
         APART,
@@ -284,7 +284,7 @@ fn stops_after(alloc: Global, row: &Row) -> Result<bool, AllocError> {
 
 #[test]
 fn no_read_after_a_second_marker_line(rt: HostRuntime) -> Result<(), Fail> {
-    for row in MARKED {
+    for row in &MARKED {
         assert!(rt; stops_after(rt.alloc(), row)?);
     }
     Ok(())

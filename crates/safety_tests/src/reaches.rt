@@ -75,7 +75,7 @@ const JUMP: Flight = (
 );
 
 // Two flights, the lateness in milliseconds and the depth, and the reach on x, y and z.
-const REACHES: &[(Flight, Flight, u16, u8, [u32; 3])] = &[
+const REACHES: [(Flight, Flight, u16, u8, [u32; 3]); 20] = [
     (RESTS, RESTS, 1000, 6, [0, 0, 0]),
     (EAST, RESTS, 0, 6, [0, 0, 0]),
     (EAST, RESTS, 1, 6, [1, 0, 0]),
@@ -100,7 +100,7 @@ const REACHES: &[(Flight, Flight, u16, u8, [u32; 3])] = &[
 
 #[test]
 fn reaches_of_two_flights(rt: HostRuntime) -> Result<(), Fail> {
-    for &(first, second, late, depth, wanted) in REACHES {
+    for (first, second, late, depth, wanted) in REACHES {
         let found = reach_of_two(rt.alloc(), first, second, late, depth)?;
         assert!(rt; found == wanted, "{late} ms, depth {depth}");
     }

@@ -103,7 +103,7 @@ type Row = (
     [i64; 3],
 );
 
-const BOUNDS: &[Row] = &[
+const BOUNDS: [Row; 12] = [
     (
         [0, 0, 1000, 0],
         (2000, [METRE, STAYS, STAYS]),
@@ -245,7 +245,7 @@ const BOUNDS: &[Row] = &[
 
 #[test]
 fn bounds_of_two_segments(rt: HostRuntime) -> Result<(), Fail> {
-    for &(start, (first_ms, [x, y, z]), (second_ms, [u, v, w]), depth, wanted) in BOUNDS {
+    for (start, (first_ms, [x, y, z]), (second_ms, [u, v, w]), depth, wanted) in BOUNDS {
         let first = segment(first_ms, x, y, z);
         let second = segment(second_ms, u, v, w);
         let found = bounds(rt.alloc(), start, first, second, Depth::make(depth.min(8)))?;
