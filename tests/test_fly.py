@@ -261,7 +261,7 @@ class Flights(unittest.TestCase):
         self.flown("deaf unicast", 0, "landed\n")
 
     def test_jumps(self):
-        self.flown("jumps", 1, "not flown: line 46, cue 3: a jumps by 0.38 m/s on x, more than 0.3, .* --jump lets it through\n",
+        self.flown("jumps", 1, "not flown: line 41, cue 2: a jumps by 0.28 m/s on y, more than 0.03, .* --jump lets it through\n",
                    without=["firmware"])
         # That show's memory has the id 3.
         self.flown("let through", 0, "uploaded and read back")
