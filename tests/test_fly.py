@@ -239,7 +239,7 @@ class Flights(unittest.TestCase):
         for fault, said in (("unarmed", "not flown: b isn't armed\n"), ("stays", "FAULT: b refuses to take off: status 16; landing all\nlanded"),
                             ("stuck", "FAULT: b is [0-9]+ mm from its way; landing all\nlanded")):
             self.flown(fault, 1, said, without=["started"], ends={"a": down, "b": down})
-        self.flown("stray", 1, "FAULT: ([ab] is [0-9]+ mm from its place|a drone isn't as the next step wants it for long enough); landing all\n"
+        self.flown("stray", 1, "FAULT: ([ab] is [0-9]+ mm from its (place|way)|a drone isn't as the next step wants it for long enough); landing all\n"
                    "landed", without=["started"])
 
     def test_faults_in_flight(self):
