@@ -10,7 +10,7 @@ import {moveDrones} from "./view.js";
 import {set, state} from "./state.js";
 
 const FRAMES = 30, BITS = 8e6, LAST = 400;  // a second; a second; milliseconds that the last picture stays
-const KINDS = ["video/webm;codecs=vp9", "video/webm;codecs=vp8", "video/webm"];
+const KINDS = ["video/webm;codecs=vp8", "video/webm;codecs=vp9", "video/webm"];  // the one that costs least first
 let recorder = /** @type {MediaRecorder | null} */ (null);
 
 // What stands in each picture: the time, and the cue with its name.
