@@ -24,6 +24,8 @@ import {set, state} from "./state.js";
 function layOut() {
   charts.length = 0;
   askMotion();
+  const left = byId("flight").clientHeight - BESIDE_CHARTS - byId("timeline").clientHeight;
+  set({chartHeight: isLow() ? within(left / 2, 84, 200) : isSmall() || innerHeight > 860 ? 130 : 108});
   // cue numbers above both, times below both
   set({chartEdges: {heights: [22, state.drones > 1 ? 6 : 32], share: [6, 32]}});
   for (const id of ["heights", "share"]) byId(id).style.height = `${state.chartHeight}px`;
@@ -98,8 +100,6 @@ export function repaint() {
   draw();
 }
 export function resize() {
-  const left = byId("flight").clientHeight - BESIDE_CHARTS - byId("timeline").clientHeight;
-  set({chartHeight: isLow() ? within(left / 2, 84, 200) : isSmall() || innerHeight > 860 ? 130 : 108});
   draw();
   drawPaper();
 }
