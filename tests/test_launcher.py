@@ -441,7 +441,6 @@ class Words(Processes):
         for words, line in (
                 (("chek", "good"), "there is no command chek; did you mean check?"),
                 (("xyz",), "there is no command xyz; ./show --help lists them"),
-                (("--unproved", "why", "good"), "./show why is none of them: leave --unproved out"),
                 (("check", "--dept", "6", "good"), "check has no option --dept; did you mean --depth?"),
                 (("check", "--step", "6", "good"), "check has no option --step"),
                 (("upload", "--start=1", "good"), "upload has no option --start=1; did you mean --start?"),
@@ -735,6 +734,28 @@ class Unproved(Place):
         self.assertEqual(self.calls(), ["try show_cli"])
         self.file("crates/show_cli/out/show_cli.unproved", "#!/bin/sh\necho mine\n", 0o755)
         self.assertEqual(self.show("--unproved", "check", "good")[:2], (0, GOOD))
+
+    def test_other_words(self):
+        # A companion asks the program without a proof, which is made for it once. This one is no program, so it gives no yes.
+        self.file("one", "choreo 1\ndrone a 0 0 1000000 0\ncue 1000\nend\n")
+        for calls in (["try show_cli"], []):
+            status, said, told = self.show("--unproved", "why", "one")
+            self.assertEqual((status, self.calls(), self.leftovers()), (70, calls, []), told)
+            self.assertTrue(told.startswith("show: nothing is proved in this run\n"), told)
+            self.assertIn("it gave no answer", told + said)
+        status, _, told = self.show("--unproved", "why", "one", HIDES="1")
+        self.assertEqual((status, self.calls()), (70, []), told)
+        self.file("crates/low/src/lib.rt", "fn f() {}\n")
+        status, _, told = self.show("--unproved", "why", "one", HIDES="1")
+        self.assertEqual((status, self.calls(), "goes with the program's own commands alone here" in told),
+                         (70, ["try show_cli"], True), told)
+        for words, line in ((("release",), "release is about what is proved: leave --unproved out"),
+                            (("fly", "--radio", "drones", "one"), "no real drone is flown by a program without a proof"),
+                            (("bridge", "--li=x", "one"), "no real drone is flown by a program without a proof")):
+            status, said, told = self.show("--unproved", *words)
+            self.assertEqual((status, said, self.calls()), (70, "", []), words)
+            self.assertIn(line, told)
+        self.assertEqual(self.show("--unproved", "why", "--help")[0], 0)
 
     def test_not_found(self):
         # Where rt builds elsewhere, each call is as the first.

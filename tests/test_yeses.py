@@ -148,6 +148,8 @@ YESES = {
     "launching/manual.py page": ("proved", WHAT),
     "launching/records.py print_version": ("0 handed handed kept", RECORD),
     "launching/records.py write_record": ("proved", RECORD),
+    "launching/unproved.py fault": ("proved", NO),
+    "launching/unproved.py take": ("proved", NO),
     "launching/running.py ended": ("handed", RUN),
     "launching/running.py fed": ("handed", RUN),
     "launching/running.py started": ("handed", NUMBER),

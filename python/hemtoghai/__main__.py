@@ -47,6 +47,13 @@ def main(words: list[str]) -> int:
         if fault := launcher.fault_of_demand(words):
             streams.tell(program.NAME, fault)
             return streams.NO_ANSWER
+    if words[:1] == ["--unproved"] and words[1:2] and words[1] in COMMANDS and not {"-h", "--help"} & set(words):
+        from hemtoghai.launching import unproved
+        words = words[1:]
+        if fault := unproved.fault(words):
+            streams.tell(program.NAME, fault)
+            return streams.NO_ANSWER
+        unproved.take(words[0])
     if words[:1] and words[0] in WITH_JSON and "--json" in words:
         from hemtoghai import companion
         from hemtoghai.commands import as_json
@@ -75,7 +82,7 @@ def run() -> None:
     """Runs the command of this process's words, and ends the process with its status."""
     drop_own_place()
     words = sys.argv[1:]
-    command = "".join(words[1:2] if words[:1] == ["--proved"] else words[:1])
+    command = "".join(words[1:2] if words[:1] in (["--proved"], ["--unproved"]) else words[:1])
     streams.run(lambda: main(words), command if command in COMMANDS else program.NAME)
 
 

@@ -209,7 +209,8 @@ def copy_of(path: str) -> tuple[str, str | None]:
 
 def words_of(*words: str) -> list[str]:
     """What starts a command of this package in a process of its own, over the same files."""
-    return [sys.executable, "-IS", os.path.join(PACKAGE, "__main__.py"), *["--proved"] * demanded[0], *words]
+    front = ["--proved"] * demanded[0] + ["--unproved"] * (PROGRAM == UNPROVED)
+    return [sys.executable, "-IS", os.path.join(PACKAGE, "__main__.py"), *front, *words]
 
 
 def is_answer(words: list[str], status: int, output: bytes) -> bool:

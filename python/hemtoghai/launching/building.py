@@ -311,20 +311,43 @@ def try_sources(words: list[str], number: int | None, files: list[str]) -> int:
         return try_on(words, whole, crates_below(LAST))
 
 
-def try_on(words: list[str], source: int | IO[bytes], below: Crates) -> int:
-    """The status of the sources on an input, without a proof. The program that rt builds for it in its own temporary
-    folder is kept, where it is found there; where it isn't, the next call does the same again."""
-    before, seen = stamp(below), dict[int, str]()
+class Waiting:
+    """Tells every quarter of a minute how long the sources are compiled."""
+
+    def __init__(self) -> None:
+        self.begun = self.told = time.monotonic()
+
+    def look(self) -> None:
+        if (now := time.monotonic()) - self.told >= 15:
+            self.told = now
+            say("compiling the sources without a proof: %d s so far; some two minutes on an idle machine, and nothing "
+                "the next time" % (now - self.begun))
+
+
+def tried(words: list[str], source: int | IO[bytes], below: Crates) -> tuple[int, bytes]:
+    """The status and the output of the sources on an input, without a proof. The program that rt builds for it in its
+    own temporary folder is kept, where it is found there; where it isn't, the next call does the same again."""
+    before, seen, waiting = stamp(below), dict[int, str](), Waiting()
+
+    def look() -> None:
+        link_programs(made, room, seen)
+        waiting.look()
     with Noted(), tempfile.TemporaryDirectory(prefix=".proving-", dir=TOP) as room:
         made = os.path.join(room, "made")
         os.mkdir(made)
         status, said, complained = finished(start(
             ["rt", "try", "--", *words], os.path.join(CRATES, LAST), stdin=source, stdout=subprocess.PIPE,
-            stderr=subprocess.PIPE, env={**os.environ, "TMPDIR": made}), lambda: link_programs(made, room, seen))
+            stderr=subprocess.PIPE, env={**os.environ, "TMPDIR": made}), look)
         if not TRIED.search(complained):
             complain(complained)
             stop("the sources did not run")
         keep_unproved(seen.values(), before, below)
+    return status, said
+
+
+def try_on(words: list[str], source: int | IO[bytes], below: Crates) -> int:
+    """The status of the sources on an input, without a proof; their output is written."""
+    status, said = tried(words, source, below)
     sys.stdout.buffer.write(said)
     sys.stdout.flush()
     return status

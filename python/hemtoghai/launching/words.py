@@ -132,9 +132,6 @@ def split(words: list[str]) -> tuple[list[str], list[str], str | None]:
     command, left = words[0], list(words[1:])
     if command not in known("FORMS"):
         from hemtoghai.__main__ import COMMANDS
-        if command in COMMANDS:
-            return words, [], f"--unproved is for the program's own commands, and {COMMAND} {command} is none of them: " \
-                              f"leave --unproved out"
         better = meant(command, [*known("FORMS"), *COMMANDS]) or "; %s --help lists them" % COMMAND
         return words, [], "there is no command %s%s" % (command, better)
     front, its = [command], options_of(command)
