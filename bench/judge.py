@@ -3,6 +3,8 @@
 For bench/language. `language/choreo.py` and `geometry/separation.py` of the package read texts, write cues out and
 search for directions; this module puts their refusals into the order of docs/COMMANDS.md.
 """
+from __future__ import annotations
+
 import os
 import sys
 
@@ -17,15 +19,18 @@ import trees
 class Verdict:
     """What the program must write at a depth, and the outcome that it counts as."""
 
-    def __init__(self, whole, depth=choreo.DEPTH, version=2):
-        self.depth, self.version, self.show, self.sizes, self.refusal = depth, version, None, [], None
+    def __init__(self, whole: bytes, depth: int = choreo.DEPTH, version: int = 2) -> None:
+        self.depth, self.version = depth, version
+        self.show: choreo.Show | None = None
+        self.sizes: list[int] = []
+        self.refusal: Refused | None = None
         try:
             self.judge(whole)
         except Refused as refusal:
             self.refusal = refusal
         self.outcome = self.refusal.outcome if self.refusal else "accepted"
 
-    def judge(self, whole):
+    def judge(self, whole: bytes) -> None:
         """Refuses an input, or not."""
         text, _, markers = choreo.parts_of(whole)
         self.flown = choreo.flown_of(text)
@@ -36,7 +41,7 @@ class Verdict:
         choreo.judge_room(self.flown)
         separation.judge_separation(self.flown, self.depth, self.version)
 
-    def answer(self, command):
+    def answer(self, command: str) -> tuple[int, str]:
         """The status and the output of `check`, `compile` or `certify`."""
         if self.refusal:
             return self.refusal.status, self.refusal.output
