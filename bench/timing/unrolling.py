@@ -1,4 +1,4 @@
-"""Tables of how shows are read and unrolled, by a program of their own over this checkout's crates (unrolling.rt).
+"""Tables of how shows are read and unrolled, by a program of their own over this checkout's crates (unrolling.rt.txt).
 
 Lines as people write them: `drill` (32 drones, a `move` each in each cue), `curves` (the same with `curve`),
 `formations` (one place each), `figures` (one `move` each); and, read whole but refused when they are unrolled, `moves`
@@ -91,13 +91,13 @@ def below(name: str) -> dict[str, list[str]]:
 
 
 def built(place: str) -> str:
-    """The program of unrolling.rt, over copies of the crates that it stands on."""
+    """The program of unrolling.rt.txt, over copies of the crates that it stands on."""
     found = {**below("choreo_reader"), **below("cue_grid")}
     for name in found:
         shutil.copytree(os.path.join(TOP, "crates", name), os.path.join(place, "crates", name), symlinks=True)
     folder = os.path.join(place, "crates", "unrolling")
     os.makedirs(os.path.join(folder, "src"))
-    shutil.copy(os.path.join(TOP, "bench", "timing", "unrolling.rt"), os.path.join(folder, "src", "main.rt"))
+    shutil.copy(os.path.join(TOP, "bench", "timing", "unrolling.rt.txt"), os.path.join(folder, "src", "main.rt"))
     with open(os.path.join(place, "crates.txt"), "w", encoding="utf-8") as crates:
         crates.writelines("%s: %s\n" % (name, " ".join(libraries)) for name, libraries in found.items())
         crates.write("unrolling: choreo_reader cue_grid\n")
