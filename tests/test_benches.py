@@ -18,7 +18,7 @@ from common import TOP
 LOADER = SourceFileLoader("bench_all", os.path.join(TOP, "bench", "all"))
 ALL = importlib.util.module_from_spec(importlib.util.spec_from_loader("bench_all", LOADER))
 LOADER.exec_module(ALL)
-FOLDERS = {"plain", "erasures.d", "mutants.d"}  # of sources and edits, which benches read
+FOLDERS = {"plain", "erasures.d", "held.d", "mutants.d", "timing"}  # of sources and edits, which benches read
 OTHER = {"all", "RESULTS.md"}
 CHECKS_WITHIN = {"run"}  # which bench/gate runs
 
@@ -41,7 +41,7 @@ class Table(unittest.TestCase):
         for part, bench in ALL.PARTS.items():
             name = part[:-len(".py")]
             self.assertTrue(any(re.search(r"\bimport (\w+, )*%s\b|\bfrom %s import" % (name, name), read("bench", it))
-                                for it in (bench, "shows", "language", "reference", "random")), part)
+                                for it in (bench, "language", "reference", "random")), part)
 
     def test_each_that_documents_name(self):
         rows = {row.file for row in ALL.ROWS}
