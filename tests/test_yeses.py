@@ -37,7 +37,7 @@ LANDING = "`check` of the landing at each instant, or of each stage, by the file
 DRONES = "what drones say of themselves, as its words say; no proof stands behind that"
 # By module and function the words that are found there, and what they rest on.
 YESES = {
-    "__main__.py main": ("handed handed handed handed proved", RUN),
+    "__main__.py main": ("handed handed handed handed handed proved", RUN),
     "__main__.py run": ("proved", WHAT),
     "answering.py library": ("proved", RECORD),
     "judging.py Verdict.as_data": ("ok proved", PROGRAM + "; `proved` is true of a record with its proof alone"),
