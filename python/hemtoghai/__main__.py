@@ -47,13 +47,14 @@ def main(words: list[str]) -> int:
         if fault := launcher.fault_of_demand(words):
             streams.tell(program.NAME, fault)
             return streams.NO_ANSWER
-    if words[:1] == ["--unproved"] and words[1:2] and words[1] in COMMANDS and not {"-h", "--help"} & set(words):
+    if words[:1] == ["--unproved"] and words[1:2] and words[1] in COMMANDS:
         from hemtoghai.launching import unproved
         words = words[1:]
         if fault := unproved.fault(words):
             streams.tell(program.NAME, fault)
             return streams.NO_ANSWER
-        unproved.take(words[0])
+        if not {"-h", "--help"} & set(words):
+            unproved.take(words[0])
     if words[:1] and words[0] in WITH_JSON and "--json" in words:
         from hemtoghai import companion
         from hemtoghai.commands import as_json

@@ -80,8 +80,8 @@ def watched(*words: str, place: str, doing: str, every: float = 60) -> str:
                 if time.monotonic() - told >= every:
                     told = time.monotonic()
                     last = last_line(os.pread(log.fileno(), 1 << 20, max(0, os.fstat(log.fileno()).st_size - 4096)))
-                    tell(tool_name(), "%s for %s so far%s" % (" ".join(words[:2]), many(round((told - begun) / 60), "minute"),
-                                                              "; " + last if last else ""))
+                    tell(tool_name(), "%s for %s so far%s" % (
+                        " ".join(words[:2]), many(round((told - begun) / 60), "minute"), "; " + last if last else ""))
         except OSError as error:
             stop("%s: %s" % (words[0], error.strerror))
         finally:

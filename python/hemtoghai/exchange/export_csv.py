@@ -3,7 +3,9 @@ drone, NAME.csv.
 
     ./show export csv PLAN|SHOW FOLDER
 
-A show is compiled by the proved program first, and isn't written where that refuses it. Each line after the head is a segment: its duration in seconds, then for x, y, z (metres) and yaw (radians) the
+A show is compiled by the proved program first, and isn't written where that refuses it.
+
+Each line after the head is a segment: its duration in seconds, then for x, y, z (metres) and yaw (radians) the
 coefficients of t^0 to t^7, t in seconds from the segment's begin. They are worked out in whole numbers and then
 rounded to doubles; how far the rounded polynomial may leave the exact curve is written for each drone. The evaluation
 in doubles or floats comes on top. Nothing is proved of these files. Status 0: all files are written. 3, 4, 5: a show

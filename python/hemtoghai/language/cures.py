@@ -143,7 +143,8 @@ def quantity_row(name: str, slot: Number, counts: Counts, word: str) -> Row:
     (sign, whole, point, fraction, unit), = re.findall(r"\A([+-]?)([0-9]*)([.,]?)([0-9]*)(.*)\Z", word, re.S)
     units = counts.units
     if not whole + fraction:
-        return [f"{name} is {word}, which has no digits", "a number is missing before it" if is_name(word) and word not in KINDS else "",
+        is_next = is_name(word) and word not in KINDS
+        return [f"{name} is {word}, which has no digits", "a number is missing before it" if is_next else "",
                 f"write a number with its unit: {listed(units)}"]
     if not unit:
         return bare_row(name, slot, counts, word, point == "")

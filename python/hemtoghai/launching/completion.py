@@ -12,7 +12,8 @@ from hemtoghai.__main__ import COMMANDS, WITH_JSON
 from hemtoghai.launching import words as commands
 from hemtoghai.launching.help import PURPOSES
 
-FORMATS = {"export": ("csv", "skyc"), "figures": ("ring", "rows", "turn", "wave")}  # words after a tool's own, each with options of its own
+# Words after a tool's own, each with options of its own.
+FORMATS = {"export": ("csv", "skyc"), "figures": ("ring", "rows", "turn", "wave")}
 FRONT = "--help", "--version"  # beside the words
 BEFORE = "--proved", "--unproved"  # before a word
 

@@ -35,7 +35,8 @@ usage: ./show COMMAND [OPTIONS] [FILE]
 Options may stand before and after the files. Without a file, or with -, the input is standard input; if there
 are two parts a line %%%% is between them. --proved builds nothing, and runs the program only if its record says
 that it was proved. --unproved runs the sources without a proof: in some two minutes the first time, at once
-after that; it goes with every word but release and library, and flies no real drone. --version identifies the build of the program: note it with each plan.
+after that; it goes with every word but release and library, and flies no real drone. --version identifies the
+build of the program: note it with each plan.
 
 %s
 

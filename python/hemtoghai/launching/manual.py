@@ -29,7 +29,8 @@ def options_of(word: Word) -> list[str]:
     """The line with the options of a word that is none of the program's own."""
     rows = [f"{it.name} {it.number}".strip() for it in word.options if it.name != "--help"]
     firsts = [f"The next word is {' or '.join(word.first)}."] if word.first else []
-    return [*firsts, *[".br", "Options: %s." % ", ".join("\\fB%s\\fR" % row.replace("-", "\\-") for row in rows)] * bool(rows)]
+    listed = ", ".join("\\fB%s\\fR" % row.replace("-", "\\-") for row in rows)
+    return [*firsts, *[".br", "Options: %s." % listed] * bool(rows)]
 
 
 def page(version: str) -> str:
