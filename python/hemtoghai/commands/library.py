@@ -235,10 +235,9 @@ def stamps() -> dict[str, str]:
 
 
 def refuse(out: str, version: str, force: bool) -> None:
-    """Ends the tool where a file that isn't its own would be overwritten."""
+    """Ends the tool where a file would be overwritten that is there, without force; before any work."""
     names = ["lib/" + ARCHIVE, "lib/" + SHARED % version, *LINKS, HEADER, CONFIG, MANIFEST]
-    is_own = os.path.realpath(out) == os.path.realpath(OUT)
-    outputs.refuse((os.path.join(out, name) for name in names), force or is_own, [])
+    outputs.refuse((os.path.join(out, name) for name in names), force, [])
 
 
 def manifest_of(files: dict[str, bytes], version: str, rests_on: str, before: dict[str, str]) -> dict[str, Any]:
@@ -260,7 +259,8 @@ def main(words: list[str]) -> int:
     out, version = os.path.abspath(given.out), records.version()
     if os.path.exists(program.MANIFEST):
         stop("this is a release: its library is in library/out")
-    refuse(out, version, given.force)
+    force = given.force or os.path.realpath(out) == os.path.realpath(OUT)
+    refuse(out, version, force)
     running.watch_signals()
     before = stamps()
     files, rests_on = make(version, given.kept)
@@ -268,7 +268,7 @@ def main(words: list[str]) -> int:
         stop("the sources were changed while they were proved: run it again")
     manifest = manifest_of(files, version, rests_on, before)
     files[MANIFEST] = (json.dumps(manifest, indent=1) + "\n").encode()
-    outputs.write_below(out, files)
+    outputs.write_below(out, files, force)
     outputs.link_all({os.path.join(out, link): SHARED % version for link in LINKS})
     for path, data in manifest["files"].items():
         print("%s  %s" % (data, path))
