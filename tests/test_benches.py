@@ -6,6 +6,7 @@ import importlib.util
 import io
 import os
 import re
+import shutil
 import subprocess
 import tempfile
 import unittest
@@ -15,9 +16,17 @@ from unittest import mock
 import common
 from common import TOP
 
-LOADER = SourceFileLoader("bench_all", os.path.join(TOP, "bench", "all"))
-ALL = importlib.util.module_from_spec(importlib.util.spec_from_loader("bench_all", LOADER))
-LOADER.exec_module(ALL)
+
+
+def module_of(name, *path):
+    """A script as a module."""
+    loader = SourceFileLoader(name, os.path.join(*path))
+    module = importlib.util.module_from_spec(importlib.util.spec_from_loader(name, loader))
+    loader.exec_module(module)
+    return module
+
+
+ALL = module_of("bench_all", TOP, "bench", "all")
 FOLDERS = {"plain", "erasures.d", "held.d", "mutants.d", "timing"}  # of sources and edits, which benches read
 OTHER = {"all", "RESULTS.md"}
 CHECKS_WITHIN = {"run"}  # which bench/gate runs
@@ -76,6 +85,20 @@ class Table(unittest.TestCase):
 
     def test_names_differ(self):
         self.assertEqual(len({row.name for row in ALL.ROWS}), len(ALL.ROWS))
+
+
+@unittest.skipUnless(shutil.which("rt"), "the toolchain isn't installed")
+class Mutants(unittest.TestCase):
+    def test_words_of_the_toolchain(self):
+        # What bench/mutants looks for at the begin of a line on a mutant is what today's toolchain says there.
+        mutants, rt = module_of("bench_mutants", TOP, "bench", "mutants"), read(shutil.which("rt"))
+        said = [re.sub(r"^\{label\}: ", "", it) for it in re.findall(r'f"(\{label\}: [^"]*)"', rt)]
+        self.assertGreater(len(said), 4)
+        for line in said:
+            self.assertTrue(any(line.startswith(begin) for begin in mutants.KINDS), line)
+        for begin in mutants.KINDS:
+            self.assertTrue(any(line.startswith(begin) for line in said), begin)
+        self.assertEqual(mutants.TOLD.match("rt: must-fail low/a.edit: BAD EDIT: it").groups(), ("low/a.edit", "BAD EDIT: it"))
 
 
 class Runs(common.Folder, unittest.TestCase):
