@@ -1,5 +1,5 @@
-"""What .ci/held refuses: a definition without a row, a row that isn't there, one that isn't about its definition, a test
-that is to hold a proposition, and a name that no clause reaches. Each is tried on a copy of what bench/held.d says."""
+"""What .ci/held refuses: a definition without a row, a row that isn't there, one that isn't about its definition, a
+test that is to hold a proposition, and a name that no clause reaches. Each is tried on a copy of what bench/held.d says."""
 import copy
 import importlib.machinery
 import importlib.util
@@ -46,7 +46,8 @@ class Faults(unittest.TestCase):
 
     def test_known_definitions_are_reached(self) -> None:
         names = {(place[0], self.held.name_of(place)) for place in self.reached}
-        for place in ("sep_parts", "Apart.ShareNoPoint"), ("fleet_math", "Near.IsNearOver"), ("upload_model", "Drones.handled"):
+        for place in (("sep_parts", "Apart.ShareNoPoint"), ("fleet_math", "Near.IsNearOver"),
+                      ("upload_model", "Drones.handled")):
             self.assertTrue(place in names, place)
 
     def test_no_row(self) -> None:

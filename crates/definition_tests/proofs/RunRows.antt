@@ -209,7 +209,7 @@ runs = record {
       let none : [] ≡ stopped.0 = stopped.2 in
       let e : ◌≡◌ {A = ℕ} 0 101 = first [] read_line (none ∙ line) in omega (arith, e);
   wrote_well = λ is. not_rose 0 (omega arith) (is.seven refl).0;
-  cut = λ is. let seven = is.seven refl in says_eight seven.1 seven.2 (seven.3, seven.4, seven.5, seven.6);
+  cut = λ is. let seven = (is.seven refl).1 in says_eight seven.0 seven.1 seven.2;
   late = λ is. is.prompt refl;
   read = λ is. let e : Some [] ≡ Some (1 ∷ []) = (is.unread refl).0 in absurd (cc);
   usage = λ is. unlisted 2 is.known (inl refl);
