@@ -249,7 +249,8 @@ class Release(unittest.TestCase):
             found += [os.path.relpath(os.path.join(folder, name), self.top) for name in names]
         self.assertEqual(sorted([*manifest["files"], "MANIFEST.json"]), sorted(found))
         for path in ("README.md", "show", "docs/COMMANDS.md", "examples/solo.choreo", "python/hemtoghai/flying/simulated/cflib/air.py",
-                     "share/show.1", "share/show.bash", "crates/show_cli/out/show_cli", "library/check.c",
+                     "share/show.1", "share/show.bash", "share/show.fish", "share/show.zsh",
+                     "crates/show_cli/out/show_cli", "library/check.c",
                      "library/out/lib/libhemtoghai.a", *LIB, "library/out/include/hemtoghai.h",
                      "library/out/lib/pkgconfig/hemtoghai.pc"):
             self.assertIn(path, found)

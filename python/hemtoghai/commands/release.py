@@ -36,7 +36,7 @@ from typing import Any, Dict, List, Tuple
 
 from hemtoghai import outputs, program
 from hemtoghai.companion import parser, stop
-from hemtoghai.launching import manual, records
+from hemtoghai.launching import completion, manual, records
 from hemtoghai.launching.records import git
 
 Record = Dict[str, Any]  # of a build, as it is noted beside the program
@@ -86,7 +86,7 @@ def is_library(record: Record) -> bool:
 
 
 def contents_of() -> Contents:
-    """The files of a release as (path, bytes, mode): of the commit, the program, the library, page and completion."""
+    """The files of a release as (path, bytes, mode): of the commit, the program, the library, page and completions."""
     record = program.record_of(os.path.join(TOP, LIBRARY, "MANIFEST.json"))
     if not is_library(record):
         stop("the library isn't the one of these sources: ./show library builds it")
@@ -101,8 +101,8 @@ def contents_of() -> Contents:
             found.append((parts[2], int(parts[1][3:], 8)))
     out = [(path, pathlib.Path(TOP, path).read_bytes(), mode) for path, mode in found]
     readme = pathlib.Path(TOP, README).read_bytes().replace(b"@VERSION@", records.version().encode())
-    out += [("README.md", readme, 0o644), ("share/show.1", manual.page(records.version()).encode(), 0o644),
-            ("share/show.bash", manual.completion().encode(), 0o644)]
+    out += [("README.md", readme, 0o644), ("share/show.1", manual.page(records.version()).encode(), 0o644)]
+    out += [("share/show." + shell, completion.completion(shell).encode(), 0o644) for shell in completion.SHELLS]
     return sorted(out)
 
 
