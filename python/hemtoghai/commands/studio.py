@@ -26,7 +26,7 @@ from typing import Any
 from hemtoghai import program
 from hemtoghai.companion import add_depth, parser, read_file, stop, tool_name
 from hemtoghai.language import choreo
-from hemtoghai.language.cures import cure_of, shown
+from hemtoghai.language.cures import cure_in, shown
 from hemtoghai.seeing.page import page_of, read
 from hemtoghai.seeing.sampling import regions_of
 from hemtoghai.seeing.showfile import MOST_TEXT, ShowFile, stamp_of, text_of
@@ -150,7 +150,7 @@ class Studio:
             number, word = int(faulty[1]), faulty[2]
             line = b"".join(text.split(b"\n")[number - 1:number])
             found["fault"] = {"line": number, "word": word or "marker", "text": shown(line)[0],
-                              "row": cure_of(word, line, choreo.form_of(text)) if word else MARKER}
+                              "row": cure_in(text, number, word) if word else MARKER}
         return found
 
 
