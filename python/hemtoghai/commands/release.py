@@ -43,7 +43,8 @@ Record = Dict[str, Any]  # of a build, as it is noted beside the program
 Contents = List[Tuple[str, bytes, int]]  # files as path, bytes and mode
 Links = List[Tuple[str, str]]  # each with what it leads to
 TOP = program.TOP
-SHIPPED = ["VERSION", "CHANGELOG.md", "SECURITY.md", "show", "docs", "examples", "python", "tools", "library", "crates/CONTRACTS.md"]
+SHIPPED = ["VERSION", "CHANGELOG.md", "SECURITY.md", "show", "docs", "examples", "python", "tools", "library",
+           "crates/CONTRACTS.md"]
 README = os.path.join("python", "hemtoghai", "launching", "release.md")  # of the release; it is its README.md
 PROGRAM = os.path.relpath(program.PROGRAM, TOP)
 LIBRARY = os.path.join("library", "out")
