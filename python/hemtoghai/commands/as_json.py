@@ -215,7 +215,7 @@ def by_summary(words: list[str]) -> int:
             "cues": cues, "pairs": [pair_data(flown, *row) for row in pairs], "pairs_maybe_nearer": left_out}
     if options.margin:
         more["margin"] = None if companion.no_program() else {"ellipsoid_percent" if word == "ellipsoid" else word: most
-                          for word, most, _ in margins_of(flown, text, options.depth)}
+                                                              for word, most, _ in margins_of(flown, text, options.depth)}
     return put("summary", verdict, **more)
 
 

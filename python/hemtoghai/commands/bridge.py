@@ -92,26 +92,26 @@ def options_of(words: list[str]) -> Namespace:
     add_depth(reader)
     reader.add_argument("--start", action="store_true", help="start the drones once all have all their bytes")
     reader.add_argument("--readback", action="store_true",
-                       help="read memories back before any start; the default with --radio and --link")
+                        help="read memories back before any start; the default with --radio and --link")
     reader.add_argument("--no-readback", action="store_true", help="with --radio or --link: read no memory back")
     reader.add_argument("--loss", type=share, default=0.0, metavar="P", help="percent of packets lost, each way")
     reader.add_argument("--again", type=share, default=0.0, metavar="P", help="percent of packets repeated by the link")
     reader.add_argument("--late", type=share, default=0.0, metavar="P",
-                       help="percent of packets that take up to twenty times --delay longer and are overtaken")
+                        help="percent of packets that take up to twenty times --delay longer and are overtaken")
     reader.add_argument("--delay", type=positive, default=2.0, metavar="MS",
-                       help="milliseconds that a packet is under way at least; at most twice as many; without it 2")
+                        help="milliseconds that a packet is under way at least; at most twice as many; without it 2")
     reader.add_argument("--rate", type=positive, default=1000.0, metavar="N", help="packets a second; without it 1000")
     reader.add_argument("--seed", type=int, default=1, metavar="N", help="chooses the packets that are spoilt")
     reader.add_argument("--tick", type=positive, metavar="MS",
-                       help="milliseconds in which an answer comes; without it the link's own")
+                        help="milliseconds in which an answer comes; without it the link's own")
     reader.add_argument("--id", type=finite.option(0, 255, True), metavar="ID",
-                       help="the id of the drones' memory; without it the show's")
+                        help="the id of the drones' memory; without it the show's")
     reader.add_argument("--memory", metavar="FOLDER", help="write each drone's memory to FOLDER/NAME.memory")
     outputs.add_force(reader)
     reader.add_argument("--link", metavar="FILE", help="a Python file whose class Link replaces the simulated link")
     reader.add_argument("--radio", metavar="DRONES", help="real drones: a text with a line `NAME URI` for each")
     reader.add_argument("--repeat-starts", action="store_true",
-                       help="with --radio: send starts again until they are answered; a drone begins anew at each")
+                        help="with --radio: send starts again until they are answered; a drone begins anew at each")
     reader.add_argument("--program", default=program.PROGRAM, metavar="FILE",
                         help="the program to run; without it that of ./show")
     reader.add_argument("show", metavar="SHOW", help="a file with a show, or - for standard input")

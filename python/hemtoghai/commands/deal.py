@@ -117,7 +117,7 @@ def main(words: list[str]) -> int:
     reader = parser(__doc__)
     add_depth(reader)
     reader.add_argument("--keep", action="append", default=[], metavar="NAME",
-                       help="a formation whose places stay as they are; may be given several times")
+                        help="a formation whose places stay as they are; may be given several times")
     options, text, flown = words_and_show(reader, words)
     for name in options.keep:
         if name not in flown.show.formations:

@@ -269,13 +269,13 @@ def print_verdict(judged: Dict[str, Judged], options: argparse.Namespace) -> boo
 def options_of(words: list[str]) -> argparse.Namespace:
     reader = parser(__doc__)
     reader.add_argument("--stray", type=finite.option(0, 100000), metavar="R",
-                       help="millimetres from the curve; without it the show's")
+                        help="millimetres from the curve; without it the show's")
     reader.add_argument("--late", type=finite.option(0, 100000), metavar="L",
-                       help="milliseconds between drones; without it the show's")
+                        help="milliseconds between drones; without it the show's")
     reader.add_argument("--gap", type=finite.option(1, 100000), default=GAP, metavar="G",
-                       help="the longest gap between samples in milliseconds; without it %d" % GAP)
+                        help="the longest gap between samples in milliseconds; without it %d" % GAP)
     reader.add_argument("--unsure", type=finite.option(0, 100), default=finite.UNSURE, metavar="M2",
-                       help="the greatest variance of a place that is known; without it %g" % finite.UNSURE)
+                        help="the greatest variance of a place that is known; without it %g" % finite.UNSURE)
     reader.add_argument("show", metavar="SHOW", help="a file with a show, or - for standard input")
     reader.add_argument("log", metavar="LOG", help="the flight's log, a CSV file")
     return reader.parse_args(words)

@@ -75,30 +75,30 @@ def options_of(words: list[str]) -> argparse.Namespace:
     reader.add_argument("--radio", metavar="DRONES", help="a text with a line `NAME URI` for each drone")
     reader.add_argument("--simulate", action="store_true", help="fly simulated drones")
     reader.add_argument("--sim", action="append", default=[], metavar="KEY=N",
-                       help="of simulated drones: stray (mm), late (ms), loss (percent), rate (packets/s), seed, speed "
-                            "(times real time, at most), dongles, strangers, blanks (drones on the channel that "
-                            "aren't in the show, with a trajectory and without); blocks, dies, usb and noise (s): "
-                            "what comes over dongle 0 so long after the start")
+                        help="of simulated drones: stray (mm), late (ms), loss (percent), rate (packets/s), seed, speed "
+                        "(times real time, at most), dongles, strangers, blanks (drones on the channel that "
+                        "aren't in the show, with a trajectory and without); blocks, dies, usb and noise (s): "
+                        "what comes over dongle 0 so long after the start")
     reader.add_argument("--fault", action="append", default=[], metavar="NAME:KIND[:S]",
-                       help="a fault of a simulated drone")
+                        help="a fault of a simulated drone")
     reader.add_argument("--script", metavar="FILE", help="what the crew of a simulated flight does, and when: a text "
-                                                        "with lines `SECONDS WHAT WORDS`, as in `2 press:INT started`")
+                        "with lines `SECONDS WHAT WORDS`, as in `2 press:INT started`")
     reader.add_argument("--pads", metavar="PADS", help="a text with a line `NAME X Y Z` in micrometres: where drones "
-                                                      "stand; without it below their first places, at height 0")
+                        "stand; without it below their first places, at height 0")
     reader.add_argument("--ceiling", type=finite.option(1, 100000, True), metavar="MM",
-                       help="nobody is lifted higher than this on the ways")
+                        help="nobody is lifted higher than this on the ways")
     reader.add_argument("--only", choices=("look", "upload", "land", "stop"),
-                       help="end after the preflight, or after the upload; or land all that are heard, or stop their "
-                            "motors: for these two the show isn't read, but for simulated drones")
+                        help="end after the preflight, or after the upload; or land all that are heard, or stop their "
+                        "motors: for these two the show isn't read, but for simulated drones")
     reader.add_argument("--on-silence", choices=("continue", "land"), default="continue",
-                       help="where a drone is silent in the show: fly on to its end, or land the others")
+                        help="where a drone is silent in the show: fly on to its end, or land the others")
     reader.add_argument("--low", action="store_true", help="let a show below z 0 through")
     reader.add_argument("--yes", action="store_true", help="don't ask before upload, take-off and start")
     reader.add_argument("--log", metavar="FILE", help="write places to this CSV file, for ./show flown")
     outputs.add_force(reader)
     for name, default, least, most, is_whole, metavar, text in NUMBERS:
         reader.add_argument("--" + name, type=finite.option(least, most, is_whole), default=default, metavar=metavar,
-                           help=text if default is None else "%s; %s" % (text, default))
+                            help=text if default is None else "%s; %s" % (text, default))
     reader.add_argument("--unicast", action="store_true", help="start drones one after the other, without a broadcast")
     reader.add_argument("show", metavar="SHOW", help="a file with a show")
     options = reader.parse_args(words)
@@ -219,7 +219,7 @@ def only(radio: crazyradio.Radio, floors: Dict[str, Place], options: argparse.Na
         watch.flies = watch.lands = True
         _, quiet, refused = fleet.land(descent.floors, descent.all, options.sink, watch.look)
         say("told to land, in %g s%s%s" % (options.sink, "; NO ANSWER: " + descent.words_of(quiet) if quiet else "",
-                                            "; REFUSED: " + ", ".join(refused.values()) if refused else ""))
+                                           "; REFUSED: " + ", ".join(refused.values()) if refused else ""))
         for why in radio.failures(heard, lambda k: fleet.begin_logs(k, EVERY, (FLIGHT,))).values():
             say(str(why))
         descent.wait_down(heard, options.sink)

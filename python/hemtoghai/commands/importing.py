@@ -224,17 +224,17 @@ def options_of(words: list[str]) -> argparse.Namespace:
     reader.add_argument("--waypoints", action="store_true", help="the files are waypoints, joined by lines")
     reader.add_argument("--smooth", action="store_true", help="the files are waypoints, joined by a smooth spline")
     reader.add_argument("--tolerance", type=amount(1000), default=10.0, metavar="MM",
-                       help="the greatest deviation from the file; without it 10")
+                        help="the greatest deviation from the file; without it 10")
     reader.add_argument("--yaw-tolerance", type=amount(360), default=3.0, metavar="DEGREES",
                         help="the same for yaw; without it 3")
     reader.add_argument("--least", type=numbers((1, 65535)), default=50, metavar="MS",
-                       help="the shortest cue, except for the two before a rest or the end; without it 50")
+                        help="the shortest cue, except for the two before a rest or the end; without it 50")
     reader.add_argument("--loose", action="store_true",
-                       help="fewer cues: drones at rest may stray within the tolerance, too")
+                        help="fewer cues: drones at rest may stray within the tolerance, too")
     reader.add_argument("--ellipsoid", type=numbers((1, 2000), (1, 2000)), default=(120, 300), metavar="'R H'",
-                       help="the wanted half axes around the file's own curves, in mm; without it '120 300'")
+                        help="the wanted half axes around the file's own curves, in mm; without it '120 300'")
     reader.add_argument("--memory", type=numbers((0, 255), (0, 4095)), default=(2, 0), metavar="'ID OFFSET'",
-                       help="the show's line `memory`; without it '2 0'")
+                        help="the show's line `memory`; without it '2 0'")
     reader.add_argument("--form", type=int, choices=sorted(choreo.FORMS.values()), default=NEWEST,
                         help="the form of the language: 2, with units, or 1, in whole numbers; without it 2")
     reader.add_argument("--starts", metavar="FILE",

@@ -76,7 +76,7 @@ def main(words: list[str]) -> int:
     reader = parser(__doc__)
     add_depth(reader)
     reader.add_argument("--step", type=step, metavar="MS",
-                       help="milliseconds from one sample to the next, 1 to 60000; without it by the show's length")
+                        help="milliseconds from one sample to the next, 1 to 60000; without it by the show's length")
     reader.add_argument("--regions", metavar="FILE", help="boxes and volumes to draw: the regions of `boxes`")
     reader.add_argument("--svg", action="store_true", help="one drawing in place of a page")
     reader.add_argument("--program", default=program.PROGRAM, metavar="FILE",

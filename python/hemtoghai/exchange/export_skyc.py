@@ -112,7 +112,7 @@ def amount(word: str) -> Fraction:
 def main(words: list[str]) -> int:
     reader = parser(__doc__)
     reader.add_argument("--tolerance", type=amount, default=Fraction(1), metavar="MM",
-                       help="how far cubics may leave a `move`, 0.001 to 1000; 1")
+                        help="how far cubics may leave a `move`, 0.001 to 1000; 1")
     outputs.add_force(reader)
     reader.add_argument("plan", metavar="PLAN|SHOW", help="what ./show compile wrote, or a show; - for standard input")
     reader.add_argument("out", metavar="OUT", help="the .skyc to write")

@@ -57,8 +57,9 @@ LINES: Dict[str, List[Any]] = {
     "perform": ["name", {"none", "x", "y"}, Number(0, 3), *POINT, "names"],
     "form": ["name", {"line", "move"}], "end": [],
 }
-ACTS: Dict[str, List[Any]] = {"hold": [], "line": [*POINT, YAW], "move": [*POINT, YAW], "turn": [YAW],
-        "curve": [*POINT * 3, YAW], **{act: [{"ccw", "cw"}, COORDINATE, COORDINATE, YAW] for act in ARCS}}
+ACTS: Dict[str, List[Any]] = {
+    "hold": [], "line": [*POINT, YAW], "move": [*POINT, YAW], "turn": [YAW], "curve": [*POINT * 3, YAW],
+    **{act: [{"ccw", "cw"}, COORDINATE, COORDINATE, YAW] for act in ARCS}}
 SETTINGS = ["memory", "trajectory", "ellipsoid", "stray", "late"]
 PLAYED = ["cue", "repeat", "perform"]
 PLACES = {"top": [*SETTINGS, "drone", "formation", "figure", *PLAYED], "formation": ["at", "end"],
@@ -368,8 +369,8 @@ class Cue:
         self.number, self.milliseconds = line.number, int(line.values[0])
 
 
-def written_out(show: Show, lines: list[Line], frame: Sequence[Any] = ("none", 0, 0, 0, 0), players: dict[str,
-                  str] | None = None, within: tuple[Any, ...] = ()) -> Iterator[Cue]:
+def written_out(show: Show, lines: list[Line], frame: Sequence[Any] = ("none", 0, 0, 0, 0),
+                players: dict[str, str] | None = None, within: tuple[Any, ...] = ()) -> Iterator[Cue]:
     for line in lines:
         if line.kind == "repeat":
             for turn in range(1, line.values[0] + 1):

@@ -10,6 +10,7 @@ from hemtoghai.language import choreo
 from hemtoghai.language.lines import with_words_at
 from hemtoghai.texts import TooLong
 
+
 def new_words(number: int, words: list[str], blocks: list[choreo.Line], form: int) -> dict[int, str]:
     """By their places the words of a line that are others in this form; then the line is among the open blocks."""
     _, front, slots = choreo.slots_of(number, words, blocks)

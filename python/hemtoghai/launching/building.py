@@ -27,6 +27,7 @@ SPOOLED = SHOW + CERTIFICATE + (1 << 20)  # bytes of two texts, more than any co
 USAGE = ["no", "such", "command"], b"error 2 usage\n"  # words that every build of the program refuses, and its answer
 TRIED = re.compile(r"^run=ended status=\d+ .*proved=no$", re.M)  # what rt says last of a try that came to an answer
 
+
 def complain(text: str) -> None:
     with contextlib.suppress(OSError):
         sys.stderr.write(text)

@@ -73,10 +73,10 @@ PURPOSES = {
 def help_text() -> str:
     import textwrap
     return (USAGE % ("\n".join("%-44s  %s" % row for row in commands.COMMANDS),
-                    "\n".join(textwrap.fill("%-13s %s. Without it: %s." % tuple(row), 108, subsequent_indent=" " * 14)
-                              for row in commands.OPTIONS),
-                    "\n".join("%-45s %s" % it for it in PURPOSES.items() if it[0] in COMMANDS))).replace(
-                        "./show", COMMAND)
+                     "\n".join(textwrap.fill("%-13s %s. Without it: %s." % tuple(row), 108, subsequent_indent=" " * 14)
+                               for row in commands.OPTIONS),
+                     "\n".join("%-45s %s" % it for it in PURPOSES.items() if it[0] in COMMANDS))).replace(
+        "./show", COMMAND)
 
 
 def usage_of(command: str) -> str:

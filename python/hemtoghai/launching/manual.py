@@ -19,6 +19,7 @@ from hemtoghai.launching import records, words as commands
 from hemtoghai.launching.completion import all_words, completion as completion, SHELLS, Word
 from hemtoghai.launching.help import PURPOSES as OTHERS
 
+
 def roff(text: str) -> str:
     text = re.sub(r"\[([^]]*)\]\([^)]*\)", r"\1", text).replace("\\", "\\e").replace("-", "\\-")
     text = re.sub(r"`([^`]*)`", r"\\fB\1\\fR", text).replace("**", "")

@@ -102,9 +102,9 @@ def drawing_of(flown: Flown, times: Sequence[int], places: Sequence[Sequence[Pla
     floor: list[Place] = [(x, y, 0) for x in (low[0], high[0]) for y in (low[1], high[1])]
     view.fit(rows + floor, hypot(r * view.tilt[1], h * view.tilt[0]))
     out = ['<svg xmlns="http://www.w3.org/2000/svg" viewBox="0 0 %d %d" width="%d" height="%d">' % (
-               WIDTH, view.height, WIDTH, view.height),
-           "<title>The flight of %d drones in space, with their ellipsoids</title>" % len(flown.names),
-           '<rect width="100%" height="100%" fill="#fff"/>', *floor_lines(view, low, high)]
+        WIDTH, view.height, WIDTH, view.height),
+        "<title>The flight of %d drones in space, with their ellipsoids</title>" % len(flown.names),
+        '<rect width="100%" height="100%" fill="#fff"/>', *floor_lines(view, low, high)]
     for k in range(len(flown.names)):
         points = coordinates(view.point(row[k][:3]) for row in places)
         out.append('<polyline points="%s" fill="none" stroke="%s" stroke-opacity="0.5" stroke-width="1.5"/>' % (
