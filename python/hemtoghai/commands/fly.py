@@ -18,8 +18,8 @@ that is judged. A second one stops all motors, and the drones fall. At a fault a
 and so does everybody, to the end of the show, unless --on-silence land is given. Have somebody at hand who can cut the
 power, too: where this program or its radio dies in flight, drones fly their trajectories to the end and stay there.
 
-Status 0: flown, and all are down and obeyed to disarm, they say. 1: not flown, or landed early. 2: wrong words. 3 to 5: the show is refused. 60: motors were
-stopped. 70: no answer.
+Status 0: flown, and all are down and obeyed to disarm, they say. 1: not flown, or landed early. 2: wrong words. 3 to 5:
+the show is refused. 60: motors were stopped. 70: no answer.
 """
 import argparse
 import signal
@@ -60,7 +60,8 @@ NUMBERS = [
     ("stray", None, 1, 10000, False, "MM", "farther from its curve all land; the show's, or %d" % NO_STRAY),
     ("late", None, 1, 10000, False, "MS", "farther apart may starts not go out; the show's, or %d" % NO_LATE),
     ("silence", 1.5, 0.2, 60, False, "S", "seconds without a sample, then a drone is silent"),
-    ("jump", flyable.MOST["jump"] / 1000, 0.001, 1000, False, "M/S", "greatest jump of speed in the show on an axis: no drone flies one"),
+    ("jump", flyable.MOST["jump"] / 1000, 0.001, 1000, False, "M/S",
+     "greatest jump of speed in the show on an axis: no drone flies one"),
     ("accel", flyable.MOST["accel"] / 1000, 0.001, 100000, False, "M/S2", "greatest acceleration in the show on an axis"),
     ("patience", 30, 0, 3600, False, "S", "seconds that a take-off waits for landings that one drone may not hear of"),
     ("sink", 5, 2, 60, False, "S", "seconds of a landing with --only land, which knows no heights"),
