@@ -23,9 +23,9 @@ def help_of(*words):
 
 
 def forms():
-    """By command of the program the options of its form, as its own `help` writes them, or COMMANDS.md what it writes."""
+    """By command of the program the options of its form, as its own `help` writes them, or the table of COMMANDS.md."""
     with open(os.path.join(common.TOP, "docs", "COMMANDS.md"), encoding="utf-8") as file:
-        page = re.search(r"^\$ \./show help\n(.*?)```", file.read(), re.M | re.S)[1]
+        page = "\n".join(re.findall(r"^\| \[`([^`]+)`\]\(#", file.read(), re.M))
     text = program.ask(["help"], b"")[1].decode() if program.fault() is None else page
     return {line.split()[0]: re.findall(r"--[a-z]+", line) for line in text.splitlines()}
 
