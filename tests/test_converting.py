@@ -12,7 +12,7 @@ from hemtoghai.language import choreo, converting
 from hemtoghai.texts import TooLong
 
 sys.path.append(os.path.join(TOP, "bench"))
-from beside import script
+from scripts import script
 
 # The same show in both forms: each kind of line, blanks, comments and carriage returns.
 FIRST = b"""# choreo 1 in a comment, and 1000000
