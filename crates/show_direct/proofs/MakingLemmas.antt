@@ -1,5 +1,5 @@
 -- A flight that is made of three shows that fit.
-use Rattle.std.proofs.Common.{◌≡◌, ℕ, ◌*◌, ◌≤◌, ℤ, min, not, List, [], ◌∷◌, length, map, Option, Some, None, Result, Ok, Err, refl, sym, ap, subst, ◌∙◌, arith}
+use Rattle.std.proofs.Common.{◌≡◌, ℕ, ◌*◌, ◌≤◌, ℤ, min, max, not, List, [], ◌∷◌, length, map, Option, Some, None, Result, Ok, Err, refl, sym, ap, subst, ◌∙◌, arith}
 use Rattle.std.proofs.lemmas.List.{length-map}
 use Rattle.std.proofs.lemmas.List.Elements.{All-cons, All-head, All-nil, All-tail, All-weaker}
 use Rattle.std.proofs.lemmas.List.Sums.{sum_by-cons}
@@ -40,7 +40,7 @@ use Rattle.show_plan.specs.Fitting.{IsFitted, IsValidFitted}
 use Rattle.show_plan.specs.Landing.{AreUploadable}
 use Rattle.show_judge.specs.Shows.{names_of, sent_of, trajectories_of}
 use Rattle.show_direct.specs.declared.options.Options.{Options}
-use Rattle.show_direct.specs.Flights.{course_of, ellipsoid_in, ellipsoid_of, fault_of, flight_of, most_silence, routes_of}
+use Rattle.show_direct.specs.Flights.{course_of, ellipsoid_in, ellipsoid_of, fault_of, flight_of, most_silence, order_ms, routes_of}
 use Rattle.show_direct.specs.Steps.{FlightMade, StepsMade}
 
 -- ---- steps
@@ -159,20 +159,21 @@ steps_fitted o up show down u s d c w result is_up is_show is_down n_up n_show n
 
 -- ---- the flight
 
--- a way's curves, with what its settings say
-abbrev pub course_from : List Traj → ℕ → Settings → Course
-course_from curves ms e = record { curves = curves; ms = ms; stray = e.stray; late = e.late }
+-- a way's curves, with what its settings say, and a lateness
+abbrev pub course_from : List Traj → ℕ → Settings → ℕ → Course
+course_from curves ms e late = record { curves = curves; ms = ms; stray = e.stray; late = late }
 
 -- those of a fitted show are the show's
-pub course_is : (f : Fitted) (s : PlainShow) → IsValidFitted f → IsFitted f s → course_from f.sent f.duration f.settings ≡ course_of s
-course_is f s valid is =
-    ap (λ (ts : List Traj). course_from ts f.duration f.settings) is.sent
-    ∙ ap (λ (n : ℕ). course_from (sent_of s) n f.settings) (sym (fitted_lasts f valid) ∙ ap lasts is.trajs)
-    ∙ ap (λ (e : Settings). course_from (sent_of s) (lasts (trajectories_of s)) e) is.settings
+pub course_is : (f : Fitted) (s : PlainShow) (late : ℕ) → late ≡ max f.settings.late order_ms → IsValidFitted f → IsFitted f s → course_from f.sent f.duration f.settings late ≡ course_of s
+course_is f s late most valid is =
+    ap (λ (n : ℕ). course_from f.sent f.duration f.settings n) most
+    ∙ ap (λ (ts : List Traj). course_from ts f.duration f.settings (max f.settings.late order_ms)) is.sent
+    ∙ ap (λ (n : ℕ). course_from (sent_of s) n f.settings (max f.settings.late order_ms)) (sym (fitted_lasts f valid) ∙ ap lasts is.trajs)
+    ∙ ap (λ (e : Settings). course_from (sent_of s) (lasts (trajectories_of s)) e (max e.late order_ms)) is.settings
 
 -- and may be played
-pub course_held : JoinLaw → (f : Fitted) → IsValidFitted f → AreUploadable f.settings f.sent → IsCourse (course_from f.sent f.duration f.settings)
-course_held law f valid up =
+pub course_held : JoinLaw → (f : Fitted) (late : ℕ) → IsValidFitted f → AreUploadable f.settings f.sent → IsCourse (course_from f.sent f.duration f.settings late)
+course_held law f late valid up =
     let total = total_short valid.times f.trajs (some_trajs f valid) valid.same_times valid.formed (omega (arith, valid.times_counted, valid.few_cues)) in
     let lasting : All (λ (t : Traj). duration_of t ≡ f.duration) f.sent =
     subst (All (λ (t : Traj). duration_of t ≡ f.duration)) (sym valid.sent) (sent_lasts law valid.times f.duration valid.duration f.trajs valid.same_times) in
@@ -229,7 +230,7 @@ pub is_held : JoinLaw → (o : Options) (floor : ℤ) (silence : ℕ) (f : Fitte
     IsCourse rise → IsCourse return → IsHeld (made_of o floor silence steps f.sent f.duration f.settings rise return)
 is_held law o floor silence f steps rise return valid up sizes rising returning =
     let few : length f.trajs ≤ 32 = omega (arith, valid.few_drones, valid.trajs_counted) in
-    let show = course_held law f valid up in
+    let show = course_held law f f.settings.late valid up in
     record {
       few = up.few;
       short = show.short;

@@ -18,7 +18,7 @@ unfoldable use Rattle.flight_link.specs.Sends.{ended, sent_over}
 use Rattle.show_judge.specs.Verb.{outcome}
 use Rattle.show_direct.specs.declared.options.Options.{Options}
 use Rattle.show_direct.specs.Direct.{flight_exchange}
-use Rattle.show_direct.specs.Flights.{fault_of, flight_of}
+use Rattle.show_direct.specs.Flights.{course_of, fault_of, flight_of}
 use Rattle.show_direct.specs.Frames.{fault_frame, fault_in}
 
 -- so near to the pads
@@ -98,6 +98,19 @@ record FrameRows : Type 0 where
 
 frame_rows : FrameRows
 frame_rows = record { other = refl; gap = refl; restless = refl; still = refl; slanted = refl; narrow = refl; ellipsoid = refl; read = refl; read_narrow = refl; read_ellipsoid = refl }
+
+-- a show that allows its drones to be so late
+abbrev late_by : ℕ → PlainShow → PlainShow
+late_by ms s = record s { settings = record (s.settings) { late = ms } }
+
+-- on a way a drone may be as late as its text says, and as an order
+record LateRows : Type 0 where
+  none : (course_of (late_by 0 up)).late ≡ 300
+  less : (course_of (late_by 299 up)).late ≡ 300
+  more : (course_of (late_by 301 down)).late ≡ 301
+
+late_rows : LateRows
+late_rows = record { none = refl; less = refl; more = refl }
 
 early : FlightGives (flight_of (within 100) up (there_and_back (codes "a")) down) [] 8 (0x45 ∷ 8 ∷ [])
 unfolding ended sent_over expanded end_of

@@ -1,5 +1,5 @@
 -- What three shows are as a flight: their routes, the first cause why they are none, and the flight.
-use Rattle.std.specs.Prelude.{◌≡◌, ℕ, min, not, Option}
+use Rattle.std.specs.Prelude.{◌≡◌, ℕ, min, max, not, Option}
 use Rattle.std.specs.Option.{option_or}
 use Rattle.choreo_show.specs.Plain.{PlainShow}
 use Rattle.choreo_show.specs.declared.show.Settings.{Settings}
@@ -53,10 +53,19 @@ pub record AreFlight (o : Options) (up show down : PlainShow) : Type 0 where
 abbrev pub most_silence : ℕ
 most_silence = 999999999
 
+-- How late an order may reach its drone where the text of its way says less: a way that is judged stage by stage, each
+-- begun once all are there, is a text without lateness.
+abbrev pub order_ms : ℕ
+order_ms = 300
+
 -- A way as it is watched: what its drones would be sent, and what its settings say of stray and lateness.
 abbrev pub course_of : PlainShow → Course
-course_of s =
-    record { curves = sent_of s; ms = lasts (trajectories_of s); stray = s.settings.stray; late = s.settings.late }
+course_of s = record {
+  curves = sent_of s;
+  ms = lasts (trajectories_of s);
+  stray = s.settings.stray;
+  late = max s.settings.late order_ms;
+}
 
 -- The flight. Its curves are what the drones were sent for the show, and how far drones may be from them is what the
 -- show's settings say; so it is of the ways.

@@ -1,12 +1,12 @@
 //! A flight is made of three shows.
 
 ghost use Rattle.std.specs.Int.{w16};
-ghost use Rattle.std.specs.Prelude.{◌≡◌, length, min, All, FitsSigned, IfOk};
+ghost use Rattle.std.specs.Prelude.{◌≡◌, length, max, min, All, FitsSigned, IfOk};
 ghost use Rattle.choreo_show.specs.Plain.{PlainShow};
 ghost use Rattle.flight_director.specs.Held.{IsCourse, IsHeld};
 ghost use Rattle.flight_steps.specs.Sizes.{IsStepOf};
 ghost use Rattle.show_plan.specs.Fitting.{IsFitted, IsValidFitted};
-ghost use Rattle.show_direct.specs.Flights.{course_of as word_course, ellipsoid_in, most_silence};
+ghost use Rattle.show_direct.specs.Flights.{course_of as word_course, ellipsoid_in, most_silence, order_ms};
 ghost use Rattle.show_direct.specs.Steps.{FlightMade, StepsMade};
 
 use crate::options::Options;
@@ -86,6 +86,15 @@ fn silence_of(options: &Options) -> u32
     options.silence.min(MOST_SILENCE)
 }
 
+// How late an order may reach its drone, in milliseconds, where the way's text says less.
+const ORDER_MS: u16 = 300;
+
+fn late_of(way: &Fitted) -> u16
+    ensures { result ≡ max way.now.settings.late order_ms }
+{
+    way.settings.late.max(ORDER_MS)
+}
+
 // The curves of a way, as it is watched.
 fn course_of(way: Fitted) -> Course
     requires { IsValidFitted way }
@@ -94,11 +103,12 @@ fn course_of(way: Fitted) -> Course
 {
     join_law();
     uploadable_law(&way);
+    let late = late_of(&way);
     Course {
         curves: way.sent,
         ms: way.duration,
         stray: way.settings.stray,
-        late: way.settings.late,
+        late,
     }
 }
 
