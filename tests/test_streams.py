@@ -126,8 +126,9 @@ class Streams(unittest.TestCase):
     def test_no_such_judge(self):
         done = subprocess.run([*common.AS_BUILT, "check", "--json", SHOW], cwd=TOP, env={**os.environ, "HEMTOGHAI_BY": "evil"},
                               stdout=subprocess.PIPE, stderr=subprocess.PIPE, timeout=300)
-        self.assertEqual((done.returncode, done.stdout, done.stderr),
-                         (70, b"", b"show: HEMTOGHAI_BY is library or process, and not 'evil'\n"))
+        why, found = "HEMTOGHAI_BY is library or process, and not 'evil'", json.loads(done.stdout)
+        self.assertEqual((done.returncode, found["status"], found["ok"], found["proved"], found["error"], done.stderr),
+                         (70, 70, False, False, why, b"show: %s\n" % why.encode()))
 
     def test_early_interrupt(self):
         # Ctrl-C while the command is still being imported: no traceback, and the status of the signal.
