@@ -155,7 +155,10 @@ class Film(Timeline):
                 for (let k = 0; k < data.length; k += 4) if (data[k + 2] - data[k] > 60) many += 1;
                 return many;
               };
-              const ends = [placeAt(0, 0), placeAt(0, flight.end)], first = ends.map(blue);
+              const ends = [placeAt(0, 0), placeAt(0, flight.end)];
+              film.currentTime = 0.1;  // the first pictures of a recording may be empty
+              await until("seeked");
+              const first = ends.map(blue);
               film.currentTime = 1e6;
               await until("seeked");
               return [begin, [film.videoWidth, film.videoHeight], [canvas.width, canvas.height], first, ends.map(blue),
