@@ -382,9 +382,12 @@ class Words(Processes):
         self.assertNotIn("ok", said)
 
     def test_help(self):
-        with open(os.path.join(TOP, "docs", "COMMANDS.md")) as file:
+        with open(os.path.join(TOP, "docs", "COMMANDS.md"), encoding="utf-8") as file:
             page = file.read()
-        forms = re.search(r"^\$ \./show help\n(.*?)```", page, re.M | re.S)[1].splitlines()
+        with open(os.path.join(TOP, "crates", "command_words", "specs", "Commands.antt"), encoding="utf-8") as file:
+            text = file.read()
+        text = text[text.index("pub help_text : "):]  # what the program's own `help` is defined to write
+        forms = "".join(re.findall('codes "([^"]*)"', text.partition("\n\n")[0])).split("\\n")[:-1]
         self.assertEqual([form for form, _ in commands.COMMANDS], forms)
         os.remove(self.path("crates/show_cli/out/show_cli"))
         self.calls()
