@@ -494,7 +494,7 @@ class Page(Led):
             self.wait(lambda: "they touch at 1.41 s (explain)" in self.verdict(), "no touch")
             said = self.verdict()
             self.assertIn("TOO NEAR: a and b in cue 1", said)
-            self.assertIn("lines 5, 6: nearest at 1.5 s with", said)  # the other instant, and what it is
+            self.assertIn("lines 5, 6: nearest at 1.50 s with", said)  # the other instant, and what it is
 
     def test_most_margin(self):
         """A show that is accepted with the most that the language has isn't said to have that limit of its own."""
