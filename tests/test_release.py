@@ -718,7 +718,7 @@ class Manual(unittest.TestCase):
                               (("check", "--depth", ""), list("012345678")),
                               (("explain", "--fine", ""), list("012345")),
                               (("upload", "--"), ["--depth", "--start", "--readback", "--help"]),
-                              (("verify", "examples/solo.choreo", "--"), ["--help"])):
+                              (("verify", "examples/solo.choreo", "--"), ["--json", "--help"])):
             self.assertEqual(self.completed("./show", *words), wanted, words)
 
 
