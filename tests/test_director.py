@@ -182,7 +182,8 @@ class Process(unittest.TestCase):
 
     def test_who_leaves_its_way(self):
         # The way up may be left by 100 mm, and by 101 mm for less than 300 ms: on the way, and where the start is waited
-        # for. A sample from before the step, and one that comes late, are taken at their own instants.
+        # for. A sample from before the step, and one that comes late, are taken at their own instants. An order may be
+        # 300 ms late: so long before its end the way is at 987.90 mm.
         def at(z, flags, age=0):
             return director.sample(0, age, [0, 0, z], flags | director.SURE)
         armed, clock = director.ARMED | director.READY, director.clock_frames
@@ -198,7 +199,8 @@ class Process(unittest.TestCase):
                 ("seen later", [clock(20), at(101, armed), clock(400), at(150, armed, 100)], lands),
                 ("seen before", [clock(20), at(5000, armed, 21), clock(300), at(150, armed)], []),
                 ("hovers", [*high, at(1100, armed), clock(300), at(900, armed)], []),
-                ("sinks", [*high, at(899, armed), clock(300), at(899, armed)], lands)):
+                ("is late", [*high, at(888, armed), clock(300), at(888, armed)], []),
+                ("sinks", [*high, at(887, armed), clock(300), at(887, armed)], lands)):
             self.assertEqual(self.said([*up, *events]), [*risen, *more, Ended(8)], name)
 
     def test_no_flight(self):
