@@ -32,14 +32,14 @@ class Watched(common.Folder, unittest.TestCase):
 
     def watched(self, *words, **more):
         """What a command says, and what was told meanwhile."""
-        with contextlib.redirect_stderr(self.told):
+        with contextlib.redirect_stderr(self.told), mock.patch.object(library, "tool_name", lambda: "library"):
             return library.watched(*words, place=self.place, doing="at work", **more)
 
     def test_says_how_far(self):
         said = self.watched("sh", "-c", "echo one; printf 'two\nthr'; sleep 1; echo ee", every=0.3)
         self.assertEqual(said, "one\ntwo\nthree\n")
         self.assertEqual(self.told.getvalue().splitlines()[:2],
-                         ["hemtoghai: at work", "hemtoghai: sh -c for 0 minutes so far; two"])
+                         ["library: at work", "library: sh -c for 0 minutes so far; two"])
 
     def test_fails(self):
         for words, line in ((("sh", "-c", "echo why; exit 3"), "why\nsh -c echo why; exit 3 failed with status 3"),
