@@ -169,6 +169,8 @@ class Beats(Timeline):
         1.02, 1.48, 2.02, 2.98 s, one of which is missing, the line has 0.4931 s a beat."""
         self.browser.click("#go")
         for _ in range(3):
+            before = self.browser.run("return now")
+            self.wait(lambda: self.browser.run("return now") > before + 20, "it doesn't play")
             self.browser.keys("b")
         self.browser.click("#go")
         taps = self.beats()
