@@ -147,7 +147,7 @@ class Film(Timeline):
               const until = name => new Promise((go, fail) => { film["on" + name] = go; film.onerror = () => fail(film.error); });
               await until("loadeddata");
               const pen = new OffscreenCanvas(film.videoWidth, film.videoHeight).getContext("2d", {willReadFrequently: true});
-              // How many pixels near a place of the flight are of another colour than the paper and the grid.
+              // How many pixels near a place of the flight are of another colour than the background and the grid.
               const blue = place => {
                 pen.drawImage(film, 0, 0);
                 const [x, y] = view.to(place), {data} = pen.getImageData(x - 4, y - 4, 8, 8);
