@@ -1,5 +1,5 @@
 -- Ends of parts: what marks tell of them, and that the halves of a part share them.
-use Rattle.pair_search.proofs.Prelude.{below_more, drop, get_or, get_or-set_other, get_or-set_same, slice_set, common_steps, ◌≡◌, ◌≢◌, ◌⊎◌, inl, inr, ℕ, zero, suc, ◌+◌, ◌-◌, ◌*◌, ◌^◌, ◌≤◌, ◌<◌, ◌≤ℤ◌, ◌<ℤ◌, ◌+ℤ◌, ◌*ℤ◌, ℤ, pos, Bool, true, false, arith, refl, sym, ◌∙◌, ap, subst, List, [], ◌∷◌, ◌++◌, length, Option, Some, None, is_some, is_none, at, by_lt, linear, ints, pow-add, mul_comm_ℤ, mul_assoc_ℤ, mul_left_comm_ℤ, mul_add_ℤ, one_mul_ℤ, le_mul_pos, Bez, controls, at-eight, Place, part_value, direction_of, threshold, weights, IsLevel, IsStack, left_half, right_half, root, places_of, Measure, Level, Node, Leaf, Split, IsShallow, places_below, least_value, low_value, part_along, first_low-values, Lanes, Point, IsPoint, IsSmallPoint, IsLane, lane_value, AreOpposites, IsHigh, first_by, does_separate}
+use Rattle.pair_search.proofs.Prelude.{below_more, drop, get_or, get_or-set_other, get_or-set_same, slice_set, ◌≡◌, ◌≢◌, ◌⊎◌, inl, inr, ℕ, suc, ◌+◌, ◌-◌, ◌*◌, ◌^◌, ◌≤◌, ◌<◌, ◌<ℤ◌, ◌+ℤ◌, ◌*ℤ◌, ℤ, pos, Bool, true, false, arith, refl, sym, ◌∙◌, ap, subst, List, [], ◌∷◌, ◌++◌, length, Option, Some, None, is_some, is_none, at, by_lt, linear, pow-add, mul_left_comm_ℤ, Bez, controls, Place, part_value, direction_of, threshold, IsLevel, IsStack, left_half, right_half, root, places_of, Measure, Level, Node, Leaf, Split, IsShallow, places_below, least_value, low_value, part_along, first_low-values, AreOpposites, first_by, does_separate}
 use Rattle.std.specs.Int.{bit_at}
 use Rattle.std.proofs.Common.{bit_and}
 use Rattle.std.proofs.lemmas.List.{drop-drop, length-map}
@@ -10,8 +10,7 @@ use Rattle.halving.proofs.PolarLemmas.{part-part}
 use Rattle.pair_search.specs.declared.opposites.Opposites.{Opposites}
 use Rattle.pair_search.specs.declared.marking.Marks.{Marks}
 use Rattle.pair_search.specs.declared.ends.Ends.{Ends}
-use Rattle.pair_search.specs.Marks.{AreLeft, FindsMarked, IsLowEnd, IsMarked, MarkTells, MarksAt, TellAll, TellsEnds, TellsOf, dir_of}
-use Rattle.pair_search.specs.Steps.{IsSome}
+use Rattle.pair_search.specs.Marks.{AreLeft, FindsMarked, IsLowEnd, MarkTells, MarksAt, TellAll, TellsEnds, TellsOf}
 use Rattle.pair_search.proofs.LaneLemmas.{by_same, lane_along}
 use Rattle.pair_search.proofs.Marks.{none_there, some_there}
 
@@ -192,16 +191,16 @@ pub no_bit : (i : ℕ) → bit_at 0 i ≡ 1 → ⊥
 no_bit i set = omega (arith, set, bit_at-zero i)
 
 -- the ends of the whole cue
+pub root_told : (m : Measure) (diff : List (Bez 8)) (s : Opposites) (ends : Ends) → length m.directions ≤ 98 → AreOpposites m s → IsLevel diff (record { place = root; part = diff }) →
+    MarksAt s (record { place = root; part = diff }) 0 ends.first → MarksAt s (record { place = root; part = diff }) 7 ends.last → TellsEnds m diff root ends
+root_told m diff s ends few opposites is first last = record {
+  first = told m diff s (record { place = root; part = diff }) 0 ends.first (omega arith) few opposites is first;
+  last = told m diff s (record { place = root; part = diff }) 7 ends.last (omega arith) few opposites is last;
+}
+
 pub whole_told : (m : Measure) (diff : List (Bez 8)) (s : Opposites) (ends : Ends) (places : List Place) → length m.directions ≤ 98 → AreOpposites m s → IsLevel diff (record { place = root; part = diff }) →
     MarksAt s (record { place = root; part = diff }) 0 ends.first → MarksAt s (record { place = root; part = diff }) 7 ends.last → places ≡ root ∷ [] → TellAll m diff places (ends ∷ [])
-whole_told m diff s ends places few opposites is first last same =
-    rw same (
-      record {
-        first = told m diff s (record { place = root; part = diff }) 0 ends.first (omega arith) few opposites is first;
-        last = told m diff s (record { place = root; part = diff }) 7 ends.last (omega arith) few opposites is last;
-      },
-      tt,
-    )
+whole_told m diff s ends places few opposites is first last same = rw same (root_told m diff s ends few opposites is first last, tt)
 
 -- those of the next part
 pub next_ends : (m : Measure) (diff : List (Bez 8)) (waiting rest : List Level) (level : Level) (all more : List Ends) (ends : Ends) → waiting ≡ level ∷ rest → all ≡ ends ∷ more → TellAll m diff (places_of waiting) all → TellsEnds m diff level.place ends × TellAll m diff (places_of rest) more

@@ -1,6 +1,5 @@
 -- Numbers of lanes, and what they tell of a direction.
-use Rattle.pair_search.proofs.Prelude.{All, [], get_or, below_at, controls_row, curves_of, root, common_steps, lit<, ◌≡◌, ◌≢◌, inl, inr, ℕ, zero, suc, ◌+◌, ◌*◌, ◌^◌, ◌≤◌, ◌<◌, ℤ, pos, negsuc, neg_ℤ, ◌+ℤ◌, ◌-ℤ◌, ◌*ℤ◌, ◌≤ℤ◌, ◌<ℤ◌, unsigned_abs, FitsSigned, to_z, of_z, arith, refl, sym, ◌∙◌, ap, subst, List, length, get_or-set_other, get_or-set_same, slice_set, replicate, is_none, false, true, Option, Some, None, ints, unsigned_abs-mul, to_z-of_z, mul-le, pow-add, pow_pos, pow-le-pow_right, w32, w64, at, IsBelow, by_lt, Clearance, threshold, weights, least_value, low_value, part_along, IsLevel, Level, first_low-values, Bez, controls, at-eight, part_value, linear, le_mul_pos, mul_add_ℤ, mul_assoc_ℤ, mul_comm_ℤ, mul_left_comm_ℤ, mul_neg_ℤ, neg_mul_ℤ, one_mul_ℤ, IsWithin, Lanes, Point, IsFloor, IsLane, IsLowAt, IsPoint, IsSmallLane, lane_value, slack_on, slack_of}
-use lib.Signed.{lt_z}
+use Rattle.pair_search.proofs.Prelude.{All, [], get_or, below_at, controls_row, curves_of, root, common_steps, lit<, ◌≡◌, ◌≢◌, ℕ, zero, suc, ◌+◌, ◌*◌, ◌^◌, ◌≤◌, ◌<◌, ℤ, pos, negsuc, neg_ℤ, ◌+ℤ◌, ◌-ℤ◌, ◌*ℤ◌, ◌≤ℤ◌, ◌<ℤ◌, unsigned_abs, FitsSigned, to_z, of_z, arith, refl, sym, ◌∙◌, ap, subst, List, length, get_or-set_other, get_or-set_same, slice_set, replicate, ints, unsigned_abs-mul, to_z-of_z, mul-le, pow-add, pow_pos, pow-le-pow_right, w32, w64, at, IsBelow, by_lt, Clearance, threshold, weights, least_value, part_along, IsLevel, Level, Bez, controls, at-eight, part_value, linear, le_mul_pos, mul_add_ℤ, mul_assoc_ℤ, mul_comm_ℤ, mul_left_comm_ℤ, mul_neg_ℤ, neg_mul_ℤ, one_mul_ℤ, IsWithin, Lanes, Point, IsFloor, IsLane, IsPoint, IsSmallLane, lane_value, slack_on, slack_of}
 
 -- ---- sizes
 pub lane_product : (w x : ℤ) → IsBelow 4001 w → IsWithin (pos 65536) x → IsWithin (pos 262144000) (w *ℤ x)
@@ -30,13 +29,6 @@ value_fits x small = omega (arith, ints)
 pub lane_sum : (x y z : ℤ) → IsWithin (pos 262144000) x → IsWithin (pos 262144000) y → IsWithin (pos 262144000) z →
     FitsSigned w32 (x +ℤ y) × FitsSigned w32 (x +ℤ y +ℤ z) × IsBelow 800000000 (x +ℤ y +ℤ z)
 lane_sum x y z p q r = (omega (arith, ints), omega (arith, ints), (omega (arith, ints), omega (arith, ints)))
-
--- a lane's value less what it has to reach
-pub less_fits : (a low : ℤ) → IsBelow 800000000 a → IsBelow (2 ^ 29) low → FitsSigned w32 (a -ℤ low)
-less_fits a low p q = omega (arith, ints)
-
-pub below_zero : (a low : ℤ) → (a -ℤ low) <ℤ pos 0 → a <ℤ low
-below_zero a low less = omega (arith, linear, less)
 
 -- ---- what a lane has to reach
 pub low_told : (reach a b c : ℤ) → pos 0 ≤ℤ reach → reach <ℤ pos (2 ^ 29) → (pos 0 ≤ℤ a) × (a <ℤ pos 4001) → (pos 0 ≤ℤ b) × (b <ℤ pos 4001) → (pos 0 ≤ℤ c) × (c <ℤ pos 4001) →
@@ -188,26 +180,6 @@ lane_along diff level clear n l p i k few is point lane less =
 
     lanes : {a b c u v w : ℤ} (x y z : ℤ) → a ≡ u → b ≡ v → c ≡ w → a *ℤ x +ℤ b *ℤ y +ℤ c *ℤ z ≡ u *ℤ x +ℤ v *ℤ y +ℤ w *ℤ z
     lanes {a} {b} {c} {u} {v} {w} x y z p q r = cc
-
--- such a direction doesn't separate the part
-pub lane_fails : (diff : List (Bez 8)) (level : Level) (clear : Clearance) (n : List ℤ) (l : Lanes) (p : Point) (i k : ℕ) → k ≤ 7 → IsLevel diff level → IsPoint level k p → IsLane clear n l i →
-    lane_value l p i <ℤ at l.low i → is_none (low_value clear diff level.place n) ≡ false
-lane_fails diff level clear n l p i k few is point lane less =
-    failed (low_value clear diff level.place n) refl
-  where
-    failed : (o : Option ℕ) → low_value clear diff level.place n ≡ o → is_none o ≡ false
-    failed None e = absurd (omega (arith, linear, lane_along diff level clear n l p i k few is point lane less, first_low-values (part_along clear.r clear.h diff level.place n) (least_value (threshold clear n) level.place.depth) e k few))
-    failed (Some j) e = refl
-
--- the same at one of two points
-pub lane_fails_at : (diff : List (Bez 8)) (level : Level) (clear : Clearance) (n : List ℤ) (l : Lanes) (p q : Point) (i : ℕ) → IsLevel diff level → IsPoint level 0 p → IsPoint level 7 q → IsLane clear n l i →
-    IsLowAt l p q i → is_none (low_value clear diff level.place n) ≡ false
-lane_fails_at diff level clear n l p q i is start end lane (inl less) = lane_fails diff level clear n l p i 0 (omega arith) is start lane less
-lane_fails_at diff level clear n l p q i is start end lane (inr less) = lane_fails diff level clear n l q i 7 (omega arith) is end lane less
-
--- a test of a number of 32 bits
-pub told_less : (x : ℤ) → FitsSigned w32 x → lt_z (to_z w32 (of_z w32 x)) (pos 0) ≡ true → x <ℤ pos 0
-told_less x fits is = grind (arith, common_steps, ints, to_z-of_z, pos)
 
 -- ---- whole steps
 -- a value of a part is few steps

@@ -12,3 +12,4 @@ pub mod Reaches
 pub mod Waits
 pub mod OppositeLemmas
 pub mod EndLemmas
+pub mod HighBits

@@ -1,5 +1,5 @@
 -- Directions with their opposites, and what their lanes tell.
-use Rattle.pair_search.proofs.Prelude.{◌≡◌, ℕ, zero, suc, ◌<◌, ℤ, pos, negsuc, neg_ℤ, ◌+ℤ◌, ◌*ℤ◌, ◌<ℤ◌, FitsSigned, arith, replicate, ints, w32, at, IsBelow, linear, neg_mul_ℤ, Lanes, Point, IsSmallLane, IsSmallPoint, lane_value, CancelAt, IsHigh, IsSmallHigh}
+use Rattle.pair_search.proofs.Prelude.{◌≡◌, ℕ, zero, suc, ℤ, pos, negsuc, neg_ℤ, ◌+ℤ◌, ◌*ℤ◌, ◌<ℤ◌, FitsSigned, arith, replicate, ints, w32, at, IsBelow, linear, neg_mul_ℤ, Lanes, IsSmallLane, lane_value, CancelAt, IsHigh, IsSmallHigh}
 use Rattle.pair_search.proofs.LaneLemmas.{lane_product, lane_sum}
 
 -- ---- above what a point is too low

@@ -43,11 +43,11 @@ pub use mir.Syntax.{w128, w32, w64}
 pub use Rattle.pair_search.specs.Extents.{HasAxes, HasExtents, HaveFlights, IsExtent, IsFar, IsFarOn, IsFlight, least_distance, no_extent, room_on}
 unfoldable pub use Rattle.pair_search.specs.Fleets.{direction_at}
 pub use Rattle.pair_search.specs.Fleets.{StopsBy, best_nodes, blocked_in, nodes_in, nodes_of, slots_in}
-pub use Rattle.pair_search.specs.Lanes.{AreLanes, IsFloor, IsLane, IsLowAt, IsPoint, IsSmallLane, IsSmallPoint, lane_value, slack_of, slack_on, steps_of}
+pub use Rattle.pair_search.specs.Lanes.{AreLanes, IsFloor, IsLane, IsPoint, IsSmallLane, IsSmallPoint, lane_value, slack_of, slack_on, steps_of}
 pub use Rattle.pair_search.specs.Opposites.{AreOpposites, AreSmallHighs, CancelAt, IsHigh, IsSmallHigh}
 unfoldable pub use Rattle.pair_search.specs.Search.{blocked_place, first_direction}
 pub use Rattle.pair_search.specs.Search.{HasDirection, IsClear, SearchGives, best_tree, first_by, first_without, place_at, split_of}
-pub use Rattle.pair_search.specs.Steps.{CountGives, EachFrom, FindsBy, FindsCount, IsPairFar, WalkGives, blocked_slot, does_separate, marked, node_for}
+pub use Rattle.pair_search.specs.Steps.{CountGives, FindsCount, FindsFirst, IsPairFar, WalkGives, blocked_slot, does_separate, marked, node_for}
 pub use Rattle.pair_search.specs.declared.extents.Extent.{Extent}
 pub use Rattle.pair_search.specs.declared.lanes.Lanes.{Lanes}
 pub use Rattle.pair_search.specs.declared.lanes.Point.{Point}

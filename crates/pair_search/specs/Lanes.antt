@@ -1,5 +1,5 @@
 -- Directions side by side, and what whole steps tell of them. No public clause cites these words.
-use Rattle.std.specs.Prelude.{◌≡◌, ◌⊎◌, ℕ, ◌+◌, ◌*◌, ◌^◌, ◌<◌, ℤ, pos, negsuc, ◌+ℤ◌, ◌*ℤ◌, ◌≤ℤ◌, ◌<ℤ◌, List, length}
+use Rattle.std.specs.Prelude.{◌≡◌, ℕ, ◌+◌, ◌*◌, ◌^◌, ◌<◌, ℤ, pos, negsuc, ◌+ℤ◌, ◌*ℤ◌, ◌≤ℤ◌, ◌<ℤ◌, List, length}
 use Rattle.fleet_math.specs.Bernstein.{at}
 use Rattle.fleet_math.specs.Numbers.{IsBelow}
 use Rattle.bezier_core.specs.Along.{controls}
@@ -35,10 +35,6 @@ pub record IsSmallPoint (p : Point) : Type 0 where
 -- a point along the direction of a lane
 abbrev pub lane_value : Lanes → Point → ℕ → ℤ
 lane_value l p i = at l.x i *ℤ p.x +ℤ at l.y i *ℤ p.y +ℤ at l.z i *ℤ p.z
-
--- one of two points is below what it has to reach
-abbrev pub IsLowAt : Lanes → Point → Point → ℕ → Type 0
-IsLowAt l p q i = (lane_value l p i <ℤ at l.low i) ⊎ (lane_value l q i <ℤ at l.low i)
 
 -- a weight where it is not negative, else 0
 abbrev pub slack_on : ℤ → ℤ

@@ -1,6 +1,6 @@
 -- What the marks of points tell of directions, and the ends of parts that share them. No public clause cites these
 -- words.
-use Rattle.std.specs.Prelude.{◌≡◌, ◌⊎◌, ℕ, ◌+◌, ◌-◌, ◌<◌, ◌≤◌, ℤ, ◌<ℤ◌, Bool, true, false, List, [], ◌∷◌, length, Option, Some, None}
+use Rattle.std.specs.Prelude.{◌≡◌, ◌⊎◌, ℕ, ◌+◌, ◌-◌, ◌<◌, ◌≤◌, ◌<ℤ◌, Bool, true, false, List, [], ◌∷◌, length, Option, Some, None}
 use Rattle.std.specs.Int.{bit_at}
 use Rattle.fleet_math.specs.Bernstein.{at}
 use Rattle.bezier_core.specs.declared.Bez.{Bez}
@@ -75,3 +75,29 @@ abbrev pub FindsBit : Measure → List (Bez 8) → Place → Bool → ℕ → Op
 FindsBit m diff place back i None =
     i < length m.directions → does_separate m diff place (dir_of (length m.directions) back i) ≡ false
 FindsBit m diff place back i (Some dir) = IsSome m diff place dir
+
+-- ---- the first direction that marks leave
+-- marks don't leave the direction with this number: its own bit in the first half of the table, else that of its
+-- opposite, is clear
+abbrev pub IsOut : ℕ → Marks → ℕ → Type 0
+IsOut count near dir = ((dir + dir < count) × (bit_at near.front dir ≡ 0))
+    ⊎ ((count ≤ dir + dir) × (bit_at near.back (count - (dir + 1)) ≡ 0))
+
+-- the direction of one bit stands before that of another
+abbrev pub IsBefore : Bool → ℕ → ℕ → Type 0
+IsBefore false k bit = k < bit
+IsBefore true k bit = bit < k
+
+-- Of the directions with a bit, or of their opposites, the first for which `holds` holds, where `fails` holds for each
+-- before it; none where `fails` holds for each.
+abbrev pub FindsEarliest : (ℕ → Type 0) → (ℕ → Type 0) → ℕ → ℕ → Bool → Option ℕ → Type 0
+FindsEarliest fails holds count bits back None =
+    (k : ℕ) → k + k < count → (bit_at bits k ≡ 0) ⊎ fails (dir_of count back k)
+FindsEarliest fails holds count bits back (Some dir) = (bit : ℕ) × (bit + bit < count) × (dir ≡ dir_of count back bit)
+    × holds dir
+    × ((k : ℕ) → k + k < count → IsBefore back k bit → (bit_at bits k ≡ 0) ⊎ fails (dir_of count back k))
+
+-- what holds for the direction of one bit
+abbrev pub AnswersBit : (ℕ → Type 0) → (ℕ → Type 0) → ℕ → Bool → ℕ → Option ℕ → Type 0
+AnswersBit fails holds count back bit None = bit + bit < count → fails (dir_of count back bit)
+AnswersBit fails holds count back bit (Some dir) = (bit + bit < count) × (dir ≡ dir_of count back bit) × holds dir

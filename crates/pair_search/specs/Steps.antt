@@ -1,5 +1,5 @@
 -- Words of private steps of the search. No public clause cites them.
-use Rattle.std.specs.Prelude.{◌≡◌, ℕ, ◌≤◌, ◌<◌, nat_lt, Bool, true, false, List, length, Option, Some, None}
+use Rattle.std.specs.Prelude.{◌≡◌, ℕ, ◌<◌, nat_lt, Bool, true, List, length, Option, Some, None}
 use Rattle.std.specs.Prelude.{is_none, if◌then◌else◌, Result, Ok, Err}
 use Rattle.std.specs.Option.{option_map, option_or}
 use Rattle.std.specs.declared.alloc.AllocError.{AllocError}
@@ -31,15 +31,11 @@ node_for first depth place =
 abbrev pub does_separate : Measure → List (Bez 8) → Place → ℕ → Bool
 does_separate m diff place dir = is_none (low_value m.clearance diff place (direction_of m.directions dir))
 
--- of each number from one on and before another that is below count, `fails` holds
-abbrev pub EachFrom : (ℕ → Type 0) → ℕ → ℕ → ℕ → Type 0
-EachFrom fails count begin past = (k : ℕ) → begin ≤ k → k < past → k < count → fails k
-
--- the first of these for which `holds` holds, where `fails` holds for each before it; none where `fails` holds for each
-abbrev pub FindsBy : (ℕ → Type 0) → (ℕ → Type 0) → ℕ → ℕ → ℕ → Option ℕ → Type 0
-FindsBy fails holds count begin past None = EachFrom fails count begin past
-FindsBy fails holds count begin past (Some dir) = (begin ≤ dir) × (dir < past) × (dir < count)
-    × EachFrom fails count begin dir × holds dir
+-- the first number below count for which `holds` holds, where `fails` holds for each before it; none where `fails`
+-- holds for each
+abbrev pub FindsFirst : (ℕ → Type 0) → (ℕ → Type 0) → ℕ → Option ℕ → Type 0
+FindsFirst fails holds count None = (k : ℕ) → k < count → fails k
+FindsFirst fails holds count (Some dir) = (dir < count) × ((k : ℕ) → k < dir → fails k) × holds dir
 
 -- what a walk gives: as a search, but that nodes may be left where it isn't clear
 abbrev pub WalkGives : (Place → Option ℕ) → ℕ → Result Found AllocError → List Node → Type 0

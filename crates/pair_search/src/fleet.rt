@@ -6,13 +6,13 @@ ghost use Rattle.sep_parts.specs.Levels.{root};
 ghost use Rattle.fleet_curves.specs.Raised.{difference};
 ghost use Rattle.pair_search.specs.Extents.{AreExtents, AreFlights, HasAxes};
 ghost use Rattle.pair_search.specs.Fleets.{GivesCount, GivesTrees};
-ghost use Rattle.pair_search.specs.Lanes.{AreLanes};
+ghost use Rattle.pair_search.specs.Marks.{IsMarked};
 ghost use Rattle.pair_search.specs.Opposites.{AreOpposites};
 ghost use Rattle.pair_search.specs.Search.{HasDirection};
 ghost use Rattle.pair_search.specs.Steps.{FindsCount, FindsTree, IsPairFar};
 
+use crate::ends::{Kept, kept_at_zero};
 use crate::extents::{Extent, are_far, extent_at, extents_of, flights_of, has_axes};
-use crate::lanes::{Lanes, lanes_of};
 use crate::opposites::{Opposites, opposites_of};
 use crate::shape::count_with;
 use crate::walk::{Found, search_by};
@@ -51,23 +51,26 @@ fn difference_of(curves: &Curves, slot: Slot) -> Difference
 }
 
 // The nodes of a slot's tree, put into `nodes`, which is empty before; or the first part of its cue that no direction
-// separates. What `waiting` has before is dropped.
+// separates. What `waiting` has before is dropped; `kept` is as of `ends_from`.
 fn tree_of<const M: usize>(
     curves: &Curves,
     ruler: &Ruler<M>,
-    lanes: &Lanes,
+    opposites: &Opposites,
     depth: Depth,
     slot: Slot,
     nodes: &mut Vec<Node>,
     waiting: &mut Waiting,
+    kept: &mut Kept,
 ) -> Result<(), SearchFault>
     requires slot { IsSlot curves.now.drones curves.now.cues slot }
     requires empty { nodes.old.items ≡ [] }
-    requires lanes { AreLanes ruler.now lanes.now }
-    ensures { FindsTree ruler.now depth curves.now slot nodes.new.items result }
+    requires opposites { AreOpposites ruler.now opposites.now }
+    requires kept { IsMarked opposites.now kept.old.point kept.old.marks }
+    ensures finds { FindsTree ruler.now depth curves.now slot nodes.new.items result }
+    ensures kept { OnOk result (IsMarked opposites.now kept.new.point kept.new.marks) }
 {
     let diff = difference_of(curves, slot);
-    match search_by(&diff, ruler, lanes, depth, nodes, waiting)? {
+    match search_by(&diff, ruler, opposites, depth, nodes, waiting, kept)? {
         Found::Clear => Ok(()),
         Found::Blocked { index } => Err(SearchFault::Blocked { slot, index }),
     }
@@ -89,14 +92,24 @@ pub fn search_all<const M: usize>(
 {
     let drones = curves.drones();
     let cues = curves.cues();
-    let lanes = lanes_of(ruler);
+    let opposites = opposites_of(ruler);
     let mut trees = Forest::none(alloc);
     let mut nodes = Vec::new(alloc);
     let mut waiting = Waiting::none();
+    let mut kept = kept_at_zero(&opposites);
     let mut slot = Slot::first();
     while usize::from(slot.b) < drones {
         nodes.clear();
-        tree_of(curves, ruler, &lanes, depth, slot, &mut nodes, &mut waiting)?;
+        tree_of(
+            curves,
+            ruler,
+            &opposites,
+            depth,
+            slot,
+            &mut nodes,
+            &mut waiting,
+            &mut kept,
+        )?;
         trees.push(nodes.as_slice())?;
         slot = slot.next(drones, cues);
     }

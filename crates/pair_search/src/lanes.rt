@@ -8,7 +8,7 @@ ghost use Rattle.bezier_core.specs.Along.{controls};
 ghost use Rattle.bezier_core.specs.Steps.{IsWithin};
 ghost use Rattle.sep_parts.specs.Directions.{direction_of, threshold, weights};
 ghost use Rattle.sep_parts.specs.Levels.{IsLevel, root};
-ghost use Rattle.pair_search.specs.Lanes.{AreLanes, AreSmallLanes, IsFloor, IsLowAt, IsPoint, IsSmallPoint, lane_value};
+ghost use Rattle.pair_search.specs.Lanes.{AreLanes, AreSmallLanes, IsFloor, IsPoint, IsSmallPoint, lane_value};
 ghost use Rattle.pair_search.specs.Lanes.{slack_of, slack_on, steps_of};
 
 use fleet_curves::Difference;
@@ -180,25 +180,6 @@ fn floor_short(value: i64, times: u32) -> i64
     value >> times
 }
 
-/// How far above what they have to reach the lower of two points is, in 16 lanes from one on; and the most of these.
-/// Below 0 one of the points is too low.
-pub fn fill(lanes: &Lanes, p: &Point, q: &Point, begin: usize, near: &mut [i32; 16]) -> i32
-    requires begin { begin ≤ 96 }
-    requires lanes { AreSmallLanes lanes.now }
-    requires p { IsSmallPoint p.now }
-    requires q { IsSmallPoint q.now }
-    ensures most { (i : ℕ) → i < 16 → at near.new i ≤ℤ result }
-    ensures told { (i : ℕ) → i < 16 → at near.new i <ℤ pos 0 → IsLowAt lanes.now p.now q.now (begin + i) }
-{
-    let mut most = -1;
-    for i in 0..16 {
-        let value = nearness(lanes, p, q, begin + i);
-        near[i] = value;
-        most = greater(most, value);
-    }
-    most
-}
-
 /// The greater of two numbers.
 pub(crate) fn greater(a: i32, b: i32) -> i32
     ensures either { (result ≡ a) ⊎ (result ≡ b) }
@@ -206,19 +187,6 @@ pub(crate) fn greater(a: i32, b: i32) -> i32
     ensures second { b ≤ℤ result }
 {
     if a < b { b } else { a }
-}
-
-// The same in one lane.
-fn nearness(lanes: &Lanes, p: &Point, q: &Point, i: usize) -> i32
-    requires place { i < 112 }
-    requires lanes { AreSmallLanes lanes.now }
-    requires p { IsSmallPoint p.now }
-    requires q { IsSmallPoint q.now }
-    ensures { result <ℤ pos 0 → IsLowAt lanes.now p.now q.now i }
-{
-    let a = lane_at(lanes, p, i) - lanes.low[i];
-    let b = lane_at(lanes, q, i) - lanes.low[i];
-    if a < b { a } else { b }
 }
 
 // A point along the direction of a lane.

@@ -4,7 +4,7 @@ ghost use Rattle.std.specs.Prelude.{◌≡◌, ◌≢◌, ℕ, ◌<◌, ◌<ℤ�
 ghost use Rattle.std.specs.Int.{bit_at};
 ghost use Rattle.pair_search.specs.Lanes.{AreSmallLanes, IsSmallPoint};
 ghost use Rattle.pair_search.specs.Opposites.{AreSmallHighs};
-ghost use Rattle.pair_search.specs.Marks.{IsMarked, MarkTells};
+ghost use Rattle.pair_search.specs.Marks.{IsBefore, IsMarked, MarkTells};
 
 use crate::lanes::{Point, lane_at};
 use crate::opposites::Opposites;
@@ -25,8 +25,8 @@ pub fn marks_of(opposites: &Opposites, p: &Point) -> Marks
     requires p { IsSmallPoint p.now }
     ensures { IsMarked opposites.now p.now result }
 {
-    let mut front = [1; 64];
-    let mut back = [1; 64];
+    let mut front = [255; 64];
+    let mut back = [255; 64];
     for i in 0..49 {
         let value = lane_at(&opposites.lanes, p, i);
         front[i] = is_low(value, opposites.lanes.low[i]);
@@ -38,11 +38,11 @@ pub fn marks_of(opposites: &Opposites, p: &Point) -> Marks
     }
 }
 
-// 1 where a number is below another, else 0.
+// 255 where a number is below another, else 0: all bits of a byte are alike, as a comparison of lanes makes them.
 fn is_low(value: i32, low: i32) -> u8
     ensures { result ≢ 0 → value <ℤ low }
 {
-    if value < low { 1 } else { 0 }
+    if value < low { 255 } else { 0 }
 }
 
 // Bit k is set where byte k is 0.
@@ -93,8 +93,31 @@ pub(crate) fn lowest(bits: u64) -> usize
     requires { bits ≢ 0 }
     ensures bound { result < 64 }
     ensures set { bit_at bits result ≡ 1 }
+    ensures below { (k : ℕ) → k < result → bit_at bits k ≡ 0 }
 {
     bits.trailing_zeros() as usize
+}
+
+// The place of the highest bit that is set.
+#[inline(always)]
+fn highest(bits: u64) -> usize
+    requires { bits ≢ 0 }
+    ensures bound { result < 64 }
+    ensures set { bit_at bits result ≡ 1 }
+    ensures above { (k : ℕ) → result < k → bit_at bits k ≡ 0 }
+{
+    63 - bits.leading_zeros() as usize
+}
+
+// The bit whose direction stands first in a table: the lowest one, or the highest one where bits stand for opposites.
+#[inline(always)]
+pub(crate) fn first_bit(bits: u64, back: bool) -> usize
+    requires { bits ≢ 0 }
+    ensures bound { result < 64 }
+    ensures set { bit_at bits result ≡ 1 }
+    ensures before { (k : ℕ) → IsBefore back k result → bit_at bits k ≡ 0 }
+{
+    if back { highest(bits) } else { lowest(bits) }
 }
 
 // The bits but for one that is set.

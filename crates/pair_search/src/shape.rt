@@ -1,20 +1,15 @@
 //! How many nodes the tree of a pair in a cue has, with no direction named.
 
-ghost use Rattle.std.specs.Prelude.{◌≡◌, ◌^◌, ◌≤◌, ◌++◌, ◌∷◌, [], List, length, All, OnOk};
+ghost use Rattle.std.specs.Prelude.{◌≡◌, [], OnOk};
 ghost use Rattle.std.specs.Option.{is_some};
-ghost use Rattle.sep_parts.specs.Levels.{IsLevel, IsStack, places_of, root};
-ghost use Rattle.sep_parts.specs.Rulers.{Measure};
-ghost use Rattle.sep_parts.specs.Trees.{IsShallow, places_below};
-ghost use Rattle.sep_parts.specs.declared.stack.Level.{Level};
-ghost use Rattle.pair_search.specs.Lanes.{AreSmallLanes};
-ghost use Rattle.pair_search.specs.Marks.{MarksAt, TellAll, TellsEnds};
-ghost use Rattle.pair_search.specs.Opposites.{AreOpposites, AreSmallHighs};
+ghost use Rattle.sep_parts.specs.Levels.{IsLevel};
+ghost use Rattle.pair_search.specs.Marks.{TellsEnds};
+ghost use Rattle.pair_search.specs.Opposites.{AreOpposites};
 ghost use Rattle.pair_search.specs.Search.{first_by};
 ghost use Rattle.pair_search.specs.Steps.{CountGives, marked, node_for};
 
-use crate::ends::{Ends, WaitingEnds};
-use crate::lanes::{point_at, whole_point_at};
-use crate::marking::{Marks, are_none, common, leaves, marks_of};
+use crate::ends::{Ends, WaitingEnds, ends_of_whole, pass};
+use crate::marking::{are_none, common, leaves};
 use crate::opposites::Opposites;
 use crate::some::some_direction;
 use fleet_curves::Difference;
@@ -57,63 +52,6 @@ pub fn count_with<const M: usize>(
         }
     }
     Ok(count)
-}
-
-// The marks at both ends of a whole cue.
-fn ends_of_whole(diff: &Difference, opposites: &Opposites) -> Ends
-    requires lanes { AreSmallLanes opposites.now.lanes }
-    requires high { AreSmallHighs opposites.now.high }
-    ensures first { MarksAt opposites.now (record { place = root; part = diff.now }) 0 result.first }
-    ensures last { MarksAt opposites.now (record { place = root; part = diff.now }) 7 result.last }
-{
-    Ends {
-        first: marks_of(opposites, &whole_point_at(diff, 0)),
-        last: marks_of(opposites, &whole_point_at(diff, 7)),
-    }
-}
-
-// Past the next part, whose node this is, and past its ends.
-fn pass(
-    diff: &Difference,
-    opposites: &Opposites,
-    waiting: &mut Waiting,
-    ends: &mut WaitingEnds,
-    node: Node,
-)
-    requires some { 1 ≤ length waiting.old }
-    requires stack { IsStack diff.now waiting.old }
-    requires shallow { (level : Level) (rest : List Level) → waiting.old ≡ level ∷ rest → IsShallow level.place node }
-    requires as_many { length ends.old ≡ length waiting.old }
-    requires lanes { AreSmallLanes opposites.now.lanes }
-    requires high { AreSmallHighs opposites.now.high }
-    ensures stack { IsStack diff.now waiting.new }
-    ensures places { (level : Level) (rest : List Level) → waiting.old ≡ level ∷ rest
-        → places_of waiting.new ≡ places_below level.place node ++ places_of rest }
-    ensures as_many { length ends.new ≡ length waiting.new }
-    ensures told { (m : Measure) → length m.directions ≤ 98 → AreOpposites m opposites.now
-        → TellAll m diff.now (places_of waiting.old) ends.old → TellAll m diff.now (places_of waiting.new) ends.new }
-{
-    waiting.pass(diff, node);
-    match node {
-        Node::Leaf { .. } => ends.drop_next(),
-        Node::Split => {
-            let middle = marks_between(diff, opposites, waiting);
-            ends.split(middle)
-        }
-    }
-}
-
-// The marks between the two halves that wait first.
-fn marks_between(diff: &Difference, opposites: &Opposites, waiting: &Waiting) -> Marks
-    requires stack { IsStack diff.now waiting.now }
-    requires lanes { AreSmallLanes opposites.now.lanes }
-    requires high { AreSmallHighs opposites.now.high }
-    ensures { (level : Level) (rest : List Level) → waiting.now ≡ level ∷ rest → MarksAt opposites.now level 7 result }
-{
-    match waiting.next() {
-        Some(level) => marks_of(opposites, &point_at(diff, level, 7)),
-        None => Marks { front: 0, back: 0 },
-    }
 }
 
 // The node of a part, with no direction named: a leaf where some direction separates it, else a split above the

@@ -77,7 +77,7 @@ fn some_of<const M: usize>(
 }
 
 // The direction of a bit: the one with its number, or the one as far from the end of the table.
-fn dir_of(count: usize, back: bool, bit: usize) -> usize
+pub(crate) fn dir_of(count: usize, back: bool, bit: usize) -> usize
     requires { bit < count }
     ensures exact { result ≡ dir_of count back bit }
     ensures inside { result < count }

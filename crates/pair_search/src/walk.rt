@@ -3,15 +3,20 @@
 ghost use Rattle.std.specs.Prelude.{◌≡◌, ℕ, ◌+◌, ◌^◌, ◌≤◌, ◌<◌, ◌∷◌, ◌++◌, [], List, length, All, IfOk, OnOk, ◌↔◌};
 ghost use Rattle.sep_parts.specs.Directions.{AreSmall, IsClearance, IsTableSize};
 ghost use Rattle.sep_parts.specs.Levels.{IsLevel, IsStack, places_of, root};
+ghost use Rattle.sep_parts.specs.Rulers.{Measure};
 ghost use Rattle.sep_parts.specs.Trees.{places_below, IsShallow};
 ghost use Rattle.sep_parts.specs.declared.stack.Level.{Level};
 ghost use Rattle.pair_search.specs.Search.{IsClear, SearchGives, first_by, first_direction};
-ghost use Rattle.pair_search.specs.Lanes.{AreLanes};
+ghost use Rattle.pair_search.specs.Lanes.{AreSmallLanes};
 ghost use Rattle.pair_search.specs.Laws.{SearchLaw};
+ghost use Rattle.pair_search.specs.Marks.{IsMarked, TellAll, TellsEnds};
+ghost use Rattle.pair_search.specs.Opposites.{AreOpposites, AreSmallHighs};
 ghost use Rattle.pair_search.specs.Steps.{WalkGives, node_for};
 
+use crate::ends::{Ends, Kept, WaitingEnds, ends_from, kept_at_zero, pass};
 use crate::first::{first_direction, first_of_whole};
-use crate::lanes::{Lanes, lanes_of};
+use crate::marking::common;
+use crate::opposites::{Opposites, opposites_of};
 use fleet_curves::Difference;
 use fleet_math::Depth;
 use sep_parts::{Clearance, Dirs, Level, Node, Ruler, Waiting};
@@ -64,27 +69,40 @@ pub fn search_with<const M: usize>(
     ensures clear { IfOk result (λ found.
         (found ≡ Found.Clear) ↔ IsClear ruler.now.clearance diff.now ruler.now.directions depth) }
 {
+    let opposites = opposites_of(ruler);
+    let mut kept = kept_at_zero(&opposites);
     let mut waiting = Waiting::none();
-    search_by(diff, ruler, &lanes_of(ruler), depth, nodes, &mut waiting)
+    search_by(
+        diff,
+        ruler,
+        &opposites,
+        depth,
+        nodes,
+        &mut waiting,
+        &mut kept,
+    )
 }
 
 /// As [`search_with`], with the lanes of the ruler made before, and a list for waiting parts. What it has before is
-/// dropped: it takes longer to make one than to search most cues.
+/// dropped: it takes longer to make one than to search most cues. The last end of the cue is kept with its marks.
 pub fn search_by<const M: usize>(
     diff: &Difference,
     ruler: &Ruler<M>,
-    lanes: &Lanes,
+    opposites: &Opposites,
     depth: Depth,
     nodes: &mut Vec<Node>,
     waiting: &mut Waiting,
+    kept: &mut Kept,
 ) -> Result<Found, AllocError>
     requires empty { nodes.old.items ≡ [] }
-    requires lanes { AreLanes ruler.now lanes.now }
+    requires opposites { AreOpposites ruler.now opposites.now }
+    requires kept { IsMarked opposites.now kept.old.point kept.old.marks }
     ensures exact { SearchGives (first_by ruler.now diff.now) depth result nodes.new.items }
     ensures clear { IfOk result (λ found.
         (found ≡ Found.Clear) ↔ IsClear ruler.now.clearance diff.now ruler.now.directions depth) }
+    ensures kept { IsMarked opposites.now kept.new.point kept.new.marks }
 {
-    let answer = walk(diff, ruler, lanes, depth, nodes, waiting);
+    let answer = walk(diff, ruler, opposites, depth, nodes, waiting, kept);
     if !matches!(answer, Ok(Found::Clear)) {
         nodes.clear();
     }
@@ -96,21 +114,28 @@ pub fn search_by<const M: usize>(
 fn walk<const M: usize>(
     diff: &Difference,
     ruler: &Ruler<M>,
-    lanes: &Lanes,
+    opposites: &Opposites,
     depth: Depth,
     nodes: &mut Vec<Node>,
     waiting: &mut Waiting,
+    kept: &mut Kept,
 ) -> Result<Found, AllocError>
     requires empty { nodes.old.items ≡ [] }
-    requires lanes { AreLanes ruler.now lanes.now }
-    ensures { WalkGives (first_by ruler.now diff.now) depth result nodes.new.items }
+    requires opposites { AreOpposites ruler.now opposites.now }
+    requires kept { IsMarked opposites.now kept.old.point kept.old.marks }
+    ensures gives { WalkGives (first_by ruler.now diff.now) depth result nodes.new.items }
+    ensures kept { IsMarked opposites.now kept.new.point kept.new.marks }
 {
-    match node_of_whole(diff, ruler, lanes, depth) {
+    // a ruler has at most 98 directions
+    let _count = ruler.count();
+    diff.raised_law();
+    let ends = ends_from(diff, opposites, kept);
+    match node_of_whole(diff, ruler, ends, depth) {
         Some(Node::Leaf { dir }) => {
             nodes.push(Node::Leaf { dir })?;
             Ok(Found::Clear)
         }
-        Some(Node::Split) => walk_halves(diff, ruler, lanes, depth, nodes, waiting),
+        Some(Node::Split) => walk_halves(diff, ruler, opposites, ends, depth, nodes, waiting),
         None => Ok(Found::Blocked { index: 0 }),
     }
 }
@@ -119,43 +144,47 @@ fn walk<const M: usize>(
 fn node_of_whole<const M: usize>(
     diff: &Difference,
     ruler: &Ruler<M>,
-    lanes: &Lanes,
+    ends: Ends,
     depth: Depth,
 ) -> Option<Node>
-    requires lanes { AreLanes ruler.now lanes.now }
+    requires ends { TellsEnds ruler.now diff.now root ends }
     ensures { result ≡ node_for (first_by ruler.now diff.now) depth root }
 {
-    match first_of_whole(diff, ruler, lanes) {
+    match first_of_whole(diff, ruler, common(ends.first, ends.last)) {
         Some(dir) => Some(Node::Leaf { dir }),
         None if depth.levels() > 0 => Some(Node::Split),
         None => None,
     }
 }
 
-// The same of a whole cue that is split.
+// The same of a whole cue that is split, with the marks at its ends.
 fn walk_halves<const M: usize>(
     diff: &Difference,
     ruler: &Ruler<M>,
-    lanes: &Lanes,
+    opposites: &Opposites,
+    whole: Ends,
     depth: Depth,
     nodes: &mut Vec<Node>,
     waiting: &mut Waiting,
 ) -> Result<Found, AllocError>
     requires empty { nodes.old.items ≡ [] }
     requires split { node_for (first_by ruler.now diff.now) depth root ≡ Some Node.Split }
-    requires lanes { AreLanes ruler.now lanes.now }
+    requires opposites { AreOpposites ruler.now opposites.now }
+    requires whole { TellsEnds ruler.now diff.now root whole }
     ensures { WalkGives (first_by ruler.now diff.now) depth result nodes.new.items }
 {
-    // a depth is at most 8
+    // a depth is at most 8, and a ruler has at most 98 directions
     let _levels = depth.levels();
+    let _count = ruler.count();
     diff.raised_law();
     nodes.push(Node::Split)?;
     waiting.clear();
     waiting.begin(diff);
-    waiting.pass(diff, Node::Split);
+    let mut ends = WaitingEnds::of(whole);
+    pass(diff, opposites, waiting, &mut ends, Node::Split);
     while let Some(level) = waiting.next() {
-        match node_for(diff, level, ruler, lanes, depth) {
-            Some(node) => put(diff, waiting, nodes, node)?,
+        match node_for(diff, level, ruler, ends.first(), depth) {
+            Some(node) => put(diff, opposites, waiting, &mut ends, nodes, node)?,
             None => {
                 return Ok(Found::Blocked {
                     index: level.place.index,
@@ -171,37 +200,45 @@ fn node_for<const M: usize>(
     diff: &Difference,
     level: &Level,
     ruler: &Ruler<M>,
-    lanes: &Lanes,
+    ends: Ends,
     depth: Depth,
 ) -> Option<Node>
     requires level { IsLevel diff.now level.now }
-    requires lanes { AreLanes ruler.now lanes.now }
+    requires ends { TellsEnds ruler.now diff.now level.now.place ends }
     ensures { result ≡ node_for (first_by ruler.now diff.now) depth level.now.place }
 {
-    match first_direction(diff, level, ruler, lanes) {
+    match first_direction(diff, level, ruler, common(ends.first, ends.last)) {
         Some(dir) => Some(Node::Leaf { dir }),
         None if level.place.depth < depth.levels() => Some(Node::Split),
         None => None,
     }
 }
 
-// A node after the others, which is that of the next part.
+// A node after the others, which is that of the next part. The part and its ends are passed.
 fn put(
     diff: &Difference,
+    opposites: &Opposites,
     waiting: &mut Waiting,
+    ends: &mut WaitingEnds,
     nodes: &mut Vec<Node>,
     node: Node,
 ) -> Result<(), AllocError>
     requires some { 1 ≤ length waiting.old }
     requires stack { IsStack diff.now waiting.old }
     requires shallow { (level : Level) (rest : List Level) → waiting.old ≡ level ∷ rest → IsShallow level.place node }
+    requires as_many { length ends.old ≡ length waiting.old }
+    requires lanes { AreSmallLanes opposites.now.lanes }
+    requires high { AreSmallHighs opposites.now.high }
     ensures stack { OnOk result (IsStack diff.now waiting.new) }
     ensures places { OnOk result ((level : Level) (rest : List Level) → waiting.old ≡ level ∷ rest
         → places_of waiting.new ≡ places_below level.place node ++ places_of rest) }
+    ensures as_many { OnOk result (length ends.new ≡ length waiting.new) }
+    ensures told { OnOk result ((m : Measure) → length m.directions ≤ 98 → AreOpposites m opposites.now
+        → TellAll m diff.now (places_of waiting.old) ends.old → TellAll m diff.now (places_of waiting.new) ends.new) }
     ensures nodes { OnOk result (nodes.new.items ≡ nodes.old.items ++ node ∷ []) }
 {
     nodes.push(node)?;
-    waiting.pass(diff, node);
+    pass(diff, opposites, waiting, ends, node);
     Ok(())
 }
 

@@ -174,3 +174,10 @@ factor_small f (negsuc x) small low high = absurd (omega (arith, ints))
 
 pub factor_fits : (f : ℕ) (x : ℤ) → f ≤ 2 ^ 50 → pos 0 ≤ℤ x → x ≤ℤ pos (2 ^ 26) → FitsSigned w128 (pos f *ℤ x)
 factor_fits f x small low high = let within = factor_small f x small low high in omega (arith, ints, within.0, within.1)
+
+-- a sum of three squares, and a product with it, as the program holds them
+pub sum_held : (x : ℤ) → pos 0 ≤ℤ x → x ≤ℤ pos (2 ^ 26) → (pos 0 ≤ℤ to_z w128 (of_z w128 x)) × (to_z w128 (of_z w128 x) ≤ℤ pos (2 ^ 26))
+sum_held x low high = let fits : FitsSigned w128 x = omega (arith, ints) in rw (to_z-of_z w128 x fits) (low, high)
+
+pub product_held : (p : ℤ) → pos 0 ≤ℤ p → p <ℤ pos (2 ^ 100) → (pos 0 ≤ℤ to_z w128 (of_z w128 p)) × (to_z w128 (of_z w128 p) <ℤ pos (2 ^ 100))
+product_held p low high = let fits : FitsSigned w128 p = omega (arith, ints) in rw (to_z-of_z w128 p fits) (low, high)

@@ -6,3 +6,8 @@ pub returns-clause-set : goal.returns-clause-set
 returns-clause-set c =
     let told = bit_at-trailing_zeros w64 c.args.bits (omega (arith, c.requires)) c.ranges.bits.fits in
     told.1
+
+pub returns-clause-below : goal.returns-clause-below
+returns-clause-below c =
+    let told = bit_at-trailing_zeros w64 c.args.bits (omega (arith, c.requires)) c.ranges.bits.fits in
+    told.2

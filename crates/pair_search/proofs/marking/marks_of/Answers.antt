@@ -1,4 +1,4 @@
-use Rattle.pair_search.proofs.Prelude.{◌≡◌, ◌≢◌, ℕ, ◌<◌, ◌^◌, ◌<ℤ◌, ℤ, arith, rules, subst, length, to_z-of_z, w32, at, IsBelow, lane_value, IsSmallHigh}
+use Rattle.pair_search.proofs.Prelude.{◌≢◌, ℕ, ◌<◌, ◌^◌, ◌<ℤ◌, ℤ, arith, rules, subst, to_z-of_z, w32, at, IsBelow, lane_value, IsSmallHigh}
 use Rattle.pair_search.proofs.EndLemmas.{set_bytes}
 use Rattle.pair_search.proofs.LaneLemmas.{low_fits, value_fits}
 use Rattle.pair_search.proofs.OppositeLemmas.{high_fits}

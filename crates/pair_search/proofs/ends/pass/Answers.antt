@@ -1,5 +1,5 @@
 use Rattle.pair_search.proofs.EndLemmas.{leaf_many, leaf_told, room_told, split_many, split_told}
-use Rattle.pair_search.proofs.shape.pass.Goals as goal
+use Rattle.pair_search.proofs.ends.pass.Goals as goal
 
 pub split-requires-clause-room : goal.split-requires-clause-room
 split-requires-clause-room c = room_told c.args.diff.now c.args.waiting.now c.args.node _ c.requires.some c.requires.stack c.requires.shallow c.in-Split.is c.requires.as_many
