@@ -5,7 +5,7 @@ use Rattle.std.specs.Prelude.{bytes_eq, find, is_some}
 use Rattle.std.specs.Option.{option_map, option_and_then}
 use Rattle.std.proofs.lemmas.Slice.Eq.{bytes_eq-Decides}
 use Rattle.command_words.specs.declared.options.OptionName.{OptionName}
-use Rattle.command_words.specs.declared.options.OptionName.TheVariants.{Depth, Step, Start, Readback, Limit, Fine, Accel, Jump, Near, At, Silence, Floor, Descent, Then}
+use Rattle.command_words.specs.declared.options.OptionName.TheVariants.{Depth, Step, Start, Readback, Limit, Fine, Accel, Jump, Near, At, Silence, Floor, Descent, Then, All}
 use Rattle.command_words.specs.declared.options.Range.{Range}
 use Rattle.command_words.specs.Commands.{Given, word_of, range_of, named_by, flag_with, flag, valued_with, valued, value_of, before, options_of, SpellsWith, SpellsOption, SpellsOptions, WordsLaw}
 
@@ -38,6 +38,7 @@ flag_word Silence = refl
 flag_word Floor = refl
 flag_word Descent = refl
 flag_word Then = refl
+flag_word All = refl
 
 valued_word : (n : OptionName) (value : List ℕ) → valued (word_of n) value ≡ valued_with n value (range_of n)
 valued_word Depth value = refl
@@ -54,6 +55,7 @@ valued_word Silence value = refl
 valued_word Floor value = refl
 valued_word Descent value = refl
 valued_word Then value = refl
+valued_word All value = refl
 
 -- one option, spelled by its words, before others
 head : (g : Given) (front rest : List (List ℕ)) (r : Option Range) → range_of g.name ≡ r → SpellsWith g front r → options_of (front ++ rest) ≡ before (Some g) (options_of rest)
@@ -105,7 +107,7 @@ flag_found word (Some n) g is are = by (range_of n) refl
         let same : record { name = n; value = 1 } ≡ g = cc (ap (flag_with n) (sym e) ∙ flag_is) in
         subst (λ (x : Given). SpellsOption x (word ∷ [])) same
         (subst (λ (r : Option Range). SpellsWith (record { name = n; value = 1 }) (word ∷ []) r) (sym e)
-        (ap (λ (w : List ℕ). w ∷ []) (named_is word (Depth ∷ Step ∷ Start ∷ Readback ∷ Limit ∷ Fine ∷ Accel ∷ Jump ∷ Near ∷ At ∷ Silence ∷ Floor ∷ Descent ∷ Then ∷ []) n is), refl))
+        (ap (λ (w : List ℕ). w ∷ []) (named_is word (All ∷ Depth ∷ Step ∷ Start ∷ Readback ∷ Limit ∷ Fine ∷ Accel ∷ Jump ∷ Near ∷ At ∷ Silence ∷ Floor ∷ Descent ∷ Then ∷ []) n is), refl))
     by (Some r) e = absurd (cc (ap (flag_with n) (sym e) ∙ flag_is))
 
 -- an option with its number that is read is spelled by the two words
@@ -128,7 +130,7 @@ valued_found word value (Some n) g is are = by (range_of n) refl
             cc (ap (option_map (λ (j : ℕ). record { name = n; value = j })) (sym number_is) ∙ ap (valued_with n value) (sym e) ∙ valued_is) in
             subst (λ (x : Given). SpellsOption x (word ∷ value ∷ [])) same
             (subst (λ (s : Option Range). SpellsWith (record { name = n; value = k }) (word ∷ value ∷ []) s) (sym e)
-            (value, ap (λ (w : List ℕ). w ∷ value ∷ []) (named_is word (Depth ∷ Step ∷ Start ∷ Readback ∷ Limit ∷ Fine ∷ Accel ∷ Jump ∷ Near ∷ At ∷ Silence ∷ Floor ∷ Descent ∷ Then ∷ []) n is), number_is))
+            (value, ap (λ (w : List ℕ). w ∷ value ∷ []) (named_is word (All ∷ Depth ∷ Step ∷ Start ∷ Readback ∷ Limit ∷ Fine ∷ Accel ∷ Jump ∷ Near ∷ At ∷ Silence ∷ Floor ∷ Descent ∷ Then ∷ []) n is), number_is))
 
 -- words that are read begin with a flag or with an option and its number
 several_are : (word value : List ℕ) (words : List (List ℕ)) (one : Bool) (gs : List Given) →

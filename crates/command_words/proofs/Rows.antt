@@ -23,7 +23,10 @@ record WordRows : Type 0 where
   limited : command_of (codes "speed" ∷ codes "--limit" ∷ codes "1600000" ∷ codes "--depth" ∷ codes "0" ∷ []) ≡ Some (Speed 0 (Some 1600000))
   unlimited : command_of (codes "speed" ∷ []) ≡ Some (Speed 6 None)
   no_limit : command_of (codes "speed" ∷ codes "--limit" ∷ codes "0" ∷ []) ≡ None
-  finest : command_of (codes "explain" ∷ []) ≡ Some (Explain 6 5)
+  finest : command_of (codes "explain" ∷ []) ≡ Some (Explain 6 5 false)
+  all_blocked : command_of (codes "explain" ∷ codes "--all" ∷ codes "--fine" ∷ codes "0" ∷ []) ≡ Some (Explain 6 0 true)
+  all_twice : command_of (codes "explain" ∷ codes "--all" ∷ codes "--all" ∷ []) ≡ None
+  all_of_another : command_of (codes "check" ∷ codes "--all" ∷ []) ≡ None
   too_fine : command_of (codes "explain" ∷ codes "--fine" ∷ codes "6" ∷ []) ≡ None
   boxed : command_of (codes "boxes" ∷ codes "--depth" ∷ codes "8" ∷ []) ≡ Some (Boxes 8)
   boxes_limited : command_of (codes "boxes" ∷ codes "--limit" ∷ codes "5" ∷ []) ≡ None
@@ -49,4 +52,4 @@ record WordRows : Type 0 where
 
 word_rows : WordRows
 unfolding value_of
-word_rows = record { either_order = refl; start_first = refl; start_last = refl; twice = refl; swallowed = refl; taken_for_option = refl; no_value = refl; of_another = refl; zeros = refl; number_last = refl; too_many = refl; too_great = refl; digits = refl; bare = refl; limited = refl; unlimited = refl; no_limit = refl; finest = refl; too_fine = refl; boxed = refl; boxes_limited = refl; version = refl; version_of_one = refl; nothing = refl; read_back = refl; read_back_last = refl; read_back_twice = refl; read_back_of_another = refl; unbounded = refl; bounded = refl; bounded_twice = refl; bound_of_another = refl; dynamics_limited = refl; flown = refl; flown_on = refl; flown_all = refl; flown_how = refl; never_silent = refl; too_high = refl; near_of_another = refl }
+word_rows = record { either_order = refl; start_first = refl; start_last = refl; twice = refl; swallowed = refl; taken_for_option = refl; no_value = refl; of_another = refl; zeros = refl; number_last = refl; too_many = refl; too_great = refl; digits = refl; bare = refl; limited = refl; unlimited = refl; no_limit = refl; finest = refl; all_blocked = refl; all_twice = refl; all_of_another = refl; too_fine = refl; boxed = refl; boxes_limited = refl; version = refl; version_of_one = refl; nothing = refl; read_back = refl; read_back_last = refl; read_back_twice = refl; read_back_of_another = refl; unbounded = refl; bounded = refl; bounded_twice = refl; bound_of_another = refl; dynamics_limited = refl; flown = refl; flown_on = refl; flown_all = refl; flown_how = refl; never_silent = refl; too_high = refl; near_of_another = refl }

@@ -13,7 +13,7 @@ use Rattle.command_words.specs.declared.command.Command.TheVariants.{Boxes, Spee
 use Rattle.command_words.specs.declared.options.OptionName.{OptionName}
 use Rattle.command_words.specs.declared.options.OptionName.TheVariants.{Depth, Step, Start, Readback, Limit, Fine}
 use Rattle.command_words.specs.declared.options.OptionName.TheVariants.{Accel, Jump, Near, At, Silence, Floor, Descent}
-use Rattle.command_words.specs.declared.options.OptionName.TheVariants.{Then}
+use Rattle.command_words.specs.declared.options.OptionName.TheVariants.{Then, All}
 use Rattle.command_words.specs.declared.options.Range.{Range}
 use Rattle.command_words.specs.declared.options.Options.{Options}
 
@@ -96,6 +96,7 @@ word_of Silence = codes "--silence"
 word_of Floor = codes "--floor"
 word_of Descent = codes "--descent"
 word_of Then = codes "--then"
+word_of All = codes "--all"
 
 -- the numbers of which one follows it; a flag stands alone
 abbrev pub range_of : OptionName → Option Range
@@ -113,6 +114,7 @@ range_of Silence = Some (record { least = 1; most = most_wait })
 range_of Floor = Some (record { least = 0; most = most_floor })
 range_of Descent = Some (record { least = 1; most = most_wait })
 range_of Then = Some (record { least = 0; most = 1 })
+range_of All = None
 
 -- what the show does where a drone is lost or astray: 0 where all land, 1 where it goes on
 abbrev pub then_of : List ℕ → Option ℕ
@@ -126,7 +128,7 @@ value_of name r word = number_from r.least r.most word
 -- the option that a word names
 abbrev pub named_by : List ℕ → Option OptionName
 named_by word =
-    find (λ n. bytes_eq word (word_of n)) (Depth ∷ Step ∷ Start ∷ Readback ∷ Limit ∷ Fine ∷ Accel ∷ Jump ∷ Near ∷ At
+    find (λ n. bytes_eq word (word_of n)) (All ∷ Depth ∷ Step ∷ Start ∷ Readback ∷ Limit ∷ Fine ∷ Accel ∷ Jump ∷ Near ∷ At
     ∷ Silence ∷ Floor ∷ Descent ∷ Then ∷ [])
 
 -- An option that is given, with its number; a flag has 1.
@@ -181,10 +183,11 @@ place_of Silence = 10
 place_of Floor = 11
 place_of Descent = 12
 place_of Then = 13
+place_of All = 14
 
 -- no option is given
 abbrev pub no_options : Options
-no_options = record { values = replicate 14 None }
+no_options = record { values = replicate 15 None }
 
 -- the number of an option, if it is given
 abbrev pub given_in : Options → OptionName → Option ℕ
@@ -275,7 +278,8 @@ study name words =
     else (if bytes_eq name (codes "speed")
     then option_map (λ (o : Options). Speed (depth_in o) (given_in o Limit)) (options_for (Depth ∷ Limit ∷ []) words)
     else (if bytes_eq name (codes "explain")
-    then option_map (λ (o : Options). Explain (depth_in o) (fine_in o)) (options_for (Depth ∷ Fine ∷ []) words)
+    then option_map (λ (o : Options). Explain (depth_in o) (fine_in o) (has o All))
+    (options_for (Depth ∷ Fine ∷ All ∷ []) words)
     else (if bytes_eq name (codes "dynamics") then option_map
     (λ (o : Options). Dynamics (depth_in o) (given_in o Accel) (given_in o Jump))
     (options_for (Depth ∷ Accel ∷ Jump ∷ []) words)
@@ -333,7 +337,7 @@ IsCommand (Direct depth near at_place silence floor descent then_land) = floor �
 IsCommand (Drill drones depth) = (1 ≤ drones) × (drones ≤ most_drones)
 IsCommand (Boxes depth) = Unit {0}
 IsCommand (Speed depth limit) = IfSome limit (λ v. (1 ≤ v) × (v ≤ most_limit))
-IsCommand (Explain depth fine) = Unit {0}
+IsCommand (Explain depth fine all) = Unit {0}
 IsCommand (Dynamics depth accel jump) = IfSome accel (λ a. a ≤ most_bound) × IfSome jump (λ j. j ≤ most_bound)
 
 -- ---- what that means
@@ -365,5 +369,5 @@ help_text =
     ++ codes "rehearse [--depth D] [--start] [--readback]\nupload [--depth D] [--start] [--readback]\n"
     ++ codes "direct [--depth D] [--near MM] [--at MM] [--silence MS] [--floor MM] [--descent MS] [--then land|fly]\n"
     ++ codes "drill N [--depth D]\n"
-    ++ codes "boxes [--depth D]\nspeed [--depth D] [--limit V]\nexplain [--depth D] [--fine E]\n"
+    ++ codes "boxes [--depth D]\nspeed [--depth D] [--limit V]\nexplain [--depth D] [--fine E] [--all]\n"
     ++ codes "dynamics [--depth D] [--accel A] [--jump J]\nversion\n"

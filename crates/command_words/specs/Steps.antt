@@ -17,5 +17,5 @@ IsInRange (Some r) n = (r.least ≤ n) × (n ≤ r.most)
 
 -- there is a place for each option, and the numbers are those that may follow it
 pub record AreInRange (o : Options) : Type 0 where
-  pub places : length o.values ≡ 14
+  pub places : length o.values ≡ 15
   pub each : (name : OptionName) → IfSome (given_in o name) (IsInRange (range_of name))

@@ -79,10 +79,11 @@ pub enum Command {
         limit: Option<u32>,
     },
     /// Why the show is refused: its first blocked part, and where two drones come closest and touch among the instants
-    /// that cut each cue into 2^`fine` parts.
+    /// that cut each cue into 2^`fine` parts; with `all` each pair and cue that is blocked.
     Explain {
         depth: Depth,
         fine: Fine,
+        all: bool,
     },
     /// How fast the speeds of its drones change at most and where they jump, and whether that is within `accel`
     /// millimetres per second squared and `jump` millimetres per second, each 0 to 999,999,999.
@@ -126,10 +127,12 @@ fn study(name: &[u8], words: &[String]) -> Option<Command>
         });
     }
     if name == b"explain".as_slice() {
-        let options = options_for(&[OptionName::Depth, OptionName::Fine], words)?;
+        let names = [OptionName::Depth, OptionName::Fine, OptionName::All];
+        let options = options_for(&names, words)?;
         return Some(Command::Explain {
             depth: options.depth(),
             fine: options.fine(),
+            all: options.has(OptionName::All),
         });
     }
     if name == b"dynamics".as_slice() {
@@ -279,7 +282,7 @@ pub fn help_text() -> &'static [u8]
       drill N [--depth D]\n\
       boxes [--depth D]\n\
       speed [--depth D] [--limit V]\n\
-      explain [--depth D] [--fine E]\n\
+      explain [--depth D] [--fine E] [--all]\n\
       dynamics [--depth D] [--accel A] [--jump J]\n\
       version\n"
 }

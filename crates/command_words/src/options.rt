@@ -74,6 +74,7 @@ pub enum OptionName {
     Floor,
     Descent,
     Then,
+    All,
 }
 
 /// The number that a word is, from `least` to `most`: 1 to 9 decimal digits.
@@ -127,6 +128,7 @@ impl OptionName {
             OptionName::Floor => b"--floor",
             OptionName::Descent => b"--descent",
             OptionName::Then => b"--then",
+            OptionName::All => b"--all",
         }
     }
 
@@ -145,14 +147,14 @@ impl OptionName {
             OptionName::Silence | OptionName::Descent => (1, MOST_WAIT),
             OptionName::Floor => (0, MOST_FLOOR),
             OptionName::Then => (0, 1),
-            OptionName::Start | OptionName::Readback => return None,
+            OptionName::Start | OptionName::Readback | OptionName::All => return None,
         };
         Some(Range { least, most })
     }
 
     fn place(self) -> usize
         ensures value { result ≡ place_of self }
-        ensures few { result ≤ 13 }
+        ensures few { result ≤ 14 }
     {
         match self {
             OptionName::Depth => 0,
@@ -169,6 +171,7 @@ impl OptionName {
             OptionName::Floor => 11,
             OptionName::Descent => 12,
             OptionName::Then => 13,
+            OptionName::All => 14,
         }
     }
 
@@ -195,7 +198,8 @@ impl OptionName {
             | OptionName::At
             | OptionName::Silence
             | OptionName::Floor
-            | OptionName::Descent => number_from(word, range.least, range.most),
+            | OptionName::Descent
+            | OptionName::All => number_from(word, range.least, range.most),
         }
     }
 }
@@ -203,6 +207,9 @@ impl OptionName {
 fn named_by(word: &[u8]) -> Option<OptionName>
     ensures { result ≡ commands.named_by word.now }
 {
+    if word == OptionName::All.word() {
+        return Some(OptionName::All);
+    }
     let names = [
         OptionName::Depth,
         OptionName::Step,
@@ -241,7 +248,7 @@ fn takes(names: &[OptionName], name: OptionName) -> bool
 /// The options that were given: the number of each, by its place. A flag has 1.
 #[derive(Clone, Copy)]
 pub struct Options {
-    pub values: [Option<u32>; 14],
+    pub values: [Option<u32>; 15],
 }
 
 impl Options {
@@ -249,7 +256,7 @@ impl Options {
         ensures value { result ≡ no_options }
         ensures range { AreInRange result }
     {
-        Options { values: [None; 14] }
+        Options { values: [None; 15] }
     }
 
     fn given(self, name: OptionName) -> Option<u32>

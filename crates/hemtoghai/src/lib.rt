@@ -90,9 +90,9 @@ pub extern "C" fn hemtoghai_run(
     ensures speeds { (depth : ℕ) (limit : Option ℕ) → command_of (words_in words.now) ≡ Some (Command.Speed depth limit)
         → result ≡ 0
         → KeepsSpeeds limit depth input.now (Some []) (Some (take size.new output.new)) }
-    ensures touches { (depth fine : ℕ) → command_of (words_in words.now) ≡ Some (Command.Explain depth fine)
+    ensures touches { (depth fine : ℕ) (all : Bool) → command_of (words_in words.now) ≡ Some (Command.Explain depth fine all)
         → result ≡ 0
-        → TellsTouches depth fine input.now (Some []) (Some (take size.new output.new)) }
+        → TellsTouches depth fine all input.now (Some []) (Some (take size.new output.new)) }
     ensures motions { (depth : ℕ) (accel jump : Option ℕ)
         → command_of (words_in words.now) ≡ Some (Command.Dynamics depth accel jump) → result ≡ 0
         → KeepsDynamics depth accel jump input.now (Some []) (Some (take size.new output.new)) }

@@ -18,7 +18,7 @@ play [--depth D] [--step MS]\nreport [--depth D]\nverify\nrehearse [--depth D] [
 upload [--depth D] [--start] [--readback]\n\
 direct [--depth D] [--near MM] [--at MM] [--silence MS] [--floor MM] [--descent MS] [--then land|fly]\n\
 drill N [--depth D]\n\
-boxes [--depth D]\nspeed [--depth D] [--limit V]\nexplain [--depth D] [--fine E]\n\
+boxes [--depth D]\nspeed [--depth D] [--limit V]\nexplain [--depth D] [--fine E] [--all]\n\
 dynamics [--depth D] [--accel A] [--jump J]\nversion\n";
 
 const VERSION: &[u8] = b"hemtoghai 0.2.0\n";

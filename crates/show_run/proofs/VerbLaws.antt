@@ -37,5 +37,5 @@ laws verify rehearse uploading direct boxes (Direct depth near at_place silence 
 laws verify rehearse uploading direct boxes (Drill drones depth) = own_verb depth (drill_text drones) (λ s. drill_of (report_of s depth))
 laws verify rehearse uploading direct boxes (Boxes depth) = boxes depth
 laws verify rehearse uploading direct boxes (Speed depth limit) = speed_laws depth limit
-laws verify rehearse uploading direct boxes (Explain depth fine) = explain_laws depth fine
+laws verify rehearse uploading direct boxes (Explain depth fine all) = explain_laws depth fine all
 laws verify rehearse uploading direct boxes (Dynamics depth accel jump) = dynamics_laws depth accel jump

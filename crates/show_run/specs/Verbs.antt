@@ -59,7 +59,7 @@ verb_of (Direct depth near at_place silence floor descent then_land) =
 verb_of (Drill drones depth) = drill_verb drones depth
 verb_of (Boxes depth) = boxes_verb depth
 verb_of (Speed depth limit) = speed_verb depth limit
-verb_of (Explain depth fine) = explain_verb depth fine
+verb_of (Explain depth fine all) = explain_verb depth fine all
 verb_of (Dynamics depth accel jump) = dynamics_verb depth accel jump
 
 -- the first of these words

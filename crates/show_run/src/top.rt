@@ -31,7 +31,7 @@ use refusals::Refusal;
 use show_direct::{Options, direct, direct_law};
 use show_judge::refuse;
 use show_looks::{certify, check, compile, drill, help, play, report, version};
-use show_studies::{boxes, boxes_law, dynamics, explain, speed};
+use show_studies::{Study, boxes, boxes_law, dynamics, explain, speed};
 use show_uploads::{rehearse, rehearse_law, upload, uploading_law};
 use show_verify::{verify, verify_law};
 use std::alloc::Global;
@@ -111,7 +111,9 @@ fn run_command<S: Source, K: Sink>(
         Command::Drill { drones, depth } => drill(alloc, drones, depth, source, sink),
         Command::Boxes { depth } => boxes(alloc, depth, source, sink),
         Command::Speed { depth, limit } => speed(alloc, depth, limit, source, sink),
-        Command::Explain { depth, fine } => explain(alloc, depth, fine, source, sink),
+        Command::Explain { depth, fine, all } => {
+            explain(alloc, Study { depth, fine, all }, source, sink)
+        }
         Command::Dynamics { depth, accel, jump } => {
             dynamics(alloc, depth, accel, jump, source, sink)
         }
@@ -231,9 +233,10 @@ pub fn run<S: Source, K: Sink>(
         → command_in words.now.items ≡ Some (Command.Speed depth limit)
         → (S.told source.new).given ≡ (S.told source.old).given ++ input → result ≡ 0
         → KeepsSpeeds limit depth input (K.written sink.old) (K.written sink.new) }
-    ensures touches { (depth fine : ℕ) (input : List ℕ) → command_in words.now.items ≡ Some (Command.Explain depth fine)
+    ensures touches { (depth fine : ℕ) (all : Bool) (input : List ℕ)
+        → command_in words.now.items ≡ Some (Command.Explain depth fine all)
         → (S.told source.new).given ≡ (S.told source.old).given ++ input → result ≡ 0
-        → TellsTouches depth fine input (K.written sink.old) (K.written sink.new) }
+        → TellsTouches depth fine all input (K.written sink.old) (K.written sink.new) }
     ensures motions { (depth : ℕ) (accel jump : Option ℕ) (input : List ℕ)
         → command_in words.now.items ≡ Some (Command.Dynamics depth accel jump)
         → (S.told source.new).given ≡ (S.told source.old).given ++ input → result ≡ 0

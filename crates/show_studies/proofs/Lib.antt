@@ -1,5 +1,7 @@
 mod Prelude
 pub mod StudyLemmas
+pub mod BlockedLemmas
+pub mod ListingLemmas
 pub mod DecidingLemmas
 pub mod RegionLemmas
 pub mod SpeedLemmas

@@ -1,5 +1,5 @@
 -- What the proofs of this crate cite from elsewhere, passed on from one place. Declares nothing.
-pub use Rattle.std.proofs.Common.{All, Bool, Err, IfOk, IfSome, List, None, Ok, Option, Result, Some, [], ap, append_assoc, arith, cond, drop, false, get_or, inl, inr, length, nat_lt, pos, refl, subst, suc, sum, sym, zero, ℕ, ℤ, ◌*ℤ◌, ◌*◌, ◌++◌, ◌+ℤ◌, ◌+◌, ◌-ℤ◌, ◌<ℤ◌, ◌<◌, ◌^◌, ◌∙◌, ◌∷◌, ◌≡◌, ◌≤ℤ◌, ◌≤◌, ◌⊎◌}
+pub use Rattle.std.proofs.Common.{All, Bool, Contains, Err, IfOk, IfSome, List, None, Ok, Option, Result, Some, [], ap, append_assoc, append-nil, arith, cond, drop, false, get_or, inl, inr, length, nat_lt, pos, refl, subst, suc, sum, sym, zero, ℕ, ℤ, ◌*ℤ◌, ◌*◌, ◌++◌, ◌+ℤ◌, ◌+◌, ◌-◌, ◌-ℤ◌, ◌<ℤ◌, ◌<◌, ◌^◌, ◌∙◌, ◌∷◌, ◌≡◌, ◌≤ℤ◌, ◌≤◌, ◌⊎◌, ◌↔◌}
 pub use Rattle.std.proofs.lemmas.Grind.{common_steps}
 pub use Rattle.std.proofs.lemmas.Int.{by_lt_z, ints}
 pub use Rattle.std.proofs.lemmas.List.{drop_all, drop_more, length-map}
@@ -31,11 +31,11 @@ pub use Rattle.show_judge.specs.declared.ends.Answer.{Answer}
 pub use Rattle.show_plan.specs.Fitting.{IsFitted, IsValidFitted}
 pub use Rattle.show_plan.specs.declared.fitted.Fitted.{Fitted}
 pub use Rattle.speed_bound.specs.Speed.{speed}
-pub use Rattle.touch_witness.specs.Sites.{DisjointAt, IsBefore, IsClosest, IsFirstTouch, IsListed, LeftAbove, LeftFrom, LeftIs, NoTouch, TouchAt, instant_of, left_of, listed, right_of, site_of}
+pub use Rattle.touch_witness.specs.Sites.{DisjointAt, IsBefore, IsClosest, IsClosestIn, IsFirstTouch, IsListed, IsOf, LeftAbove, LeftFrom, LeftIs, NoTouch, TouchAt, instant_of, left_of, listed, right_of, site_of}
 pub use Rattle.traj_codec.specs.Positions.{durations}
 pub use Rattle.traj_codec.specs.declared.traj.Segment.{Segment}
 pub use Rattle.traj_codec.specs.declared.traj.Traj.{Traj}
 pub use Rattle.show_studies.specs.Boxes.{BoxesLaw, RegionsGive, StaysInRegions, aside_of, boxes_verb, regions_end, upwards_of}
 pub use Rattle.show_studies.specs.Dynamics.{KeepsDynamics, dynamics_of, dynamics_text, dynamics_verb, excess_by, excess_in, first_excess_of, limits_of, motion_lines, times_of}
-pub use Rattle.show_studies.specs.Explained.{Explains, TellsTouches, explain_verb}
+pub use Rattle.show_studies.specs.Explained.{BlockedLaw, BlockedLines, Explains, SaysBlocked, SeparationSays, TellsTouches, blocked_among, blocked_parts, explain_verb, with_part}
 pub use Rattle.show_studies.specs.Speeds.{KeepsBounds, KeepsSpeeds, above, first_too_fast, refused_or, speed_of_drone, speed_text, speed_verb, too_fast, too_fast_by}

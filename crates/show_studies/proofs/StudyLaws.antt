@@ -1,7 +1,7 @@
 -- The laws of `speed`, of `dynamics` and of `explain`.
-use Rattle.show_studies.proofs.Prelude.{◌≡◌, ℕ, List, Option, Some, None, refl, sym, ap, subst, ◌∙◌, Appends, Refusal, IsSafe, IsVerb, cut_of, names_of, sent_of, Outcome, outcome, refused_some, whole_input, KeepsDynamics, dynamics_of, dynamics_verb, excess_in, limits_of, TellsTouches, explain_verb, KeepsSpeeds, speed_text, speed_verb, refused_or, too_fast}
+use Rattle.show_studies.proofs.Prelude.{◌≡◌, ℕ, Bool, List, Option, Some, None, refl, sym, ap, subst, ◌∙◌, Appends, Refusal, IsSafe, IsVerb, cut_of, names_of, sent_of, Outcome, outcome, refused_some, whole_input, KeepsDynamics, dynamics_of, dynamics_verb, excess_in, limits_of, TellsTouches, explain_verb, KeepsSpeeds, speed_text, speed_verb, refused_or, too_fast}
 use Rattle.choreo_reader.specs.Grammar.{StandsFor}
-use Rattle.show_studies.proofs.StudyLemmas.{explained_one}
+use Rattle.show_studies.proofs.BlockedLemmas.{explained_one}
 
 -- outcomes of one status and one output are one
 outcome_by : (o p : Outcome) → o.status ≡ p.status → o.output ≡ p.output → o ≡ p
@@ -59,22 +59,22 @@ dynamics_laws depth accel jump = record {
 
 -- ---- `explain`
 
-touches : (depth fine : ℕ) (input : List ℕ) (old new : Option (List ℕ)) (o : Outcome) → IsSafe (explain_verb depth fine) (cut_of input) o → Appends old new o.output →
-    TellsTouches depth fine input old new
-touches depth fine input old new o safe appended = record {
+touches : (depth fine : ℕ) (all : Bool) (input : List ℕ) (old new : Option (List ℕ)) (o : Outcome) → IsSafe (explain_verb depth fine all) (cut_of input) o → Appends old new o.output →
+    TellsTouches depth fine all input old new
+touches depth fine all input old new o safe appended = record {
   s = safe.s;
   text = o.output;
-  stands = subst (λ (text : List ℕ). StandsFor text safe.s) (whole_input (explain_verb depth fine).ways input safe.s refl safe.accepted) safe.stands;
+  stands = subst (λ (text : List ℕ). StandsFor text safe.s) (whole_input (explain_verb depth fine all).ways input safe.s refl safe.accepted) safe.stands;
   explains = safe.gives.1;
   apart = safe.promised;
   written = appended;
 }
 
-pub explain_laws : (depth fine : ℕ) → IsVerb (explain_verb depth fine)
-explain_laws depth fine = record {
-  one = λ s cut o p first second. outcome_by o p (first.0 ∙ sym second.0) (explained_one depth fine s o.output p.output first.1 second.1);
+pub explain_laws : (depth fine : ℕ) (all : Bool) → IsVerb (explain_verb depth fine all)
+explain_laws depth fine all = record {
+  one = λ s cut o p first second. outcome_by o p (first.0 ∙ sym second.0) (explained_one depth fine all s o.output p.output first.1 second.1);
   some = λ s cut known. known;
   done = λ s cut o gives succeeds. gives.0;
   apart = λ d s cut searched apart. absurd (cc);
-  headline = λ input o old new safe appended. touches depth fine input old new o safe appended;
+  headline = λ input o old new safe appended. touches depth fine all input old new o safe appended;
 }

@@ -1,5 +1,5 @@
 -- What `boxes` and `explain` say of a show is one thing alone.
-use Rattle.show_studies.proofs.Prelude.{common_steps, ◌≡◌, ◌⊎◌, inl, inr, ℕ, zero, suc, ◌+◌, ◌<◌, ◌≤◌, ℤ, pos, ◌*ℤ◌, ◌≤ℤ◌, ◌<ℤ◌, List, [], length, get_or, Option, Some, None, Result, Ok, refl, sym, ap, subst, ◌∙◌, arith, MatchOption, slice_get, ints, PlainShow, Judged, Kept, Enters, Region, IsFirstEntry, JudgeGives, Spot, Refusal, Raised, DisjointAt, IsBefore, IsClosest, IsFirstTouch, IsListed, LeftAbove, LeftFrom, LeftIs, NoTouch, TouchAt, left_of, listed, right_of, site_of, Traj, Outcome, RegionsGive, Cut, Explains}
+use Rattle.show_studies.proofs.Prelude.{common_steps, ◌≡◌, ◌⊎◌, inl, inr, ℕ, zero, suc, ◌+◌, ◌<◌, ◌≤◌, ℤ, pos, ◌*ℤ◌, ◌≤ℤ◌, ◌<ℤ◌, List, [], length, get_or, Option, Some, None, Result, Ok, refl, sym, ap, subst, ◌∙◌, arith, MatchOption, slice_get, ints, PlainShow, Judged, Kept, Enters, Region, IsFirstEntry, JudgeGives, Spot, Refusal, Raised, DisjointAt, IsBefore, IsClosest, IsFirstTouch, IsListed, LeftAbove, LeftFrom, LeftIs, NoTouch, TouchAt, left_of, listed, right_of, site_of, Traj, Outcome, RegionsGive, Cut}
 use Rattle.std.proofs.lemmas.Option.{slice_get-get_or}
 use Rattle.fleet_math.proofs.RingLemmas.{le_mul_ℤ, mul_comm_ℤ}
 use Rattle.keepout_boxes.specs.Kept.{IsBefore as Precedes}
@@ -69,13 +69,13 @@ regions_one None s depth cut o p (regions, j, reads, judges, ends) (others, k, r
 
 -- ---- the first touch
 
-sites_compared : (s t : Touch) → IsBefore s t ⊎ (((s.cue ≡ t.cue) × ((s.at ≡ t.at) × ((s.a ≡ t.a) × (s.b ≡ t.b)))) ⊎ IsBefore t s)
+pub sites_compared : (s t : Touch) → IsBefore s t ⊎ (((s.cue ≡ t.cue) × ((s.at ≡ t.at) × ((s.a ≡ t.a) × (s.b ≡ t.b)))) ⊎ IsBefore t s)
 sites_compared s t = grind (arith, common_steps, then_compared, compared)
 
 abbrev site : ℕ → ℕ → ℕ → ℕ → Touch
 site cue at a b = record { cue = cue; at = at; a = a; b = b }
 
-same_site : (s t : Touch) → (s.cue ≡ t.cue) × ((s.at ≡ t.at) × ((s.a ≡ t.a) × (s.b ≡ t.b))) → s ≡ t
+pub same_site : (s t : Touch) → (s.cue ≡ t.cue) × ((s.at ≡ t.at) × ((s.a ≡ t.a) × (s.b ≡ t.b))) → s ≡ t
 same_site s t (cue, (at, (a, b))) =
     ap (λ (n : ℕ). site n s.at s.a s.b) cue ∙ ap (λ (n : ℕ). site t.cue n s.a s.b) at ∙ ap (λ (n : ℕ). site t.cue t.at n s.b) a ∙ ap (site t.cue t.at t.a) b
 
@@ -102,7 +102,7 @@ touch_one trajs r h fine s t first second = by_order (sites_compared s t)
     by_order (inr (inl same)) = same_site s t same
     by_order (inr (inr before)) = absurd (never_both trajs r h fine t second.listed second.touches (first.none_before t second.listed before))
 
-touches_one : (trajs : List Traj) (r h fine : ℕ) (a b : Option Touch) → MatchOption a (NoTouch trajs r h fine) (IsFirstTouch trajs r h fine) →
+pub touches_one : (trajs : List Traj) (r h fine : ℕ) (a b : Option Touch) → MatchOption a (NoTouch trajs r h fine) (IsFirstTouch trajs r h fine) →
     MatchOption b (NoTouch trajs r h fine) (IsFirstTouch trajs r h fine) → a ≡ b
 touches_one trajs r h fine None None first second = refl
 touches_one trajs r h fine None (Some t) first second = absurd (never_both trajs r h fine t second.listed second.touches (first t second.listed))
@@ -118,7 +118,7 @@ not_above c d x right positive low high = grind (arith, common_steps, ints, comp
 positive_by : (c : ℕ) (x right : ℤ) → (pos c *ℤ right) ≤ℤ x → x <ℤ (pos (c + 1) *ℤ right) → pos 0 ≤ℤ right
 positive_by c x right low high = omega (arith, ints, low, high)
 
-level_one : (c d : ℕ) (x right : ℤ) → (pos c *ℤ right) ≤ℤ x → x <ℤ (pos (c + 1) *ℤ right) → (pos d *ℤ right) ≤ℤ x → x <ℤ (pos (d + 1) *ℤ right) → c ≡ d
+pub level_one : (c d : ℕ) (x right : ℤ) → (pos c *ℤ right) ≤ℤ x → x <ℤ (pos (c + 1) *ℤ right) → (pos d *ℤ right) ≤ℤ x → x <ℤ (pos (d + 1) *ℤ right) → c ≡ d
 level_one c d x right c_low c_high d_low d_high = grind (arith, common_steps, pos, positive_by, not_above)
 
 -- of two that are closest, neither left side is below the other
@@ -126,11 +126,11 @@ left_at : (trajs : List Traj) (r h fine : ℕ) (s : Touch) (x : ℤ) → IsListe
     x ≡ left_of (get_or trajs s.a no_traj) (get_or trajs s.b no_traj) r h (listed fine s.cue s.at)
 left_at trajs r h fine s x is left = left _ _ (first_of trajs fine s is) (second_of trajs fine s is)
 
-left_least : (trajs : List Traj) (r h fine : ℕ) (s : Touch) (x y : ℤ) → IsListed trajs fine s → LeftIs trajs r h fine s x → LeftFrom trajs r h fine s y → y ≤ℤ x
+pub left_least : (trajs : List Traj) (r h fine : ℕ) (s : Touch) (x y : ℤ) → IsListed trajs fine s → LeftIs trajs r h fine s x → LeftFrom trajs r h fine s y → y ≤ℤ x
 left_least trajs r h fine s x y is left least =
     subst (λ (z : ℤ). y ≤ℤ z) (sym (left_at trajs r h fine s x is left)) (least _ _ (first_of trajs fine s is) (second_of trajs fine s is))
 
-left_above : (trajs : List Traj) (r h fine : ℕ) (s : Touch) (x y : ℤ) → IsListed trajs fine s → LeftIs trajs r h fine s x → LeftAbove trajs r h fine s y → y <ℤ x
+pub left_above : (trajs : List Traj) (r h fine : ℕ) (s : Touch) (x y : ℤ) → IsListed trajs fine s → LeftIs trajs r h fine s x → LeftAbove trajs r h fine s y → y <ℤ x
 left_above trajs r h fine s x y is left above =
     subst (λ (z : ℤ). y <ℤ z) (sym (left_at trajs r h fine s x is left)) (above _ _ (first_of trajs fine s is) (second_of trajs fine s is))
 
@@ -151,13 +151,13 @@ closest_site trajs r h fine c d first second = by_order (sites_compared (site_of
     by_order (inr (inl same)) = same_site (site_of c) (site_of d) same
     by_order (inr (inr before)) = absurd (never first.left second.left (left_above trajs r h fine (site_of d) second.left first.left second.among second.is (first.first (site_of d) second.among before)) high)
 
-same_ints : (x y : ℤ) → x ≤ℤ y → y ≤ℤ x → x ≡ y
+pub same_ints : (x y : ℤ) → x ≤ℤ y → y ≤ℤ x → x ≡ y
 same_ints x y low high = omega (arith, ints, low, high)
 
 abbrev closest_at : Touch → ℕ → Closest
 closest_at s level = record { cue = s.cue; at = s.at; a = s.a; b = s.b; level = level }
 
-same_closest : (c d : Closest) → site_of c ≡ site_of d → c.level ≡ d.level → c ≡ d
+pub same_closest : (c d : Closest) → site_of c ≡ site_of d → c.level ≡ d.level → c ≡ d
 same_closest c d sites level = ap (λ (s : Touch). closest_at s c.level) sites ∙ ap (closest_at (site_of d)) level
 
 closest_one : (trajs : List Traj) (r h fine : ℕ) (c d : Closest) → IsClosest trajs r h fine c → IsClosest trajs r h fine d → c ≡ d
@@ -179,13 +179,9 @@ closest_one trajs r h fine c d first second =
 alone : (trajs : List Traj) (r h fine : ℕ) (c : Closest) → length trajs ≡ 1 → IsClosest trajs r h fine c → ⊥
 alone trajs r h fine c one is = omega (arith, one, is.among.pair, is.among.drone)
 
-nearest_one : (trajs : List Traj) (r h fine : ℕ) (a b : Option Closest) → MatchOption a (length trajs ≡ 1) (IsClosest trajs r h fine) →
+pub nearest_one : (trajs : List Traj) (r h fine : ℕ) (a b : Option Closest) → MatchOption a (length trajs ≡ 1) (IsClosest trajs r h fine) →
     MatchOption b (length trajs ≡ 1) (IsClosest trajs r h fine) → a ≡ b
 nearest_one trajs r h fine None None first second = refl
 nearest_one trajs r h fine None (Some d) first second = absurd (alone trajs r h fine d first second)
 nearest_one trajs r h fine (Some c) None first second = absurd (alone trajs r h fine c second first)
 nearest_one trajs r h fine (Some c) (Some d) first second = ap Some (closest_one trajs r h fine c d first second)
-
--- what is explained is one text
-pub explained_one : (depth fine : ℕ) (s : PlainShow) (text other : List ℕ) → Explains depth fine s text → Explains depth fine s other → text ≡ other
-explained_one depth fine s text other first second = grind (arith, common_steps, nearest_one, touches_one)

@@ -16,6 +16,7 @@ ghost use Rattle.touch_witness.specs.Sites.{IsFirstTouch, NoTouch};
 ghost use Rattle.show_studies.specs.Steps.{IsBlockedAmong, IsClosestAmong, IsFound, IsTouchAmong};
 
 use crate::findings::{Findings, findings_text};
+use crate::study::Study;
 use fleet_io::{Sink, Source};
 use fleet_math::{Depth, Fine};
 use show_judge::{Answer, AnyText, Output, Ways, run_any};
@@ -85,15 +86,8 @@ fn find(alloc: Global, fitted: &Fitted, depth: Depth, fine: Fine) -> Result<Find
     })
 }
 
-/// `explain` at a depth, over the instants that cut each cue into 2^`fine` parts.
-#[derive(Clone, Copy)]
-pub struct ExplainVerb {
-    pub depth: Depth,
-    pub fine: Fine,
-}
-
-impl AnyText for ExplainVerb {
-    ghost verb = { λ c. explain_verb c.depth c.fine };
+impl AnyText for Study {
+    ghost verb = { λ c. explain_verb c.depth c.fine c.all };
 
     fn ways(&self) -> Ways {
         Ways {
@@ -106,7 +100,7 @@ impl AnyText for ExplainVerb {
 
     fn answer_fitted(&self, alloc: Global, fitted: &Fitted) -> Result<Answer, AllocError> {
         let found = find(alloc, fitted, self.depth, self.fine)?;
-        let lines = findings_text(alloc, fitted, self.depth, self.fine, &found)?;
+        let lines = findings_text(alloc, fitted, *self, &found)?;
         Ok(Answer::Done {
             output: Output::Text { lines },
         })
@@ -115,16 +109,10 @@ impl AnyText for ExplainVerb {
 
 /// Runs `explain` (docs/COMMANDS.md): the first part of a cue in which no direction separates two drones, where two
 /// drones come closest and where they touch first, among the instants that cut each cue into 2^`fine` parts; or the
-/// first other reason why the show is refused.
-pub fn explain<S: Source, K: Sink>(
-    alloc: Global,
-    depth: Depth,
-    fine: Fine,
-    source: &mut S,
-    sink: &mut K,
-) -> u8
-    ensures { Does (explain_verb depth fine) (during S.told K.written K.faults source.old source.new sink.old sink.new)
-        result }
+/// first other reason why the show is refused. With `all` it names each pair and cue that is blocked, up to 200.
+pub fn explain<S: Source, K: Sink>(alloc: Global, study: Study, source: &mut S, sink: &mut K) -> u8
+    ensures { Does (explain_verb study.depth study.fine study.all)
+        (during S.told K.written K.faults source.old source.new sink.old sink.new) result }
 {
-    run_any(alloc, &ExplainVerb { depth, fine }, source, sink)
+    run_any(alloc, &study, source, sink)
 }

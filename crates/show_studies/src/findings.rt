@@ -1,9 +1,13 @@
 //! Lines on where two drones come close.
-ghost use Rattle.std.specs.Prelude.{◌≡◌, ◌++◌, length, All, IfOk, OnOk};
+ghost use Rattle.std.specs.Prelude.{◌≡◌, ℕ, ◌++◌, List, length, All, IfOk, OnOk};
 ghost use Rattle.show_plan.specs.Fitting.{IsValidFitted, StandsAsWord};
+ghost use Rattle.show_plan.specs.Separation.{blocked_part};
 ghost use Rattle.show_studies.specs.Steps.{IsBlockedAmong, IsClosestAmong, IsTouchAmong};
-ghost use Rattle.show_studies.specs.Explained.{contact_if, contact_line, explain_text, nearest_line, separation_line};
+ghost use Rattle.show_studies.specs.Explained.{SeparationSays, contact_if, contact_line, explain_text, nearest_line};
+ghost use Rattle.show_studies.specs.Explained.{separation_line};
 
+use crate::blocking::put_blocked_parts;
+use crate::study::Study;
 use choreo_reader::Name;
 use fleet_io::Lines;
 use fleet_math::{Depth, Fine};
@@ -22,7 +26,7 @@ pub struct Findings {
     pub touch: Option<Touch>,
 }
 
-fn put_separation(
+fn put_first(
     text: &mut Lines,
     names: &[Name],
     depth: Depth,
@@ -42,6 +46,28 @@ fn put_separation(
             part.index,
             depth,
         ),
+    }
+}
+
+// The first line, or the lines of all pairs and cues that are blocked.
+fn put_separation(
+    alloc: Global,
+    text: &mut Lines,
+    fitted: &Fitted,
+    study: Study,
+    blocked: Option<BlockedPart>,
+) -> Result<(), AllocError>
+    requires valid { IsValidFitted fitted.now }
+    requires among { IsBlockedAmong (length fitted.now.names) blocked }
+    ensures { OnOk result ((lines : List ℕ) × SeparationSays study.all fitted.now.names fitted.now.settings
+        fitted.now.trajs study.depth study.fine blocked lines × (text.new ≡ text.old ++ lines)) }
+{
+    if !study.all {
+        return put_first(text, fitted.names.as_slice(), study.depth, blocked);
+    }
+    match blocked {
+        None => put_separated(text),
+        Some(_) => put_blocked_parts(alloc, text, fitted, study),
     }
 }
 
@@ -115,20 +141,22 @@ fn put_last(
 pub fn findings_text(
     alloc: Global,
     fitted: &Fitted,
-    depth: Depth,
-    fine: Fine,
+    study: Study,
     found: &Findings,
 ) -> Result<Lines, AllocError>
     requires valid { IsValidFitted fitted.now }
     requires blocked { IsBlockedAmong (length fitted.now.names) found.now.blocked }
     requires closest { IsClosestAmong (length fitted.now.names) found.now.closest }
     requires touch { IsTouchAmong (length fitted.now.names) found.now.touch }
-    ensures { IfOk result (λ text. text ≡
-        explain_text fitted.now.names depth fitted.now.cues fine found.now.blocked found.now.closest found.now.touch) }
+    ensures { IfOk result (λ text. (lines : List ℕ) × SeparationSays study.all fitted.now.names fitted.now.settings
+        fitted.now.trajs study.depth study.fine found.now.blocked lines × (text ≡
+        explain_text fitted.now.names fitted.now.cues study.fine found.now.blocked found.now.closest found.now.touch
+        lines)) }
 {
+    let fine = study.fine;
     let names = fitted.names.as_slice();
     let mut text = Lines::make(alloc);
-    put_separation(&mut text, names, depth, found.blocked)?;
+    put_separation(alloc, &mut text, fitted, study, found.blocked)?;
     put_nearest(&mut text, names, fine, found.closest)?;
     put_last(&mut text, names, fitted.cues, fine, found)?;
     Ok(text)

@@ -4,12 +4,16 @@
 #![tactic(auto)]
 
 mod accelerating;
+mod blocking;
 mod explaining;
 mod findings;
 mod keeping;
 mod speeding;
+mod study;
 
 pub use accelerating::{DynamicsVerb, dynamics};
-pub use explaining::{ExplainVerb, explain};
+pub use blocking::blocked_law;
+pub use explaining::explain;
 pub use keeping::{boxes, boxes_law};
 pub use speeding::{SpeedVerb, speed};
+pub use study::Study;

@@ -65,13 +65,13 @@ fn speed(depth: u8, limit: Option<u32>) -> Command
     Command::Speed { depth, limit }
 }
 
-fn explain(depth: u8, fine: u8) -> Command
+fn explain(depth: u8, fine: u8, all: bool) -> Command
     requires depth { depth ≤ 8 }
     requires fine { fine ≤ 5 }
 {
     let depth = Depth::make(depth);
     let fine = Fine::make(fine);
-    Command::Explain { depth, fine }
+    Command::Explain { depth, fine, all }
 }
 
 fn dynamics(depth: u8, accel: Option<u32>, jump: Option<u32>) -> Command
@@ -119,7 +119,7 @@ fn commands() -> [(&'static str, Command); 28] {
 }
 
 // The same of the commands that study a show.
-fn studies() -> [(&'static str, Command); 13] {
+fn studies() -> [(&'static str, Command); 15] {
     [
         ("boxes", Command::Boxes { depth: depth(6) }),
         ("boxes --depth 2", Command::Boxes { depth: depth(2) }),
@@ -130,9 +130,11 @@ fn studies() -> [(&'static str, Command); 13] {
             speed(8, Some(999_999_999)),
         ),
         ("speed --limit 1", speed(6, Some(1))),
-        ("explain", explain(6, 5)),
-        ("explain --fine 0 --depth 3", explain(3, 0)),
-        ("explain --depth 3 --fine 05", explain(3, 5)),
+        ("explain", explain(6, 5, false)),
+        ("explain --fine 0 --depth 3", explain(3, 0, false)),
+        ("explain --depth 3 --fine 05", explain(3, 5, false)),
+        ("explain --all", explain(6, 5, true)),
+        ("explain --fine 0 --all --depth 3", explain(3, 0, true)),
         ("dynamics", dynamics(6, None, None)),
         (
             "dynamics --jump 0 --depth 8 --accel 999999999",
@@ -157,7 +159,7 @@ fn words_that_are_a_command(rt: HostRuntime) -> Result<(), Fail> {
     Ok(())
 }
 
-const NO_COMMANDS: [&str; 81] = [
+const NO_COMMANDS: [&str; 84] = [
     "",
     "Compile",
     "compil",
@@ -229,6 +231,9 @@ const NO_COMMANDS: [&str; 81] = [
     "explain --fine 6",
     "explain --fine 5 --depth 3 --fine 5",
     "explain --jump 300",
+    "explain --all --all",
+    "explain --all 3",
+    "check --all",
     "speed --accel 5",
     "check --accel 5",
     "drill 4 --jump 300",
@@ -266,7 +271,7 @@ fn the_forms_of_the_commands(rt: HostRuntime) {
         b"drill N [--depth D]",
         b"boxes [--depth D]",
         b"speed [--depth D] [--limit V]",
-        b"explain [--depth D] [--fine E]",
+        b"explain [--depth D] [--fine E] [--all]",
         b"dynamics [--depth D] [--accel A] [--jump J]",
         b"version",
     ];

@@ -3,16 +3,16 @@ use Rattle.touch_witness.proofs.Prelude.{common_steps, ◌≡◌, ℕ, ◌+◌, 
 use lib.Signed.{lt_z}
 use Rattle.touch_witness.proofs.Pairs.{sides}
 
-lt_le : (x y z : ℤ) → x <ℤ y → y ≤ℤ z → x <ℤ z
+pub lt_le : (x y z : ℤ) → x <ℤ y → y ≤ℤ z → x <ℤ z
 lt_le x y z first second = omega (arith, linear)
 
-le_le : (x y z : ℤ) → x ≤ℤ y → y ≤ℤ z → x ≤ℤ z
+pub le_le : (x y z : ℤ) → x ≤ℤ y → y ≤ℤ z → x ≤ℤ z
 le_le x y z first second = omega (arith, linear)
 
-lt_to_le : (x y : ℤ) → x <ℤ y → x ≤ℤ y
+pub lt_to_le : (x y : ℤ) → x <ℤ y → x ≤ℤ y
 lt_to_le x y less = omega (arith, linear)
 
-same_le : (x y : ℤ) → x ≡ y → x ≤ℤ y
+pub same_le : (x y : ℤ) → x ≡ y → x ≤ℤ y
 same_le x y same = omega (arith, linear)
 
 -- before the next pair stand those before this one, and this one

@@ -59,13 +59,13 @@ abs_is : (x : ℤ) → pos 0 ≤ℤ x → x ≡ pos (unsigned_abs x)
 abs_is x some = omega (arith, ints)
 
 -- the level as whole numbers with a sign
-level_low : (n : ℕ) (x y : ℤ) → pos 0 ≤ℤ x → pos 0 ≤ℤ y → n * unsigned_abs y ≤ 1000 * unsigned_abs x → (pos n *ℤ y) ≤ℤ (pos 1000 *ℤ x)
+pub level_low : (n : ℕ) (x y : ℤ) → pos 0 ≤ℤ x → pos 0 ≤ℤ y → n * unsigned_abs y ≤ 1000 * unsigned_abs x → (pos n *ℤ y) ≤ℤ (pos 1000 *ℤ x)
 level_low n x y x_some y_some low = grind (arith, common_steps, ints, pos, abs_is, unsigned_abs)
 
-level_high : (n : ℕ) (x y : ℤ) → pos 0 ≤ℤ x → pos 0 ≤ℤ y → 1000 * unsigned_abs x < n * unsigned_abs y → (pos 1000 *ℤ x) <ℤ (pos n *ℤ y)
+pub level_high : (n : ℕ) (x y : ℤ) → pos 0 ≤ℤ x → pos 0 ≤ℤ y → 1000 * unsigned_abs x < n * unsigned_abs y → (pos 1000 *ℤ x) <ℤ (pos n *ℤ y)
 level_high n x y x_some y_some high = grind (arith, common_steps, ints, pos, abs_is, unsigned_abs)
 
-some_told : (y : ℤ) → IsIn (pos 1) (pos (2 ^ 116)) y → pos 0 ≤ℤ y
+pub some_told : (y : ℤ) → IsIn (pos 1) (pos (2 ^ 116)) y → pos 0 ≤ℤ y
 some_told y inside = omega (arith, ints, inside.0)
 
 -- the best after the last cue is the closest

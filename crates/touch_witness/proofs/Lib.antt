@@ -6,5 +6,6 @@ pub mod Pairs
 pub mod Shows
 pub mod Least
 pub mod Levels
+pub mod CueLemmas
 pub mod Sharing
 mod Rows

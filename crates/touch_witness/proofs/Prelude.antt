@@ -23,6 +23,8 @@ pub use Rattle.fleet_math.specs.Numbers.{IsIn}
 pub use Rattle.fleet_math.specs.Sums.{power}
 pub use Rattle.sep_parts.proofs.Cauchy.{square_positive}
 pub use Rattle.sep_parts.specs.Apart.{AreApart, FlyApartExactly, gap}
+pub use Rattle.sep_parts.specs.Slots.{IsSlot}
+pub use Rattle.sep_parts.specs.declared.slot.Slot.{Slot}
 pub use Rattle.traj_codec.proofs.PositionLemmas.{decoded-points, durations_on}
 pub use Rattle.traj_codec.specs.Joined.{own}
 pub use Rattle.traj_codec.specs.Positions.{decoded, element_on, piece_on, pieces_on, value_after}
@@ -31,10 +33,10 @@ pub use Rattle.traj_codec.specs.declared.traj.Element.{Element}
 pub use Rattle.traj_codec.specs.declared.traj.Segment.{Segment}
 pub use Rattle.traj_codec.specs.declared.traj.Traj.{Traj}
 pub use mir.Syntax.{w128, w16, w64}
-pub use Rattle.touch_witness.specs.Lines.{blocked_pair_line, closest_line, no_touch_line, separated_line, touch_line}
-pub use Rattle.touch_witness.specs.Sites.{AreDisjoint, DisjointAt, IsBefore, IsClosest, IsFirstTouch, IsListed, LeftAbove, LeftFrom, NoTouch, SharePoint, TouchAt, from_centre, gap_at, instant_of, left_of, listed, over, right_of}
+pub use Rattle.touch_witness.specs.Lines.{blocked_closest_line, blocked_pair_line, closest_line, more_blocked_line, no_touch_line, separated_line, touch_line}
+pub use Rattle.touch_witness.specs.Sites.{AreDisjoint, DisjointAt, IsBefore, IsClosest, IsClosestIn, IsFirstTouch, IsListed, IsOf, LeftAbove, LeftFrom, LeftIs, NoTouch, SharePoint, TouchAt, from_centre, gap_at, instant_of, left_of, listed, over, right_of}
 unfoldable pub use Rattle.touch_witness.specs.Steps.{left_side, position, right_side}
-pub use Rattle.touch_witness.specs.Steps.{AllDisjoint, AllDisjointFrom, ArePlaces, AreStarts, DisjointInCue, IsBest, IsFirstPair, IsFirstSite, IsLeastPair, IsNear, IsNearestAt, IsPlace, IsShort, IsStart, NoneTouch, PairBefore, PairDisjoint, PairTouches, SidesDisjoint, SidesTouch, begin_of, left_at, most_ratio, no_point, no_start, point_at, reach}
+pub use Rattle.touch_witness.specs.Steps.{AllDisjoint, AllDisjointFrom, ArePlaces, AreStarts, DisjointInCue, IsBest, IsFirstPair, IsFirstSite, IsLeastOf, IsLeastPair, IsLeftAt, IsNear, IsNearestAt, IsPlace, IsShort, IsStart, NoneTouch, PairBefore, PairDisjoint, PairTouches, SidesDisjoint, SidesTouch, begin_of, left_at, most_ratio, no_point, no_start, point_at, reach}
 pub use Rattle.touch_witness.specs.declared.nearest.Best.{Best}
 pub use Rattle.touch_witness.specs.declared.nearest.Pair.{Pair}
 pub use Rattle.touch_witness.specs.declared.places.Point.{Point}

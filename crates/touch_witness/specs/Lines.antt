@@ -22,6 +22,18 @@ blocked_pair_line first second cue index depth =
     (codes "pair" ∷ first ∷ second ∷ codes "cue" ∷ decimal (cue + 1) ∷ codes "part" ∷ decimal index ∷ codes "of"
     ∷ decimal (2 ^ depth) ∷ [])
 
+-- the same, and where the two are closest in the cue, with the level there
+abbrev pub blocked_closest_line : List ℕ → List ℕ → ℕ → ℕ → ℕ → Closest → List ℕ
+blocked_closest_line first second index depth fine c =
+    line (codes "blocked")
+    (codes "pair" ∷ first ∷ second ∷ codes "cue" ∷ decimal (c.cue + 1) ∷ codes "part" ∷ decimal index ∷ codes "of"
+    ∷ decimal (2 ^ depth) ∷ codes "closest" ∷ codes "at" ∷ decimal c.at ∷ codes "of" ∷ decimal (2 ^ fine)
+    ∷ codes "level" ∷ decimal c.level ∷ [])
+
+-- more pairs and cues are blocked than lines say
+abbrev pub more_blocked_line : List ℕ
+more_blocked_line = line (codes "blocked") (codes "more" ∷ codes "than" ∷ codes "200" ∷ [])
+
 -- where two drones are closest, and the level there
 abbrev pub closest_line : List ℕ → List ℕ → ℕ → Closest → List ℕ
 closest_line first second fine c =

@@ -8,6 +8,7 @@ use Rattle.traj_codec.specs.Positions.{decoded, durations}
 use Rattle.traj_codec.specs.Joined.{own}
 use Rattle.fleet_curves.specs.Raised.{cues_in}
 use Rattle.sep_parts.specs.Apart.{gap}
+use Rattle.sep_parts.specs.declared.slot.Slot.{Slot}
 use Rattle.touch_witness.specs.declared.site.Touch.{Touch}
 use Rattle.touch_witness.specs.declared.site.Closest.{Closest}
 
@@ -144,5 +145,25 @@ pub record IsClosest (trajs : List Traj) (r h fine : ℕ) (c : Closest) : Type 0
   pub is : LeftIs trajs r h fine (site_of c) left
   pub least : (u : Touch) → IsListed trajs fine u → LeftFrom trajs r h fine u left
   pub first : (u : Touch) → IsListed trajs fine u → IsBefore u (site_of c) → LeftAbove trajs r h fine u left
+  pub level : (pos c.level *ℤ right_of r h (listed fine c.cue c.at)) ≤ℤ (pos 1000 *ℤ left)
+  pub next_level : (pos 1000 *ℤ left) <ℤ (pos (c.level + 1) *ℤ right_of r h (listed fine c.cue c.at))
+
+-- ---- the closest of one pair in one cue
+-- the instant and the pair are of this pair and this cue
+pub record IsOf (slot : Slot) (s : Touch) : Type 0 where
+  pub a : s.a ≡ slot.a
+  pub b : s.b ≡ slot.b
+  pub cue : s.cue ≡ slot.cue
+
+-- The listed instant of the cue of a slot at which the left side of its pair is least, the first of them; the level is
+-- as of the closest of all.
+pub record IsClosestIn (trajs : List Traj) (r h fine : ℕ) (slot : Slot) (c : Closest) : Type 0 where
+  pub left : ℤ
+  pub among : IsListed trajs fine (site_of c)
+  pub of_slot : IsOf slot (site_of c)
+  pub is : LeftIs trajs r h fine (site_of c) left
+  pub least : (u : Touch) → IsListed trajs fine u → IsOf slot u → LeftFrom trajs r h fine u left
+  pub first : (u : Touch) → IsListed trajs fine u → IsOf slot u → IsBefore u (site_of c) →
+      LeftAbove trajs r h fine u left
   pub level : (pos c.level *ℤ right_of r h (listed fine c.cue c.at)) ≤ℤ (pos 1000 *ℤ left)
   pub next_level : (pos 1000 *ℤ left) <ℤ (pos (c.level + 1) *ℤ right_of r h (listed fine c.cue c.at))

@@ -15,7 +15,8 @@ use Rattle.touch_witness.specs.declared.places.Point.{Point}
 use Rattle.touch_witness.specs.declared.site.Touch.{Touch}
 use Rattle.touch_witness.specs.declared.nearest.Pair.{Pair}
 use Rattle.touch_witness.specs.declared.nearest.Best.{Best}
-use Rattle.touch_witness.specs.Sites.{IsBefore, IsListed, LeftAbove, LeftFrom, LeftIs, left_of, listed, right_of}
+use Rattle.sep_parts.specs.declared.slot.Slot.{Slot}
+use Rattle.touch_witness.specs.Sites.{IsBefore, IsListed, IsOf, LeftAbove, LeftFrom, LeftIs, left_of, listed, right_of}
 
 -- the value with which the segment of a number begins, of segments that begin with the first value
 abbrev pub begin_of : ℕ → ℤ → List Segment → ℕ → ℤ
@@ -199,3 +200,17 @@ pub record IsBest (trajs : List Traj) (r h fine cue at : ℕ) (s : Best) : Type 
   pub is : LeftIs trajs r h fine s.site s.left
   pub least : (u : Touch) → IsListed trajs fine u → PairBefore u.cue u.at cue at → LeftFrom trajs r h fine u s.left
   pub first : (u : Touch) → IsListed trajs fine u → IsBefore u s.site → LeftAbove trajs r h fine u s.left
+
+-- ---- the closest of one pair in one cue
+-- the left side of the pair of a slot at a fraction of its cue
+pub record IsLeftAt (trajs : List Traj) (r h fine : ℕ) (slot : Slot) (at : ℕ) (left : ℤ) : Type 0 where
+  pub small : IsIn (pos 0) (pos (2 ^ 126)) left
+  pub near : left ≤ℤ (pos most_ratio *ℤ right_side r h fine)
+  pub is : (u : Touch) → IsOf slot u → u.at ≡ at → LeftIs trajs r h fine u left
+
+-- The least of the first m fractions of the cue of a slot, and less than each that stands before it.
+pub record IsLeastOf (trajs : List Traj) (r h fine : ℕ) (slot : Slot) (m at : ℕ) (left : ℤ) : Type 0 where
+  pub fraction : at ≤ 2 ^ fine
+  pub here : IsLeftAt trajs r h fine slot at left
+  pub least : (u : Touch) → IsOf slot u → u.at < m → LeftFrom trajs r h fine u left
+  pub first : (u : Touch) → IsOf slot u → u.at < at → LeftAbove trajs r h fine u left

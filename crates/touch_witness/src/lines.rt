@@ -2,9 +2,10 @@
 //! in its line, and a fraction of a cue or a part of it from 0.
 
 ghost use Rattle.std.specs.Prelude.{◌≡◌, ◌+◌, ◌*◌, ◌^◌, ◌++◌, OnOk};
-ghost use Rattle.touch_witness.specs.Lines.{blocked_pair_line, closest_line, no_touch_line, separated_line, touch_line};
+ghost use Rattle.touch_witness.specs.Lines.{blocked_closest_line, blocked_pair_line, closest_line, more_blocked_line};
+ghost use Rattle.touch_witness.specs.Lines.{no_touch_line, separated_line, touch_line};
 
-use crate::site::{Closest, Touch};
+use crate::site::{Closest, Part, Touch};
 use fleet_io::Lines;
 use fleet_io::Word::{Bytes, Large, Number};
 use fleet_math::{Depth, Fine};
@@ -52,6 +53,41 @@ pub fn put_blocked<'a>(
             Number(parts(depth)),
         ],
     )
+}
+
+/// Adds the line of two drones and the part of a cue in which no direction separates them, and where the two are closest
+/// in that cue.
+pub fn put_blocked_closest<'a>(
+    text: &mut Lines,
+    first: &'a [u8],
+    second: &'a [u8],
+    part: Part,
+    fine: Fine,
+    closest: Closest,
+) -> Result<(), AllocError>
+    ensures { OnOk result
+        (text.new ≡ text.old ++ blocked_closest_line first.now second.now part.index part.depth fine closest) }
+{
+    text.line(
+        b"blocked pair ? ? cue ? part ? of ? closest at ? of ? level ?",
+        &[
+            Bytes(first),
+            Bytes(second),
+            Number(number(closest.cue)),
+            Number(u32::from(part.index)),
+            Number(parts(part.depth)),
+            Number(u32::from(closest.at)),
+            Number(u32::from(fine.parts())),
+            Large(closest.level),
+        ],
+    )
+}
+
+/// Adds the line that says that more pairs and cues are blocked than there are lines of.
+pub fn put_more_blocked(text: &mut Lines) -> Result<(), AllocError>
+    ensures { OnOk result (text.new ≡ text.old ++ more_blocked_line) }
+{
+    text.line(b"blocked more than 200", &[])
 }
 
 /// Adds the line of the two drones that are closest, their listed instant and their level.

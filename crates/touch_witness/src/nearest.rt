@@ -63,8 +63,8 @@ pub fn closest_of(trajs: &[Traj], axes: Axes, fine: Fine) -> Option<Closest>
     })
 }
 
-// The floor of 1,000 times a quotient.
-fn level(left: u128, right: u128) -> u64
+/// The floor of 1,000 times a quotient.
+pub fn level(left: u128, right: u128) -> u64
     requires right { 1 ≤ right }
     requires small { right ≤ 2 ^ 116 }
     requires ratio { left ≤ most_ratio * right }

@@ -25,10 +25,10 @@ returns-clause-speeds c = λ depth limit is zero.
     ((c.in-Ok-answer_of.ensures.behaves (Speed depth limit) (rw c.in-Ok.ensures.ok is)).behaves.headline said.0)
 
 pub returns-clause-touches : goal.returns-clause-touches
-returns-clause-touches c = λ depth fine is zero.
+returns-clause-touches c = λ depth fine all is zero.
     let said = said_as _ _ _ c.deliver.result 0 (λ e. omega (arith, e)) c.deliver.ensures.value zero in
     rw (c.deliver.ensures.room, whole_of _ c.deref.result.now c.len.result (c.len.ensures ∙ sym c.deref.ensures.len) said.1, c.deref.ensures.value)
-    ((c.in-Ok-answer_of.ensures.behaves (Explain depth fine) (rw c.in-Ok.ensures.ok is)).behaves.headline said.0)
+    ((c.in-Ok-answer_of.ensures.behaves (Explain depth fine all) (rw c.in-Ok.ensures.ok is)).behaves.headline said.0)
 
 pub returns-clause-motions : goal.returns-clause-motions
 returns-clause-motions c = λ depth accel jump is zero.

@@ -76,8 +76,8 @@ returns-in-Some-clause-speeds g c = λ depth limit input is left done.
     rw (comes (g.S.Source.told c.args.source.now) (g.S.Source.told c.run_command.new.source).given input left) at (behaves.headline done)
 
 pub returns-in-Some-clause-touches : goal.returns-in-Some-clause-touches
-returns-in-Some-clause-touches g c = λ depth fine input is left done.
-    let behaves = behaves_as c.in-Some.command (Explain depth fine) _ _ (one_command _ c.in-Some.command (Explain depth fine) (sym c.command_of.ensures.value ∙ c.in-Some.is) is) (c.run_command.ensures.behaves.behaves (g.S.Source.told c.run_command.new.source).given (IsInput-now (g.S.Source.told c.run_command.new.source))) in
+returns-in-Some-clause-touches g c = λ depth fine all input is left done.
+    let behaves = behaves_as c.in-Some.command (Explain depth fine all) _ _ (one_command _ c.in-Some.command (Explain depth fine all) (sym c.command_of.ensures.value ∙ c.in-Some.is) is) (c.run_command.ensures.behaves.behaves (g.S.Source.told c.run_command.new.source).given (IsInput-now (g.S.Source.told c.run_command.new.source))) in
     rw (comes (g.S.Source.told c.args.source.now) (g.S.Source.told c.run_command.new.source).given input left) at (behaves.headline done)
 
 pub returns-in-Some-clause-motions : goal.returns-in-Some-clause-motions
