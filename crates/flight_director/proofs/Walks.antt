@@ -22,7 +22,7 @@ use Rattle.flight_model.specs.declared.events.Frame.TheVariants.{To, Noted}
 use Rattle.flight_model.specs.declared.flights.Condition.{Condition}
 use Rattle.flight_model.specs.declared.flights.Flight.{Flight}
 use Rattle.flight_model.specs.declared.states.Track.{Track}
-use Rattle.flight_model.specs.Directors.{all_fit, all_down, is_down, first_unfit, frames_from, has_risen, land_order}
+use Rattle.flight_model.specs.Directors.{unanswered, all_fit, all_down, is_down, first_unfit, frames_from, has_risen, land_order}
 
 -- conditions with no track left
 all_fit-none : (silence : ℕ) (ws : List Condition) (d : ℕ) → d < length ws → all_fit silence (drop d ws) [] ≡ false
@@ -76,6 +76,15 @@ map-step g (x ∷ xs) zero l = refl
 map-step g (x ∷ xs) (suc i) l =
     ap (λ ys. g x ∷ ys) (map-step g xs i (omega arith))
     ∙ ap (λ n. map g (take n (x ∷ xs)) ++ drop n (x ∷ xs)) (let e : suc (i + 1) ≡ suc i + 1 = omega arith in e)
+
+-- ---- answers
+
+pub forget-step : (bs : List Bool) (i : ℕ) → i < length bs → set (unanswered (take i bs) ++ drop i bs) i false ≡ unanswered (take (i + 1) bs) ++ drop (i + 1) bs
+forget-step [] i l = absurd (omega arith)
+forget-step (b ∷ bs) zero l = refl
+forget-step (b ∷ bs) (suc i) l =
+    ap (λ cs. false ∷ cs) (forget-step bs i (omega arith))
+    ∙ ap (λ n. unanswered (take n (b ∷ bs)) ++ drop n (b ∷ bs)) (let e : suc (i + 1) ≡ suc i + 1 = omega arith in e)
 
 -- ---- orders, one drone after another
 

@@ -1,5 +1,5 @@
 -- What the machine's functions are given.
-use Rattle.std.specs.Prelude.{◌≡◌, ℕ, ◌≤◌, ◌<◌, List, length, Option, Some, None, slice_get, All}
+use Rattle.std.specs.Prelude.{◌≡◌, ℕ, ◌≤◌, ◌<◌, Bool, List, length, Option, Some, None, slice_get, All}
 use Rattle.fleet_math.specs.Limits.{most_drones}
 use Rattle.integer_player.specs.Played.{IsPlayable, duration_of}
 use Rattle.traj_codec.specs.declared.traj.Traj.{Traj}
@@ -46,3 +46,7 @@ pub record Directed : Type 0 where
 -- the state, with these tracks
 abbrev pub with_tracks : State → List Track → State
 with_tracks s tracks = record s { tracks = tracks }
+
+-- the same, where these have answered
+abbrev pub with_answered : State → List Bool → State
+with_answered s answered = record s { answered = answered }

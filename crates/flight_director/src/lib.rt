@@ -4,6 +4,7 @@
 //! `happens` and `says` of `flight_model`, so the laws of every list of events hold of it.
 #![tactic(auto)]
 
+mod answers;
 mod curve;
 mod director;
 mod distance;

@@ -20,8 +20,10 @@ ghost use Rattle.flight_model.specs.Directors.{is_land as word_land, is_stop as 
 ghost use Rattle.flight_model.specs.Directors.{is_rise as word_rise, order_in, frames_of_step, frames_from, into};
 ghost use Rattle.flight_model.specs.Directors.{starts_with, unfit_in, is_flying as word_flying, land_order, is_flown};
 ghost use Rattle.flight_model.specs.Directors.{State as StateWord};
-ghost use Rattle.flight_director.specs.Held.{IsHeld, AreFew, with_tracks};
+ghost use Rattle.flight_model.specs.Directors.{answered_after, unanswered};
+ghost use Rattle.flight_director.specs.Held.{IsHeld, AreFew, with_answered, with_tracks};
 
+use crate::answers::{all_answered, forget, put_answer};
 use crate::curve::{is_in_stretch, is_kept};
 use crate::down::are_down;
 use crate::fit::{all_fit, first_unfit};
@@ -60,6 +62,7 @@ pub struct State {
     showing: bool,
     kept: bool,
     tracks: ArrayVec<Track, MOST_DRONES>,
+    answered: ArrayVec<bool, MOST_DRONES>,
 }
 
 impl Model for State {
@@ -76,6 +79,7 @@ impl Model for State {
       showing = s.showing;
       kept = s.kept;
       tracks = s.tracks.items;
+      answered = s.answered.items;
     } };
 }
 
@@ -293,12 +297,14 @@ impl State {
         ensures { result ≡ start f.now }
     {
         let mut tracks = ArrayVec::new();
+        let mut answered = ArrayVec::new();
         for d in 0..f.curves.as_slice().len() {
             tracks.push(Track {
                 seen: None,
                 off: None,
                 unsure: None,
             });
+            answered.push(false);
         }
         State {
             phase: Phase::Steps,
@@ -309,6 +315,7 @@ impl State {
             showing: false,
             kept: true,
             tracks,
+            answered,
         }
     }
 
@@ -401,6 +408,15 @@ impl State {
         }
     }
 
+    // A drone that obeys has answered.
+    fn take_answer(&mut self, e: &Event)
+        ensures { self.new ≡ with_answered self.old (answered_after self.old.answered e.now) }
+    {
+        if let Event::Answered { drone, status: 0 } = e {
+            put_answer(self.answered.as_mut_slice(), *drone as usize);
+        }
+    }
+
     // Whether there is a next step, and each drone meets its condition.
     fn fits(&self, f: &Flight) -> bool
         ensures { result ≡ fits f.now.silence (next_step f.now self.now) self.now.tracks }
@@ -423,6 +439,7 @@ impl State {
     {
         let harm = self.harms(f, e);
         self.take(f, e);
+        self.take_answer(e);
         self.waited = later(self.waited, passed(e));
         self.steady = if self.fits(f) {
             later(self.steady, passed(e))
@@ -473,6 +490,7 @@ impl State {
                 step.conditions.as_slice(),
                 self.tracks.as_slice(),
             )
+            && (!step.answered || all_answered(self.answered.as_slice()))
     }
 
     #[tactic(auto, unfolding(flight_model::specs::Directors::is_due))]
@@ -672,6 +690,13 @@ impl State {
         renew(self.tracks.as_mut_slice());
     }
 
+    // Answers are waited for anew.
+    fn forget_answers(&mut self)
+        ensures { self.new ≡ with_answered self.old (unanswered self.old.answered) }
+    {
+        forget(self.answered.as_mut_slice());
+    }
+
     #[tactic(auto, unfolding(flight_model::specs::Directors::led))]
     fn begin(&mut self, f: &Flight)
         requires { self.old.next < length f.now.steps }
@@ -691,6 +716,7 @@ impl State {
             Phase::Steps
         };
         self.renew();
+        self.forget_answers();
     }
 
     #[tactic(auto, unfolding(flight_model::specs::Directors::led))]

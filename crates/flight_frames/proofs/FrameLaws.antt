@@ -268,6 +268,7 @@ order_read order.Arm is = refl
 order_read order.Start is = refl
 order_read order.Halt is = refl
 order_read order.Disarm is = refl
+order_read order.Group is = refl
 order_read (order.Rise z ms) is =
     let ez = signed_read z (little_bytes 4 ms) is.0 in
     let em = four_read ms [] is.1 in

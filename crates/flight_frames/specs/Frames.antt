@@ -15,6 +15,7 @@ use Rattle.flight_model.specs.declared.events.Fault.{Fault}
 use Rattle.flight_model.specs.declared.events.Fault.TheVariants.{Silent, Astray, Lost, Refused, Late, Unsure}
 use Rattle.flight_model.specs.declared.events.Frame.{Frame}
 use Rattle.flight_model.specs.declared.events.Frame.TheVariants.{To, ToAll, Noted, Over}
+use Rattle.flight_model.specs.Ours.{flight_group}
 use Rattle.flight_frames.specs.declared.events.FrameFault.{FrameFault}
 use Rattle.flight_frames.specs.declared.events.FrameFault.TheVariants as fault
 
@@ -138,15 +139,16 @@ event_in drones (kind ∷ rest) =
 abbrev pub position : ℤ → ℤ → ℤ → List ℕ
 position x y z = signed x ++ (signed y ++ signed z)
 
--- an order: its kind, and the numbers that it has
+-- an order: its kind, and the numbers that it has; a start and a group have the group's mask
 abbrev pub order_bytes : Order → List ℕ
 order_bytes order.Arm = 0 ∷ []
 order_bytes (order.Rise z ms) = 1 ∷ (signed z ++ little_bytes 4 ms)
 order_bytes (order.Go x y z yaw ms) = 2 ∷ (position x y z ++ (signed yaw ++ little_bytes 4 ms))
 order_bytes (order.Land z ms) = 3 ∷ (signed z ++ little_bytes 4 ms)
-order_bytes order.Start = 4 ∷ []
+order_bytes order.Start = 4 ∷ flight_group ∷ []
 order_bytes order.Halt = 5 ∷ []
 order_bytes order.Disarm = 6 ∷ []
+order_bytes order.Group = 7 ∷ flight_group ∷ []
 
 abbrev pub fault_byte : Fault → ℕ
 fault_byte Silent = 0
@@ -176,6 +178,7 @@ IsOrder (order.Land z ms) = FitsSigned w16 z × (ms < 2 ^ 32)
 IsOrder order.Start = ⊤
 IsOrder order.Halt = ⊤
 IsOrder order.Disarm = ⊤
+IsOrder order.Group = ⊤
 
 -- the order of bytes that are one
 abbrev pub height_in : (ℤ → ℕ → Order) → List ℕ → Order
@@ -195,7 +198,8 @@ order_in (kind ∷ rest) =
     else (if kind == 2 then Some (go_in rest)
     else (if kind == 3 then Some (height_in order.Land rest)
     else (if kind == 4 then Some order.Start
-    else (if kind == 5 then Some order.Halt else Some order.Disarm)))))
+    else (if kind == 5 then Some order.Halt
+    else (if kind == 6 then Some order.Disarm else Some order.Group))))))
 
 abbrev pub fault_in : ℕ → Fault
 fault_in byte =

@@ -2,6 +2,7 @@
 
 ghost use Rattle.std.specs.Prelude.{◌≡◌, ◌+◌, ◌≤◌, ◌<◌, ◌++◌, ◌∷◌, [], length};
 ghost use Rattle.byteorder.specs.Endian.{little_bytes};
+ghost use Rattle.flight_model.specs.Ours.{flight_group};
 ghost use Rattle.flight_frames.specs.Frames.{fault_byte as word_fault, order_bytes, output_bytes};
 ghost use Rattle.flight_frames.specs.Frames.{over_byte as word_over, position as word_position, signed};
 
@@ -80,6 +81,18 @@ fn put_go(out: &mut FrameBytes, x: i16, y: i16, z: i16, yaw: i16, ms: u32)
     put_turn(out, yaw, ms);
 }
 
+// The group of a flight, as the mask of a packet: the first bit.
+const FLIGHT_GROUP: u8 = 1;
+
+// An order that has the flight's group.
+fn put_group(out: &mut FrameBytes, kind: u8)
+    requires { length out.old.items ≤ 2 }
+    ensures { out.new.items ≡ out.old.items ++ kind ∷ flight_group ∷ [] }
+{
+    put(out, kind);
+    put(out, FLIGHT_GROUP);
+}
+
 fn put_order(out: &mut FrameBytes, order: &Order)
     requires { length out.old.items ≤ 2 }
     ensures { out.new.items ≡ out.old.items ++ order_bytes order.now }
@@ -89,9 +102,10 @@ fn put_order(out: &mut FrameBytes, order: &Order)
         Order::Rise { z, ms } => put_height(out, 1, *z, *ms),
         Order::Go { x, y, z, yaw, ms } => put_go(out, *x, *y, *z, *yaw, *ms),
         Order::Land { z, ms } => put_height(out, 3, *z, *ms),
-        Order::Start => put(out, 4),
+        Order::Start => put_group(out, 4),
         Order::Halt => put(out, 5),
         Order::Disarm => put(out, 6),
+        Order::Group => put_group(out, 7),
     }
 }
 

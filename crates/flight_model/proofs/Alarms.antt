@@ -14,7 +14,7 @@ use Rattle.flight_model.specs.declared.events.Note.{Note}
 use Rattle.flight_model.specs.declared.flights.Step.{Step}
 use Rattle.flight_model.specs.declared.flights.Flight.{Flight}
 unfoldable use Rattle.flight_model.specs.Directors.{heard, notes, is_fault}
-use Rattle.flight_model.specs.Directors.{Track, State, Steps, is_due, next_step, is_off_hold, is_lost, is_astray, is_silent, is_late_step, is_flying, falls_silent, silent_from, later, older, off_with, note_if, sample_notes, seen_notes, track_with, noticed, overdue, unfit_in, is_grave}
+use Rattle.flight_model.specs.Directors.{Track, State, Steps, is_due, next_step, is_off_hold, is_lost, is_astray, is_late_step, is_flying, falls_silent, silent_from, later, off_with, note_if, sample_notes, seen_notes, track_with, noticed, overdue, unfit_in, is_grave}
 use Rattle.flight_model.specs.Law.{Lands}
 use Rattle.flight_model.specs.Alarms.{note_of, HasLasted, Alarms, IsToLand, AlarmLaw}
 use Rattle.flight_model.proofs.Ending.{fault_law}

@@ -1,5 +1,5 @@
 -- When a step begins, and what it may order.
-use Rattle.std.proofs.Common.{◌≡◌, ◌⊎◌, ◌<◌, ◌∷◌, ◌||◌, ◌&&◌, [], List, Bool, true, false, not, refl, sym, subst, None, Some, Option, ℕ, zero, suc, inl, inr, leb, ltb, arith}
+use Rattle.std.proofs.Common.{◌≡◌, ◌∙◌, ◌⊎◌, ◌<◌, ◌∷◌, ◌||◌, ◌&&◌, [], List, Bool, true, false, not, refl, sym, subst, None, Some, Option, ℕ, zero, suc, inl, inr, leb, ltb, arith}
 use Rattle.std.specs.Prelude.{ℤ, pos, int_le, slice_get, Contains, ◌≤ℤ◌, ◌+ℤ◌, ◌-ℤ◌}
 use Rattle.std.proofs.lemmas.Bool.{and_parts, not-true, leb-true, ltb-true, ltb-false}
 use Rattle.std.proofs.lemmas.Int.{ints}
@@ -15,7 +15,7 @@ use Rattle.flight_model.specs.declared.flights.Flight.{Flight}
 unfoldable use Rattle.flight_model.specs.Samples.{is_fit_by}
 use Rattle.flight_model.specs.Samples.{square, is_short, is_fit, is_at, stands_at}
 unfoldable use Rattle.flight_model.specs.Directors.{heard, is_due, choice, done, led, happens, says}
-use Rattle.flight_model.specs.Directors.{Phase, Steps, Landing, Off, Halted, Ended, Track, State, Choice, Rest, Begin, Descend, Cut, Quit, Finish, chosen, is_fault, is_go, land_order, has_risen, drones, next_step, is_due_step, all_fit}
+use Rattle.flight_model.specs.Directors.{Phase, Steps, Landing, Off, Halted, Ended, Track, State, Choice, Rest, Begin, Descend, Cut, Quit, Finish, chosen, is_fault, is_go, land_order, has_risen, drones, next_step, is_due_step, all_fit, all_answered}
 use Rattle.flight_model.specs.Law.{orders_to, only_if, IsFit, StandsAt, MayBegin, IsOnward, DueLaw}
 use Rattle.flight_model.proofs.OrdersTo.{orders_to-landing, orders_to-no_landing}
 use Rattle.flight_model.proofs.Choices.{steps-has, landing-has, off-has, halted-has}
@@ -86,6 +86,12 @@ all_fit-each silence (v ∷ ws) (t ∷ ts) h zero w e =
 all_fit-each silence (v ∷ ws) (t ∷ ts) h (suc d) w e =
     all_fit-each silence ws ts (and_parts (is_fit silence v t.seen) (all_fit silence ws ts) h).1 d w e
 
+-- who has answered, where all have
+pub each_answered : (answered : List Bool) → all_answered answered ≡ true → (d : ℕ) (b : Bool) → slice_get answered d ≡ Some b → b ≡ true
+each_answered [] h d b e = absurd (cc)
+each_answered (a ∷ rest) h zero b e = let same : a ≡ b = cc in sym same ∙ (and_parts a (all_answered rest) h).0
+each_answered (a ∷ rest) h (suc d) b e = each_answered rest (and_parts a (all_answered rest) h).1 d b e
+
 -- ---- a step that is due
 
 go-true : (e : Event) → is_go e ≡ true → e ≡ Said signal.Go
@@ -106,7 +112,9 @@ due-may f s e flying due = by_step (next_step f s) refl due where
       let time = leb step.after (heard f s e).waited in
       let settled = leb step.settle (heard f s e).steady in
       let fit = all_fit f.silence step.conditions (heard f s e).tracks in
-      let p = and_parts ((asked && time) && settled) fit h in
+      let answers = not step.answered || all_answered (heard f s e).answered in
+      let o = and_parts (((asked && time) && settled) && fit) answers h in
+      let p = and_parts ((asked && time) && settled) fit o.0 in
       let q = and_parts (asked && time) settled p.0 in
       let r = and_parts asked time q.0 in
       record {
@@ -117,6 +125,7 @@ due-may f s e flying due = by_step (next_step f s) refl due where
         time = leb-true step.after (heard f s e).waited r.1;
         settled = leb-true step.settle (heard f s e).steady q.1;
         fit = all_fit-each f.silence step.conditions (heard f s e).tracks p.1;
+        answered = λ a. each_answered (heard f s e).answered (implied step.answered (all_answered (heard f s e).answered) o.1 a);
       }
 
 -- ---- only a step that begins orders what is onward

@@ -16,7 +16,7 @@ unfoldable use Rattle.flight_model.specs.Legs.{steps_of}
 use Rattle.flight_model.specs.Legs.{IsWay, IsWayUp, IsWayDown, IsFlight, way_begins, way_ends, legs_of, leg, moves, goes_up, goes_down}
 unfoldable use Rattle.flight_model.specs.Samples.{is_fit_by, is_kept, is_on_course}
 unfoldable use Rattle.flight_model.specs.Directors.{tracks_after, heard, is_due, notes, is_fault, choice, done, led, happens, says}
-use Rattle.flight_model.specs.Directors.{start, sent, State, Track, next_step, all_fit, is_silent, is_off, is_off_hold}
+use Rattle.flight_model.specs.Directors.{start, sent, State, Track, next_step, all_fit, all_answered, is_silent, is_off, is_off_hold}
 unfoldable use Rattle.fleet_math.specs.Decoded.{decoded}
 unfoldable use Rattle.fleet_math.specs.Moments.{moment}
 unfoldable use Rattle.fleet_math.specs.Bernstein.{bernstein}
@@ -24,6 +24,7 @@ use Rattle.flight_model.specs.Law.{IsQuiet, AllQuiet}
 use Rattle.flight_model.specs.Kept.{HasShow}
 unfoldable use Rattle.flight_model.specs.Example.{flight}
 use Rattle.flight_model.specs.Example.{up_at, show_at, down_at, routes, whole, said, ExampleLaw}
+use Rattle.flight_model.proofs.Beginning.{implied}
 use Rattle.flight_model.proofs.Shows.{has_show}
 use Rattle.flight_model.proofs.Kept.{kept_law}
 
@@ -45,7 +46,9 @@ is_good f s (Said w) = true
 
 is_prompt : Flight → ℕ → State → Option Step → Bool
 is_prompt f slack h None = true
-is_prompt f slack h (Some step) = (step.asked || not (leb (step.after + slack) h.waited)) || all_fit f.silence step.conditions h.tracks
+is_prompt f slack h (Some step) =
+    (step.asked || not (leb (step.after + slack) h.waited))
+    || (all_fit f.silence step.conditions h.tracks && (not step.answered || all_answered h.answered))
 
 is_quiet : Flight → ℕ → State → Event → Bool
 is_quiet f slack s e =
@@ -78,11 +81,14 @@ good-sample f s e d x h same =
     (not-true x.lost p.0, not-true (is_off f s d x) p.1, r.0, not-true (is_off_hold f s d x) r.1)
 
 prompt-fit : (f : Flight) (slack : ℕ) (h : State) (o : Option Step) (step : Step) → is_prompt f slack h o ≡ true → o ≡ Some step → step.asked ≡ false →
-    step.after + slack ≤ h.waited → all_fit f.silence step.conditions h.tracks ≡ true
+    step.after + slack ≤ h.waited → (all_fit f.silence step.conditions h.tracks ≡ true) × (step.answered ≡ true → all_answered h.answered ≡ true)
 unfolding is_prompt
 prompt-fit f slack h o step p same asked l =
-    let g : (step.asked || not (leb (step.after + slack) h.waited)) || all_fit f.silence step.conditions h.tracks ≡ true = subst (λ a. is_prompt f slack h a ≡ true) same p in
-    by_parts step.asked (leb (step.after + slack) h.waited) (all_fit f.silence step.conditions h.tracks) asked (le-leb (step.after + slack) h.waited l) g where
+    let fit = all_fit f.silence step.conditions h.tracks in
+    let answers = not step.answered || all_answered h.answered in
+    let g : (step.asked || not (leb (step.after + slack) h.waited)) || (fit && answers) ≡ true = subst (λ a. is_prompt f slack h a ≡ true) same p in
+    let q = and_parts fit answers (by_parts step.asked (leb (step.after + slack) h.waited) (fit && answers) asked (le-leb (step.after + slack) h.waited l) g) in
+    (q.0, λ a. implied step.answered (all_answered h.answered) q.1 a) where
       by_parts : (a b c : Bool) → a ≡ false → b ≡ true → (a || not b) || c ≡ true → c ≡ true
       by_parts true b c p q h = absurd (cc)
       by_parts false false c p q h = absurd (cc)
@@ -103,7 +109,8 @@ quiet-true f slack s e h =
       no_stop = c.1;
       sample = λ d x same. good-sample f s e d x q.0 same;
       fresh = not-true silent r.0;
-      in_time = λ step same asked l. prompt-fit f slack (heard f s e) (next_step f s) step r.1 same asked l;
+      in_time = λ step same asked l. (prompt-fit f slack (heard f s e) (next_step f s) step r.1 same asked l).0;
+      answers = λ step same asked l. (prompt-fit f slack (heard f s e) (next_step f s) step r.1 same asked l).1;
     }
 
 quiet-all : (f : Flight) (slack : ℕ) (s : State) (es : List Event) → are_quiet f slack s es ≡ true → AllQuiet f slack s es
@@ -177,7 +184,7 @@ unfolding steps_of is_fit_by is_kept is_on_course tracks_after heard is_due note
 says-computed = refl
 
 last-said : Contains said (Over true true)
-last-said = (8, omega arith, refl)
+last-said = (10, omega arith, refl)
 
 pub example_law : ExampleLaw
 example_law = record {

@@ -404,33 +404,33 @@ pair-second a b i (suc n) (suc k) rest l =
 after-step : (f : Flight) (w : Routes) (n : ℕ) (step : Step) → f.steps ≡ steps_of w → slice_get (steps_of w) n ≡ Some step → last_hold f (suc n) ≡ step.holds
 after-step f w n step steps is = ap (λ (xs : List Step). held_by (slice_get xs n)) steps ∙ ap held_by is
 
-armed : (f : Flight) (w : Routes) → f.steps ≡ steps_of w → (k : ℕ) → k < leg_count (map legs_of w.up) → last_hold f (suc (twice k)) ≡ hold_in stretch.Up (ms_until (map legs_of w.up) k) 0
+armed : (f : Flight) (w : Routes) → f.steps ≡ steps_of w → (k : ℕ) → k < leg_count (map legs_of w.up) → last_hold f (suc (suc (twice k))) ≡ hold_in stretch.Up (ms_until (map legs_of w.up) k) 0
 unfolding steps_of
 armed f w steps k l =
-    after-step f w (twice k) (arm_step w (map legs_of w.up) k) steps
+    after-step f w (suc (twice k)) (arm_step w (map legs_of w.up) k) steps
     (pair-at (arm_step w (map legs_of w.up)) (up_step w (map legs_of w.up)) 0 (leg_count (map legs_of w.up)) k _ l
     ∙ (let e : 0 + k ≡ k = omega arith in ap (λ j. Some (arm_step w (map legs_of w.up) j)) e))
 
 up : (f : Flight) (w : Routes) → f.steps ≡ steps_of w → (k : ℕ) → k < leg_count (map legs_of w.up) →
-    last_hold f (suc (suc (twice k))) ≡ hold_in stretch.Up (ms_until (map legs_of w.up) k) (leg_ms (map legs_of w.up) k)
+    last_hold f (suc (suc (suc (twice k)))) ≡ hold_in stretch.Up (ms_until (map legs_of w.up) k) (leg_ms (map legs_of w.up) k)
 unfolding steps_of
 up f w steps k l =
-    after-step f w (suc (twice k)) (up_step w (map legs_of w.up) k) steps
+    after-step f w (suc (suc (twice k))) (up_step w (map legs_of w.up) k) steps
     (pair-second (arm_step w (map legs_of w.up)) (up_step w (map legs_of w.up)) 0 (leg_count (map legs_of w.up)) k _ l
     ∙ (let e : 0 + k ≡ k = omega arith in ap (λ j. Some (up_step w (map legs_of w.up) j)) e))
 
-show : (f : Flight) (w : Routes) → f.steps ≡ steps_of w → last_hold f (suc (twice (leg_count (map legs_of w.up)))) ≡ hold_in stretch.Show 0 (lasts w.show)
+show : (f : Flight) (w : Routes) → f.steps ≡ steps_of w → last_hold f (suc (suc (twice (leg_count (map legs_of w.up))))) ≡ hold_in stretch.Show 0 (lasts w.show)
 unfolding steps_of
 show f w steps =
     let n = leg_count (map legs_of w.up) in
     let e : twice n ≡ twice n + 0 = omega arith in
-    after-step f w (twice n) (start_step w (lasts w.show) (map legs_of w.up)) steps
-    (ap (λ j. slice_get (steps_of w) j) e ∙ pair-past (arm_step w (map legs_of w.up)) (up_step w (map legs_of w.up)) 0 n 0 _)
+    after-step f w (suc (twice n)) (start_step w (lasts w.show) (map legs_of w.up)) steps
+    (ap (λ j. slice_get (steps_of w) (suc j)) e ∙ pair-past (arm_step w (map legs_of w.up)) (up_step w (map legs_of w.up)) 0 n 0 _)
 
 down : (f : Flight) (w : Routes) → f.steps ≡ steps_of w → (k : ℕ) → k < leg_count (map legs_of w.down) →
-    last_hold f (suc (twice (leg_count (map legs_of w.up)) + suc k)) ≡ hold_in stretch.Down (ms_until (map legs_of w.down) k) (leg_ms (map legs_of w.down) k)
+    last_hold f (suc (suc (twice (leg_count (map legs_of w.up)) + suc k))) ≡ hold_in stretch.Down (ms_until (map legs_of w.down) k) (leg_ms (map legs_of w.down) k)
 down f w steps k l =
-    after-step f w (twice (leg_count (map legs_of w.up)) + suc k) (down_step w (lasts w.show) (map legs_of w.down) k) steps (down-step w k l)
+    after-step f w (suc (twice (leg_count (map legs_of w.up)) + suc k)) (down_step w (lasts w.show) (map legs_of w.down) k) steps (down-step w k l)
 
 pub hold_law : HoldLaw
 hold_law = record { armed = armed; up = up; show = show; down = down; lands = lands }

@@ -19,7 +19,7 @@ use Rattle.flight_model.specs.declared.flights.Step.{Step}
 use Rattle.flight_model.specs.declared.flights.Flight.{Flight}
 unfoldable use Rattle.flight_model.specs.Samples.{is_kept}
 unfoldable use Rattle.flight_model.specs.Directors.{heard, is_due, choice, done, led, happens, says}
-use Rattle.flight_model.specs.Directors.{Phase, Steps, Landing, Off, Halted, Ended, Track, State, Choice, Rest, Begin, Descend, Cut, Quit, Finish, start, sent, after, chosen, is_fault, notes, drones, most_ms, later, passed, older, is_silent, harms, is_off, tracks_after, renewed, next_step, starts, starts_with, frames_of_step, frames_from, landings, is_flown, is_off_phase}
+use Rattle.flight_model.specs.Directors.{Phase, Steps, Landing, Off, Halted, Ended, Track, State, Choice, Rest, Begin, Descend, Cut, Quit, Finish, start, sent, after, chosen, is_fault, notes, drones, most_ms, later, passed, older, is_silent, harms, tracks_after, renewed, next_step, starts, starts_with, frames_of_step, frames_from, landings, is_flown, is_off_phase}
 use Rattle.flight_model.specs.Law.{orders_to, MayBegin}
 use Rattle.flight_model.specs.Kept.{time, IsHeard, IsKeptShow, HasShow, KeptLaw}
 use Rattle.flight_model.proofs.OrdersTo.{orders_to-append}

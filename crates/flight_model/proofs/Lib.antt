@@ -19,3 +19,5 @@ mod Drawn
 mod RejectedPositions
 mod RejectedShows
 mod WatchedRows
+mod GroupRows
+mod Ours

@@ -48,7 +48,8 @@ plan_law w d up down e f =
     let ascent = flat_map (λ k. arm_step w (map legs_of w.up) k ∷ up_step w (map legs_of w.up) k ∷ []) (range_with_len 0 (leg_count (map legs_of w.up))) in
     let descent = map (down_step w (lasts w.show) (map legs_of w.down)) (range_with_len 0 (leg_count (map legs_of w.down))) in
     let last = last_step w (map legs_of w.down) ∷ [] in
-    ordered-append d ascent (start_step w (lasts w.show) (map legs_of w.up) ∷ (descent ++ last))
+    ap (λ xs. xs ++ ordered d (ascent ++ start_step w (lasts w.show) (map legs_of w.up) ∷ (descent ++ last))) (get-legs (λ legs. Some order.Group) w.up d up e)
+    ∙ ap (λ xs. order.Group ∷ xs) (ordered-append d ascent (start_step w (lasts w.show) (map legs_of w.up) ∷ (descent ++ last))
     ∙ (ap (λ xs. xs ++ order.Start ∷ ordered d (descent ++ last)) (ups w d up e (range_with_len 0 (leg_count (map legs_of w.up))))
     ∙ ap (λ xs. flat_map (up_leg (legs_of up)) (range_with_len 0 (leg_count (map legs_of w.up))) ++ order.Start ∷ xs)
-    (ordered-append d descent last ∙ ap (λ xs. xs ++ order.Disarm ∷ []) (downs w d down f (lasts w.show) (range_with_len 0 (leg_count (map legs_of w.down))))))
+    (ordered-append d descent last ∙ ap (λ xs. xs ++ order.Disarm ∷ []) (downs w d down f (lasts w.show) (range_with_len 0 (leg_count (map legs_of w.down)))))))

@@ -16,7 +16,7 @@ use Rattle.flight_model.specs.declared.flights.Orders.TheVariants.{Each, All as 
 use Rattle.flight_model.specs.declared.flights.Step.{Step}
 use Rattle.flight_model.specs.declared.flights.Flight.{Flight}
 unfoldable use Rattle.flight_model.specs.Directors.{tracks_after, heard, is_due, notes, is_fault, choice, done, led, happens, says}
-use Rattle.flight_model.specs.Directors.{Phase, Steps, Landing, Off, Halted, Ended, Track, State, Choice, Rest, Begin, Descend, Cut, Quit, Finish, start, sent, after, chosen, is_go, is_land, is_stop, is_off, is_off_hold, is_silent, is_lost, is_astray, older, aged, later, passed, fits, next_step, harms, in_show, noticed, overdue, note_if, silent_from, sample_notes, seen_notes, track_with, off_with, is_flying, is_due_step, is_late_step, unfit_in, all_fit, frames_from, frames_of, frames_of_step, landings}
+use Rattle.flight_model.specs.Directors.{Phase, Steps, Landing, Off, Halted, Ended, Track, State, Choice, Rest, Begin, Descend, Cut, Quit, Finish, start, sent, after, chosen, is_go, is_land, is_stop, is_off_hold, is_silent, is_lost, is_astray, older, aged, later, passed, fits, next_step, harms, in_show, noticed, overdue, note_if, silent_from, sample_notes, seen_notes, track_with, off_with, is_flying, is_due_step, is_late_step, unfit_in, all_fit, all_answered, frames_from, frames_of, frames_of_step, landings}
 use Rattle.flight_model.specs.Law.{IsQuiet, AllQuiet, is_on_course, noted_by, notes_in, QuietLaw}
 use Rattle.flight_model.proofs.Ending.{kept-all, none_harms}
 use Rattle.flight_model.proofs.Choices.{steps-has, off-has}
@@ -89,10 +89,16 @@ module _ (slack : ℕ) (few : slack ≤ 8000) where
       let steady : (heard f s e).waited ≤ step.after + slack + (heard f s e).steady = heard-in_time f s e q i step same asked in
       let settled : step.settle ≤ (heard f s e).steady = omega arith in
       subst (λ o. is_due_step f (heard f s e) e o ≡ true) (sym same)
-      (all_four (not step.asked || is_go e) (leb step.after (heard f s e).waited) (leb step.settle (heard f s e).steady) (all_fit f.silence step.conditions (heard f s e).tracks)
-      (ap (λ b. not b || is_go e) asked) (le-leb step.after (heard f s e).waited time) (le-leb step.settle (heard f s e).steady settled) (q.in_time step same asked there)) where
-        all_four : (a b c d : Bool) → a ≡ true → b ≡ true → c ≡ true → d ≡ true → ((a && b) && c) && d ≡ true
-        all_four a b c d ha hb hc hd = rw (ha, hb, hc, hd) refl
+      (all_five (not step.asked || is_go e) (leb step.after (heard f s e).waited) (leb step.settle (heard f s e).steady) (all_fit f.silence step.conditions (heard f s e).tracks)
+      (not step.answered || all_answered (heard f s e).answered)
+      (ap (λ b. not b || is_go e) asked) (le-leb step.after (heard f s e).waited time) (le-leb step.settle (heard f s e).steady settled) (q.in_time step same asked there)
+      (if_asked step.answered (all_answered (heard f s e).answered) (q.answers step same asked there))) where
+        all_five : (a b c d g : Bool) → a ≡ true → b ≡ true → c ≡ true → d ≡ true → g ≡ true → (((a && b) && c) && d) && g ≡ true
+        all_five a b c d g ha hb hc hd hg = rw (ha, hb, hc, hd, hg) refl
+
+        if_asked : (a b : Bool) → (a ≡ true → b ≡ true) → not a || b ≡ true
+        if_asked true b h = h refl
+        if_asked false b h = refl
 
   none_overdue : (f : Flight) (s : State) (e : Event) → IsQuiet f slack s e → InTime f s → overdue f (heard f s e) e ≡ []
   unfolding heard

@@ -19,7 +19,7 @@ use Rattle.flight_model.specs.declared.flights.Condition.{Condition}
 use Rattle.flight_model.specs.declared.flights.Step.{Step}
 use Rattle.flight_model.specs.declared.flights.Flight.{Flight}
 unfoldable use Rattle.flight_model.specs.Legs.{steps_of}
-use Rattle.flight_model.specs.Legs.{Routes, Leg, after_segment, legs_from, legs_of, leg, same_on, moves, has_moved, will_move, arm_order, up_order, down_order, way_begins, position_of, leg_count, arm_step, up_condition, up_step, start_step, down_step, last_step, lasts}
+use Rattle.flight_model.specs.Legs.{Routes, Leg, after_segment, legs_from, legs_of, leg, same_on, moves, has_moved, will_move, arm_order, up_order, down_order, way_begins, position_of, leg_count, group_step, arm_step, up_condition, up_step, start_step, down_step, last_step, lasts}
 unfoldable use Rattle.flight_model.specs.Directors.{heard, done}
 use Rattle.flight_model.specs.Directors.{State, Begin, order_in, frames_of_step, choice, says}
 use Rattle.flight_model.specs.Law.{orders_to, in_step, IsNear, Rises}
@@ -106,6 +106,12 @@ rises-first true b x y h yaw top z n m ms e = absurd (cc)
 rises-first false true x y h yaw top z n m ms e = (refl, refl)
 rises-first false false x y h yaw top z n m ms e = absurd (cc)
 
+in-group : (w : Routes) (d : ℕ) (z : ℤ) (ms : ℕ) → order_in (group_step (map legs_of w.up)).orders d ≡ Some (Some (order.Rise z ms)) → ⊥
+in-group w d z ms rise = by_way (slice_get w.up d) refl where
+  by_way : (o : Option Traj) → slice_get w.up d ≡ o → ⊥
+  by_way None same = let none = get-none (λ legs. Some order.Group) w.up d same in absurd (cc)
+  by_way (Some t) same = let one = sym (get-leg (λ legs. Some order.Group) w.up d t same) ∙ rise in absurd (cc)
+
 in-arm : (w : Routes) (d : ℕ) (up : Traj) (z : ℤ) (ms k : ℕ) → slice_get w.up d ≡ Some up → StartsNear w d up z ms (arm_step w (map legs_of w.up) k)
 in-arm w d up z ms k e rise =
     absurd (no_rise-arm (not (has_moved (legs_of up) k) && moves (leg (legs_of up) k)) z ms (sym (get-leg (λ legs. arm_order legs k) w.up d up e) ∙ rise))
@@ -142,24 +148,25 @@ map-all P h [] each = All-nil P
 map-all P h (k ∷ ks) each = All-cons P (h k) (map h ks) (each k) (map-all P h ks each)
 
 -- what holds of each kind of step holds of all steps
-pub all-steps : (P : Step → Type 0) (w : Routes) → ((k : ℕ) → P (arm_step w (map legs_of w.up) k)) → ((k : ℕ) → P (up_step w (map legs_of w.up) k)) →
+pub all-steps : (P : Step → Type 0) (w : Routes) → P (group_step (map legs_of w.up)) → ((k : ℕ) → P (arm_step w (map legs_of w.up) k)) → ((k : ℕ) → P (up_step w (map legs_of w.up) k)) →
     P (start_step w (lasts w.show) (map legs_of w.up)) → ((k : ℕ) → P (down_step w (lasts w.show) (map legs_of w.down) k)) → P (last_step w (map legs_of w.down)) →
     All P (steps_of w)
 unfolding steps_of
-all-steps P w arm up begin down last =
+all-steps P w group arm up begin down last =
     let ups = map legs_of w.up in
     let downs = map legs_of w.down in
-    All-append P (flat_map (λ k. arm_step w ups k ∷ up_step w ups k ∷ []) (range_with_len 0 (leg_count ups))) _
+    All-cons P (group_step ups) _ group
+    (All-append P (flat_map (λ k. arm_step w ups k ∷ up_step w ups k ∷ []) (range_with_len 0 (leg_count ups))) _
     (flat-all P (λ k. arm_step w ups k ∷ up_step w ups k ∷ []) (range_with_len 0 (leg_count ups))
     (λ k. All-cons P (arm_step w ups k) (up_step w ups k ∷ []) (arm k) (All-cons P (up_step w ups k) [] (up k) (All-nil P))))
     (All-cons P (start_step w (lasts w.show) ups) _ begin
     (All-append P (map (down_step w (lasts w.show) downs) (range_with_len 0 (leg_count downs))) (last_step w downs ∷ [])
     (map-all P (down_step w (lasts w.show) downs) (range_with_len 0 (leg_count downs)) down)
-    (All-cons P (last_step w downs) [] last (All-nil P))))
+    (All-cons P (last_step w downs) [] last (All-nil P)))))
 
 all-near : (w : Routes) (d : ℕ) (up : Traj) (z : ℤ) (ms : ℕ) → slice_get w.up d ≡ Some up → All (StartsNear w d up z ms) (steps_of w)
 all-near w d up z ms e =
-    all-steps (StartsNear w d up z ms) w (λ k. in-arm w d up z ms k e) (λ k. in-up w d up z ms k e) (λ rise. absurd (cc))
+    all-steps (StartsNear w d up z ms) w (λ rise. absurd (in-group w d z ms rise)) (λ k. in-arm w d up z ms k e) (λ k. in-up w d up z ms k e) (λ rise. absurd (cc))
     (λ k. in-down w d up z ms (lasts w.show) k) (λ rise. absurd (cc))
 
 pub all-get : (P : Step → Type 0) (steps : List Step) (n : ℕ) (step : Step) → All P steps → slice_get steps n ≡ Some step → P step

@@ -39,18 +39,19 @@ fits x y z = is_fit 500 at_origin (Some (standing x y z))
 abbrev at_ready : State
 at_ready = record {
   phase = Steps;
-  next = 2;
+  next = 3;
   waited = 3000;
   steady = 1000;
   stood = 0;
   showing = false;
   kept = true;
   tracks = seen_at (pos 0) (pos 1000) ∷ seen_at (pos 2000) (pos 1000) ∷ [];
+  answered = false ∷ false ∷ [];
 }
 
 -- the show is over, with both at its last places
 abbrev at_last : State
-at_last = record at_ready { next = 3; waited = 1000; steady = 0; showing = true }
+at_last = record at_ready { next = 4; waited = 1000; steady = 0; showing = true }
 
 unfoldable says_all : Bool → State → List Event → List Frame
 says_all flies_on s events = sent (flight flies_on) s events
@@ -104,9 +105,9 @@ all_land = To 0 (order.Land (pos 0) 4000) ∷ To 1 (order.Land (pos 0) 4000) ∷
 
 pub record Rows : Type 0 where
   -- the orders to a drone
-  planned : plan 1 ≡ order.Arm ∷ order.Rise (pos 1000) 2000 ∷ order.Start ∷ order.Land (pos 0) 2500 ∷ order.Disarm ∷ []
-  -- nothing before go; arm at go; rise once both are armed
-  rises : says_all true begun lift_off ≡ To 0 order.Arm ∷ To 1 order.Arm ∷ To 0 (order.Rise (pos 1000) 2000) ∷ To 1 (order.Rise (pos 1000) 2000) ∷ []
+  planned : plan 1 ≡ order.Group ∷ order.Arm ∷ order.Rise (pos 1000) 2000 ∷ order.Start ∷ order.Land (pos 0) 2500 ∷ order.Disarm ∷ []
+  -- in the group at once; nothing more before go; arm at go; rise once both are armed
+  rises : says_all true begun lift_off ≡ To 0 order.Group ∷ To 1 order.Group ∷ To 0 order.Arm ∷ To 1 order.Arm ∷ To 0 (order.Rise (pos 1000) 2000) ∷ To 1 (order.Rise (pos 1000) 2000) ∷ []
   readies : comes_to begun ready ≡ at_ready
   -- the show, at the operator's go
   starts : says_all true at_ready (go ++ show) ≡ ToAll order.Start ∷ []
@@ -148,7 +149,7 @@ pub record Rows : Type 0 where
   -- one that refuses an order: all land
   refuses : says_all true at_ready (Answered 1 5 ∷ []) ≡ note 1 fault.Refused ∷ all_land
   -- one that doesn't come to its place
-  lates : says_all true (record at_last { showing = false; next = 3 }) (both (pos 51) (pos 1000) true false ++ Clock 8999 ∷ Clock 1 ∷ []) ≡
+  lates : says_all true (record at_last { showing = false; next = 4 }) (both (pos 51) (pos 1000) true false ++ Clock 8999 ∷ Clock 1 ∷ []) ≡
       note 0 fault.Silent ∷ note 1 fault.Silent ∷ note 0 fault.Late ∷ all_land
   -- near a position is a distance, not one by axis
   near : fits (pos 48) (pos 64) (pos 0) ≡ true

@@ -8,7 +8,7 @@ use Rattle.traj_codec.specs.declared.traj.Traj.{Traj}
 use Rattle.flight_model.specs.declared.flights.Step.{Step}
 use Rattle.flight_model.specs.declared.flights.Flight.{Flight}
 unfoldable use Rattle.flight_model.specs.Legs.{steps_of}
-use Rattle.flight_model.specs.Legs.{Routes, Leg, IsFlight, IsWayDown, legs_of, leg_count, last_move, lasts, arm_step, up_step, start_step, start_condition, down_step, last_step}
+use Rattle.flight_model.specs.Legs.{Routes, Leg, IsFlight, IsWayDown, legs_of, leg_count, last_move, lasts, group_step, arm_step, up_step, start_step, start_condition, down_step, last_step}
 use Rattle.flight_model.specs.Directors.{most_ms}
 use Rattle.flight_model.specs.Kept.{HasShow}
 
@@ -40,7 +40,7 @@ following w total downs zero none = let e = none refl in record { next = last_st
 following w total downs (suc n) none = record { next = down_step w total downs 0; is = refl; waits = omega arith }
 
 front : Routes → List Step
-front w = flat_map (λ k. arm_step w (map legs_of w.up) k ∷ up_step w (map legs_of w.up) k ∷ []) (range_with_len 0 (leg_count (map legs_of w.up)))
+front w = group_step (map legs_of w.up) ∷ flat_map (λ k. arm_step w (map legs_of w.up) k ∷ up_step w (map legs_of w.up) k ∷ []) (range_with_len 0 (leg_count (map legs_of w.up)))
 
 rear : Routes → List Step
 rear w =

@@ -5,7 +5,7 @@ use Rattle.std.specs.Option.{option_map}
 use Rattle.std.proofs.lemmas.List.{append_assoc}
 use Rattle.std.specs.List.{flat_map, range_with_len}
 use Rattle.flight_model.specs.Samples.{stands_at}
-use Rattle.std.proofs.lemmas.Bool.{and_parts, not-true, leb-true, ltb-true, ltb-false, ne_eqb}
+use Rattle.std.proofs.lemmas.Bool.{and_parts, not-true, leb-true, ltb-true, ltb-false, ne_eqb, eqb-true, eqb-false}
 use Rattle.traj_codec.specs.declared.traj.Traj.{Traj}
 use Rattle.flight_model.specs.declared.events.Order.{Order}
 use Rattle.flight_model.specs.declared.events.Order.TheVariants as order
@@ -18,8 +18,8 @@ use Rattle.flight_model.specs.declared.flights.Condition.{Condition}
 use Rattle.flight_model.specs.declared.flights.Step.{Step}
 use Rattle.flight_model.specs.declared.flights.Flight.{Flight}
 unfoldable use Rattle.flight_model.specs.Legs.{steps_of}
-use Rattle.flight_model.specs.Legs.{Routes, Leg, legs_of, leg, moves, has_moved, will_move, arm_order, up_order, down_order, way_begins, position_of, leg_count, leg_ms, ms_before, up_bound, down_bound, arm_condition, arm_step, down_condition, up_condition, start_condition, start_step, up_step, down_step, lasts, last_condition, last_step}
-unfoldable use Rattle.flight_model.specs.Directors.{heard, choice, done, happens}
+use Rattle.flight_model.specs.Legs.{Routes, Leg, legs_of, leg, moves, has_moved, will_move, arm_order, up_order, down_order, way_begins, position_of, leg_count, leg_ms, ms_before, up_bound, down_bound, arm_condition, group_step, arm_step, down_condition, up_condition, start_condition, start_step, up_step, down_step, lasts, last_condition, last_step}
+unfoldable use Rattle.flight_model.specs.Directors.{heard, choice, done, led, happens}
 use Rattle.flight_model.specs.Directors.{Phase, Steps, Landing, Off, Halted, Ended, Track, State, Choice, Rest, Begin, Descend, Cut, Quit, Finish, chosen, is_fault, is_stop, is_down, all_down, are_down, end_step, has_landed, order_in, says, later, passed, land_order, has_risen, drones}
 use Rattle.flight_model.specs.Law.{orders_to, only_if, IsNear, StandsAt, MayBegin, IsOnward, Arms, Rises, Starts}
 use Rattle.flight_model.specs.Turns.{twice, MayGoOn, MayArm, MayRise, MayStart, AtPads, IsSeenDown, AllDown, TurnLaw}
@@ -31,7 +31,7 @@ use Rattle.flight_model.proofs.Rises.{begins-there, still-sooner, get-leg, get-n
 
 -- ---- which step has an order
 
--- arm, rise, go and land are orders of legs
+-- arm, rise, go and land are orders of legs; as they, the group is told to each drone by itself
 abbrev is_of_leg : Order → Bool
 is_of_leg order.Arm = true
 is_of_leg (order.Rise z ms) = true
@@ -40,6 +40,7 @@ is_of_leg (order.Land z ms) = true
 is_of_leg order.Start = false
 is_of_leg order.Halt = false
 is_of_leg order.Disarm = false
+is_of_leg order.Group = true
 
 of_leg : (a b : Bool) (x y o : Order) → is_of_leg x ≡ true → is_of_leg y ≡ true → Some (cond a (Some x) (cond b (Some y) None)) ≡ Some (Some o) → is_of_leg o ≡ true
 of_leg true b x y o p q e = let same : x ≡ o = cc in subst (λ (z : Order). is_of_leg z ≡ true) same p
@@ -63,6 +64,9 @@ up_of_leg legs k o e = of_leg (has_moved legs k) (moves (leg legs k)) _ _ o refl
 down_of_leg : (legs : List Leg) (k : ℕ) (o : Order) → Some (down_order legs k) ≡ Some (Some o) → is_of_leg o ≡ true
 down_of_leg legs k o e = of_leg (will_move legs (suc k)) (moves (leg legs k)) _ _ o refl refl e
 
+group_of_leg : (o : Order) → Some (Some order.Group) ≡ Some (Some o) → is_of_leg o ≡ true
+group_of_leg o e = let same : order.Group ≡ o = cc in subst (λ (z : Order). is_of_leg z ≡ true) same refl
+
 -- the step has this order for the drone only if it is that one
 abbrev Has : ℕ → Order → Step → Type 0
 Has d o step = order_in step.orders d ≡ Some (Some o)
@@ -76,6 +80,7 @@ IsOfNoLeg w d o step =
 of_no_leg : (w : Routes) (d : ℕ) (o : Order) → All (IsOfNoLeg w d o) (steps_of w)
 of_no_leg w d o =
     all-steps (IsOfNoLeg w d o) w
+    (λ has no. let yes : is_of_leg o ≡ true = each_of_leg (λ legs. Some order.Group) w.up d o (λ legs is. group_of_leg o is) has in absurd (cc))
     (λ k has no. let yes : is_of_leg o ≡ true = each_of_leg (λ legs. arm_order legs k) w.up d o (λ legs. arm_of_leg legs k o) has in absurd (cc))
     (λ k has no. let yes : is_of_leg o ≡ true = each_of_leg (λ legs. up_order legs k) w.up d o (λ legs. up_of_leg legs k o) has in absurd (cc))
     (λ has no. inl (refl, cc))
@@ -88,18 +93,38 @@ begun f w P steps all s e m = all-get P (steps_of w) s.next m.step all (sym (ap 
 
 -- ---- the first step
 
-first-asks : (w : Routes) (step : Step) → slice_get (steps_of w) 0 ≡ Some step → step.asked ≡ true
+first-asks : (w : Routes) (step : Step) → slice_get (steps_of w) 1 ≡ Some step → step.asked ≡ true
 unfolding steps_of
 first-asks w step e = by_legs (leg_count (map legs_of w.up)) refl where
   by_legs : (n : ℕ) → leg_count (map legs_of w.up) ≡ n → step.asked ≡ true
   by_legs zero none = let same : start_step w (lasts w.show) (map legs_of w.up) ≡ step = cc in subst (λ (x : Step). x.asked ≡ true) same refl
   by_legs (suc n) some = let same : arm_step w (map legs_of w.up) 0 ≡ step = cc in subst (λ (x : Step). x.asked ≡ true) same refl
 
-first_waits : (f : Flight) (w : Routes) → f.steps ≡ steps_of w → (s : State) (e : Event) → s.next ≡ 0 → ((happens f s e).next ≡ 0) ⊎ (e ≡ Said signal.Go)
-first_waits f w steps s e zeroth = elim (due_law.steps f s e) [
-  | inl same ↦ inl (same ∙ zeroth)
-  | inr m ↦ inr (m.asked (first-asks w m.step (sym (ap (λ (xs : List Step). slice_get xs 0) steps) ∙ (sym (ap (λ (n : ℕ). slice_get f.steps n) zeroth) ∙ m.is_next))))
-]
+-- one step at an event, at most
+led-most : (f : Flight) (h : State) (c : Choice) → (led f h c).next ≤ suc h.next
+unfolding led
+led-most f h Rest = omega arith
+led-most f h Begin = omega arith
+led-most f h Descend = omega arith
+led-most f h Cut = omega arith
+led-most f h Quit = omega arith
+led-most f h Finish = omega arith
+
+next-most : (f : Flight) (s : State) (e : Event) → (happens f s e).next ≤ suc s.next
+unfolding happens heard
+next-most f s e = led-most f (heard f s e) (choice f s e)
+
+first_waits : (f : Flight) (w : Routes) → f.steps ≡ steps_of w → (s : State) (e : Event) → s.next ≤ 1 → ((happens f s e).next ≤ 1) ⊎ (e ≡ Said signal.Go)
+first_waits f w steps s e few = elim (due_law.steps f s e) [
+  | inl same ↦ inl (omega (arith, few, same))
+  | inr m ↦ by_step (eqb s.next 0) refl m
+] where
+  by_step : (b : Bool) → eqb s.next 0 ≡ b → MayBegin f s e → ((happens f s e).next ≤ 1) ⊎ (e ≡ Said signal.Go)
+  by_step true is m = let none = eqb-true s.next 0 is in let most = next-most f s e in inl (omega (arith, none, most))
+  by_step false is m =
+      let some = eqb-false s.next 0 is in
+      let first : s.next ≡ 1 = omega (arith, few, some) in
+      inr (m.asked (first-asks w m.step (sym (ap (λ (xs : List Step). slice_get xs 1) steps) ∙ (sym (ap (λ (n : ℕ). slice_get f.steps n) first) ∙ m.is_next))))
 
 -- ---- arm
 
@@ -131,6 +156,7 @@ no_down g ts d o never e = by_way (slice_get ts d) refl where
 arms_ready : (w : Routes) (d : ℕ) (up : Traj) → slice_get w.up d ≡ Some up → All (ArmsReady w d up) (steps_of w)
 arms_ready w d up e =
     all-steps (ArmsReady w d up) w
+    (λ has. absurd (no_down (λ legs. Some order.Group) w.up d order.Arm (λ legs is. absurd (cc)) has))
     (λ k has. (let legs = legs_of up in
     let parts = arm-parts (has_moved legs k) (moves (leg legs k)) (sym (get-leg (λ legs. arm_order legs k) w.up d up e) ∙ has) in (
       arm_condition w k legs,
@@ -189,6 +215,7 @@ no_rise-down false false x y h yaw floor z n m ms e = absurd (cc)
 rises_armed : (w : Routes) (d : ℕ) (up : Traj) (z : ℤ) (ms : ℕ) → slice_get w.up d ≡ Some up → All (RisesArmed d z ms) (steps_of w)
 rises_armed w d up z ms e =
     all-steps (RisesArmed d z ms) w
+    (λ has. absurd (no_down (λ legs. Some order.Group) w.up d (order.Rise z ms) (λ legs is. absurd (cc)) has))
     (λ k has. absurd (no_down (λ legs. arm_order legs k) w.up d (order.Rise z ms) (λ legs is. no_rise (not (has_moved legs k) && moves (leg legs k)) z ms is) has))
     (λ k has. (let legs = legs_of up in
     let first = rises-first (has_moved legs k) (moves (leg legs k)) _ _ _ _ _ z _ _ ms (sym (get-leg (λ legs. up_order legs k) w.up d up e) ∙ has) in
@@ -251,14 +278,14 @@ map-at a i (suc n) zero rest l = let e : i ≡ i + 0 = omega arith in ap (λ j. 
 map-at a i (suc n) (suc k) rest l =
     map-at a (i + 1) n k rest (omega (arith, l)) ∙ (let e : i + 1 + k ≡ i + suc k = omega arith in ap (λ j. Some (a j)) e)
 
-arm-step : (w : Routes) (k : ℕ) → suc k < leg_count (map legs_of w.up) → slice_get (steps_of w) (twice (suc k)) ≡ Some (arm_step w (map legs_of w.up) (suc k))
+arm-step : (w : Routes) (k : ℕ) → suc k < leg_count (map legs_of w.up) → slice_get (steps_of w) (suc (twice (suc k))) ≡ Some (arm_step w (map legs_of w.up) (suc k))
 unfolding steps_of
 arm-step w k l =
     pair-at (arm_step w (map legs_of w.up)) (up_step w (map legs_of w.up)) 0 (leg_count (map legs_of w.up)) (suc k) _ l
     ∙ (let e : 0 + suc k ≡ suc k = omega arith in ap (λ j. Some (arm_step w (map legs_of w.up) j)) e)
 
 pub down-step : (w : Routes) (k : ℕ) → k < leg_count (map legs_of w.down) →
-    slice_get (steps_of w) (twice (leg_count (map legs_of w.up)) + suc k) ≡ Some (down_step w (lasts w.show) (map legs_of w.down) k)
+    slice_get (steps_of w) (suc (twice (leg_count (map legs_of w.up)) + suc k)) ≡ Some (down_step w (lasts w.show) (map legs_of w.down) k)
 unfolding steps_of
 down-step w k l =
     pair-past (arm_step w (map legs_of w.up)) (up_step w (map legs_of w.up)) 0 (leg_count (map legs_of w.up)) (suc k) _
@@ -271,11 +298,11 @@ is-step f w s e n step steps number is m = by_some m.step step (sym m.is_next �
   by_some : (a b : Step) → Some a ≡ Some b → a ≡ b
   by_some a b h = cc
 
-leg_up : (f : Flight) (w : Routes) → f.steps ≡ steps_of w → (s : State) (e : Event) (k : ℕ) → suc k < leg_count (map legs_of w.up) → s.next ≡ twice (suc k) →
+leg_up : (f : Flight) (w : Routes) → f.steps ≡ steps_of w → (s : State) (e : Event) (k : ℕ) → suc k < leg_count (map legs_of w.up) → s.next ≡ suc (twice (suc k)) →
     ((happens f s e).next ≡ s.next) ⊎ MayGoOn f s e (leg_ms (map legs_of w.up) k) w.up (suc k) (λ legs. up_bound w legs (suc k))
 leg_up f w steps s e k l number = elim (due_law.steps f s e) [
   | inl same ↦ inl same
-  | inr m ↦ let is = is-step f w s e (twice (suc k)) (arm_step w (map legs_of w.up) (suc k)) steps number (arm-step w k l) m in
+  | inr m ↦ let is = is-step f w s e (suc (twice (suc k))) (arm_step w (map legs_of w.up) (suc k)) steps number (arm-step w k l) m in
       let other : eqb (suc k) 0 ≡ false = ne_eqb (suc k) 0 (λ same. absurd (omega (arith, same))) in
       let one : suc k - 1 ≡ k = omega arith in
       inr (record {
@@ -291,11 +318,11 @@ leg_up f w steps s e k l number = elim (due_law.steps f s e) [
 ]
 
 leg_down : (f : Flight) (w : Routes) → f.steps ≡ steps_of w → (s : State) (e : Event) (k : ℕ) → k < leg_count (map legs_of w.down) →
-    s.next ≡ twice (leg_count (map legs_of w.up)) + suc k →
+    s.next ≡ suc (twice (leg_count (map legs_of w.up)) + suc k) →
     ((happens f s e).next ≡ s.next) ⊎ MayGoOn f s e (ms_before (lasts w.show) (map legs_of w.down) k) w.down k (λ legs. down_bound w legs k)
 leg_down f w steps s e k l number = elim (due_law.steps f s e) [
   | inl same ↦ inl same
-  | inr m ↦ let n = twice (leg_count (map legs_of w.up)) + suc k in
+  | inr m ↦ let n = suc (twice (leg_count (map legs_of w.up)) + suc k) in
       let is = is-step f w s e n (down_step w (lasts w.show) (map legs_of w.down) k) steps number (down-step w k l) m in
       inr (record {
         over = subst (λ (x : Step). x.after ≤ (heard f s e).waited) is m.time;
@@ -383,7 +410,7 @@ ends-with : (f : Flight) (w : Routes) → f.steps ≡ steps_of w → end_step f 
 unfolding steps_of
 ends-with f w steps =
     ap (λ (xs : List Step). slice_get xs (length xs - 1)) steps
-    ∙ (last-of (flat_map (λ k. arm_step w (map legs_of w.up) k ∷ up_step w (map legs_of w.up) k ∷ []) (range_with_len 0 (leg_count (map legs_of w.up))))
+    ∙ (last-of (group_step (map legs_of w.up) ∷ flat_map (λ k. arm_step w (map legs_of w.up) k ∷ up_step w (map legs_of w.up) k ∷ []) (range_with_len 0 (leg_count (map legs_of w.up))))
     (start_step w (lasts w.show) (map legs_of w.up) ∷ map (down_step w (lasts w.show) (map legs_of w.down)) (range_with_len 0 (leg_count (map legs_of w.down))))
     (last_step w (map legs_of w.down)))
 

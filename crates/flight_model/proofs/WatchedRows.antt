@@ -12,6 +12,7 @@ unfoldable use Rattle.fleet_math.specs.Bernstein.{bernstein}
 pub watched_rows : WatchedRows
 unfolding steps_of is_kept is_on_course flight is_off_at decoded moment bernstein
 watched_rows = record {
+  joined = refl;
   armed = refl;
   hops = refl;
   high = refl;

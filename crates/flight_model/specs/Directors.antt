@@ -46,6 +46,8 @@ pub record State : Type 0 where
   -- nothing has harmed the show
   pub kept : Bool
   pub tracks : List Track
+  -- by drone, whether it has answered with 0 since the last step began
+  pub answered : List Bool
 
 -- how many drones fly
 abbrev pub drones : Flight → ℕ
@@ -62,6 +64,7 @@ start f = record {
   showing = false;
   kept = true;
   tracks = replicate (drones f) (record { seen = None; off = None; unsure = None });
+  answered = replicate (drones f) false;
 }
 
 -- times are counted up to twelve days
@@ -142,6 +145,17 @@ tracks_after f s (Seen d x) = tracked f s d x (slice_get s.tracks d)
 tracks_after f s (Answered d status) = s.tracks
 tracks_after f s (Said w) = s.tracks
 
+-- who has answered, after an event: a drone that obeys answers with 0
+abbrev pub answered_after : List Bool → Event → List Bool
+answered_after answered (Clock ms) = answered
+answered_after answered (Seen d x) = answered
+answered_after answered (Answered d status) = if status == 0 then slice_set answered d true else answered
+answered_after answered (Said w) = answered
+
+-- each has answered
+abbrev pub all_answered : List Bool → Bool
+all_answered answered = list_all (λ (b : Bool). b) answered
+
 -- how much time an event says has passed
 abbrev pub passed : Event → ℕ
 passed (Clock ms) = ms
@@ -207,6 +221,7 @@ heard_with f s e tracks = record s {
   stood = if are_down f false (end_step f) tracks then later s.stood (passed e) else 0;
   kept = s.kept && not (harms f s e);
   tracks = tracks;
+  answered = answered_after s.answered e;
 }
 
 unfoldable pub heard : Flight → State → Event → State
@@ -268,12 +283,13 @@ is_stop (Said signal.Stop) = true
 is_stop e = false
 
 -- With this event, which the state has heard, the step is due: the operator says go, where the step waits for that; the
--- step before is over; the drones have met the conditions for as long as they have to settle; and each meets its own.
+-- step before is over; the drones have met the conditions for as long as they have to settle; each meets its own; and
+-- each has answered since the step before began, where the step waits for that.
 abbrev pub is_due_step : Flight → State → Event → Option Step → Bool
 is_due_step f s e None = false
 is_due_step f s e (Some step) =
     (not step.asked || is_go e) && nat_le step.after s.waited && nat_le step.settle s.steady
-    && all_fit f.silence step.conditions s.tracks
+    && all_fit f.silence step.conditions s.tracks && (not step.answered || all_answered s.answered)
 
 unfoldable pub is_due : Flight → State → Event → Bool
 is_due f s e = is_due_step f s e (next_step f s)
@@ -420,6 +436,10 @@ starts (Some step) = starts_with step.orders
 abbrev pub into : State → Phase → State
 into s p = record s { phase = p; waited = 0; steady = 0; stood = 0; showing = false }
 
+-- from a step on answers are waited for anew
+abbrev pub unanswered : List Bool → List Bool
+unanswered answered = map (λ (b : Bool). false) answered
+
 -- from a step on what is off or unsure is counted anew
 abbrev pub renewed : Track → Track
 renewed t = record t { off = None; unsure = None }
@@ -433,6 +453,7 @@ led f s Begin = record s {
   steady = 0;
   showing = starts (next_step f s);
   tracks = map renewed s.tracks;
+  answered = unanswered s.answered;
 }
 led f s Descend = into s Landing
 led f s Cut = into s Halted

@@ -8,7 +8,7 @@ use Rattle.flight_model.specs.declared.events.Order.TheVariants as order
 use Rattle.flight_model.specs.declared.events.Sample.{Sample}
 use Rattle.flight_model.specs.declared.events.Signal.TheVariants as signal
 use Rattle.flight_model.specs.declared.events.Event.{Event}
-use Rattle.flight_model.specs.declared.events.Event.TheVariants.{Clock, Seen, Said}
+use Rattle.flight_model.specs.declared.events.Event.TheVariants.{Clock, Seen, Answered, Said}
 use Rattle.flight_model.specs.declared.events.Frame.{Frame}
 use Rattle.flight_model.specs.declared.events.Frame.TheVariants.{To, ToAll, Over}
 use Rattle.flight_model.specs.declared.flights.Course.{Course}
@@ -102,9 +102,13 @@ half z armed down = Clock 500 ∷ both (pos 0) z armed down
 abbrev pub go : List Event
 go = Said signal.Go ∷ []
 
--- on the pads: the operator says go, and both are armed
+-- both are in the group
+abbrev pub joined : List Event
+joined = Answered 0 0 ∷ Answered 1 0 ∷ []
+
+-- on the pads: both are in the group, the operator says go, and both are armed
 abbrev pub lift_off : List Event
-lift_off = both (pos 0) (pos 0) false true ++ go ++ both (pos 0) (pos 0) true true
+lift_off = both (pos 0) (pos 0) false true ++ joined ++ go ++ both (pos 0) (pos 0) true true
 
 abbrev pub rising : List Event
 rising =
@@ -132,10 +136,11 @@ way_down =
 abbrev pub whole : List Event
 whole = lift_off ++ rising ++ hovering ++ go ++ show ++ way_down
 
--- What is said at them: each drone is told its five orders, and the flight was flown and kept.
+-- What is said at them: each drone is told its six orders, and the flight was flown and kept.
 abbrev pub said : List Frame
 said =
-    To 0 order.Arm ∷ To 1 order.Arm ∷ To 0 (order.Rise (pos 1000) 2000) ∷ To 1 (order.Rise (pos 1000) 2000)
+    To 0 order.Group ∷ To 1 order.Group ∷ To 0 order.Arm ∷ To 1 order.Arm ∷ To 0 (order.Rise (pos 1000) 2000)
+    ∷ To 1 (order.Rise (pos 1000) 2000)
     ∷ ToAll order.Start
     ∷ To 0 (order.Land (pos 0) 2500) ∷ To 1 (order.Land (pos 0) 2500) ∷ ToAll order.Disarm ∷ Over true true ∷ []
 

@@ -35,14 +35,14 @@ pub record HoldLaw : Type 0 where
   -- Of three ways: once the drones of leg k are armed, all are where it begins; then on their way up, from where it is
   -- after the legs before it; at the start in the show; and at last on their way down, leg by leg.
   pub armed : (f : Flight) (w : Routes) → f.steps ≡ steps_of w → (k : ℕ) → k < leg_count (map legs_of w.up) →
-      last_hold f (suc (twice k)) ≡ hold_in stretch.Up (ms_until (map legs_of w.up) k) 0
+      last_hold f (suc (suc (twice k))) ≡ hold_in stretch.Up (ms_until (map legs_of w.up) k) 0
   pub up : (f : Flight) (w : Routes) → f.steps ≡ steps_of w → (k : ℕ) → k < leg_count (map legs_of w.up) →
-      last_hold f (suc (suc (twice k)))
+      last_hold f (suc (suc (suc (twice k))))
       ≡ hold_in stretch.Up (ms_until (map legs_of w.up) k) (leg_ms (map legs_of w.up) k)
   pub show : (f : Flight) (w : Routes) → f.steps ≡ steps_of w →
-      last_hold f (suc (twice (leg_count (map legs_of w.up)))) ≡ hold_in stretch.Show 0 (lasts w.show)
+      last_hold f (suc (suc (twice (leg_count (map legs_of w.up))))) ≡ hold_in stretch.Show 0 (lasts w.show)
   pub down : (f : Flight) (w : Routes) → f.steps ≡ steps_of w → (k : ℕ) → k < leg_count (map legs_of w.down) →
-      last_hold f (suc (twice (leg_count (map legs_of w.up)) + suc k))
+      last_hold f (suc (suc (twice (leg_count (map legs_of w.up)) + suc k)))
       ≡ hold_in stretch.Down (ms_until (map legs_of w.down) k) (leg_ms (map legs_of w.down) k)
   -- Who is off there for 300 ms has all land, in the very event of the sample that shows it.
   pub lands : (f : Flight) (d : ℕ) (earlier between : List Event) (first last : Sample) →

@@ -18,6 +18,7 @@ use Rattle.flight_model.specs.declared.flights.Step.{Step}
 use Rattle.flight_model.specs.declared.flights.Flight.{Flight}
 use Rattle.flight_model.specs.Samples.{square}
 use Rattle.flight_model.specs.Directors.{Phase, is_off, is_off_hold, next_step, is_silent, all_fit, Steps, Landing, Off, Halted}
+use Rattle.flight_model.specs.Directors.{all_answered}
 use Rattle.flight_model.specs.Directors.{Ended, Track, State, start, drones, order_in, land_order, landings}
 use Rattle.flight_model.specs.Directors.{frames_from, has_risen, heard, notes, is_fault, happens, says, after, sent}
 
@@ -86,7 +87,8 @@ pub record IsFit (silence : ℕ) (w : Condition) (x : Sample) : Type 0 where
   pub still : w.down ≡ true → x.flying ≡ false
 
 -- With the event e the next step of the state s may begin: the flight is on its way; the operator says go, where the
--- step waits for that; the step before is over; the drones have settled; and each was heard, and meets its condition.
+-- step waits for that; the step before is over; the drones have settled; each was heard, and meets its condition; and
+-- each has answered since the step before began, where the step waits for that.
 pub record MayBegin (f : Flight) (s : State) (e : Event) : Type 0 where
   pub flying : s.phase ≡ Steps
   pub step : Step
@@ -96,6 +98,7 @@ pub record MayBegin (f : Flight) (s : State) (e : Event) : Type 0 where
   pub settled : step.settle ≤ (heard f s e).steady
   pub fit : (d : ℕ) (w : Condition) → slice_get step.conditions d ≡ Some w →
       (t : Track) × (x : Sample) × (slice_get (heard f s e).tracks d ≡ Some t) × (t.seen ≡ Some x) × IsFit f.silence w x
+  pub answered : step.answered ≡ true → (d : ℕ) (b : Bool) → slice_get (heard f s e).answered d ≡ Some b → b ≡ true
 
 -- the orders that only steps give
 pub data IsOnward : Order → Type 0 where
@@ -168,7 +171,7 @@ notes_in frames = flat_map noted_by frames
 -- Nothing is wrong at the event e in the state s: an answer is good; the operator says neither land nor stop; a sample
 -- is of a drone that isn't lost, is sure, is where it is told to be, and in the show at its curve; no drone is silent;
 -- and from `slack` after the end of the step before on, each drone meets its condition for the next one, where that
--- waits for no go.
+-- waits for no go, and has answered, where that waits for answers.
 pub record IsQuiet (f : Flight) (slack : ℕ) (s : State) (e : Event) : Type 0 where
   pub answer : (d status : ℕ) → e ≡ Answered d status → status ≡ 0
   pub no_land : e ≢ Said signal.Land
@@ -179,6 +182,8 @@ pub record IsQuiet (f : Flight) (slack : ℕ) (s : State) (e : Event) : Type 0 w
   pub in_time : (step : Step) → next_step f s ≡ Some step → step.asked ≡ false →
       step.after + slack ≤ (heard f s e).waited →
       all_fit f.silence step.conditions (heard f s e).tracks ≡ true
+  pub answers : (step : Step) → next_step f s ≡ Some step → step.asked ≡ false →
+      step.after + slack ≤ (heard f s e).waited → step.answered ≡ true → all_answered (heard f s e).answered ≡ true
 
 abbrev pub AllQuiet : Flight → ℕ → State → List Event → Type 0
 AllQuiet f slack s [] = Unit {0}

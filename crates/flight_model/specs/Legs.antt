@@ -216,12 +216,26 @@ up_condition w k legs =
       down = false;
     }
 
--- the step that arms those that rise in leg k; the first one waits for the operator's go
+-- the first step: each drone is put into the flight's group
+abbrev pub group_step : List (List Leg) → Step
+group_step all = record {
+  asked = false;
+  after = 0;
+  settle = 0;
+  answered = false;
+  conditions = [];
+  orders = Each (map (λ legs. Some order.Group) all);
+  holds = None;
+}
+
+-- The step that arms those that rise in leg k. The first one waits for the operator's go, and until each drone has
+-- answered that it is in the group.
 abbrev pub arm_step : Routes → List (List Leg) → ℕ → Step
 arm_step w all k = record {
   asked = k == 0;
   after = ms_before 0 all k;
   settle = if k == 0 then 0 else 1000;
+  answered = k == 0;
   conditions = map (arm_condition w k) all;
   orders = Each (map (λ legs. arm_order legs k) all);
   holds = hold_in stretch.Up (ms_until all k) 0;
@@ -233,6 +247,7 @@ up_step w all k = record {
   asked = false;
   after = 0;
   settle = 0;
+  answered = false;
   conditions = map (up_condition w k) all;
   orders = Each (map (λ legs. up_order legs k) all);
   holds = hold_in stretch.Up (ms_until all k) (leg_ms all k);
@@ -249,6 +264,7 @@ start_step w show_ms ups = record {
   asked = true;
   after = ms_before 0 ups (leg_count ups);
   settle = 1000;
+  answered = false;
   conditions = map (start_condition w w.at_place) w.show;
   orders = ToEach order.Start;
   holds = hold_in stretch.Show 0 show_ms;
@@ -270,6 +286,7 @@ down_step w show_ms all k = record {
   asked = false;
   after = ms_before show_ms all k;
   settle = 1000;
+  answered = false;
   conditions = map (down_condition w k) all;
   orders = Each (map (λ legs. down_order legs k) all);
   holds = hold_in stretch.Down (ms_until all k) (leg_ms all k);
@@ -285,6 +302,7 @@ last_step w downs = record {
   asked = false;
   after = ms_before 0 downs (leg_count downs);
   settle = 1000;
+  answered = false;
   conditions = map (last_condition w) w.down;
   orders = ToEach order.Disarm;
   holds = None;
@@ -297,10 +315,11 @@ lasts (t ∷ rest) = sum (durations t.segments)
 
 abbrev pub steps_between : Routes → List (List Leg) → List (List Leg) → List Step
 steps_between w ups downs =
-    flat_map (λ k. arm_step w ups k ∷ up_step w ups k ∷ []) (range_with_len 0 (leg_count ups))
+    group_step ups ∷ flat_map (λ k. arm_step w ups k ∷ up_step w ups k ∷ []) (range_with_len 0 (leg_count ups))
     ++ start_step w (lasts w.show) ups
     ∷ (map (down_step w (lasts w.show) downs) (range_with_len 0 (leg_count downs)) ++ last_step w downs ∷ [])
 
--- All steps of a flight: leg by leg up, each after its drones are armed; the start; leg by leg down; and the end.
+-- All steps of a flight: the group; leg by leg up, each after its drones are armed; the start; leg by leg down; and the
+-- end.
 unfoldable pub steps_of : Routes → List Step
 steps_of w = steps_between w (map legs_of w.up) (map legs_of w.down)

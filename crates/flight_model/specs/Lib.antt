@@ -12,3 +12,4 @@ pub mod Example
 pub mod Rejected
 pub mod Holds
 pub mod Watched
+pub mod Ours

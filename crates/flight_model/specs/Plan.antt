@@ -15,10 +15,10 @@ one_of (Some o) = o ∷ []
 abbrev pub up_leg : List Leg → ℕ → List Order
 up_leg legs k = one_of (arm_order legs k) ++ one_of (up_order legs k)
 
--- Leg by leg up, the start, leg by leg down, and disarm.
+-- The group, leg by leg up, the start, leg by leg down, and disarm.
 abbrev pub plan_of : Routes → List Leg → List Leg → List Order
 plan_of w up down =
-    flat_map (up_leg up) (range_with_len 0 (leg_count (map legs_of w.up)))
+    order.Group ∷ flat_map (up_leg up) (range_with_len 0 (leg_count (map legs_of w.up)))
     ++ order.Start ∷ (flat_map (λ k. one_of (down_order down k)) (range_with_len 0 (leg_count (map legs_of w.down)))
     ++ order.Disarm ∷ [])
 

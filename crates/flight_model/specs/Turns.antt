@@ -99,24 +99,24 @@ twice (suc n) = suc (suc (twice n))
 
 -- In every state, of every flight whose steps are those of three ways.
 pub record TurnLaw : Type 0 where
-  -- the first step begins at the operator's go alone
-  pub first : (f : Flight) (w : Routes) → f.steps ≡ steps_of w → (s : State) (e : Event) → s.next ≡ 0 →
-      ((happens f s e).next ≡ 0) ⊎ (e ≡ Said signal.Go)
+  -- the first step puts drones into the group; the second one begins at the operator's go alone
+  pub first : (f : Flight) (w : Routes) → f.steps ≡ steps_of w → (s : State) (e : Event) → s.next ≤ 1 →
+      ((happens f s e).next ≤ 1) ⊎ (e ≡ Said signal.Go)
   pub arm : (f : Flight) (w : Routes) → f.steps ≡ steps_of w → (s : State) (e : Event) (d : ℕ) (up : Traj) →
       slice_get w.up d ≡ Some up → Contains (orders_to d (says f s e)) order.Arm → MayArm f w s e d up
   pub rise : (f : Flight) (w : Routes) → f.steps ≡ steps_of w → (s : State) (e : Event) (d : ℕ) (up : Traj) →
       slice_get w.up d ≡ Some up → (z : ℤ) (ms : ℕ) → Contains (orders_to d (says f s e)) (order.Rise z ms) →
       MayRise f s e d
-  -- leg k + 1 of the way up has the steps 2 k + 2, which arms, and 2 k + 3
+  -- leg k + 1 of the way up has the steps 2 k + 3, which arms, and 2 k + 4
   pub leg_up : (f : Flight) (w : Routes) → f.steps ≡ steps_of w → (s : State) (e : Event) (k : ℕ) →
-      suc k < leg_count (map legs_of w.up) → s.next ≡ twice (suc k) →
+      suc k < leg_count (map legs_of w.up) → s.next ≡ suc (twice (suc k)) →
       ((happens f s e).next ≡ s.next)
       ⊎ MayGoOn f s e (leg_ms (map legs_of w.up) k) w.up (suc k) (λ legs. up_bound w legs (suc k))
   pub start : (f : Flight) (w : Routes) → f.steps ≡ steps_of w → (s : State) (e : Event) (d : ℕ) →
       Contains (orders_to d (says f s e)) order.Start → MayStart f w s e
-  -- after n legs up and the start, leg k of the way down has the step 2 n + 1 + k
+  -- after n legs up and the start, leg k of the way down has the step 2 n + 2 + k
   pub leg_down : (f : Flight) (w : Routes) → f.steps ≡ steps_of w → (s : State) (e : Event) (k : ℕ) →
-      k < leg_count (map legs_of w.down) → s.next ≡ twice (leg_count (map legs_of w.up)) + suc k →
+      k < leg_count (map legs_of w.down) → s.next ≡ suc (twice (leg_count (map legs_of w.up)) + suc k) →
       ((happens f s e).next ≡ s.next)
       ⊎ MayGoOn f s e (ms_before (lasts w.show) (map legs_of w.down) k) w.down k (λ legs. down_bound w legs k)
   -- motors stop where each drone was seen down, or each stands at its pad

@@ -2,7 +2,7 @@
 //! yaw in tenths of a degree, times in milliseconds.
 
 /// An order to a drone. Rise, go, land and halt are commands of Bitcraze's high-level commander (`take off`, `go to`,
-/// `land`, `stop`), and `Start` starts the trajectory that was uploaded.
+/// `land`, `stop`), `Start` starts the trajectory that was uploaded, and `Group` sets the group mask.
 #[derive(Clone, Copy, Debug, PartialEq, Eq)]
 pub enum Order {
     /// The motors may turn.
@@ -25,12 +25,14 @@ pub enum Order {
         z: i16,
         ms: u32,
     },
-    /// Fly what was uploaded.
+    /// Fly what was uploaded: for drones in the flight's group alone.
     Start,
     /// All motors off, at once.
     Halt,
     /// The motors may turn no more.
     Disarm,
+    /// Be in the flight's group, and in no other.
+    Group,
 }
 
 /// What a bridge knows of a drone: where it is, and what the bridge judges of it.

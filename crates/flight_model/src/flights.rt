@@ -78,6 +78,8 @@ pub struct Step {
     pub after: u32,
     /// For how long the drones have to have met their conditions.
     pub settle: u32,
+    /// Each drone has to have answered with 0 since the step before began.
+    pub answered: bool,
     pub conditions: Listed<Condition>,
     pub orders: Orders,
     /// Where drones are watched from it on, until the next step; none are after the last one.

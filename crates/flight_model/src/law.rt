@@ -12,6 +12,7 @@ ghost use Rattle.flight_model.specs.Kept.{KeptLaw};
 ghost use Rattle.flight_model.specs.Example.{ExampleLaw};
 ghost use Rattle.flight_model.specs.Rejected.{RejectedLaw};
 ghost use Rattle.flight_model.specs.Watched.{WatchedRows};
+ghost use Rattle.flight_model.specs.Ours.{GroupRows, OursLaw};
 
 /// The steps of three ways order of each drone: leg by leg up, the start, leg by leg down, and disarm. A drone that
 /// obeys the order of a leg from where the leg begins flies along the leg.
@@ -30,6 +31,7 @@ pub fn director_law()
     ensures fault { FaultLaw }
     ensures alarm { AlarmLaw }
     ensures hold { HoldLaw }
+    ensures ours { OursLaw }
     ensures halt { HaltLaw }
     ensures over { OverLaw }
     ensures kept { KeptLaw }
@@ -49,4 +51,9 @@ pub fn rejected_law()
 /// Whom `is_off_hold` finds off where drones are told to be, each beside a neighbour that it doesn't.
 pub fn watched_law()
     ensures { WatchedRows }
+{}
+
+/// Whom packets for a group reach, and when drones are armed: each value beside one that differs.
+pub fn group_law()
+    ensures { GroupRows }
 {}

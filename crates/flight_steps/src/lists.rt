@@ -1,6 +1,7 @@
 //! Conditions and orders of all drones.
 
-ghost use Rattle.std.specs.Prelude.{◌≡◌, map, IfOk};
+ghost use Rattle.std.specs.Prelude.{◌≡◌, map, IfOk, Some};
+ghost use Rattle.flight_model.specs.declared.events.Order.TheVariants as order;
 ghost use Rattle.flight_model.specs.Legs.{arm_condition as word_arm, up_condition as word_up};
 ghost use Rattle.flight_model.specs.Legs.{down_condition as word_down, start_condition as word_start};
 ghost use Rattle.flight_model.specs.Legs.{last_condition as word_last, arm_order as arm_word, up_order as up_word};
@@ -82,6 +83,17 @@ pub fn last_conditions(alloc: Global, w: &Ways) -> Result<Listed<Condition>, All
     let mut out = Vec::new(alloc);
     for t in w.down {
         out.push(last_condition(w, t))?;
+    }
+    Ok(Listed::from_vec(out))
+}
+
+/// Each drone is put into the flight's group.
+pub fn group_orders(alloc: Global, all: &[Listed<Leg>]) -> Result<Listed<Option<Order>>, AllocError>
+    ensures { IfOk result (λ out. out ≡ map (λ legs. Some order.Group) all.now) }
+{
+    let mut out = Vec::new(alloc);
+    for legs in all {
+        out.push(Some(Order::Group))?;
     }
     Ok(Listed::from_vec(out))
 }

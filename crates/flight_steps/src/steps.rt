@@ -4,6 +4,7 @@ ghost use Rattle.std.specs.Prelude.{◌≡◌, ◌++◌, ◌<◌, ◌∷◌, [],
 ghost use Rattle.std.specs.List.{flat_map, range_with_len};
 ghost use Rattle.flight_model.specs.declared.flights.Step.{Step as StepWord};
 ghost use Rattle.flight_model.specs.Legs.{arm_step as word_arm, up_step as word_up, start_step as word_start};
+ghost use Rattle.flight_model.specs.Legs.{group_step as word_group};
 ghost use Rattle.flight_model.specs.Legs.{down_step as word_down, last_step as word_last, leg_count as word_count};
 ghost use Rattle.flight_model.specs.Legs.{leg_ms as word_ms, ms_before as word_before, lasts, legs_of as word_legs};
 ghost use Rattle.flight_model.specs.Legs.{hold_in as word_hold, ms_until as word_until};
@@ -16,8 +17,8 @@ use crate::faults::StepsError;
 use crate::judging::flight_fault;
 use crate::legs::all_legs;
 use crate::lists::{
-    arm_conditions, arm_orders, down_conditions, down_orders, last_conditions, start_conditions,
-    up_conditions, up_orders,
+    arm_conditions, arm_orders, down_conditions, down_orders, group_orders, last_conditions,
+    start_conditions, up_conditions, up_orders,
 };
 use crate::moves::leg;
 use crate::ways::{Crews, Ways};
@@ -80,6 +81,22 @@ fn hold_in(stretch: Stretch, from: u32, ms: u32) -> Option<Hold>
     Some(Hold { stretch, from, ms })
 }
 
+// The first step: each drone is put into the flight's group.
+fn group_step(alloc: Global, all: &[Listed<Leg>]) -> Result<Step, AllocError>
+    ensures { IfOk result (λ step. step ≡ word_group all.now) }
+{
+    let orders = group_orders(alloc, all)?;
+    Ok(Step {
+        asked: false,
+        after: 0,
+        settle: 0,
+        answered: false,
+        conditions: Listed::from_vec(Vec::new(alloc)),
+        orders: Orders::Each { orders },
+        holds: None,
+    })
+}
+
 // The step that arms those that rise in leg k.
 fn arm_step(alloc: Global, w: &Ways, all: &[Listed<Leg>], k: usize) -> Result<Step, AllocError>
     ensures { IfOk result (λ step. step ≡ word_arm (routes w.now) all.now k) }
@@ -90,6 +107,7 @@ fn arm_step(alloc: Global, w: &Ways, all: &[Listed<Leg>], k: usize) -> Result<St
         asked: k == 0,
         after: ms_before(0, all, k),
         settle: if k == 0 { 0 } else { SETTLE_MS },
+        answered: k == 0,
         conditions,
         orders: Orders::Each { orders },
         holds: hold_in(Stretch::Up, ms_until(all, k), 0),
@@ -106,6 +124,7 @@ fn up_step(alloc: Global, w: &Ways, all: &[Listed<Leg>], k: usize) -> Result<Ste
         asked: false,
         after: 0,
         settle: 0,
+        answered: false,
         conditions,
         orders: Orders::Each { orders },
         holds: hold_in(Stretch::Up, ms_until(all, k), leg_ms(all, k)),
@@ -120,6 +139,7 @@ fn start_step(alloc: Global, w: &Ways, ups: &[Listed<Leg>]) -> Result<Step, Allo
         asked: true,
         after: ms_before(0, ups, leg_count(ups)),
         settle: SETTLE_MS,
+        answered: false,
         conditions,
         orders: Orders::All {
             order: Order::Start,
@@ -138,6 +158,7 @@ fn down_step(alloc: Global, w: &Ways, all: &[Listed<Leg>], k: usize) -> Result<S
         asked: false,
         after: ms_before(w.show_ms, all, k),
         settle: SETTLE_MS,
+        answered: false,
         conditions,
         orders: Orders::Each { orders },
         holds: hold_in(Stretch::Down, ms_until(all, k), leg_ms(all, k)),
@@ -152,6 +173,7 @@ fn last_step(alloc: Global, w: &Ways, downs: &[Listed<Leg>]) -> Result<Step, All
         asked: false,
         after: ms_before(0, downs, leg_count(downs)),
         settle: SETTLE_MS,
+        answered: false,
         conditions,
         orders: Orders::All {
             order: Order::Disarm,
@@ -207,6 +229,8 @@ fn all_steps(
     ensures { IfOk result (λ steps. steps ≡ steps_between (routes w.now) ups.now downs.now) }
 {
     let mut steps = Vec::new(alloc);
+    let group = group_step(alloc, ups)?;
+    steps.push(group)?;
     put_ups(alloc, w, ups, &mut steps)?;
     let start = start_step(alloc, w, ups)?;
     steps.push(start)?;

@@ -72,9 +72,20 @@ fn say(d: &mut Director, signal: Signal, all: &mut Vec<Frame>) -> Result<(), All
     hear(d, Event::Said { signal }, all)
 }
 
+fn answer(d: &mut Director, drone: u8, all: &mut Vec<Frame>) -> Result<(), AllocError> {
+    hear(d, Event::Answered { drone, status: 0 }, all)
+}
+
+// Both stand on their pads, and are in the flight's group.
+fn join(d: &mut Director, all: &mut Vec<Frame>) -> Result<(), AllocError> {
+    hear_both(d, 0, 0, false, true, all)?;
+    answer(d, 0, all)?;
+    answer(d, 1, all)
+}
+
 // From the pads to the first places.
 fn go_up(d: &mut Director, all: &mut Vec<Frame>) -> Result<(), AllocError> {
-    hear_both(d, 0, 0, false, true, all)?;
+    join(d, all)?;
     say(d, Signal::Go, all)?;
     hear_both(d, 0, 0, true, true, all)?;
     for z in [71, 500, 929] {
@@ -126,6 +137,8 @@ fn flies_a_whole_flight(rt: HostRuntime) -> Result<(), Fail> {
     assert_eq!(rt;
         all.as_slice(),
         [
+            to(0, Order::Group),
+            to(1, Order::Group),
             to(0, Order::Arm),
             to(1, Order::Arm),
             to(0, rise),
@@ -141,11 +154,51 @@ fn flies_a_whole_flight(rt: HostRuntime) -> Result<(), Fail> {
     Ok(())
 }
 
+// How many orders go out at the operator's go, where these drones have answered one after the other.
+fn orders_answered(alloc: Global, before: &[u8], after: &[u8]) -> Result<usize, AllocError> {
+    let mut d = Director::make(flight(alloc)?);
+    let mut all = Vec::new(alloc);
+    for drone in before {
+        answer(&mut d, *drone, &mut all)?;
+    }
+    hear_both(&mut d, 0, 0, false, true, &mut all)?;
+    for drone in after {
+        answer(&mut d, *drone, &mut all)?;
+    }
+    all.clear();
+    say(&mut d, Signal::Go, &mut all)?;
+    Ok(all.len())
+}
+
+// Nobody is armed before each drone has answered that it is in the group. The first event is before that order.
+#[test]
+fn waits_for_each_answer(rt: HostRuntime) -> Result<(), Fail> {
+    let rows: [(&[u8], &[u8], usize); 8] = [
+        (&[], &[0, 1], 2),
+        (&[], &[1, 0], 2),
+        (&[], &[], 0),
+        (&[], &[0], 0),
+        (&[], &[1, 1], 0),
+        (&[], &[0, 2, 31, 32, 255], 0),
+        (&[0], &[1], 0),
+        (&[0], &[0, 1], 2),
+    ];
+    for (before, after, wanted) in rows {
+        assert_eq!(rt;
+            orders_answered(rt.alloc(), before, after)?,
+            wanted,
+            "{before:?} {after:?}"
+        );
+    }
+    Ok(())
+}
+
 // How many orders go out at the operator's go, with the first drone so far aside of its pad. 100 mm are allowed.
 fn orders_aside(alloc: Global, x: i16, y: i16, z: i16) -> Result<usize, AllocError> {
     let mut d = Director::make(flight(alloc)?);
     let mut all = Vec::new(alloc);
-    hear_both(&mut d, 0, 0, false, true, &mut all)?;
+    join(&mut d, &mut all)?;
+    all.clear();
     hear(
         &mut d,
         Event::Seen {
@@ -304,7 +357,7 @@ fn waits_for_who_is_sure(rt: HostRuntime) -> Result<(), Fail> {
 fn said_aside(alloc: Global, x: i16, ms: u32) -> Result<usize, AllocError> {
     let mut d = Director::make(flight(alloc)?);
     let mut all = Vec::new(alloc);
-    hear_both(&mut d, 0, 0, false, true, &mut all)?;
+    join(&mut d, &mut all)?;
     say(&mut d, Signal::Go, &mut all)?;
     hear_both(&mut d, 0, 0, true, true, &mut all)?;
     half(&mut d, 0, 71, true, false, &mut all)?;

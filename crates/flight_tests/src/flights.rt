@@ -56,6 +56,7 @@ fn step(
     asked: bool,
     after: u32,
     settle: u32,
+    answered: bool,
     conditions: Listed<Condition>,
     orders: Orders,
     holds: Option<Hold>,
@@ -67,10 +68,21 @@ fn step(
         asked,
         after,
         settle,
+        answered,
         conditions,
         orders,
         holds,
     }
+}
+
+// Both are put into the flight's group.
+fn joining(alloc: Global) -> Result<Step, AllocError>
+    ensures conditions { IfOk result (λ s. length s.conditions ≤ 32) }
+    ensures orders { IfOk result (λ s. AreFew s.orders) }
+{
+    let none = Listed::from_vec(Vec::new(alloc));
+    let group = each(alloc, Order::Group)?;
+    Ok(step(false, 0, 0, false, none, group, None))
 }
 
 fn hold(stretch: Stretch, ms: u32) -> Option<Hold> {
@@ -159,14 +171,18 @@ fn steps(alloc: Global) -> Result<Listed<Step>, AllocError>
     let arm = each(alloc, Order::Arm)?;
     let rise = each(alloc, Order::Rise { z: TOP, ms: 2000 })?;
     let land = each(alloc, Order::Land { z: 0, ms: 2500 })?;
-    let arming = step(true, 0, 0, on_pads, arm, hold(Stretch::Up, 0));
-    let rising = step(false, 0, 0, armed, rise, hold(Stretch::Up, 2000));
+    let joining = joining(alloc)?;
+    let arming = step(true, 0, 0, true, on_pads, arm, hold(Stretch::Up, 0));
+    let rising = step(false, 0, 0, false, armed, rise, hold(Stretch::Up, 2000));
     let show = hold(Stretch::Show, 1000);
-    let starting = step(true, 2000, 1000, at_start, to_all(Order::Start), show);
+    let start = to_all(Order::Start);
+    let starting = step(true, 2000, 1000, false, at_start, start, show);
     let sinking = hold(Stretch::Down, 2500);
-    let landing = step(false, 1000, 1000, at_end, land, sinking);
-    let ending = step(false, 2500, 1000, back, to_all(Order::Disarm), None);
-    Ok(Listed::from_vec(Vec::from_array(alloc, [arming, rising, starting, landing, ending])?))
+    let landing = step(false, 1000, 1000, false, at_end, land, sinking);
+    let disarm = to_all(Order::Disarm);
+    let ending = step(false, 2500, 1000, false, back, disarm, None);
+    let all = [joining, arming, rising, starting, landing, ending];
+    Ok(Listed::from_vec(Vec::from_array(alloc, all)?))
 }
 
 fn curves(alloc: Global) -> Result<Listed<Traj>, AllocError>

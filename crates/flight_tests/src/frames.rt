@@ -129,7 +129,7 @@ macro_rules! over {
     };
 }
 
-const WRITTEN: [(Frame, &[u8]); 16] = [
+const WRITTEN: [(Frame, &[u8]); 17] = [
     (to_one!(3, RISE), &[1, 3, 1, 0xE8, 0x03, 0xD0, 0x07, 0, 0]),
     (
         to_one!(31, GO),
@@ -139,9 +139,10 @@ const WRITTEN: [(Frame, &[u8]); 16] = [
     ),
     (to_one!(0, LAND), &[1, 0, 3, 0xFB, 0xFF, 0xA0, 0x0F, 0, 0]),
     (to_all!(Order::Arm), &[2, 0]),
-    (to_all!(Order::Start), &[2, 4]),
+    (to_all!(Order::Start), &[2, 4, 1]),
     (to_all!(Order::Halt), &[2, 5]),
     (to_all!(Order::Disarm), &[2, 6]),
+    (to_one!(31, Order::Group), &[1, 31, 7, 1]),
     (noted!(Fault::Silent), &[3, 7, 0]),
     (noted!(Fault::Astray), &[3, 7, 1]),
     (noted!(Fault::Lost), &[3, 7, 2]),

@@ -28,6 +28,9 @@ const ARMED: u8 = 43;
 
 const FLYING: u8 = 51;
 
+// Both drones have answered with 0.
+const JOINED: &[u8] = b"\x03\x00\x00\x03\x01\x00";
+
 const GO: &[u8] = b"\x04\x00";
 
 const LAND: &[u8] = b"\x04\x01";
@@ -52,6 +55,7 @@ fn half(bytes: &mut Vec<u8>, y: [u8; 2], z: [u8; 2], flags: u8) -> Result<(), Al
 // From the pads to the first places.
 fn go_up(bytes: &mut Vec<u8>) -> Result<(), AllocError> {
     hear(bytes, GROUND, GROUND, ON_PAD)?;
+    bytes.extend_from_slice(JOINED)?;
     bytes.extend_from_slice(GO)?;
     hear(bytes, GROUND, GROUND, ARMED)?;
     for z in RISING {
@@ -81,13 +85,16 @@ fn fly_and_land(bytes: &mut Vec<u8>) -> Result<(), AllocError> {
 
 // ---- what goes out
 
-// Both drones are told to arm, and to rise to 1,000 mm in 2,000 ms.
+// Both drones are told to be in group 1.
+const GROUP: &[u8] = b"\x01\x00\x07\x01\x01\x01\x07\x01";
+
+// Then to arm, and to rise to 1,000 mm in 2,000 ms.
 const RISE: &[u8] =
     b"\x01\x00\x00\x01\x01\x00\x01\x00\x01\xE8\x03\xD0\x07\x00\x00\x01\x01\x01\xE8\x03\xD0\x07\x00\x00";
 
-// All start; both land in 2,500 ms; all disarm; flown and kept.
+// All of group 1 start; both land in 2,500 ms; all disarm; flown and kept.
 const FLOWN: &[u8] =
-    b"\x02\x04\x01\x00\x03\x00\x00\xC4\x09\x00\x00\x01\x01\x03\x00\x00\xC4\x09\x00\x00\x02\x06\x04\x03";
+    b"\x02\x04\x01\x01\x00\x03\x00\x00\xC4\x09\x00\x00\x01\x01\x03\x00\x00\xC4\x09\x00\x00\x02\x06\x04\x03";
 
 // Both land in 4,000 ms; all disarm; not flown.
 const LANDED: &[u8] =
@@ -190,29 +197,45 @@ const SEEN_ARMED: &[u8] =
 const SEEN_DOWN: &[u8] =
     b"\x02\x00\x00\x00\x00\x00\x00\x00\x00\x00\x29\x02\x01\x00\x00\xD0\x07\x00\x00\x00\x00\x29";
 
+const ARM: &[u8] = b"\x01\x00\x00\x01\x01\x00";
+
 const STOPPED: &[u8] = b"\x02\x05";
 
 // How far the flight has come, what comes in after that, the status, and what goes out before the end frame.
 type Row<'a> = (Stage, &'a [&'a [u8]], u8, &'a [&'a [u8]]);
 
-const ENDS: [Row; 14] = [
+const ENDS: [Row; 17] = [
     // A whole flight; after its end no byte is judged.
-    (Stage::Back, &[], 0, &[RISE, FLOWN]),
-    (Stage::Back, &[b"\x09"], 0, &[RISE, FLOWN]),
+    (Stage::Back, &[], 0, &[GROUP, RISE, FLOWN]),
+    (Stage::Back, &[b"\x09"], 0, &[GROUP, RISE, FLOWN]),
     (
         Stage::Up,
         &[LAND, SEEN_ARMED, SEEN_DOWN],
         20,
-        &[RISE, LANDED],
+        &[GROUP, RISE, LANDED],
     ),
     (Stage::Pads, &[STOP, LATER, b"\x09"], 20, &[HALTED]),
     // A millisecond less, and the flight isn't over.
     (Stage::Pads, &[STOP, b"\x01\x87\x13"], 8, &[STOPPED]),
-    // Inputs that end early. A go of which no drone was heard does nothing.
+    // Inputs that end early. A go of which no drone was heard arms nobody.
     (Stage::Pads, &[], 8, &[]),
-    (Stage::Pads, &[GO], 8, &[]),
-    (Stage::Up, &[], 8, &[RISE]),
-    (Stage::Up, &[b"\x02\x00"], 11, &[RISE]),
+    (Stage::Pads, &[GO], 8, &[GROUP]),
+    (Stage::Up, &[], 8, &[GROUP, RISE]),
+    (Stage::Up, &[b"\x02\x00"], 11, &[GROUP, RISE]),
+    // Nobody is armed before both have answered that they are in the group.
+    (Stage::Pads, &[SEEN_DOWN, JOINED, GO], 8, &[GROUP, ARM]),
+    (
+        Stage::Pads,
+        &[SEEN_DOWN, b"\x03\x00\x00\x03\x00\x00", GO],
+        8,
+        &[GROUP],
+    ),
+    (
+        Stage::Pads,
+        &[b"\x03\x01\x00", SEEN_DOWN, b"\x03\x00\x00", GO],
+        8,
+        &[GROUP],
+    ),
     // The input ends in an event.
     (Stage::Pads, &[STOP, b"\x01"], 11, &[STOPPED]),
     (Stage::Pads, &[STOP, b"\x01\x88"], 11, &[STOPPED]),
@@ -282,9 +305,9 @@ fn failing_ends(rt: HostRuntime) -> Result<(), Fail> {
 }
 
 const EVENTS: [(u32, &[u8], u8, &[u8]); 3] = [
-    (4_000_000, STOP, 13, b"\x45\x0D"),
-    (3_999_999, STOP, 13, b"\x02\x05\x45\x0D"),
-    (3_999_998, STOP, 8, b"\x02\x05\x45\x08"),
+    (4_000_000, STOP, 13, &[]),
+    (3_999_999, STOP, 13, STOPPED),
+    (3_999_998, STOP, 8, STOPPED),
 ];
 
 #[test]
@@ -292,14 +315,16 @@ fn four_million_events(rt: HostRuntime) -> Result<(), Fail> {
     let alloc = rt.alloc();
     for (count, after, status, output) in EVENTS {
         let mut input = Vec::new(alloc);
-        // A go of which no drone was heard does nothing.
+        // A go of which no drone was heard arms nobody.
         for _ in 0..count {
             input.extend_from_slice(GO)?;
         }
         input.extend_from_slice(after)?;
         let ran = run(alloc, input, 4096, 0, 0)?;
+        let mut wanted = joined(alloc, &[GROUP, output])?;
+        wanted.extend_from_slice(&[0x45, status])?;
         assert_eq!(rt; ran.status, status);
-        assert_eq!(rt; ran.sink.written(), output);
+        assert_eq!(rt; ran.sink.written(), wanted.as_slice());
     }
     Ok(())
 }

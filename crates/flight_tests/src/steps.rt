@@ -301,8 +301,22 @@ fn is_step(s: &Step, wanted: &Wanted) -> bool {
         Orders::Each { orders } => all.is_none() && orders.as_slice() == each.as_slice(),
     };
     (s.asked, s.after, s.settle) == (asked, after, settle)
+        && s.answered == (asked && ready)
         && s.conditions.as_slice().get(1) == Some(&second)
         && ordered
+}
+
+// Both are put into the group at once.
+fn is_group(s: &Step) -> bool {
+    let orders = match &s.orders {
+        Orders::All { .. } => false,
+        Orders::Each { orders } => {
+            orders.as_slice() == [Some(Order::Group), Some(Order::Group)].as_slice()
+        }
+    };
+    (s.asked, s.after, s.settle, s.answered) == (false, 0, 0, false)
+        && s.conditions.as_slice().is_empty()
+        && orders
 }
 
 #[test]
@@ -329,8 +343,9 @@ fn steps_of_two_drones(rt: HostRuntime) -> Result<(), Fail> {
         assert!(rt; false);
         return Ok(());
     };
-    assert_eq!(rt; steps.as_slice().len(), STEPS.len());
-    for (s, wanted) in steps.as_slice().iter().zip(STEPS.iter()) {
+    assert_eq!(rt; steps.as_slice().len(), STEPS.len() + 1);
+    assert!(rt; steps.as_slice().first().is_some_and(is_group));
+    for (s, wanted) in steps.as_slice().iter().skip(1).zip(STEPS.iter()) {
         assert!(rt; is_step(s, wanted));
     }
     Ok(())

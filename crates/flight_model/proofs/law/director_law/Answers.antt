@@ -5,6 +5,7 @@ use Rattle.flight_model.proofs.Turns as turns
 use Rattle.flight_model.proofs.Ending as ending
 use Rattle.flight_model.proofs.Alarms as alarms
 use Rattle.flight_model.proofs.Holds as holds
+use Rattle.flight_model.proofs.Ours as ours
 use Rattle.flight_model.proofs.Flown as flown
 use Rattle.flight_model.proofs.Kept as kept
 use Rattle.flight_model.proofs.Quiet as quiet
@@ -33,6 +34,9 @@ returns-clause-alarm c = alarms.alarm_law
 
 pub returns-clause-hold : goal.returns-clause-hold
 returns-clause-hold c = holds.hold_law
+
+pub returns-clause-ours : goal.returns-clause-ours
+returns-clause-ours c = ours.ours_law
 
 pub returns-clause-halt : goal.returns-clause-halt
 returns-clause-halt c = ending.halt_law

@@ -20,6 +20,7 @@ returns-then-d-len c =
       showing = c.self.inside.showing;
       kept = c.self.inside.kept;
       tracks = c.self.inside.tracks.items;
+      answered = c.self.inside.answered.items;
     } in
     let same : v ≡ c.args.self.now = c.self.view_is in
     let tracks : c.self.inside.tracks.items ≡ c.args.self.now.tracks = ap (λ (s : State). s.tracks) same in
