@@ -1,9 +1,12 @@
 -- Words that no public contract cites.
-use Rattle.std.specs.Prelude.{ℕ, ◌+◌, Bool, List, [], ◌∷◌, Result, Ok, ℤ, pos, neg_ℤ, ◌≤ℤ◌}
+use Rattle.std.specs.Prelude.{ℕ, ◌+◌, Bool, List, [], ◌∷◌, Option, Some, None, Result, Ok, ℤ, pos, neg_ℤ, ◌≤ℤ◌}
+use Rattle.std.specs.Prelude.{bytes_eq, if◌then◌else◌}
 use Rattle.quantities.specs.declared.unit.Counts.TheVariants.{Micrometres, TenthsOfADegree}
 use Rattle.choreo_lines.specs.Fields.{ccw_in, quantity_in, values_in, ◌>>=◌, act_with}
 use Rattle.choreo_lines.specs.Table.{Word, word, act_places}
 use Rattle.choreo_lines.specs.declared.table.Form.{Form}
+use Rattle.choreo_lines.specs.declared.line.Keyword.{Keyword}
+use Rattle.choreo_lines.specs.declared.line.Keyword.TheVariants.{Other}
 use Rattle.choreo_lines.specs.declared.line.LineKind.{LineKind}
 use Rattle.choreo_show.specs.declared.parts.Act.{Act}
 use Rattle.choreo_show.specs.declared.parts.Act.TheVariants as made
@@ -14,6 +17,16 @@ use Rattle.choreo_lines.specs.declared.table.ActWord.{ActWord}
 -- a number that is not negative, and at most this
 abbrev pub IsNatural : ℕ → ℤ → Type 0
 IsNatural most v = (pos 0 ≤ℤ v) × (v ≤ℤ pos most)
+
+-- what a first word is by a table of words
+abbrev pub keyword_among : List (Word × Keyword) → Word → Keyword
+keyword_among [] w = Other
+keyword_among (entry ∷ entries) w = if bytes_eq w entry.0 then entry.1 else keyword_among entries w
+
+-- the act of a word by a table of words
+abbrev pub act_among : List (Word × ActWord) → Word → Option ActWord
+act_among [] w = None
+act_among (entry ∷ entries) w = if bytes_eq w entry.0 then Some entry.1 else act_among entries w
 
 -- a word in the place of a coordinate
 abbrev pub coordinate_in : Form → Word → Result ℤ LineKind

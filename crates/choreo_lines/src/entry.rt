@@ -15,9 +15,8 @@ use crate::act::act_by;
 use crate::field::{name, nth, value};
 use crate::line::{Entry, Keyword, LineError, LineKind, Place};
 use crate::table::{
-    Form, MOST_PLACES, Value, Want, act_places, act_word, as_read, may_stand, names, places,
+    Form, MOST_PLACES, Value, Want, act_places, act_word, first_at, may_stand, names, places,
 };
-use crate::word::keyword;
 use arrayvec::ArrayVec;
 use choreo_show::{Act, Frame, Listed, Mirror, Name, Point, copy_of};
 use std::alloc::Global;
@@ -303,7 +302,7 @@ fn entry_at(
     requires { 0 < length words.now }
     ensures { Gives result (spec.entry_of form place (words_in text.now words.now)) }
 {
-    let first = as_read(place, keyword(nth(text, words, 0)));
+    let first = first_at(place, nth(text, words, 0));
     if may_stand(place, first) {
         line_in(alloc, form, first, text, words)
     } else {

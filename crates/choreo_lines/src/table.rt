@@ -1,10 +1,14 @@
 //! The table of lines: what each line wants in its places, and where it may stand (docs/LANGUAGE.md, "Lines, words and
 //! numbers").
 
-ghost use Rattle.std.specs.Prelude.{◌≡◌, ◌≤◌, length};
+ghost use Rattle.std.specs.Prelude.{◌≡◌, ◌≤◌, length, map};
+ghost use Rattle.choreo_lines.specs.FirstWord.{keyword_of};
+ghost use Rattle.choreo_lines.specs.Steps.{act_among};
 ghost use Rattle.choreo_lines.specs.Table as spec;
+ghost use Rattle.choreo_lines.specs.declared.line.Place.TheVariants.{InCue, InFigureCue};
 
 use crate::line::{Keyword, Place};
+use crate::word::keyword;
 use choreo_show::{Ease, Mirror, Name};
 use fleet_math::MOST_DRONES;
 use quantities::Counts;
@@ -155,31 +159,35 @@ pub fn names(first: Keyword) -> usize
     }
 }
 
+const ACTS: [(&[u8], ActWord); 9] = [
+    (b"hold", ActWord::Hold),
+    (b"line", ActWord::Line),
+    (b"move", ActWord::Move),
+    (b"turn", ActWord::Turn),
+    (b"arc", ActWord::Arc),
+    (b"curve", ActWord::Curve),
+    (b"swing", ActWord::Eased(Ease::InOut)),
+    (b"arc_in", ActWord::Eased(Ease::In)),
+    (b"arc_out", ActWord::Eased(Ease::Out)),
+];
+
+fn act_among(mut words: &[(&[u8], ActWord)], word: &[u8]) -> Option<ActWord>
+    ensures { result ≡ act_among (map (λ w. (w.0.now, w.1)) words.entry.now) word.now }
+{
+    while let [entry, rest @ ..] = words {
+        if word == entry.0 {
+            return Some(entry.1);
+        }
+        words = rest;
+    }
+    None
+}
+
 /// The act of this word.
 pub fn act_word(word: &[u8]) -> Option<ActWord>
     ensures { result ≡ spec.act_of word.now }
 {
-    if word == b"hold".as_slice() {
-        Some(ActWord::Hold)
-    } else if word == b"line".as_slice() {
-        Some(ActWord::Line)
-    } else if word == b"move".as_slice() {
-        Some(ActWord::Move)
-    } else if word == b"turn".as_slice() {
-        Some(ActWord::Turn)
-    } else if word == b"arc".as_slice() {
-        Some(ActWord::Arc)
-    } else if word == b"curve".as_slice() {
-        Some(ActWord::Curve)
-    } else if word == b"swing".as_slice() {
-        Some(ActWord::Eased(Ease::InOut))
-    } else if word == b"arc_in".as_slice() {
-        Some(ActWord::Eased(Ease::In))
-    } else if word == b"arc_out".as_slice() {
-        Some(ActWord::Eased(Ease::Out))
-    } else {
-        None
-    }
+    act_among(&ACTS, word)
 }
 
 /// What the places after the word of an act want.
@@ -199,15 +207,37 @@ pub fn act_places(act: ActWord) -> &'static [Want]
     }
 }
 
-/// The first word as it is read at a place: in a cue all words are names, but for `end` and, outside figures, `form`.
-pub fn as_read(place: Place, first: Keyword) -> Keyword
-    ensures { result ≡ spec.as_read place first }
+fn first_in_cue(word: &[u8]) -> Keyword
+    ensures { result ≡ spec.as_read InCue (keyword_of word.now) }
 {
-    match (place, first) {
-        (Place::InCue, Keyword::End | Keyword::Form) => first,
-        (Place::InFigureCue, Keyword::End) => first,
-        (Place::InCue | Place::InFigureCue, _) => Keyword::Other,
-        _ => first,
+    if word == b"end".as_slice() {
+        Keyword::End
+    } else if word == b"form".as_slice() {
+        Keyword::Form
+    } else {
+        Keyword::Other
+    }
+}
+
+fn first_in_figure_cue(word: &[u8]) -> Keyword
+    ensures { result ≡ spec.as_read InFigureCue (keyword_of word.now) }
+{
+    if word == b"end".as_slice() {
+        Keyword::End
+    } else {
+        Keyword::Other
+    }
+}
+
+/// The first word as it is read at a place: in a cue all words are names, but for `end` and, outside figures, `form`.
+// Most lines of a show are acts in cues, whose first words are looked up in no table.
+pub fn first_at(place: Place, word: &[u8]) -> Keyword
+    ensures { result ≡ spec.as_read place (keyword_of word.now) }
+{
+    match place {
+        Place::InCue => first_in_cue(word),
+        Place::InFigureCue => first_in_figure_cue(word),
+        _ => keyword(word),
     }
 }
 

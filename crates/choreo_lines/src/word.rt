@@ -1,48 +1,49 @@
 //! Names, and first words.
 
-ghost use Rattle.std.specs.Prelude.{◌≡◌, ◌≤◌, length, IsTrue};
+ghost use Rattle.std.specs.Prelude.{◌≡◌, ◌≤◌, length, map, IsTrue};
 ghost use Rattle.std.specs.List.{list_all};
 ghost use Rattle.choreo_lines.specs.FirstWord.{keyword_of};
+ghost use Rattle.choreo_lines.specs.Steps.{keyword_among};
 ghost use Rattle.choreo_show.specs.Name.{is_name as is_name_of, goes_in_name as goes_in_name_of};
 ghost use Rattle.choreo_show.specs.Name.{begins_lower as begins_lower_of};
 
 use crate::line::Keyword;
 
+// The first words of lines that aren't acts.
+const KEYWORDS: [(&[u8], Keyword); 14] = [
+    (b"memory", Keyword::Memory),
+    (b"trajectory", Keyword::Trajectory),
+    (b"ellipsoid", Keyword::Ellipsoid),
+    (b"stray", Keyword::Stray),
+    (b"late", Keyword::Late),
+    (b"drone", Keyword::Drone),
+    (b"formation", Keyword::Formation),
+    (b"at", Keyword::At),
+    (b"figure", Keyword::Figure),
+    (b"cue", Keyword::Cue),
+    (b"repeat", Keyword::Repeat),
+    (b"perform", Keyword::Perform),
+    (b"form", Keyword::Form),
+    (b"end", Keyword::End),
+];
+
+fn keyword_among(mut words: &[(&[u8], Keyword)], word: &[u8]) -> Keyword
+    ensures { result ≡ keyword_among (map (λ w. (w.0.now, w.1)) words.entry.now) word.now }
+{
+    while let [entry, rest @ ..] = words {
+        if word == entry.0 {
+            return entry.1;
+        }
+        words = rest;
+    }
+    Keyword::Other
+}
+
 /// What the first word of a line is.
 pub fn keyword(word: &[u8]) -> Keyword
     ensures { result ≡ keyword_of word.now }
 {
-    if word == b"memory".as_slice() {
-        Keyword::Memory
-    } else if word == b"trajectory".as_slice() {
-        Keyword::Trajectory
-    } else if word == b"ellipsoid".as_slice() {
-        Keyword::Ellipsoid
-    } else if word == b"stray".as_slice() {
-        Keyword::Stray
-    } else if word == b"late".as_slice() {
-        Keyword::Late
-    } else if word == b"drone".as_slice() {
-        Keyword::Drone
-    } else if word == b"formation".as_slice() {
-        Keyword::Formation
-    } else if word == b"at".as_slice() {
-        Keyword::At
-    } else if word == b"figure".as_slice() {
-        Keyword::Figure
-    } else if word == b"cue".as_slice() {
-        Keyword::Cue
-    } else if word == b"repeat".as_slice() {
-        Keyword::Repeat
-    } else if word == b"perform".as_slice() {
-        Keyword::Perform
-    } else if word == b"form".as_slice() {
-        Keyword::Form
-    } else if word == b"end".as_slice() {
-        Keyword::End
-    } else {
-        Keyword::Other
-    }
+    keyword_among(&KEYWORDS, word)
 }
 
 fn goes_in_name(byte: u8) -> bool

@@ -1,10 +1,12 @@
 -- How far the numbers of points and acts are from 0.
-use Rattle.figure_expand.proofs.Prelude.{common_steps, ◌≡◌, ℕ, zero, suc, ◌+◌, ◌*◌, ◌^◌, ◌<◌, ◌≤◌, Bool, true, false, ℤ, pos, ◌+ℤ◌, ◌-ℤ◌, List, [], ◌∷◌, length, get_or, to_z, of_z, w64, arith, refl, sym, ap, subst, All, ints, to_z-of_z, All-nil, All-cons, All-get_or, All-tail, at, Point, Act, DroneLine, FitsFrame, FitsPoint, FitsCoordinate, FitsAct, Job, Cue, mirrored, turned_once, turned, IsUpTo, IsPointUpTo, IsShiftUpTo, FitsJob, FitJobs, FitsCue, FitCues, act_in, act_of, end_of, start_points, points_after, FitsYaw, FitsTriple, IsActUpTo, reach, AreInReach}
+use Rattle.figure_expand.proofs.Prelude.{common_steps, ◌≡◌, ℕ, zero, suc, ◌+◌, ◌*◌, ◌^◌, ◌<◌, ◌≤◌, Bool, true, false, ℤ, pos, ◌+ℤ◌, ◌-ℤ◌, List, [], ◌∷◌, length, get_or, to_z, of_z, w64, arith, refl, sym, ap, subst, ◌∙◌, All, ints, to_z-of_z, All-nil, All-cons, All-get_or, All-tail, at, Point, Act, DroneLine, FitsFrame, FitsPoint, FitsCoordinate, FitsAct, Job, Cue, mirrored, turned_once, turned, IsUpTo, IsPointUpTo, IsShiftUpTo, FitsJob, FitJobs, FitsCue, FitCues, act_in, act_of, end_of, start_points, points_after, FitsYaw, FitsTriple, IsActUpTo, reach, AreInReach}
 use Rattle.fleet_math.specs.Limits.{most_cues}
 use Rattle.choreo_show.specs.declared.parts.Frame.{Frame}
 use Rattle.choreo_show.specs.declared.parts.Mirror.{Mirror}
 use Rattle.choreo_show.specs.declared.parts.Mirror.TheVariants as mirror
 use Rattle.choreo_show.specs.declared.parts.Act.TheVariants as act
+use Rattle.choreo_show.specs.declared.parts.Ease.{Ease}
+use Rattle.figure_expand.specs.Acts.{arc_points, eased_points}
 use Rattle.figure_expand.proofs.Eased.{ends_as_arc}
 
 -- ---- the points of a show
@@ -177,6 +179,35 @@ length-points_after (p ∷ points) (j ∷ jobs) many = ap suc (length-points_aft
 -- a number kept in 64 bits
 pub kept : (x : ℤ) → IsUpTo (2 ^ 43) x → to_z w64 (of_z w64 x) ≡ x
 kept x small = to_z-of_z w64 x (omega (arith, ints, small.0, small.1))
+
+-- which is as small as before
+pub held : (n : ℕ) (x : ℤ) → n ≤ 2 ^ 43 → IsUpTo n x → IsUpTo n (to_z w64 (of_z w64 x))
+held n x few small = subst (IsUpTo n) (sym (kept x (wider n (2 ^ 43) x few small))) small
+
+-- a coordinate and a yaw of a show, kept in 64 bits
+pub coordinate_held : (x : ℤ) → FitsCoordinate x → FitsCoordinate (to_z w64 (of_z w64 x))
+coordinate_held x fits = subst FitsCoordinate (sym (to_z-of_z w64 x (omega (arith, ints, fits.0, fits.1)))) fits
+
+pub yaw_held : (yaw : ℤ) → FitsYaw yaw → FitsYaw (to_z w64 (of_z w64 yaw))
+yaw_held yaw fits = subst FitsYaw (sym (to_z-of_z w64 yaw (omega (arith, ints, fits.0, fits.1)))) fits
+
+-- the way from a centre to the present value
+pub way_told : (present centre v : ℤ) → IsUpTo (2 ^ 40) present → IsUpTo (2 ^ 28) centre → IsUpTo (2 ^ 41) v
+    → v ≡ to_z w64 (of_z w64 present) -ℤ to_z w64 (of_z w64 centre) → to_z w64 (of_z w64 v) ≡ present -ℤ centre
+way_told present centre v p c small is =
+    kept v (wider (2 ^ 41) (2 ^ 43) v (omega arith) small) ∙ is
+    ∙ ap (λ (z : ℤ). z -ℤ to_z w64 (of_z w64 centre)) (kept present (wider (2 ^ 40) (2 ^ 43) present (omega arith) p))
+    ∙ ap (λ (z : ℤ). present -ℤ z) (kept centre (wider (2 ^ 28) (2 ^ 43) centre (omega arith) c))
+
+-- a number by a sense, of one that is kept
+pub sense_kept : (f : ℤ → ℤ) (x v w : ℤ) → IsUpTo (2 ^ 41) w → w ≡ f (to_z w64 (of_z w64 v)) → to_z w64 (of_z w64 v) ≡ x → to_z w64 (of_z w64 w) ≡ f x
+sense_kept f x v w small is told = kept w (wider (2 ^ 41) (2 ^ 43) w (omega arith) small) ∙ is ∙ ap f told
+
+pub same_arc : (p p' c c' v v' w w' : ℤ) → p ≡ p' → c ≡ c' → v ≡ v' → w ≡ w' → arc_points p c v w ≡ arc_points p' c' v' w'
+same_arc p p' c c' v v' w w' e f g h = rw (e, f, g, h) refl
+
+pub same_eased : (how : Ease) (c c' v v' w w' : ℤ) → c ≡ c' → v ≡ v' → w ≡ w' → eased_points how c v w ≡ eased_points how c' v' w'
+same_eased how c c' v v' w w' f g h = rw (f, g, h) refl
 
 -- the four points of an arc, as they are kept in 64 bits
 pub arc_kept : (present centre w first second : ℤ) → IsUpTo (2 ^ 40) present → IsUpTo (2 ^ 28) centre → IsUpTo (2 ^ 41) w → IsUpTo (2 ^ 41) first → IsUpTo (2 ^ 41) second →

@@ -1,7 +1,10 @@
 -- An element is the curve of its control values.
-use Rattle.mm_rounding.proofs.Prelude.{get_or, ◌≡◌, ℕ, zero, suc, ◌<◌, ◌≤◌, Bool, true, false, cond, ◌&&◌, Some, None, if◌then◌else◌, nat_le, ℤ, pos, List, [], ◌∷◌, map, length, arith, refl, sym, ap, ◌∙◌, subst, list_all, All, by_lt, at, IsNear, Constant, Linear, Cubic, Seven, millimetres, is_short, short, shorts, controls, first_control, rounded, all_equal, after_first, element_of, fits, fitted, axis_on, segment_of, IsAxis, position, KeepsNear, KeepsEqual, last_control, EndsThere, IsPiece, StaysNear}
+use Rattle.mm_rounding.proofs.Prelude.{get_or, ◌≡◌, ℕ, zero, suc, ◌<◌, ◌≤◌, Bool, true, false, cond, ◌&&◌, Some, None, if◌then◌else◌, nat_le, ℤ, pos, List, [], ◌∷◌, map, length, arith, refl, sym, ap, ◌∙◌, subst, take, list_all, All, by_lt, at, IsNear, Constant, Linear, Cubic, Seven, millimetres, is_short, short, shorts, controls, first_control, rounded, all_equal, after_first, element_of, fits, fitted, axis_on, segment_of, IsAxis, position, KeepsNear, KeepsEqual, last_control, EndsThere, IsPiece, StaysNear}
 use Rattle.std.specs.Ordering.{int_eq}
+use Rattle.std.proofs.Common.{set}
+use Rattle.std.proofs.lemmas.Bool.{and_parts}
 use Rattle.std.proofs.lemmas.Bool.Decides.{Decides-int_eq, nat_tests}
+use Rattle.std.proofs.lemmas.List.{take_all}
 use Rattle.std.proofs.lemmas.List.Elements.{All-get_or}
 use Rattle.fleet_math.specs.Decoded.{last_value}
 use Rattle.traj_codec.specs.declared.traj.Element.{Element}
@@ -123,15 +126,43 @@ unfitted : (axis : Axis) → None ≡ fitted axis → fits axis ≡ false
 unfitted axis is = unfit (fits axis) (element_of axis) is
 
 -- a number that does not fit leaves nothing of all of them
-pub one_unfitted : (v : List ℤ) (k : ℕ) → k < length v → None ≡ short (millimetres (at v k)) → None ≡ shorts (map millimetres v)
+pub one_unfitted : (zs : List ℤ) (k : ℕ) → k < length zs → None ≡ short (at zs k) → None ≡ shorts zs
 one_unfitted [] k small is = absurd (omega arith)
-one_unfitted (z ∷ v) zero small is = rw (unfit (is_short (millimetres z)) (millimetres z) is) refl
-one_unfitted (z ∷ v) (suc k) small is =
-    rw (unfit (list_all is_short (map millimetres v)) (map millimetres v) (one_unfitted v k (omega arith) is)) (neither (is_short (millimetres z)) (map millimetres (z ∷ v)))
+one_unfitted (z ∷ zs) zero small is = rw (unfit (is_short z) z is) refl
+one_unfitted (z ∷ zs) (suc k) small is =
+    rw (unfit (list_all is_short zs) zs (one_unfitted zs k (omega arith) is)) (neither (is_short z) (z ∷ zs))
   where
     neither : (b : Bool) (x : List ℤ) → None ≡ cond (b && false) (Some x) None
     neither true x = refl
     neither false x = refl
+
+-- a number that comes fits, and is the one that was given
+short_is : (b : Bool) (z n : ℤ) → Some n ≡ cond b (Some z) None → (b ≡ true) × (n ≡ z)
+short_is true z n is = (refl, cc)
+short_is false z n is = absurd (cc)
+
+-- one number more that fits, and is kept
+pub one_more : (row zs : List ℤ) (k : ℕ) (m n : ℤ) → m ≡ n → k < length row → k < length zs → Some n ≡ short (at zs k)
+    → list_all is_short (take k zs) ≡ true → take k row ≡ take k zs → (list_all is_short (take (suc k) zs) ≡ true) × (take (suc k) (set row k m) ≡ take (suc k) zs)
+one_more [] zs k m n is within also said fit done = absurd (omega arith)
+one_more (r ∷ row) [] k m n is within also said fit done = absurd (omega arith)
+one_more (r ∷ row) (z ∷ zs) zero m n is within also said fit done =
+    let it = short_is (is_short z) z n said in
+    (rw it.0 refl, ap (λ (x : ℤ). x ∷ []) (is ∙ it.1))
+one_more (r ∷ row) (z ∷ zs) (suc k) m n is within also said fit done =
+    let parts = and_parts (is_short z) (list_all is_short (take k zs)) fit in
+    let tails : take k row ≡ take k zs = ap after_first done in
+    let more = one_more row zs k m n is (omega arith) (omega arith) said parts.1 tails in
+    (rw parts.0 more.0, heads r z (take (suc k) (set row k m)) (take (suc k) zs) (ap (λ (xs : List ℤ). at xs 0) done) more.1)
+  where
+    heads : (a b : ℤ) (xs ys : List ℤ) → a ≡ b → xs ≡ ys → a ∷ xs ≡ b ∷ ys
+    heads a b xs ys e f = cc
+
+-- all numbers
+pub all_kept : (row zs : List ℤ) (k : ℕ) → length row ≤ k → length zs ≤ k → list_all is_short (take k zs) ≡ true → take k row ≡ take k zs → Some row ≡ shorts zs
+all_kept row zs k whole also fit done =
+    let all : list_all is_short zs ≡ true = ap (λ (xs : List ℤ). list_all is_short xs) (sym (take_all k zs also)) ∙ fit in
+    rw all (ap (λ (xs : List ℤ). Some xs) (sym (take_all k row whole) ∙ done ∙ take_all k zs also))
 
 some_time : (ms : ℕ) → (ms ≡ 0 → ⊥) → nat_le 1 ms ≡ true
 some_time zero some = absurd (some refl)

@@ -1,5 +1,5 @@
 -- The phase that an upload is in, and whether all is acknowledged.
-use Rattle.upload_core.proofs.Prelude.{common_steps, ◌≡◌, ℕ, ◌<◌, Bool, true, false, not, cond, ◌==◌, List, [], length, refl, ap, sym, subst, ◌∙◌, arith, inl, inr, range_with_len, list_all, cases_lt, false≢true, false_from_ne_true, Phase, Loading, Reading, Starting, Upload, drone_count, load_count, start_number, packet_count, first_of, count_of, Packets, all_settled, phase_of, all_packets, Settled-from, all_packets-each, all_settled-agree, Row, marked, IsBegun, RowsStand}
+use Rattle.upload_core.proofs.Prelude.{common_steps, ◌≡◌, ℕ, ◌<◌, Bool, true, false, not, cond, ◌==◌, List, length, refl, ap, sym, subst, ◌∙◌, arith, inl, inr, range_with_len, list_all, cases_lt, false≢true, false_from_ne_true, Phase, Loading, Reading, Starting, Upload, drone_count, load_count, start_number, packet_count, first_of, count_of, Packets, all_settled, phase_of, all_packets, Settled-from, all_packets-each, all_settled-agree, Row, marked, IsBegun, RowsStand}
 use Rattle.upload_core.proofs.Staying.{settled-more}
 use Rattle.upload_core.proofs.Windows.{all-settled, list_all-true, not-settled, empty-all, some-window}
 use Rattle.upload_core.proofs.Standing.{list_all-packets_agree}

@@ -1,5 +1,5 @@
 -- Why `pass_instant` keeps its contract.
-use Rattle.integer_player.proofs.Prelude.{◌∙◌, get_or, ap, sym, subst, arith, rules, length-set, Traj, IsPlaceIn, played}
+use Rattle.integer_player.proofs.Prelude.{◌∙◌, get_or, ap, sym, subst, arith, length-set, Traj, IsPlaceIn, played}
 use Rattle.integer_player.proofs.ShowLemmas.{fails-with, places-at, places-set, row-same, row-passes, row-fails}
 use Rattle.integer_player.proofs.show.pass_instant.Goals as goal
 

@@ -5,6 +5,6 @@ use Rattle.mm_rounding.proofs.rounding.short_millimetres.Given as goal
 abbrev pub invariant-loop-k : goal.invariant-loop-k
 invariant-loop-k g l = record {
   same_length : length l.row ≡ g.row.N;
-  fit : list_all is_short (map millimetres (take l.k l.v)) ≡ true;
-  done : take l.k l.row ≡ map millimetres (take l.k l.v);
+  fit : list_all is_short (take l.k (map millimetres l.v)) ≡ true;
+  done : take l.k l.row ≡ take l.k (map millimetres l.v);
 }

@@ -1,0 +1,39 @@
+use Rattle.figure_expand.proofs.Prelude.{◌≡◌, ℤ, ◌^◌, ◌-ℤ◌, to_z, of_z, w64, arith, ◌∙◌, cond}
+use Rattle.std.specs.Prelude.{neg_ℤ}
+use Rattle.figure_expand.proofs.Reach.{held, kept, same_eased, sense_kept, way_told, wider}
+use Rattle.figure_expand.proofs.shapes.eased_y.Goals as goal
+
+pub way-vx-requires-clause-present : goal.way-vx-requires-clause-present
+way-vx-requires-clause-present c = held (2 ^ 40) c.args.p.now.x (omega arith) c.requires.point.x
+
+pub way-vx-requires-clause-centre : goal.way-vx-requires-clause-centre
+way-vx-requires-clause-centre c = held (2 ^ 28) c.args.cx (omega arith) c.requires.x
+
+pub way-vy-requires-clause-present : goal.way-vy-requires-clause-present
+way-vy-requires-clause-present c = held (2 ^ 40) c.args.p.now.y (omega arith) c.requires.point.y
+
+pub way-vy-requires-clause-centre : goal.way-vy-requires-clause-centre
+way-vy-requires-clause-centre c = held (2 ^ 28) c.args.cy (omega arith) c.requires.y
+
+pub end_y-requires-clause-x : goal.end_y-requires-clause-x
+end_y-requires-clause-x c = held (2 ^ 41) c.way-vx.result (omega arith) c.way-vx.ensures.small
+
+pub end_y-requires-clause-y : goal.end_y-requires-clause-y
+end_y-requires-clause-y c = held (2 ^ 41) c.way-vy.result (omega arith) c.way-vy.ensures.small
+
+pub eased_points-requires-clause-centre : goal.eased_points-requires-clause-centre
+eased_points-requires-clause-centre c = held (2 ^ 28) c.args.cy (omega arith) c.requires.y
+
+pub eased_points-requires-clause-v : goal.eased_points-requires-clause-v
+eased_points-requires-clause-v c = held (2 ^ 41) c.way-vy.result (omega arith) c.way-vy.ensures.small
+
+pub eased_points-requires-clause-w : goal.eased_points-requires-clause-w
+eased_points-requires-clause-w c = held (2 ^ 41) c.end_y.result (omega arith) c.end_y.ensures.small
+
+pub returns : goal.returns
+returns c =
+    let p = c.args.p.now in
+    let vx : to_z w64 (of_z w64 c.way-vx.result) ≡ p.x -ℤ c.args.cx = way_told p.x c.args.cx c.way-vx.result c.requires.point.x c.requires.x c.way-vx.ensures.small c.way-vx.ensures.value in
+    let vy : to_z w64 (of_z w64 c.way-vy.result) ≡ p.y -ℤ c.args.cy = way_told p.y c.args.cy c.way-vy.result c.requires.point.y c.requires.y c.way-vy.ensures.small c.way-vy.ensures.value in
+    let w = sense_kept (λ (z : ℤ). cond c.args.ccw z (neg_ℤ z)) (p.x -ℤ c.args.cx) c.way-vx.result c.end_y.result c.end_y.ensures.small c.end_y.ensures.value vx in
+    c.eased_points.ensures ∙ same_eased c.args.ease _ _ _ _ _ _ (kept c.args.cy (wider (2 ^ 28) (2 ^ 43) c.args.cy (omega arith) c.requires.y)) vy w
