@@ -1,5 +1,5 @@
 -- A show of one drone, explained.
-use Rattle.std.proofs.Common.{◌≡◌, ℕ, zero, suc, pos, List, [], ◌∷◌, Option, None, Some, codes, ap, get_or, length, arith, refl, subst, ◌∙◌, slice_get}
+use Rattle.std.proofs.Common.{◌≡◌, ℕ, zero, suc, pos, false, List, [], ◌∷◌, Option, None, Some, codes, ap, get_or, length, arith, refl, subst, ◌∙◌, slice_get}
 use Rattle.std.specs.Prelude.{MatchOption}
 use Rattle.std.proofs.lemmas.List.Elements.{All-cons, All-nil}
 use Rattle.fleet_curves.specs.Raised.{raised_of}
@@ -71,13 +71,13 @@ lone x r h stray late = λ a b t u other first second. absurd (no_two x t u a b 
 no_touch : (x : Traj) (r h fine : ℕ) → NoTouch (x ∷ []) r h fine
 no_touch x r h fine = λ s is. let low = is.pair in let high = is.drone in absurd (omega (arith, low, high))
 
-alone : TellsTouches 6 5 solo_text (Some []) (Some (line_of (codes "separated")))
+alone : TellsTouches 6 5 false solo_text (Some []) (Some (line_of (codes "separated")))
 unfolding raised_of slots expanded
 alone = record {
   s = solo;
   text = line_of (codes "separated");
   stands = solo_stands;
-  explains = record { closest = None; touch = None; is_closest = refl; is_first = no_touch _ 120 300 5; is = refl };
+  explains = record { closest = None; touch = None; separation = line_of (codes "separated"); is_closest = refl; is_first = no_touch _ 120 300 5; says = refl; is = refl };
   apart = λ blocked. lone _ 120 300 0 0;
   written = refl;
 }
@@ -88,17 +88,17 @@ is_none x r h fine None is = refl
 is_none x r h fine (Some c) is = let low = is.among.pair in let high = is.among.drone in absurd (omega (arith, low, high))
 
 -- so one text explains the show
-one_text : (text : List ℕ) → Explains 6 5 solo text → text ≡ line_of (codes "separated")
+one_text : (text : List ℕ) → Explains 6 5 false solo text → text ≡ line_of (codes "separated")
 unfolding raised_of slots expanded
-one_text text explains = rw (is_none _ 120 300 5 explains.closest explains.is_closest) at explains.is
+one_text text explains = rw (explains.says, is_none _ 120 300 5 explains.closest explains.is_closest) at explains.is
 
-text_is : ShowLaw → (new : List ℕ) → TellsTouches 6 5 solo_text (Some []) (Some new) → new ≡ line_of (codes "separated")
+text_is : ShowLaw → (new : List ℕ) → TellsTouches 6 5 false solo_text (Some []) (Some new) → new ≡ line_of (codes "separated")
 text_is law new tells =
     let same : tells.s ≡ solo = law.one solo_text tells.s solo tells.stands solo_stands in
     let written : new ≡ tells.text = tells.written in
-    written ∙ one_text tells.text (subst (λ (s : PlainShow). Explains 6 5 s tells.text) same tells.explains)
+    written ∙ one_text tells.text (subst (λ (s : PlainShow). Explains 6 5 false s tells.text) same tells.explains)
 
-none_of_nobody : (text : List ℕ) → Explains 6 5 (nobody 0) text → ⊥
+none_of_nobody : (text : List ℕ) → Explains 6 5 false (nobody 0) text → ⊥
 unfolding expanded
 none_of_nobody text explains = by explains.closest explains.is_closest where
   by : (c : Option Closest) → MatchOption c (length (trajectories_of (nobody 0)) ≡ 1) (IsClosest (trajectories_of (nobody 0)) 120 300 5) → ⊥
@@ -114,8 +114,8 @@ explains law = record {
       let letters : ◌≡◌ {A = ℕ} 0 99 = begins_so [] tells.s tells.stands in absurd (omega (arith, letters));
   no_drone = λ old new tells.
       let same : tells.s ≡ nobody 0 = law.one (line_of (codes "choreo 1")) tells.s (nobody 0) tells.stands nobody_stands in
-      none_of_nobody tells.text (subst (λ (s : PlainShow). Explains 6 5 s tells.text) same tells.explains);
-  apart = λ depth fine input s old new stands tells none.
+      none_of_nobody tells.text (subst (λ (s : PlainShow). Explains 6 5 false s tells.text) same tells.explains);
+  apart = λ depth fine all input s old new stands tells none.
       let same : tells.s ≡ s = law.one input tells.s s tells.stands stands in
       (subst (λ (x : PlainShow). blocked_of depth x ≡ None → FlyApart x.settings (sent_of x)) same tells.apart) none;
 }

@@ -32,6 +32,8 @@ pub mod BlockedRows
 pub mod CalledRows
 pub mod RunRows
 pub mod OptionRows
+pub mod SmallRows
+pub mod LegRows
 pub mod RadiusCoefficients
 pub mod RadiusHalves
 pub mod Radii

@@ -38,6 +38,7 @@ options = record {
   plain_report = refl;
   plain_verify = refl;
   plain_boxes = refl;
+  plain_explain = refl;
   plain_help = refl;
   plain_rehearse = refl;
 }

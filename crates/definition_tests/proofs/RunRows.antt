@@ -264,5 +264,5 @@ says_of = record {
   fast = fast;
   no_speeds = λ old new is. no_show is.s is.stands;
   too_fast = λ input old new is are. fast_fleet _ are is.keeps;
-  explained = λ s text is. let e : ◌≡◌ {A = ℕ} 5 0 = is.0 in omega (arith, e);
+  explained = λ all s text is. let e : ◌≡◌ {A = ℕ} 5 0 = is.0 in omega (arith, e);
 }

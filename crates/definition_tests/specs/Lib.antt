@@ -29,4 +29,6 @@ pub mod Blocked
 pub mod Called
 pub mod Runs
 pub mod Options
+pub mod Small
+pub mod Legs
 pub mod Radius

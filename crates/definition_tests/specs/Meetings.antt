@@ -1,5 +1,5 @@
 -- What the definitions of touches, and of what explains a show, say of small flights.
-use Rattle.std.specs.Prelude.{◌≡◌, ℕ, pos, List, [], ◌∷◌, ◌++◌, codes, Option, None, Some}
+use Rattle.std.specs.Prelude.{◌≡◌, ℕ, pos, Bool, false, List, [], ◌∷◌, ◌++◌, codes, Option, None, Some}
 use Rattle.traj_codec.specs.declared.traj.Traj.{Traj}
 use Rattle.touch_witness.specs.declared.site.Closest.{Closest}
 use Rattle.touch_witness.specs.declared.site.Touch.{Touch}
@@ -59,12 +59,13 @@ solo = record (nobody 0) {
 -- A show of one drone is explained by one line, and by no other text. A text that isn't a show is not explained, nor
 -- one of no drone. Where it is said that no part is blocked, the drones of the show fly apart.
 pub record ExplainRows : Type 0 where
-  pub alone : TellsTouches 6 5 solo_text (Some []) (Some (line_of (codes "separated")))
-  pub unwritten : TellsTouches 6 5 solo_text (Some []) (Some []) → ⊥
+  pub alone : TellsTouches 6 5 false solo_text (Some []) (Some (line_of (codes "separated")))
+  pub unwritten : TellsTouches 6 5 false solo_text (Some []) (Some []) → ⊥
   pub touching :
-      TellsTouches 6 5 solo_text (Some [])
+      TellsTouches 6 5 false solo_text (Some [])
       (Some (line_of (codes "separated") ++ line_of (codes "touch pair a a cue 1 at 0 of 32"))) → ⊥
-  pub no_show : (old new : Option (List ℕ)) → TellsTouches 6 5 [] old new → ⊥
-  pub no_drone : (old new : Option (List ℕ)) → TellsTouches 6 5 (line_of (codes "choreo 1")) old new → ⊥
-  pub apart : (depth fine : ℕ) (input : List ℕ) (s : PlainShow) (old new : Option (List ℕ)) → StandsFor input s →
-      TellsTouches depth fine input old new → blocked_of depth s ≡ None → FlyApart s.settings (sent_of s)
+  pub no_show : (old new : Option (List ℕ)) → TellsTouches 6 5 false [] old new → ⊥
+  pub no_drone : (old new : Option (List ℕ)) → TellsTouches 6 5 false (line_of (codes "choreo 1")) old new → ⊥
+  pub apart : (depth fine : ℕ) (all : Bool) (input : List ℕ) (s : PlainShow) (old new : Option (List ℕ)) →
+      StandsFor input s → TellsTouches depth fine all input old new → blocked_of depth s ≡ None →
+      FlyApart s.settings (sent_of s)

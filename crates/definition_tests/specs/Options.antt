@@ -12,8 +12,8 @@ pub record OptionRows : Type 0 where
   pub step_least : command_of (codes "play" ∷ codes "--step" ∷ codes "1" ∷ []) ≡ Some (Play 6 1)
   pub step_most : command_of (codes "play" ∷ codes "--step" ∷ codes "60000" ∷ []) ≡ Some (Play 6 60000)
   pub no_step : command_of (codes "play" ∷ codes "--step" ∷ codes "0" ∷ []) ≡ None
-  pub fine_least : command_of (codes "explain" ∷ codes "--fine" ∷ codes "0" ∷ []) ≡ Some (Explain 6 0)
-  pub fine_most : command_of (codes "explain" ∷ codes "--fine" ∷ codes "5" ∷ []) ≡ Some (Explain 6 5)
+  pub fine_least : command_of (codes "explain" ∷ codes "--fine" ∷ codes "0" ∷ []) ≡ Some (Explain 6 0 false)
+  pub fine_most : command_of (codes "explain" ∷ codes "--fine" ∷ codes "5" ∷ []) ≡ Some (Explain 6 5 false)
   pub limit_least : command_of (codes "speed" ∷ codes "--limit" ∷ codes "1" ∷ []) ≡ Some (Speed 6 (Some 1))
   pub limit_most : command_of (codes "speed" ∷ codes "--limit" ∷ codes "999999999" ∷ []) ≡
       Some (Speed 6 (Some 999999999))
@@ -44,5 +44,6 @@ pub record OptionRows : Type 0 where
   pub plain_report : command_of (codes "report" ∷ []) ≡ Some (Report 6)
   pub plain_verify : command_of (codes "verify" ∷ []) ≡ Some Verify
   pub plain_boxes : command_of (codes "boxes" ∷ []) ≡ Some (Boxes 6)
+  pub plain_explain : command_of (codes "explain" ∷ []) ≡ Some (Explain 6 5 false)
   pub plain_help : command_of (codes "help" ∷ []) ≡ Some Help
   pub plain_rehearse : command_of (codes "rehearse" ∷ []) ≡ Some (Rehearse 6 false false)

@@ -1,5 +1,5 @@
 -- What the definitions of a run say of small ones.
-use Rattle.std.specs.Prelude.{◌≡◌, ℕ, true, List, [], ◌∷◌, ◌++◌, codes, pos, Option, Some, None}
+use Rattle.std.specs.Prelude.{◌≡◌, ℕ, Bool, true, List, [], ◌∷◌, ◌++◌, codes, pos, Option, Some, None}
 use Rattle.traj_codec.specs.declared.traj.Traj.{Traj}
 use Rattle.choreo_show.specs.Plain.{PlainShow}
 use Rattle.fleet_io.specs.Causes.{Rose}
@@ -173,4 +173,4 @@ pub record SaysRows : Type 0 where
   pub no_speeds : (old new : Option (List ℕ)) → KeepsSpeeds None 0 no_text old new → ⊥
   pub too_fast : (input : List ℕ) (old new : Option (List ℕ)) (is : KeepsSpeeds (Some 99999) 0 input old new) →
       sent_of is.s ≡ flight (pos 0) (pos 1) ∷ [] → ⊥
-  pub explained : (s : PlainShow) (text : List ℕ) → ExplainGives 0 0 s (outcome 5 text) → ⊥
+  pub explained : (all : Bool) (s : PlainShow) (text : List ℕ) → ExplainGives 0 0 all s (outcome 5 text) → ⊥

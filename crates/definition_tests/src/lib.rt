@@ -18,6 +18,7 @@ ghost use Rattle.definition_tests.specs.Grids.{CountRows, NamingRows};
 ghost use Rattle.definition_tests.specs.Headlines.{HeadlineRows, WrittenRows};
 ghost use Rattle.definition_tests.specs.Items.{ItemRows, SingleRows};
 ghost use Rattle.definition_tests.specs.Joined.{JoinedRows};
+ghost use Rattle.definition_tests.specs.Legs.{LegRows};
 ghost use Rattle.definition_tests.specs.Motion.{AccelerationRows, GreatestRows, JumpRows, SpeedRows, WithinRows};
 ghost use Rattle.definition_tests.specs.Halves.{HalfRows};
 ghost use Rattle.definition_tests.specs.Meetings.{ExplainRows, MeetRows};
@@ -31,6 +32,7 @@ ghost use Rattle.definition_tests.specs.Rights.{RightRows};
 ghost use Rattle.definition_tests.specs.Runs.{BegunRows, BehavesRows, OutcomeRows, RunsRows, SaysRows, TakenRows, VerbRows};
 ghost use Rattle.definition_tests.specs.Shapes.{FigureRows, FilledRows, NestingRows};
 ghost use Rattle.definition_tests.specs.Shows.{CueRows, PlanRows, WholeRows};
+ghost use Rattle.definition_tests.specs.Small.{SmallRows};
 ghost use Rattle.definition_tests.specs.Stands.{StandsRows};
 ghost use Rattle.definition_tests.specs.Stored.{LandedRows, UploadRows};
 ghost use Rattle.definition_tests.specs.Texts.{BlockRows, LimitRows, TwiceRows};
@@ -453,6 +455,18 @@ pub fn says_rows()
 #[tactic(auto, using(crate::proofs::OptionRows::options))]
 pub fn option_rows()
     ensures { OptionRows }
+{}
+
+/// A law. The legs of a flight and its end, at the value beside which a weaker definition answers otherwise.
+#[tactic(auto, using(crate::proofs::LegRows::legs))]
+pub fn leg_rows()
+    ensures { LegRows }
+{}
+
+/// A law. Small definitions, each at the value beside which a weaker one answers otherwise.
+#[tactic(auto, using(crate::proofs::SmallRows::small))]
+pub fn small_rows()
+    ensures { SmallRows }
 {}
 
 /// A law. At every instant `arc` is 1 to 1.00028 radii away from its centre, `swing` 0.99906 to 1.00094, and `arc_in`
