@@ -73,7 +73,8 @@ SAID = [
     ("01 00 01 e8 03 d0 07 00 00", To(0, Order(director.RISE, (1000,), 2000))),
     ("01 01 02 d0 07 ff ff e8 03 7c fc 70 11 01 00", To(1, Order(director.GO_TO, (2000, -1, 1000, -900), 70000))),
     ("01 01 03 00 00 a0 0f 00 00", To(1, Order(director.SINK, (0,), 4000))),
-    ("02 04", To(None, Order(director.START))),
+    ("02 04 01", To(None, Order(director.START, group=1))),
+    ("01 02 07 01", To(2, Order(director.GROUP, group=1))),
     ("02 05", To(None, Order(director.HALT))),
     ("03 01 04", Noted(1, director.LATE)),
     ("04 03", Over(True, True)),
@@ -95,6 +96,8 @@ CAUSES = [
     ((7, 0, 0, 0), "a cause 7"),
     ((1, 9, 9, 0), "a drone cause 1"),
 ]
+GROUPED = To(0, Order(director.GROUP, group=1))
+START = To(None, Order(director.START, group=1))
 RUNS = flights.Flights(3, FLIGHTS)
 begun, forget, setUpModule = RUNS.begun, RUNS.forget, RUNS.set_up
 
@@ -156,8 +159,9 @@ class Process(unittest.TestCase):
             return director.sample(0, 0, [0, 0, z], flags | director.SURE)
         ready, armed, down = director.READY, director.ARMED | director.READY, director.DOWN
         go, clock = director.signal(director.GO), director.clock_frames
-        up = [at(0, ready | down), go, at(0, armed | down), clock(2000), at(1000, armed), clock(1000), at(1000, armed), go]
-        risen = [To(0, Order(director.ARM)), To(0, Order(director.RISE, (1000,), 2000)), To(None, Order(director.START))]
+        pad = [at(0, ready | down), director.answer(0, 0)]
+        up = [*pad, go, at(0, armed | down), clock(2000), at(1000, armed), clock(1000), at(1000, armed), go]
+        risen = [GROUPED, To(0, Order(director.ARM)), To(0, Order(director.RISE, (1000,), 2000)), START]
         show = [clock(500), at(1000, armed), clock(500), at(1000, armed), clock(2500), at(0, armed | down), clock(1000),
                 at(0, armed | down), at(0, down)]
         flown = [To(0, Order(director.SINK, (0,), 2500)), To(None, Order(director.DISARM)), Over(True, True), Ended(0)]
@@ -174,11 +178,19 @@ class Process(unittest.TestCase):
             return director.sample(0, 0, [aside, aside, z + aside], flags | director.SURE)
         ready, armed = director.READY | director.DOWN, director.ARMED | director.READY
         go, clock = director.signal(director.GO), director.clock_frames
-        risen = [To(0, Order(director.ARM)), To(0, Order(director.RISE, (1000,), 2000))]
-        for near, high, orders in ((57, 28, [*risen, To(None, Order(director.START))]), (58, 0, []), (57, 29, risen)):
-            said = self.said([at(0, ready, near), go, at(0, armed | director.DOWN, near), clock(2000), at(1000, armed, high),
-                              clock(1000), at(1000, armed, high), go])
-            self.assertEqual([it for it in said if isinstance(it, To)][:3], orders, (near, high))
+        risen = [GROUPED, To(0, Order(director.ARM)), To(0, Order(director.RISE, (1000,), 2000))]
+        for near, high, orders in ((57, 28, [*risen, START]), (58, 0, [GROUPED]), (57, 29, risen)):
+            said = self.said([at(0, ready, near), director.answer(0, 0), go, at(0, armed | director.DOWN, near),
+                              clock(2000), at(1000, armed, high), clock(1000), at(1000, armed, high), go])
+            self.assertEqual([it for it in said if isinstance(it, To)][:4], orders, (near, high))
+
+    def test_who_has_answered(self):
+        # Nobody is armed before it has answered that it is in the group: after the order, which the first event brings.
+        pad = director.sample(0, 0, [0, 0, 0], director.READY | director.DOWN | director.SURE)
+        go, well, arms = director.signal(director.GO), director.answer(0, 0), [To(0, Order(director.ARM))]
+        for events, more in (([pad, well, go], arms), ([pad, go], []), ([well, pad, go], []), ([pad, go, well], []),
+                             ([well, pad, well, go], arms), ([pad, go, well, go], arms)):
+            self.assertEqual(self.said(events), [GROUPED, *more, Ended(8)], events)
 
     def test_who_leaves_its_way(self):
         # The way up may be left by 100 mm, and by 101 mm for less than 300 ms: on the way, and where the start is waited
@@ -187,8 +199,9 @@ class Process(unittest.TestCase):
         def at(z, flags, age=0):
             return director.sample(0, age, [0, 0, z], flags | director.SURE)
         armed, clock = director.ARMED | director.READY, director.clock_frames
-        up = [at(0, director.READY | director.DOWN), director.signal(director.GO), at(0, armed | director.DOWN)]
-        risen = [To(0, Order(director.ARM)), To(0, Order(director.RISE, (1000,), 2000))]
+        up = [at(0, director.READY | director.DOWN), director.answer(0, 0), director.signal(director.GO),
+              at(0, armed | director.DOWN)]
+        risen = [GROUPED, To(0, Order(director.ARM)), To(0, Order(director.RISE, (1000,), 2000))]
         lands = [Noted(0, director.ASTRAY), To(0, Order(director.SINK, (0,), 4001))]
         high = [clock(2000), at(1000, armed), clock(1000)]
         for name, events, more in (

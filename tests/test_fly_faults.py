@@ -43,15 +43,13 @@ FAULTS = {
     "swapped": (b("swapped:1"), TWO, 1, [SWAPPED], 0),
     "swapped coming down": (b("swapped:5"), TWO, 1, [SWAPPED], 0),
     "mute going up": (b("mute:1"), TWO, 1, ["FAULT: b is silent for 3.[0-9] s; landing all", "end: b: NOT KNOWN: silent for"], 1),
-    "trades": (b("trades"), TWO, 1, ["not flown:\n  a: stands 1500 mm aside of its pad.*\n  b: stands 1500 mm aside"], 0),
-    "twin": (b("twin"), TWO, 1, ["b: its estimator isn't settled: variance 0.0000, 500 mm of wander"], 0),
     "small": (b("small"), TWO, 1, ["b refuses to have its memory 2 read: status 5"], 0),
     # these harm nothing
     "pushed": (b("pushed"), TWO, 0, ["kept: ", "landed\n"], 0), "fast": (b("fast"), TWO, 0, ["kept: ", "landed\n"], 0),
     "blinks": (b("blinks:1"), TWO, 0, ["kept: ", "landed\n"], 0),
     "usb": (["--sim", "usb=1"], TWO, 0, ["kept: ", "landed\n"], 0),
     "noise": (["--sim", "noise=0.5"], TWO, 0, ["kept: ", "landed\n"], 0),
-    "blanks": (["--sim", "blanks=2"], TWO, 0, ["kept: ", "landed\n", r"stranger 2 at \(1.50, -0.50, 0.00\) m, armed, 0 starts"], 0),
+    "blanks": (["--sim", "blanks=2", "--strangers"], TWO, 0, ["kept: ", "landed\n", r"stranger 2 at \(1.50, -0.50, 0.00\) m, armed, 0 starts"], 0),
 }
 RUNS = flights.Flights(3, {**{name: (fly, *row[:2]) for name, row in FAULTS.items()},
                            "wrecked": (with_pads, b("falls:6.5"), PADS, WRECKED)})

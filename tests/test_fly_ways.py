@@ -44,8 +44,8 @@ FLIGHTS.update({
 })
 FLIGHTS["doubts"] = (fly, b("doubts:2"), STRAYS)
 FLIGHTS["doubts in the show"] = (fly, b("doubts:16"), STRAYS.replace("cue 3000", "cue 9000"))
-FLIGHTS["strangers"] = (fly, ["--sim", "strangers=2"], strays())
-FLIGHTS["strangers, unicast"] = (fly, ["--sim", "strangers=1", "--unicast", "--late", "500"], strays())
+FLIGHTS["strangers"] = (fly, ["--sim", "strangers=2", "--strangers"], strays())
+FLIGHTS["strangers, unicast"] = (fly, ["--sim", "strangers=1", "--strangers", "--unicast", "--late", "500"], strays())
 FLIGHTS["lower"] = (fly, b("lower:1"), strays())
 RUNS = flights.Flights(3, FLIGHTS)
 begun, forget, setUpModule = RUNS.begun, RUNS.forget, RUNS.set_up
@@ -66,8 +66,11 @@ class OffTheWay(unittest.TestCase):
 
     def test_going_up(self):
         # At 0.5 m a second it is off by 90 mm, the stray and 30, after 0.2 s, and a fault 0.3 s later.
-        out = self.landed("leaves going up", "FAULT: b is [0-9]+ mm from its way; landing all\nlanded\n", without=["started"])
-        self.assertLess(int(re.search("b is ([0-9]+) mm", out).group(1)), 600, out)
+        # Outside of the room it is a fault at once, which is 200 mm farther: whichever sample comes first.
+        found = r"FAULT: b is (?:at \((3\.\d+), .*, outside of the room of show and ways|(\d+) mm from its way); landing all\n"
+        out = self.landed("leaves going up", found + "landed\n", without=["started"])
+        at, far = re.search(found, out).groups()
+        self.assertLess(1000 * float(at) - 3000 if at else float(far), 600, out)
         # the leap looks like speed at first, with which no landing is judged: it isn't waited for the end of the stage
         self.landed("leaps going up", r"FAULT: b is (at .*, outside of the room of show and ways|\d+ mm from its way)(; .*)?; landing all\n"
                     "landed\n", without=["started"])
@@ -78,7 +81,8 @@ class OffTheWay(unittest.TestCase):
                     r"its way); landing all\nlanded\n", without=["started"])
 
     def test_coming_down(self):
-        self.landed("leaves coming down", "flown: 3.0 s", "FAULT: b is [0-9]+ mm from its way; landing all\n", without=())
+        self.landed("leaves coming down", "flown: 3.0 s", r"FAULT: b is (at \(3\.\d+, .*, outside of the room of show and ways|"
+                    r"\d+ mm from its way); landing all\n", without=())
         self.landed("leaps coming down", r"FAULT: b is at \(3.\d+, 2[45].\d+, \d.\d+\) m, outside of the room of show and ways; "
                     "landing all\n", without=())
 

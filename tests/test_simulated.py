@@ -175,6 +175,74 @@ class Faults(unittest.TestCase):
         one.is_at()
         self.assertTrue(one.cut)
 
+    def test_a_fault_from_the_take_off(self):
+        # the same fault counts from its start, or where that is asked for from its take-off
+        for rising, gone in (((), False), (("falls",), True)):
+            one, _ = self.risen(("falls", 2.5))
+            one.after_rise = air.AFTER_RISE | set(rising)
+            clock.wait(0.4)
+            self.assertFalse(one.is_due("falls"))
+            clock.wait(0.2)
+            self.assertEqual(one.is_due("falls"), gone)
+            self.start(one)
+            clock.wait(2.6)
+            self.assertTrue(one.is_due("falls"))
+
+    def test_an_estimate_that_leaps(self):
+        # It goes back by a metre a second at most, and by half of what is left of the last half metre each 0.35 s.
+        for leap, after, gone in ((0.5, 0.0, 0.0), (0.5, math.log(2) / 2, 0.25), (0.2, math.log(2) / 2, 0.1), (2.5, 1.5, 1.5),
+                                  (2.5, 2.0, 2.0), (2.5, 2 + math.log(2) / 2, 2.25)):
+            self.assertAlmostEqual(air.followed(leap, after), gone, 9, (leap, after))
+        one, _ = self.of(("leaps", 2.0), leap=0.4)
+        one.commanded(firmware.take_off(1.0, 2.0))
+        clock.wait(2 + math.log(2) / 2)
+        self.assertAlmostEqual(one.is_at()[1], -0.2, 4)
+        self.assertAlmostEqual(one.estimate(clock.now())[1], 0.2, 4)
+        one.commanded(firmware.land(0.0, 2.0))
+        clock.wait(2.1)
+        # it stands where it came down, and believes to be at its pad
+        self.assertAlmostEqual(one.is_at()[1], -0.4, 1)
+        self.assertAlmostEqual(one.estimate(clock.now())[1], 0.0, 1)
+
+    def test_late_samples(self):
+        one, _ = self.of(("lags", 1.0))
+        self.start(one)
+        one.blocks, one.up_queue = {1: [[], 0.1, clock.now()]}, []
+        said = []
+        for _ in range(45):  # each tenth of a second, with the age of what came
+            clock.wait(0.1)
+            now = int(1000 * (clock.now() - one.booted))
+            raw = one.poll(b"\xFF")
+            if raw != air.NOTHING:
+                said.append((round(one.flown(), 1), now - int.from_bytes(raw[2:5], "little")))
+        self.assertLess(max(age for at, age in said if at < 0.9), 150)
+        self.assertEqual([at for at, _ in said if 1.1 < at < 1.9], [])
+        self.assertGreater(min(age for at, age in said if at > 2.1), 950)
+        self.assertLess(max(age for at, age in said), 1150)
+
+    def test_its_radio_chip_alone(self):
+        one, _ = self.of(("numb", 1.0))
+        self.start(one)
+        for seconds, group in ((0, 4), (1.1, 4)):  # a packet to it, and one to all
+            clock.wait(seconds)
+            raw = firmware.packet(firmware.COMMANDER, 0, firmware.group(4 if not seconds else 2))
+            acked = [air.WORLD.transfer(one.uri, raw) for _ in range(3)]
+            air.WORLD.broadcast(0, 80, raw)
+            self.assertEqual((one.group, {ack for ack, _ in acked}), (group, {True}))
+        self.assertEqual({came for _, came in acked}, {air.NOTHING})
+
+    def test_one_under_two_names(self):
+        one, two = self.of(("double", 0))
+        self.assertEqual((one.is_at(), two.is_at()), ([1, 0, 0], [1, 0, 0]))
+
+    def test_who_is_left_out(self):
+        self.of()
+        air.WORLD.add_stranger("radio://0/80/2M/E7E7E7E703", [2, 0, 0], 0, b"", 0, "c")
+        air.WORLD.add_stranger("radio://0/80/2M/E7E7E7E780", [3, 0, 0], 0, b"", 0)
+        lines = list(air.WORLD.lines(self.flown.names))
+        self.assertEqual([line.split(" at ")[0] for line in lines[:4]],
+                         ["simulated: a", "simulated: b", "simulated: c", "simulated: stranger 1"])
+
     def test_exchanged_by_the_positioning(self):
         one, two = self.of(("swapped", 1.0))
         for it in (one, two):

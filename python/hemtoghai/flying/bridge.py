@@ -96,12 +96,12 @@ class Bridge(Home):
             drone, words, seconds, stage = self.came.get()
             if words is None:
                 self.unheard.pop(drone, None)
-                if stage == self.begun:
+                if stage and stage == self.begun:
                     self.took[drone] = clock.now() - self.moves[drone][1]  # at most: it may have been answered before
             else:
                 self.refusals[drone] = words
             self.director.hear(director.answer(drone, 0 if words is None else MUTE))
-            if stage == self.begun and 1000 * seconds > self.ways.rules.late and not self.is_said_late:
+            if stage and stage == self.begun and 1000 * seconds > self.ways.rules.late and not self.is_said_late:
                 self.is_said_late = True
                 say("OUTSIDE OF WHAT WAS JUDGED: commands within %.0f ms, and %d were judged" % (
                     1000 * seconds, self.ways.rules.late))
@@ -137,7 +137,7 @@ class Bridge(Home):
         if isinstance(said, To) and said.drone is not None:
             self.carry(said.drone, said.order)
         elif isinstance(said, To) and said.order.kind == director.START:
-            self.start()
+            self.start(said.order.group)
         elif isinstance(said, To) and said.order.kind == director.DISARM:
             self.disarm(self.all)
             self.due_by = clock.now() + PATIENCE
@@ -182,6 +182,9 @@ class Bridge(Home):
     def carry(self, k: int, order: Order) -> None:
         if self.is_landing(order):
             raise Trouble("the flight director lands all")
+        elif order.kind == director.GROUP:
+            group = firmware.group(order.group)
+            self.give(k, lambda since: self.fleet.command(k, group, "join the flight's group", since))
         elif order.kind == director.ARM:
             self.to_arm.add(k)
             self.due_by = clock.now() + PATIENCE
@@ -244,8 +247,8 @@ class Bridge(Home):
     # ---- the flight
 
     def ready(self) -> None:
-        """Looks, just before anybody takes off, whether drones are still as they were looked over, and puts them into
-        the flight's group; raises where not."""
+        """Looks, just before anybody takes off, whether drones are still as they were looked over; raises where not.
+        Who else is on these channels is taken out of all groups."""
         faults = []
         for k, (name, state) in enumerate(zip(self.names, self.fleet.states)):
             state.is_new = False
@@ -260,13 +263,14 @@ class Bridge(Home):
             elif state.says(firmware.IS_FLYING):
                 faults.append("%s says that it flies" % name)
         if not faults:
-            memory, data = self.flown.show.settings["memory"], self.flown.data()
+            memory, data = self.flown.show.settings["memory"], self.ways.uploaded.data()
             held = self.fleet.radio.each(lambda k: self.fleet.holds(k, memory, data[k]), self.watch.look)
             faults = ["%s doesn't hold the show any more: it was started anew since the upload" % name
                       for name, is_held in zip(self.names, held) if not is_held]
         if faults:
             raise Trouble("not flown: " + ", ".join(faults))
-        self.fleet.join(not self.options.unicast)
+        if not self.options.unicast:
+            self.fleet.clear_groups()
 
     def say_go(self, is_taken: Callable[[], bool], least: float = REPLIES) -> None:
         """Says go until the director takes it, but not for long."""
@@ -304,11 +308,11 @@ class Bridge(Home):
         say("at the first places: %s" % ", ".join(
             "%s %.0f mm off" % (self.names[k], math.dist(self.at(k), first)) for k, first in firsts.items()))
 
-    def start(self) -> None:
-        """Starts all drones, and says how far apart their starts may be."""
+    def start(self, group: int) -> None:
+        """Starts all drones, which are in this group, and says how far apart their starts may be."""
         (trajectory,) = self.flown.show.settings["trajectory"]
         self.zero = clock.now()  # whatever comes of it: a start that isn't known to have gone out may have been taken
-        begin, end, answers, mute = self.fleet.start(trajectory, self.options.copies, not self.options.unicast)
+        begin, end, answers, mute = self.fleet.start(trajectory, group, self.options.copies, not self.options.unicast)
         self.zero = self.fleet.log.zero = begin
         # Drones start within `late` after it went out: the show's time begins in the middle of that.
         self.told_at += (begin + end + self.ways.rules.show_late / 1000) / 2 - self.went
@@ -437,6 +441,7 @@ class Bridge(Home):
             raise
         finally:
             self.director.kill()
+            self.fleet.leave_groups()
 
     def land_anyhow(self) -> None:
         """Lands all after a fault of this program: as always, and where that fails too by bare commands."""

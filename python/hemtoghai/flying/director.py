@@ -18,10 +18,10 @@ CLOCK, SAMPLE, ANSWER, SIGNAL = 1, 2, 3, 4  # the first bytes of what it hears
 GO, LAND, STOP = 0, 1, 2  # the crew's words
 READY, ARMED, LOST, DOWN, FLYING, SURE = 1, 2, 4, 8, 16, 32  # the flags of a sample
 TO_ONE, TO_ALL, NOTE, OVER, CAUSE, END = 1, 2, 3, 4, 5, 0x45  # the first bytes of what it says
-ARM, RISE, GO_TO, SINK, START, HALT, DISARM = range(7)  # orders
+ARM, RISE, GO_TO, SINK, START, HALT, DISARM, GROUP = range(8)  # orders
 # What follows the first byte of a frame, and of an order, in the forms of `struct`.
 FRAMES = {TO_ONE: "B", TO_ALL: "", NOTE: "BB", OVER: "B", CAUSE: "BBBH", END: "B"}
-ORDERS = {ARM: "", RISE: "hI", GO_TO: "hhhhI", SINK: "hI", START: "", HALT: "", DISARM: ""}
+ORDERS = {ARM: "", RISE: "hI", GO_TO: "hhhhI", SINK: "hI", START: "B", HALT: "", DISARM: "", GROUP: "B"}
 SILENT, ASTRAY, WRONG, REFUSED, LATE, UNSURE = range(6)  # faults; the director calls WRONG `lost`
 NOT_FLOWN = 8  # the status of a flight to whose director nothing happened
 MOST_MS, MOST_AGE, MOST_MM = 65535, 65535, 32767
@@ -31,10 +31,12 @@ MARKER = b"%%\n"
 
 
 class Order(NamedTuple):
-    """What a drone is to do; `at` is x, y, z and yaw, or a height alone, in millimetres and tenths of a degree."""
+    """What a drone is to do; `at` is x, y, z and yaw, or a height alone, in millimetres and tenths of a degree, and
+    `group` the mask of the group that a start is for, or a drone is put into."""
     kind: int
     at: Tuple[int, ...] = ()
     milliseconds: int = 0
+    group: int = 0
 
 
 class To(NamedTuple):
@@ -79,7 +81,10 @@ def numbers_of(stream: IO[bytes], form: str) -> Tuple[int, ...]:
 def order_of(stream: IO[bytes]) -> Order:
     """The order that follows; raises struct.error or KeyError where none does."""
     kind, = numbers_of(stream, "B")
-    *at, milliseconds = numbers_of(stream, ORDERS[kind]) or (0,)
+    numbers = numbers_of(stream, ORDERS[kind])
+    if kind in (START, GROUP):
+        return Order(kind, group=numbers[0])
+    *at, milliseconds = numbers or (0,)
     return Order(kind, tuple(at), milliseconds)
 
 

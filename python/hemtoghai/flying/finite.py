@@ -41,9 +41,12 @@ def is_place(values: Iterable[float]) -> bool:
 
 def lines_of(path: str) -> Iterator[Tuple[int, List[str]]]:
     """The lines of a text that have words before a `#`: their numbers, and these words. It is read to the limit of a
-    show and no further; raises OSError, and ValueError where it is longer, or isn't UTF-8."""
-    with open(path, "rb") as file:
-        data = texts.from_stream(file, texts.SHOW + 1)
+    show and no further; raises ValueError where it can't be read, is longer, or isn't UTF-8."""
+    try:
+        with open(path, "rb") as file:
+            data = texts.from_stream(file, texts.SHOW + 1)
+    except OSError as fault:
+        raise ValueError(f"{path}: {fault.strerror}") from None
     if len(data) > texts.SHOW:
         raise ValueError(f"{path}: more than {texts.SHOW} bytes")
     try:

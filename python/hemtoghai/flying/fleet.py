@@ -5,7 +5,6 @@ As firmware.py it is from memory, and was run with simulated drones alone.
 import contextlib
 import csv
 import math
-import random
 import threading
 from functools import partial
 from typing import Callable, Dict, Iterable, List, NamedTuple, Optional, Sequence, Set, TextIO, Tuple
@@ -197,7 +196,6 @@ class Fleet:
         self.started: Dict[int, Tuple[float, int]] = {}
         self.heard_broadcast: Set[int] = set()
         self.lock = threading.Lock()
-        self.group = 0  # that starts go to
         self.every, self.revived = 100, [0.0] * len(self.names)
         self.told_off = [-math.inf] * len(self.names)  # when each was told to disarm, or to stop, last
         radio.listeners.append(self.came)
@@ -367,22 +365,22 @@ class Fleet:
         measured = self.states[drone].measured
         return measured is not None and measured > self.told_off[drone]
 
-    def join(self, by_broadcast: bool) -> None:
-        """Puts the drones of this flight into a group by chance, each by a packet that it answers: a start goes to that
-        group. Who else hears a broadcast on these channels is taken out of all groups before."""
-        self.group = 1 << random.randrange(8)
-        if by_broadcast:
-            self.radio.broadcast(firmware.packet(firmware.COMMANDER, 0, firmware.group()), 3)
-        self.radio.each(lambda drone: self.command(drone, firmware.group(self.group), "join the flight's group"))
+    def clear_groups(self) -> None:
+        """Takes all that hear a broadcast on these channels out of all groups."""
+        self.radio.broadcast(firmware.packet(firmware.COMMANDER, 0, firmware.group()), 3)
 
-    def start(self, trajectory: int, copies: int, by_broadcast: bool) -> Started:
-        """Starts a trajectory in all drones of the flight's group, by a broadcast that each hears at once, or one by
-        one. Nobody is sent a second start of its own, since it would begin anew. A drone answers in order: one that
-        answers a question after the start and not the start didn't take it. That question takes it out of the group
-        again."""
+    def leave_groups(self) -> None:
+        """Takes each drone out of all groups, and waits for no answer."""
+        for drone in range(len(self.names)):
+            self.radio.send(drone, firmware.packet(firmware.COMMANDER, 0, firmware.group()))
+
+    def start(self, trajectory: int, group: int, copies: int, by_broadcast: bool) -> Started:
+        """Starts a trajectory in all drones of a group, by a broadcast that each hears at once, or one by one. Nobody
+        is sent a second start of its own, since it would begin anew. A drone answers in order: one that answers a
+        question after the start and not the start didn't take it. That question takes it out of the group again."""
         with self.lock:
             self.started = {}
-        raw = firmware.packet(firmware.COMMANDER, 0, firmware.start(trajectory, self.group))
+        raw = firmware.packet(firmware.COMMANDER, 0, firmware.start(trajectory, group))
         drones = range(len(self.names))
         begin = clock.now()
         for drone in [] if by_broadcast else drones:

@@ -1,9 +1,9 @@
 """The look at all drones before a flight: firmware, memory, battery, estimator, supervisor and place. For `fly`."""
 import argparse
 import math
-from typing import Iterator, List, Sequence, Tuple
+from typing import Iterator, List, Mapping, Sequence, Tuple
 
-from hemtoghai.flying import clock, firmware
+from hemtoghai.flying import clock, firmware, others
 from hemtoghai.flying.crazyradio import trajectory_memories, Trouble
 from hemtoghai.flying.crew import say
 from hemtoghai.flying.fleet import Fleet, HISTORY, State
@@ -14,6 +14,7 @@ SETTLES = 10  # seconds in which an estimator that began anew has to be settled
 SENDS = 3  # seconds in which each drone has to send a sample
 PAD_HEIGHT = 0.1  # metres that a pad may be higher or lower than it is said to be
 OLDEST = 4  # the protocol from which on this tool knows it
+ONE_PLACE = 0.05  # metres from each other at which no two drones can stand
 
 Looks = Tuple[str, str, List[str]]  # a drone's firmware, its trajectory memories, and what is wrong with it
 
@@ -64,6 +65,8 @@ def faults_of(state: State, pad: Place, yaw: float, options: argparse.Namespace)
         return
     if state.says(firmware.IS_FLYING):
         yield "says that it flies: nothing is uploaded to a drone in the air"
+    if state.is_new:
+        yield "its clock went back: two drones of its address are on, or it was started anew"
     volts = state.volts or 0.0
     if volts < options.battery:
         yield "%.2f V, and %.2f are wanted" % (volts, options.battery)
@@ -90,8 +93,48 @@ def aside_of(state: State, pad: Place) -> float:
     return math.dist([1000 * v for v in state.where()[:2]], pad[:2])
 
 
-def preflight(fleet: Fleet, flown: choreo.Flown, pads: Sequence[Place], options: argparse.Namespace) -> List[Place]:
-    """Looks all drones over and prints what was found; where they stand, in whole mm, or raises what is wrong."""
+def misplaced(names: Sequence[str], states: Sequence[State], pads: Sequence[Place]) -> Iterator[str]:
+    """Who stands nearer to the pad of another than to its own, and which two say one place."""
+    placed = [k for k, state in enumerate(states) if state.place is not None]
+    nearest = {k: min(range(len(pads)), key=lambda j: aside_of(states[k], pads[j])) for k in placed}
+    for k, j in nearest.items():
+        if aside_of(states[k], pads[j]) >= aside_of(states[k], pads[k]):
+            continue
+        if nearest.get(j) != k:
+            yield f"{names[k]} stands on the pad of {names[j]}"
+        elif k < j:
+            yield (f"{names[k]} and {names[j]} stand on each other's pads: carry them back, or exchange their "
+                   "addresses")
+    for n, k in enumerate(placed):
+        for j in placed[:n]:
+            if math.dist(states[j].where(), states[k].where()) < ONE_PLACE:
+                yield (f"{names[j]} and {names[k]} say one place: they are one drone under two names or addresses, or "
+                       "the positioning takes one for the other")
+
+
+def say_others(fleet: Fleet, hall: Mapping[str, str], options: argparse.Namespace) -> List[str]:
+    """Looks who else is on; what is wrong by that, unless it is let through."""
+    found, unknown = others.others(fleet.radio.uris, hall)
+    for why in unknown:
+        say(f"WHO ELSE IS ON ISN'T KNOWN: {why}")
+    if not options.strangers:
+        return found
+    for words in found:
+        say(f"let through: {words}")
+    return []
+
+
+def look_for_others(fleet: Fleet, hall: Mapping[str, str], options: argparse.Namespace) -> None:
+    """Raises who else is on, by now."""
+    found = say_others(fleet, hall, options)
+    if found:
+        raise Trouble("not flown:\n  " + "\n  ".join(found))
+
+
+def preflight(fleet: Fleet, flown: choreo.Flown, pads: Sequence[Place], hall: Mapping[str, str],
+              options: argparse.Namespace) -> List[Place]:
+    """Looks all drones over and prints what was found; where they stand, in whole mm, or raises what is wrong. `hall`
+    has the addresses of drones that the show may lack, by their names."""
     memory = flown.show.settings["memory"][0]
     for number, count in fleet.radio.crowded():
         say("dongle %s has %d drones: 10 to 15 are usual" % (number, count))
@@ -102,9 +145,9 @@ def preflight(fleet: Fleet, flown: choreo.Flown, pads: Sequence[Place], options:
     settle(fleet, options)
     for drone in [] if options.unicast else fleet.deaf():
         looks[drone][2].append("doesn't answer a broadcast: another channel, or group? --unicast does without")
+    faults = [*say_others(fleet, hall, options), *misplaced(fleet.names, fleet.states, pads)]
     say("%-16s %-16s %6s %7s %9s %9s  %s" % (
         "drone", "firmware", "memory", "volts", "variance", "aside mm", "stands at, m"))
-    faults = []
     for name, state, look, pad, start in zip(fleet.names, fleet.states, looks, pads, flown.starts):
         version, memories, wrong = look
         faults += ["%s: %s" % (name, fault) for fault in [*wrong, *faults_of(state, pad, start[3] / 10, options)]]

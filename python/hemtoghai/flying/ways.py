@@ -8,12 +8,12 @@ from math import dist
 from typing import Callable, Dict, Iterable, List, Optional, Sequence, Set, Tuple
 
 from hemtoghai import program
-from hemtoghai.flying import clock, director, legs
+from hemtoghai.flying import clock, director, homeward, legs
 from hemtoghai.flying.crazyradio import Trouble
 from hemtoghai.flying.crew import say
 from hemtoghai.flying.landings import Landings, StageLandings
 from hemtoghai.flying.stages import AIM, apart, judge_stages, LAND, Leg, milliseconds_for, NoWay, Place, Rules
-from hemtoghai.language.choreo import Flown
+from hemtoghai.language.choreo import Flown, flown_of
 from hemtoghai.writing.figures import least
 
 STARTS = range(0, 2001, 400)  # milliseconds after a start, at which it is judged as one that not all took
@@ -40,7 +40,8 @@ def words_of(cause: director.Cause, names: Sequence[str]) -> str:
 
 class Ways:
     """The ways up from pads, in mm, and down, judged, and the landings of the show; raises Trouble where there is no
-    way, or the flight director doesn't take them."""
+    way, or the flight director doesn't take them. `text` is what is uploaded and `uploaded` what it flies: the show, or
+    with --home the way home besides, where `no_home` is None; else that is why it isn't there."""
 
     def __init__(self, flown: Flown, text: bytes, pads: Sequence[Place], options: argparse.Namespace) -> None:
         self.flown, self.options, self.pads = flown, options, dict(enumerate(pads))
@@ -63,6 +64,12 @@ class Ways:
                       "%d" % self.descent, "--then", "fly"]
         self.texts = [self.up.text(), text, self.down.text()]
         self.ask_director()
+        self.text, self.uploaded = text, flown
+        self.no_home: Optional[str] = None
+        if options.home:
+            whole, self.no_home = homeward.judged(flown, text, self.down, self.pads)
+            if whole is not None:
+                self.text, self.uploaded = whole, flown_of(whole)
         self.landings = Landings(flown, self.floors, self.rules)
         self.rows: Dict[int, List[StageLandings]] = {
             id(leg): [StageLandings(leg, number, self.floors) for number in range(len(leg.stages))]
@@ -209,6 +216,10 @@ class Ways:
             if leg.top() > top:
                 say("  goes up to %.2f m, and the show to %.2f: --ceiling keeps it lower" % (
                     leg.top() / 1000, top / 1000))
+        if self.options.home:
+            say(f"NO WAY HOME WITHOUT RADIO: {self.no_home}" if self.no_home else
+                f"without radio all come home by themselves, from {homeward.PAUSE / 1000:g} s after the show's end on, "
+                f"to {homeward.ABOVE} mm above their pads: {max(map(len, self.uploaded.data()))} bytes at most")
         say("landing of all from the show:")
         for line in self.landings.lines():
             say("  " + line)

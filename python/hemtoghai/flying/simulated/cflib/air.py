@@ -11,7 +11,7 @@ import math
 import random
 import struct
 import threading
-from typing import Any, Callable, Dict, Iterator, List, Optional, Sequence, Tuple
+from typing import Any, Callable, Collection, Dict, Iterator, List, Mapping, Optional, Sequence, Tuple
 
 from hemtoghai.companion import value
 from hemtoghai.flying import clock, firmware
@@ -31,7 +31,7 @@ FORGETS, TIMEOUT, OFF = 2.0, 30.0, 1.0  # seconds: without a poll until logs go,
 
 Segment = Tuple[int, List[List[int]]]  # milliseconds, and control values by axis
 
-# What --fault and tests can ask for; the number behind some is seconds after the start of the show.
+# What --fault and tests can ask for; the number behind some is seconds after the start of the show, or a take-off.
 FAULTS = {
     "dead": "answers nothing",
     "outdated": "has a protocol that is too old",
@@ -44,8 +44,8 @@ FAULTS = {
     "leaves": "leaves its way by half a metre a second, so many seconds after it took off",
     "flees": "flies away at three metres a second, so many seconds after its start",
     "doubts": "its positioning is gone so many seconds after it took off: it drifts, and its variance grows",
-    "leaps": "its estimate leaps by half a metre, so many seconds after it took off",
-    "misled": "its estimate leaps by twenty-five metres, so many seconds after its start",
+    "leaps": "its estimate leaps by half a metre (--sim leap), and it follows, so many seconds after it took off",
+    "misled": "its estimate leaps by twenty-five metres, and it flies off, so many seconds after its start",
     "deaf": "hears no broadcast",
     "deafens": "hears no broadcast once it has taken off",
     "locked": "can't be armed",
@@ -86,13 +86,20 @@ FAULTS = {
     "twin": "another drone of its address is on, half a metre aside",
     "small": "takes no more than twenty bytes into its trajectory memory",
     "fast": "has a clock that runs 300 millionths too fast",
+    "numb": "its radio chip alone answers, so many seconds after its start",
+    "lags": "its samples come a second late, so many seconds after its start",
+    "double": "is the next drone, under two names",
+    "left": "isn't in the show, and is on: it stands on its pad, which PADS has, and holds a trajectory still",
 }
+# Those whose seconds count from the take-off; all others do so where that is asked for.
+AFTER_RISE = frozenset(("leaves", "doubts", "leaps", "mute", "frozen", "sinks"))
 # What can come over dongle 0 so many seconds after the first start, and for how many seconds: its calls don't return
 # any more; they do, and nothing is sent; it is gone and comes back; two thirds of all packets are lost.
 TROUBLES = {"blocks": math.inf, "dies": math.inf, "usb": 1.2, "noise": 3.0}
 NOISE = 0.67
 STOPPING = "falls", "restarts", "dark"  # faults by which motors stop
 LATE, DYING, PUSHED, ROOM = 1.3, 3.0, 0.12, 20  # of slow, sinks, pushed and small: seconds, seconds, metres, bytes
+LAG, FAR = 1.0, 25.0  # of lags and misled: seconds, metres
 
 
 def carried_on(speed: float, seconds: float) -> float:
@@ -100,6 +107,14 @@ def carried_on(speed: float, seconds: float) -> float:
     and 0.06 s^2/m of its square at most, from memory of what others saw (0.4 m at 2 m/s)."""
     last = 0.2 + 0.163 * speed
     return speed * seconds * math.exp(-seconds / last)
+
+
+def followed(leap: float, seconds: float) -> float:
+    """How far a drone has gone, so long after its estimate leapt by so much: it takes that for its own error, and goes
+    back by 2 m/s a metre of it, and by 1 m/s at most, from memory of its controller."""
+    slow = min(leap, 0.5)
+    left = seconds - (leap - slow)
+    return seconds if left < 0 else leap - slow * math.exp(-2 * left)
 
 
 def segments_at(memory: bytes, offset: int, pieces: int) -> List[Segment]:
@@ -122,8 +137,11 @@ class Drone:
     """A drone: radio with safelink, memories, tables, commander, and where it is, in metres."""
     memory_bytes = bytearray
 
-    def __init__(self, world: "World", uri: str, home: Sequence[float], faults: Dict[str, float]) -> None:
+    def __init__(self, world: "World", uri: str, home: Sequence[float], faults: Dict[str, float],
+                 rising: Collection[str] = ()) -> None:
         self.world, self.uri, self.faults, self.lock = world, uri, faults, threading.RLock()
+        self.after_rise = AFTER_RISE | set(rising)
+        self.called = ""  # by what name, where it isn't in the show
         x, y, z = home
         aside = 0.5 if "astray" in faults else PUSHED if "pushed" in faults else 0.0
         self.place = [x + aside, y, 0.5 if "riser" in faults else z]
@@ -149,17 +167,21 @@ class Drone:
         self.rebooted = False
         if "memory" in faults:
             self.memories.insert(2, (0x11, self.memory_bytes(b"\xFF" * 8192)))
+        self.phase, self.booted = world.chance.random() * 7, clock.now() - 10 - 50 * world.chance.random()
+        self.begin_link()
+
+    def begin_link(self) -> None:
+        """What it has of its link: its tables, and packets under way."""
         self.table: List[Optional[Tuple[int, int, int, int]]] = [None] * 10
         self.parameters: List[Any] = [row[2] for row in PARAMETERS]
         self.blocks: Dict[int, List[Any]] = {}
         self.up_queue: List[bytes] = []
-        if "old" in faults:
+        if "old" in self.faults:
             self.up_queue = [bytes([0x4E, 2]) + struct.pack("<IB", 24 * k, 0) for k in range(8)]
             self.up_queue.append(bytes([0x8C, 6, 0, 1, 0]))
         self.safelink, self.last_up, self.down, self.late_share = False, 1, 0, 0.0
         self.held: Optional[bytes] = None
         self.is_written = False
-        self.phase, self.booted = world.chance.random() * 7, clock.now() - 10 - 50 * world.chance.random()
 
     # ---- the way
 
@@ -167,23 +189,34 @@ class Drone:
         """Seconds since the start of its trajectory, or None."""
         return None if self.curve_began is None else (now or clock.now()) - self.curve_began
 
+    def since(self, fault: str, now: Optional[float] = None) -> Optional[float]:
+        """The seconds since a fault came, or None where it hasn't."""
+        after, begin = self.faults.get(fault), self.rose_at if fault in self.after_rise else self.curve_began
+        seconds = -1.0 if after is None or begin is None else (now or clock.now()) - begin - after
+        return None if seconds < 0 else seconds
+
     def is_due(self, fault: str) -> bool:
-        """Whether a fault of some seconds after the start has come."""
-        flown = self.flown()
-        return fault in self.faults and flown is not None and flown >= self.faults[fault]
+        """Whether a fault has come."""
+        return self.since(fault) is not None
 
     def past(self, fault: str, now: float) -> float:
-        """The seconds since a fault that comes so long after its take-off, or 0."""
-        after = self.faults.get(fault)
-        return 0.0 if self.rose_at is None or after is None else max(0.0, now - self.rose_at - after)
+        """The seconds since a fault came, or 0."""
+        return self.since(fault, now) or 0.0
 
     def drifted(self, now: float) -> float:
-        """How far it is from where it believes to be, on y."""
+        """How far it is from where it believes to be, on y, while that doesn't leap."""
         return 0.2 * self.past("doubts", now)
 
+    def leapt(self, now: float) -> Tuple[float, float]:
+        """By how much its estimate has leapt, on y, and how far it went back by that."""
+        if self.past("leaps", now):
+            return self.world.leap, followed(self.world.leap, self.past("leaps", now))
+        return (FAR, followed(FAR, self.past("misled", now))) if self.past("misled", now) else (0.0, 0.0)
+
     def is_in(self, fault: str, seconds: float) -> bool:
-        """The same, for so many seconds."""
-        return self.is_due(fault) and (self.flown() or 0.0) < self.faults[fault] + seconds
+        """Whether a fault has come, and no more than so many seconds ago."""
+        since = self.since(fault)
+        return since is not None and since < seconds
 
     def is_gone(self) -> bool:
         if "reboots" in self.faults and self.is_read and self.table[0] is not None:
@@ -239,18 +272,15 @@ class Drone:
             a, b = self.phase + 0.9 * now, self.phase + 0.37 * now
             way = [math.cos(a) * math.cos(b), math.sin(a) * math.cos(b), math.sin(b)]
             at = [v + self.world.stray / 1000 * w for v, w in zip(at, way)]
-        if self.is_due("wanders"):
-            at[0] += 0.5 * ((self.flown(now) or 0.0) - self.faults["wanders"])
-        if self.is_due("flees") and self.flies:
-            at[0] += 3 * ((self.flown(now) or 0.0) - self.faults["flees"])
+        at[0] += 0.5 * self.past("wanders", now)
         if self.flies:
-            at[0] += 0.5 * self.past("leaves", now)
-            at[1] += self.drifted(now)
+            at[0] += 0.5 * self.past("leaves", now) + 3 * self.past("flees", now)
+            at[1] += self.drifted(now) - self.leapt(now)[1]
             at[2] -= 0.4 * self.past("sinks", now)
         if self.next and self.flies and self.is_due("swapped"):
             # Its controller takes the other one's error for its own, and flies away from it, faster and faster.
             way = [v - w for v, w in zip(at, self.next.planned(now))]
-            far = 0.75 * ((self.flown(now) or 0.0) - self.faults["swapped"]) ** 2 / max(0.01, math.hypot(*way))
+            far = 0.75 * self.past("swapped", now) ** 2 / max(0.01, math.hypot(*way))
             at = [v + far * w for v, w in zip(at, way)]
         return [at[0], at[1], max(self.floor, at[2])]
 
@@ -284,7 +314,8 @@ class Drone:
             u = next(k / 100 for k in range(101) if first[2] + (last[2] - first[2]) * smooth(k / 100) <= self.floor)
             rate = 140 * u ** 3 * (1 - u) ** 3 * (first[2] - last[2]) / seconds
             self.hits = max(self.hits, rate)
-        self.place, self.plan, self.lands, self.flies = [last[0], last[1], self.floor], None, False, False
+        back = self.leapt(clock.now())[1]
+        self.place, self.plan, self.lands, self.flies = [last[0], last[1] - back, self.floor], None, False, False
 
     # ---- the radio
 
@@ -414,8 +445,12 @@ class Drone:
                 values = [self.variable(LOGGED[number - PADDING][0], now) for _, number in items]
                 form = "<" + "".join(firmware.LOG_TYPES[kind] for kind, _ in items)
                 stamp = int((now - self.booted) * (1000.3 if "fast" in self.faults else 1000)) % 2 ** 24
-                self.up_queue.append(firmware.packet(firmware.LOGS, 2, bytes([block]) + stamp.to_bytes(3, "little")
-                                                     + struct.pack(form, *values)))
+                raw = firmware.packet(firmware.LOGS, 2, bytes([block]) + stamp.to_bytes(3, "little")
+                                      + struct.pack(form, *values))
+                if self.is_due("lags"):
+                    self.later.append((now + LAG, raw))
+                else:
+                    self.up_queue.append(raw)
 
     def variable(self, name: str, now: float) -> float:
         """The value of a log variable at an instant."""
@@ -438,8 +473,7 @@ class Drone:
         if self.next and self.is_due("swapped"):
             return self.next.is_at(now)
         x, y, z = self.is_at(now)
-        y += 0.5 if self.past("leaps", now) else 25.0 if self.is_due("misled") else 0.0
-        y -= self.drifted(now) if self.flies else 0.0
+        y += self.leapt(now)[0] - (self.drifted(now) if self.flies else 0.0)
         return [x, y, z + self.faults.get("high", 0.0) - self.is_due("lower")]
 
     def volts(self, now: float) -> float:
@@ -542,10 +576,10 @@ class World:
 
     def reset(self, homes: Dict[str, Sequence[float]], faults: Dict[str, Dict[str, float]], stray: float = 0.0,
               late: float = 0.0, loss: float = 0.0, rate: float = 900.0, seed: int = 1, unplugged: Sequence[str] = (),
-              **after: Optional[float]) -> None:
-        """Sets drones at places (metres) by their URIs, each with its faults and their numbers. `after` are by a name
-        of TROUBLES the seconds after the first start when it comes."""
-        self.after, self.watching = after, False
+              leap: float = 0.5, rising: Mapping[str, Collection[str]] = {}, **after: Optional[float]) -> None:
+        """Sets drones at places (metres) by their URIs, each with its faults and their numbers; those of `rising` count
+        from its take-off. `after` are by a name of TROUBLES the seconds after the first start when it comes."""
+        self.after, self.watching, self.leap = after, False, leap
         self.nearest: Optional[Tuple[float, int, int]] = None
         self.stray, self.late, self.loss, self.rate, self.unplugged = stray, late, loss, rate, unplugged
         self.chance, self.lock = random.Random(seed), threading.Lock()
@@ -555,11 +589,14 @@ class World:
         for uri in homes:
             if "trades" in faults.get(uri, {}):
                 places[uri], places[following[uri]] = places[following[uri]], places[uri]
-        self.drones = {uri: Drone(self, uri, place, dict(faults.get(uri, {}))) for uri, place in places.items()}
+            if "double" in faults.get(uri, {}):
+                places[uri] = places[following[uri]]
+        self.drones = {uri: Drone(self, uri, place, dict(faults.get(uri, {})), rising.get(uri, ()))
+                       for uri, place in places.items()}
         for uri, drone in self.drones.items():
             if "swapped" in faults.get(uri, {}):
                 drone.next, self.drones[following[uri]].next = self.drones[following[uri]], drone
-                drone.next.faults["swapped"] = drone.faults["swapped"]
+                drone.next.faults["swapped"], drone.next.after_rise = drone.faults["swapped"], drone.after_rise
             if "twin" in drone.faults:
                 x, y, z = drone.place
                 drone.twin = Drone(self, uri, [x, y + 0.5, z], {})
@@ -569,10 +606,13 @@ class World:
         for drone, share in zip(self.drones.values(), shares):
             drone.late_share = share
 
-    def add_stranger(self, uri: str, home: Sequence[float], trajectory: int, data: bytes, pieces: int) -> None:
+    def add_stranger(self, uri: str, home: Sequence[float], trajectory: int, data: bytes, pieces: int,
+                     name: str = "") -> None:
         """A drone on the channel that isn't in the flight, and was in one before: armed, in all groups, and with a
-        trajectory in its memory, or with none where that has no pieces."""
+        trajectory in its memory, or with none where that has no pieces. It has a name where it was left out."""
         drone = Drone(self, uri, home, {})
+        before = sum(it.called.startswith("stranger ") for it in self.drones.values())
+        drone.called = name or "stranger %d" % (before + 1)
         drone.armed, drone.parameters[0], drone.group = True, 1, 0xFF
         drone.memories[2][1][:len(data)] = data
         drone.table[trajectory] = (1, 1, 0, pieces) if pieces else None
@@ -611,7 +651,7 @@ class World:
         """Where the drones are, whether they are armed, how often they began a trajectory, and how long after the
         first one: lines for people."""
         first = min([drone.starts[0] for drone in self.drones.values() if drone.starts] or [0.0])
-        names = [*names, *("stranger %d" % (k + 1) for k in range(len(self.drones) - len(names)))]
+        names = [*names, *(drone.called for drone in self.drones.values() if drone.called)]
         for name, drone in zip(names, self.drones.values()):
             after = " after %.0f ms" % (1000 * (drone.starts[0] - first)) if drone.starts else ""
             x, y, z = drone.is_at()
@@ -625,22 +665,24 @@ class World:
             yield "simulated: nearest two of which one flew: %s and %s, %.2f m" % (
                 names[self.nearest[1]], names[self.nearest[2]], self.nearest[0])
 
-    def take_turn(self, dongle: str) -> Tuple[bool, bool]:
-        """Waits for a dongle's next transfer."""
+    def take_turn(self, dongle: str, is_there: bool = True) -> Tuple[bool, bool]:
+        """Waits for a dongle's next transfer; whether it is lost, and its answer. Where nobody is there, both are."""
         with self.lock:
             at = max(clock.now(), self.free.get(dongle, 0.0))
             self.free[dongle] = at + 1 / self.rate
             loss = self.loss if self.since("noise") is None else NOISE
-            lost, lost_back = self.chance.random() < loss, self.chance.random() < loss
+            lost, lost_back = (self.chance.random() < loss, self.chance.random() < loss) if is_there else (True, True)
         clock.wait(at + 1 / self.rate - clock.now())
         return lost, lost_back
 
     def transfer(self, uri: str, raw: bytes) -> Tuple[bool, bytes]:
         """A packet to a drone: whether it was acknowledged, and what came back."""
-        lost, lost_back = self.take_turn(uri.split("/")[2])
         drone = self.drones.get(uri)
+        lost, lost_back = self.take_turn(uri.split("/")[2], drone is not None)
         if lost or drone is None or drone.is_gone() or self.ails(uri.split("/")[2], "dies", "usb"):
             return False, b""
+        if drone.is_due("numb"):
+            return (False, b"") if lost_back else (True, NOTHING)
         came = [it.poll(raw) for it in (drone, drone.twin) if it]
         return (False, b"") if lost_back else (True, self.chance.choice(came) if drone.twin else came[0])
 
@@ -652,7 +694,7 @@ class World:
         for uri, drone in self.drones.items():
             if uri.split("/")[2:4] == [str(dongle), str(channel)] and "deaf" not in drone.faults:
                 is_deaf = drone.is_gone() or "deafens" in drone.faults and drone.flies
-                is_deaf = is_deaf or self.ails(dongle, "dies", "usb")
+                is_deaf = is_deaf or self.ails(dongle, "dies", "usb") or drone.is_due("numb")
                 if not is_deaf and self.chance.random() >= self.loss ** 4:
                     with drone.lock:
                         drone.heard_at = now

@@ -9,6 +9,7 @@ from .crtpstack import CRTPPacket
 
 RETRIES = 100
 RELAXED = 0.01  # seconds between transfers where nothing comes
+RATES = ("250K", "1M", "2M")
 OPEN: List["RadioDriver"] = []  # the drivers that are open, for tests
 
 
@@ -113,6 +114,13 @@ class RadioManager:
         return _SharedRadioInstance(devid)
 
 
+class _radio_ack:
+    """What came back of a packet: whether it was acknowledged, and the acknowledgement's payload."""
+
+    def __init__(self, ack: bool, data: bytes) -> None:
+        self.ack, self.data = ack, data
+
+
 class _SharedRadioInstance:
     def __init__(self, devid: int) -> None:
         self.devid = devid
@@ -129,11 +137,15 @@ class _SharedRadioInstance:
     def set_data_rate(self, dr: int) -> None:
         self.rate = dr
 
-    def send_packet(self, data: Sequence[int]) -> None:
+    def send_packet(self, data: Sequence[int]) -> _radio_ack:
         while air.WORLD.ails(self.devid, "blocks"):
             clock.wait(0.05)
         if self.address == (0xFF, 0xE7, 0xE7, 0xE7, 0xE7):
             air.WORLD.broadcast(self.devid, self.channel, bytes(data))
+            return _radio_ack(False, b"")
+        rate = RATES[self.rate or 0]
+        uri = "radio://%d/%s/%s/%s" % (self.devid, self.channel, rate, bytes(self.address).hex().upper())
+        return _radio_ack(*air.WORLD.transfer(uri, bytes(data)))
 
     def close(self) -> None:
         pass
