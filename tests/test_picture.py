@@ -53,8 +53,8 @@ class Page(unittest.TestCase):
         marks = data["marks"]
         self.assertEqual([(mark["cue"], mark["named"], mark["nearest"]) for mark in marks],
                          [(2, False, 5000), (0, True, 1000)])
-        # In the middle of the first cue they are 100 mm apart of 240.
-        self.assertEqual([mark["share"] for mark in marks], [0, 41.7])
+        # In the middle of the first cue they are 100 mm apart of 240: 173 thousandths of the square, rounded down.
+        self.assertEqual([mark["share"] for mark in marks], [0, 41.6])
         self.assertIn("cue 1", data["line"])
         self.assertEqual((data["r"], data["h"], data["stray"], data["late"]), (120, 300, 30, 15))
 

@@ -548,6 +548,46 @@ class Drag(Flight):
         self.carry(0, 0.5, 0)
         self.assertEqual(self.text(), text)
 
+    def band(self, begin, end):
+        """Drags a rectangle with Ctrl, from one point of the page to another."""
+        def hold(kind):
+            self.browser.ask("POST", "/actions", {"actions": [
+                {"type": "key", "id": "keys", "actions": [{"type": kind, "value": CONTROL}]}]})
+        hold("keyDown")
+        self.browser.drag(begin, end)
+        hold("keyUp")
+
+    def chosen(self):
+        """The names of those that are chosen."""
+        return self.browser.run("return [...chosen].map(k => flight.names[k]).sort()")
+
+    def test_band(self):
+        """With Ctrl a drag chooses the drones in a rectangle, beside those that are chosen, and turns nothing."""
+        self.begin(PLACED, 0)
+        view = self.browser.run("return [turn, tilt]")
+        (ax, ay, metre), (bx, _, _), (cx, _, _) = self.drone(0), self.drone(1), self.drone(2)
+        self.band((ax - metre / 3, ay - metre / 3), ((ax + bx) / 2, ay + metre / 3))
+        self.assertEqual(self.chosen(), ["a"])
+        self.band((cx + metre / 3, ay + metre / 3), ((ax + bx) / 2, ay - metre / 3))  # from the other corner
+        self.assertEqual(self.chosen(), ["a", "b", "c"])
+        self.assertEqual((self.browser.run("return [turn, tilt, band]"), self.text()), ([*view, None], PLACED))
+        self.carry(1, 0, -0.5)  # and they are dragged together
+        for line in ("drone a 0 -0.5m", "drone b 1m -0.5m", "drone c 2m -0.5m"):
+            self.assertIn(line, self.text())
+        self.assertEqual(self.browser.faults(), [])
+
+    def test_all(self):
+        """Outside of the text Ctrl-A chooses all drones and Escape none; in the text it is the text's."""
+        self.begin(PLACED, 0)
+        self.browser.run("document.activeElement.blur()")
+        self.browser.keys("a", CONTROL)
+        self.assertEqual((self.chosen(), self.selected()), (["a", "b", "c"], ""))
+        self.browser.keys("\uE00C")
+        self.assertEqual(self.chosen(), [])
+        self.put_cursor("drone b")
+        self.browser.keys("a", CONTROL)
+        self.assertEqual((self.chosen(), self.selected()), ([], PLACED))
+
 
 class Small(Flight):
     """Dark, two fingers, undo by buttons, and what the page says in words."""

@@ -17,7 +17,7 @@ FOLDER = os.path.join(common.PYTHON, "hemtoghai", "seeing")
 MODULES = sorted(glob.glob(os.path.join(FOLDER, "*.js")))
 OPTIONS = ["--noEmit", "--allowJs", "--checkJs", "--target", "es2022", "--module", "es2022", "--lib",
            "es2022,dom,dom.iterable", "--noUnusedLocals", "--noUnusedParameters"]
-MOST_LINES = 500
+MOST_LINES, MOST_OF_FUNCTION = 500, 40
 
 
 def checked(*files: str) -> tuple[int, str]:
@@ -25,6 +25,12 @@ def checked(*files: str) -> tuple[int, str]:
     done = subprocess.run([str(TSC), *OPTIONS, *files], stdout=subprocess.PIPE, stderr=subprocess.STDOUT,
                           universal_newlines=True, timeout=300)
     return done.returncode, done.stdout
+
+
+def lengths(text: str) -> dict[str, int]:
+    """By name how many lines each function of a module has, of those that aren't within another one."""
+    found = re.finditer(r"^(?:export )?(?:(?:async )?function (\w+)[^\n]*|const (\w+) = [^\n]*=> )\{\n.*?^\}", text, re.M | re.S)
+    return {it[1] or it[2]: it[0].count("\n") + 1 for it in found}
 
 
 class Modules(unittest.TestCase):
@@ -55,6 +61,14 @@ class Modules(unittest.TestCase):
         for path in MODULES:
             with open(path) as file:
                 self.assertLessEqual(len(file.readlines()), MOST_LINES, path)
+
+    def test_functions(self) -> None:
+        """No function is too long to be read at once."""
+        self.assertEqual(lengths("export async function f() {\n  g();\n}\nconst h = k => {\n};\n"), {"f": 3, "h": 2})
+        for path in MODULES:
+            with open(path) as file:
+                found = lengths(file.read())
+            self.assertEqual([name for name, many in found.items() if many > MOST_OF_FUNCTION], [], path)
 
     def test_each_is_used(self) -> None:
         """Each module is one of the studio's page, and those that a picture needs are in it."""

@@ -300,10 +300,15 @@ class Page(Led):
         self.assertEqual(self.text(), GOOD)
 
     def test_end(self):
-        """The studio ends, and the text stays on the page."""
+        """The studio ends once that was asked, and the text stays on the page."""
         studio = self.open(GOOD)
         self.says("accepted")
         self.browser.click("#end")
+        self.assertIn("End the studio, also for its other tabs?", self.words("told"))
+        self.browser.click("#told button:nth-of-type(2)")
+        self.assertEqual((self.words("told"), studio.process.poll()), ("", None))
+        self.browser.click("#end")
+        self.browser.click("#told button")
         self.assertEqual(studio.process.wait(WAIT), 0)
         self.wait(lambda: "has ended" in self.words("verdict"), "it doesn't say so")
         self.assertEqual(self.text(), GOOD)

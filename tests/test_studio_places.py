@@ -3,6 +3,7 @@ written, what the words of a line are, and blocked places as they are found."""
 import contextlib
 import io
 import json
+import os
 import unittest
 
 import common  # by which the package is found
@@ -166,14 +167,14 @@ class Words(unittest.TestCase):
 
 class Marks(unittest.TestCase):
     def test_so_far(self):
-        """Blocked places are written as they are found, and all are counted; the largest show is no exception."""
+        """Where no program can be asked blocked places are written as they are found, and all are counted."""
         text = "choreo 1\n" + "".join("drone d%d 0 0 1000000 0\n" % k for k in range(6)) + "cue 100\nend\n"
         flown, out = choreo.flown_of(text.encode()), io.StringIO()
         before = studio_work.MARK_TIME, studio_work.MOST_MARKS, studio_work.MOST_MEASURED
         studio_work.MARK_TIME, studio_work.MOST_MARKS, studio_work.MOST_MEASURED = 0, 4, 7
         try:
             with contextlib.redirect_stdout(out):
-                studio_work.put_marks(flown, 6)
+                studio_work.put_marks(flown, text.encode(), os.devnull, 6)  # which is no program
         finally:
             studio_work.MARK_TIME, studio_work.MOST_MARKS, studio_work.MOST_MEASURED = before
         rows = [json.loads(line) for line in out.getvalue().splitlines()]

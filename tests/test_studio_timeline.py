@@ -275,6 +275,27 @@ class Carry(Timeline):
             self.assertEqual(self.text(), HEAD + "\n".join(wanted))
             self.ready()
 
+    def test_remove(self):
+        """The cue at the playhead is taken out, with the comment above it and an empty line, the last one too; and undo
+        writes it again."""
+        first, second, third = ACTS
+        note, tail = third.split("\n\n")
+        for ms, wanted, ends in ((1000, [second, third], 8000), (3000, [first, third], 7000),
+                                 (9000, [first, second, note + "\n"], 5000)):
+            self.begin()
+            self.browser.run("move(arguments[0])", ms)
+            self.browser.click("#cue-remove")
+            self.assertEqual(self.text(), HEAD + "\n".join(wanted))
+            self.ready()
+            self.assertEqual(self.browser.run("return flight.end"), ends)
+            self.browser.click("#undo")
+            self.assertEqual(self.text(), SHOW)
+        self.begin("choreo 2\ndrone a 0 0 1m 0\ncue 2s\nend\n")
+        self.browser.click("#cue-remove")
+        self.assertEqual(self.text(), "choreo 2\ndrone a 0 0 1m 0\n")
+        self.wait(lambda: "there is no cue yet" in self.words("before"), "the drone isn't shown")
+        self.assertEqual(self.browser.faults(), [])
+
     def test_figure(self):
         """Of cues that a figure flies the `perform` line is carried, and the figure stays."""
         head = "choreo 2\ndrone a 0 0 1m 0\nfigure f r\ncue 2s\nr move 0 1m 1m 0\nend\ncue 1s\nr move 0 0 1m 0\nend\nend\n"

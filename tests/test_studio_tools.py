@@ -89,16 +89,23 @@ class Tools(Flight):
         """Waits for the flight of the text, and the lines of its drones."""
         self.wait(lambda: self.browser.run("return flight && flightVersion === version && Boolean(found.lines)"), "no flight")
 
+    def click_words(self, group: str, words: str) -> None:
+        """Clicks the button of a group that has these words, with the mouse."""
+        number = self.browser.run("return 1 + [...document.querySelectorAll(`#${arguments[0]} button`)].findIndex("
+                                  "it => it.textContent === arguments[1])", group, words)
+        self.assertGreater(number, 0, words)
+        self.browser.click("#%s button:nth-child(%d)" % (group, number))
+
     def choose(self, *names: str) -> None:
-        """Chooses drones in the list, and no others."""
-        self.browser.run("for (const it of document.querySelectorAll('#legend button'))"
-                         "if ((it.getAttribute('aria-pressed') === 'true') !== arguments[0].includes(it.textContent)) it.click()",
-                         list(names))
+        """Chooses drones in the list with the mouse, and no others."""
+        for name in self.browser.run(
+                "return [...document.querySelectorAll('#legend button')].filter(it => (it.getAttribute('aria-pressed') === 'true')"
+                "!== arguments[0].includes(it.textContent)).map(it => it.textContent)", list(names)):
+            self.click_words("legend", name)
 
     def tool(self, name: str, is_new: bool = False) -> str:
         """Opens a tool, and waits for its preview; the words about it."""
-        self.browser.run("for (const it of document.querySelectorAll('#tools-kinds button')) if (it.textContent === arguments[0])"
-                         "it.click()", name)
+        self.click_words("tools-kinds", name)
         self.browser.run("const it = document.getElementById('tools-where'); it.value = arguments[0] ? 'new' : '';"
                          "it.dispatchEvent(new Event('change'))", is_new)
         return str(self.wait(lambda: self.said(), "no preview"))
@@ -192,7 +199,8 @@ class Tools(Flight):
         self.wait(lambda: self.at() == 7000, "the playhead isn't there")
 
     def test_duplicate(self) -> None:
-        """Copies have the lines of their drones, aside, with names of their own."""
+        """Copies have the lines of their drones, aside, with names of their own, behind those lines that follow one
+        another."""
         self.begin(THREE, 0)
         self.says("accepted")
         self.choose("a", "c")
@@ -200,9 +208,55 @@ class Tools(Flight):
         self.take()
         lines = THREE.replace("drone a 0 0 1m 0\n", "drone a 0 0 1m 0\ndrone d 2.7m 0 1m 0\n")
         lines = lines.replace("drone c 2m 0 1m 0  # the last\n", "drone c 2m 0 1m 0  # the last\ndrone e 4.7m 0 1m 0\n")
-        lines = lines.replace("a move 0 1m 1m 0\n", "a move 0 1m 1m 0\nd move 2.7m 1m 1m 0\n")
-        self.assertEqual(self.text(), lines.replace("c hold\n", "c hold\ne hold\n"))
+        self.assertEqual(self.text(), lines.replace("c hold\n", "c hold\nd move 2.7m 1m 1m 0\ne hold\n"))
         self.says("5 drones")
+
+    def test_remove(self) -> None:
+        """Chosen drones are taken out with their acts and their places, also of a formation that is never formed; first a
+        preview says what that flies, and one undo brings them back. Nobody is taken out who wasn't chosen."""
+        text = THREE + "formation later\nat a 0 2m 1m 0\nat c 2m 2m 1m 0\nend\n"
+        self.begin(text, 4000)
+        self.says("accepted")
+        self.choose()
+        self.assertEqual(self.tool("Remove"), "choose the drones first")
+        self.choose("c")
+        self.wait(lambda: "one drone: a preview, not judged; nearest: a and b" in self.said(), "no preview")
+        self.assertEqual(self.text(), text)
+        self.take()
+        wanted = text.replace("drone c 2m 0 1m 0  # the last\n", "").replace("c hold\n", "").replace("at c 2m 2m 1m 0\n", "")
+        self.assertEqual(self.text(), wanted)
+        self.says("2 drones, 1 cue")
+        self.browser.keys("z", CONTROL)
+        self.assertEqual(self.text(), text)
+        self.assertEqual(self.browser.faults(), [])
+
+    def test_from_nothing(self) -> None:
+        """In an empty text Insert writes which form of the language it is, before the first drone; copies stand in order
+        behind it; ghosts show where drones would stand before there is a cue, and at the end of a new one."""
+        self.open("")
+        self.says("line 1: header")
+        self.put_cursor("")
+        self.browser.click("#insert")
+        self.press("drone")
+        self.assertEqual(self.text(), "choreo 2\ndrone a 0 0 1m 0\n")
+        self.known()
+        self.browser.click("#form")
+        for many in (1, 2):
+            said = self.tool("Duplicate")
+            self.assertIn("a preview, not judged", said)
+            self.assertEqual(len(self.ghosts()), many)
+            self.take()
+        places = "".join("drone %s %s 0 1m 0\n" % row for row in (("a", "0"), ("b", "0.7m"), ("c", "1.4m"), ("d", "2.1m")))
+        self.assertEqual(self.text(), "choreo 2\n" + places)
+        self.tool("Raise", True)
+        # A new cue would end with all of them half a metre higher, and there the ghosts are drawn.
+        drawn = "return [preview.at, placeAt(2, preview.at, preview.flight).slice(0, 3).map(Math.round)]"
+        self.assertEqual(self.browser.run(drawn), [3000, [1400, 0, 1500]])
+        self.take()
+        self.click_words("tools-kinds", "Line")  # a new cue is still wanted
+        self.assertEqual(self.browser.run("return document.getElementById('tools-where').value"), "new")
+        self.says("4 drones, 1 cue")
+        self.assertEqual(self.browser.faults(), [])
 
     def test_twelve(self) -> None:
         """Twelve drones fly three formations, and not a number is typed."""
@@ -286,6 +340,8 @@ end
 
 
 class Offers(Tools):
+    """Without the tests of the class that it is made from."""
+
     def offered(self, button: str) -> list[str]:
         """What there is to choose from after a click on a button."""
         self.browser.click(button)
@@ -302,7 +358,7 @@ class Offers(Tools):
     def test_cure(self) -> None:
         """A cure of all places, or of the first cue alone in several ways; each is a ghost before it is taken."""
         self.open(TWICE)
-        self.says("TOO NEAR: a and b in cue 1")
+        self.wait(lambda: "2 places in all" in self.verdict(), "not all places are known")
         bar = self.verdict()
         choices = self.offered("#cure")
         self.assertEqual(choices[0], "every place that is blocked, each by what takes least time")
@@ -347,6 +403,11 @@ class Offers(Tools):
         text = self.text()
         self.assertIn("at a 0 0 1m 0\nat b 1m 0 1m 0\n", text)
         self.assertIn("at c 1m 2m 1m 0\nat d 0 2m 1m 0\n", text)
+
+
+for name in vars(Tools):
+    if name.startswith("test_") and name not in vars(Offers):
+        setattr(Offers, name, None)
 
 
 if __name__ == "__main__":

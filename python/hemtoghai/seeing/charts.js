@@ -217,7 +217,8 @@ function drawMotion(kind) {
   for (const [, row] of rows) for (const v of row) most = Math.max(most, v);
   const limit = isForce && motion ? motion.limit : Infinity, high = 1.15 * Math.max(most, limit < 2 * most ? limit : 0);
   const name = isForce ? "acceleration on an axis, m/s²" : "speed on an axis, m/s";
-  const words = !motion ? `${name}: working it out` : name + (isForce ? `; a drone flies at most ${metres(limit)}` : "");
+  const asked = isForce ? `; a drone flies at most ${metres(limit)}` : "";
+  const words = !motion ? `${name}: working it out` : name + asked;
   const it = chart(byId("heights"), 0, high, inMetres(0, high), words, state.chartHeight);
   if (limit < high) drawLimit(it, limit, state.paint.touch);
   for (const [k, row] of rows) drawCurve(it, Number(k), graph(motion.times, it.x, s => it.y(row[s])));
@@ -267,6 +268,7 @@ function wordsOfShares() {
 // Whether the pair stays below a share from one sample to another.
 const isLevel = (rows, from, to, share) =>
   rows.slice(Math.min(from, to), Math.max(from, to) + 1).every(([it]) => it < share);
+const BESIDE = 16;  // pixels from a low dip to its words
 // Names at the lowest dips, with the distance in metres, as far as they have room.
 function nameDips(svg, it, rows, far, high) {
   const dips = [], [first, last] = shownOf(state.flight.times);
@@ -285,11 +287,15 @@ function nameDips(svg, it, rows, far, high) {
     const wide = 7.2 * words.length;
     const px = it.x(state.flight.times[s]);
     if (px < it.left - 1 || px > it.right + 1) continue;
-    const middle = Math.max(it.left + wide / 2 + 2, Math.min(it.right - wide / 2 - 2, px));
-    if (taken.some(([m, w]) => Math.abs(m - middle) < (w + wide) / 2 + 6)) continue;
+    // Below the dip, or beside one that is so low that its own line would go through the words; else above it.
+    const isLow = at + 20 > it.y(0), by = BESIDE + wide / 2;
+    const inside = m => Math.max(it.left + wide / 2 + 2, Math.min(it.right - wide / 2 - 2, m));
+    const beside = isLow ? [px + by, px - by].filter(m => m === inside(m)) : [];
+    const middle = [...beside, inside(px)].find(m => !taken.some(([n, w]) => Math.abs(n - m) < (w + wide) / 2 + 6));
+    if (middle === undefined) continue;
     taken.push([middle, wide]);
     named.push(s);
-    let py = at + (at + 20 > it.y(0) ? -10 : 17);
+    let py = at + (!isLow ? 17 : beside.includes(middle) ? -4 : -10);
     if (Math.abs(py - 4 - edge) < 10) py = edge + (py - 4 < edge && py - 10 > it.y(high) ? -8 : 18);
     svg.append(node("circle", {cx: px, cy: at, r: 3, fill: v <= 100 ? state.paint.touch : state.paint.ink}));
     text(svg, middle, py, words, "middle", {class: "name"});

@@ -40,8 +40,19 @@ export function buildLegend() {
       press();
       state.onChoose();
     };
+    it.tabIndex = k === 0 ? 0 : -1;
   });
   press();
+}
+const STEPS = {ArrowLeft: -1, ArrowUp: -1, ArrowRight: 1, ArrowDown: 1, Home: -Infinity, End: Infinity};
+// Tab comes to the list of drones once, and arrows go from one to the next.
+function walkLegend(event) {
+  const all = /** @type {HTMLElement[]} */ ([...byId("legend").children]), here = all.indexOf(event.target);
+  if (here < 0 || !(event.key in STEPS)) return;
+  event.preventDefault();
+  const next = all[Math.max(0, Math.min(all.length - 1, here + STEPS[event.key]))];
+  for (const it of all) it.tabIndex = it === next ? 0 : -1;
+  next.focus();
 }
 let before = null;  // the stamp of the frame before, while it plays
 function play(stamp) {
@@ -79,6 +90,7 @@ export function buildControls() {
     it.value = `${speed}`;
     it.selected = speed === 1;
   }
+  byId("legend").addEventListener("keydown", walkLegend);
   byId("slider").oninput = () => { stop(); move(Number(byId("slider").value)); };
   buildViews();
 }

@@ -2,20 +2,22 @@
 the text of a page; and how two texts differ."""
 from __future__ import annotations
 
-import contextlib
 import difflib
+import errno
 import os
 import re
-import shutil
-import tempfile
+import stat
 import threading
-from collections.abc import Iterator
+from typing import BinaryIO
 
 from hemtoghai.language import choreo
 from hemtoghai.outputs import New, sync_folder
 from hemtoghai.program import digest_of, looks
+from hemtoghai.texts import is_plain
 
 MOST_TEXT = choreo.LONGEST_TEXT + 4096  # a little more than a show may have, so that the program can say so
+LONGEST_NAME = 255  # bytes of a file's name on usual disks
+WRITES = stat.S_IWUSR | stat.S_IWGRP | stat.S_IWOTH  # the bits of a mode by which somebody may write a file
 MOST_DIFF = 30000  # lines that are compared
 # What a file with music is called beside a show, and what it is.
 MUSIC = {".ogg": "audio/ogg", ".opus": "audio/ogg", ".mp3": "audio/mpeg", ".m4a": "audio/mp4", ".flac": "audio/flac",
@@ -39,10 +41,17 @@ class ShowFile:
 
     def read(self) -> bytes | None:
         try:
-            with open(self.path, "rb") as file:
+            with plain(self.path) as file:
                 return file.read(MOST_TEXT + 1)
         except FileNotFoundError:
             return None
+
+    def kept(self) -> str:
+        """The path of `SHOW~`; of a name that leaves no room for the last letter it lacks letters before that."""
+        folder, name = os.path.split(self.path)
+        while len(os.fsencode(name)) >= LONGEST_NAME:
+            name = name[:-1]
+        return os.path.join(folder, name + "~")
 
     def music(self) -> str | None:
         """The path of the file with music beside it, which has its name with another ending, or None."""
@@ -51,7 +60,7 @@ class ShowFile:
 
     def save(self, data: bytes, stamp: str | None) -> str | None:
         """Writes the file at once as a whole, and keeps what was there as `SHOW~`; the stamp of what is there instead
-        where that isn't what the page read, or None."""
+        where that isn't what the page read, or None. Raises OSError, and changes nothing then."""
         with self.lock:
             old = self.read()
             if stamp is not None and stamp != stamp_of(old):
@@ -61,32 +70,47 @@ class ShowFile:
 
     def replace(self, data: bytes, old: bytes | None) -> None:
         """Writes the file beside it, as a whole, and gives it the name once what was there has another one."""
+        if old is not None:
+            self.need_leave(old)
         new = New(self.path, data)
         try:
             if old is not None:
-                with self.beside() as kept:
-                    shutil.copy2(self.path, kept)
-                    os.replace(kept, self.path + "~")
+                self.keep(old)
             new.put(True)
             sync_folder(new.folder)
         finally:
             new.drop()
 
-    @contextlib.contextmanager
-    def beside(self) -> Iterator[str]:
-        """The path of a new file in the same folder; it is gone where it got no other name."""
-        number, path = tempfile.mkstemp(prefix=".%s." % self.name[:80], dir=os.path.dirname(self.path))
-        os.close(number)
+    def need_leave(self, old: bytes) -> None:
+        """Raises OSError where what is there may not be written over, or is longer than a show."""
+        if not os.stat(self.path).st_mode & WRITES or not os.access(self.path, os.W_OK):
+            raise PermissionError(errno.EACCES, "it is read-only, and stays (chmod u+w lets it be written)")
+        if len(old) > MOST_TEXT:
+            raise OSError(errno.EFBIG, "what is there now is longer than a show, and stays")
+
+    def keep(self, old: bytes) -> None:
+        """Keeps what was there as `SHOW~`, with its mode and its times."""
+        found = os.stat(self.path)
+        kept = New(self.kept(), old, stat.S_IMODE(found.st_mode))
         try:
-            yield path
+            os.utime(kept.number, ns=(found.st_atime_ns, found.st_mtime_ns))
+            kept.put(True)
         finally:
-            with contextlib.suppress(FileNotFoundError):
-                os.unlink(path)
+            kept.drop()
+
+
+def plain(path: str) -> BinaryIO:
+    """Opens a plain file to be read; raises OSError where it is none. Nobody is waited for, as at a FIFO."""
+    file = open(path, "rb", opener=lambda name, how: os.open(name, how | os.O_NONBLOCK))
+    if is_plain(file.fileno()):
+        return file
+    file.close()
+    raise OSError(errno.EINVAL, "this is no plain file")
 
 
 def read_at_most(path: str, most: int) -> bytes | None:
     """A file's bytes, or None where it has more than so many; raises OSError."""
-    with open(path, "rb") as file:
+    with plain(path) as file:
         data = file.read(most + 1)
     return None if len(data) > most else data
 

@@ -37,8 +37,9 @@ const values = {
   // The least and the greatest place on x, y and z; half axes of what is kept clear; what the view in space shows.
   lowest: [0, 0, 0], highest: [0, 0, 0], beside: 0, up: 0, floor: 0,
   room: /** @type {{low: number[], high: number[], regions: {kind: string, box: number[]}[]} | null} */ (null),
-  // What another text would fly, and which of its drones fly otherwise than in the flight of the text.
-  preview: /** @type {{flight: Flight, changed: Set<number>} | null} */ (null),
+  // What another text would fly, which of its drones fly otherwise than in the flight of the text, and the instant at
+  // which they are drawn as long as the playhead stays where it was.
+  preview: /** @type {{flight: Flight, changed: Set<number>, from: number, at: number} | null} */ (null),
   // The cue to whose end the playhead goes once the flight of a version of the text is there.
   goal: /** @type {{version: number, cue: number} | null} */ (null),
   // The region that isn't kept.
@@ -50,6 +51,7 @@ const values = {
 
   // The view in space: where the eye is in degrees, how much nearer, and how far the middle is moved, in pixels.
   turn: 28, tilt: 28, zoom: 1, aside: [0, 0], view: /** @type {View | null} */ (null),
+  band: /** @type {number[] | null} */ (null),  // a rectangle of the canvas that chooses drones: two of its corners
   isRough: false,  // while it is turned, paths are drawn with fewer points
   paint: /** @type {Palette} */ (LIGHT),
   chartHeight: 250,
@@ -74,6 +76,8 @@ const values = {
   // with a click into a chart, and with a click in space, which is given the drone or null beside all;
   onPick: /** @type {((ms: number) => void) | null} */ (null),
   onDrone: /** @type {((drone: number | null, withOthers: boolean) => void) | null} */ (null),
+  // with drones that are chosen at once, by their numbers;
+  onBand: /** @type {((drones: number[]) => void) | null} */ (null),
   // with a drag in space, given its event and drone, and with a cue whose end is dragged;
   onGrab: /** @type {((event: PointerEvent, drone: number | null) => Grab | null) | null} */ (null),
   onStretch: /** @type {((cue: number, milliseconds: number) => void) | null} */ (null),

@@ -68,7 +68,7 @@ function bindButtons() {
   byId("nearer").onclick = () => { if (state.flight) zoomBy(1.25, middle()); };
   byId("farther").onclick = () => { if (state.flight) zoomBy(0.8, middle()); };
   byId("space").addEventListener("wheel", event => {
-    if (isSmall() || !state.flight) return;
+    if (isSmall() && !event.ctrlKey || !state.flight) return;  // it scrolls a page that is longer than the window
     event.preventDefault();
     zoomBy(Math.exp(-event.deltaY / 500), [event.offsetX, event.offsetY]);
   }, {passive: false});

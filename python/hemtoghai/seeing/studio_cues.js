@@ -1,4 +1,4 @@
-// Cues as parts of the text in ./show studio: their names, and carrying them to another place.
+// Cues as parts of the text in ./show studio: their names, carrying them to another place, and taking them out.
 
 import {given} from "./given.js";
 import {pointAt, replaceAside} from "./studio_field.js";
@@ -27,6 +27,14 @@ function blockOf(cue) {
 }
 // Whether a line by its number from 0 is empty; what is behind the last line feed is none.
 const isBlank = (lines, k) => k > 0 && k < lines.length - 1 && !lines[k].trim();
+// Lines without some of them, from one by its number from 0, and how many are gone: the empty line behind them goes,
+// too, or else that before them.
+function without(lines, from, many) {
+  const isAfter = isBlank(lines, from + many), isBefore = !isAfter && isBlank(lines, from - 1), out = [...lines];
+  const gone = many + (isAfter || isBefore ? 1 : 0);
+  out.splice(from - (isBefore ? 1 : 0), gone);
+  return {lines: out, gone};
+}
 /**
  * The lines of the text with a cue before another one or behind it, in place of where it is or as a copy; and the line
  * at which it begins then. An empty line beside it goes with it.
@@ -40,11 +48,8 @@ function carried(cue, other, isBehind, isCopy) {
   const piece = isBehind ? [...gap, ...own] : [...own, ...gap];
   const out = [...lines.slice(0, at), ...piece, ...lines.slice(at)];
   if (isCopy) return {lines: out, line};
-  // The empty line behind the cue is taken away with it, or else that before it.
-  const from = first - 1 + (at < first ? piece.length : 0), isAfter = isBlank(out, from + own.length);
-  const isBefore = !isAfter && isBlank(out, from - 1), gone = own.length + (isAfter || isBefore ? 1 : 0);
-  out.splice(from - (isBefore ? 1 : 0), gone);
-  return {lines: out, line: at < first ? line : line - gone};
+  const rest = without(out, first - 1 + (at < first ? piece.length : 0), own.length);
+  return {lines: rest.lines, line: at < first ? line : line - rest.gone};
 }
 // Where the cue is in the show then, as long as none of both is flown several times.
 function indexThen(cue, other, isBehind, isCopy) {
@@ -60,4 +65,12 @@ export function carryCue(cue, other, isBehind, isCopy) {
   replaceAside(found.lines.join("\n"));
   pointAt(found.line, found.line);
   if (index !== null) set({goal: {version: state.version, cue: index}});
+}
+// Takes a cue out of the text, or the figure that flies it, with the comment above it.
+export function removeCue(cue) {
+  if (given.watch || state.flightVersion !== state.version || !state.flight.lines) return;
+  const [first, last] = blockOf(cue), {lines} = without(state.lines, first - 1, last - first + 1);
+  replaceAside(lines.join("\n"));
+  pointAt(Math.min(first, lines.length), Math.min(first, lines.length));
+  if (cue > 0) set({goal: {version: state.version, cue: cue - 1}});
 }

@@ -63,7 +63,7 @@ function movedOn(old, drones, by) {
   for (const k of drones.keys()) out.set(k, by.map((v, axis) => v + (old.get(k) || [0, 0, 0])[axis]));
   return out;
 }
-// By how many millimetres a drone goes on x, y and z with a drag: to a round place on each axis along which it is moved.
+// By how many millimetres a drone goes on x, y and z with a drag: to a round place on each axis on which it is moved.
 function snapped(event, from, axes, place) {
   const snap = event.altKey ? FINE : SNAP, along = [event.clientX - from[0], from[1] - event.clientY], by = [0, 0, 0];
   axes.forEach((axis, side) => {

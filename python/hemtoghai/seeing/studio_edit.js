@@ -188,7 +188,19 @@ export function closeMenu(back) {
 function menuButton(words, work) {
   const button = element("button", words, byId("menu"));
   button.type = "button";
-  button.onclick = () => { closeMenu(true); if (menuVersion === state.version) work(); };
+  button.onclick = () => {
+    closeMenu(true);
+    if (menuVersion !== state.version) return;
+    if (isBare()) writeHeader();
+    work();
+  };
+}
+// Whether no line has words; then the first one says first which form of the language this is.
+const isBare = () => state.lines.every(line => !line.replace(/#.*/, "").trim());
+function writeHeader() {
+  const end = textLength(), gap = end && state.lines[state.lines.length - 1] ? "\n" : "";
+  writeText(end, end, `${gap}choreo 2\n`);
+  [menuLine, menuReplaces, menuVersion] = [state.lines.length, true, state.version];
 }
 export function onMenuKey(event) {
   const step = {ArrowDown: 1, ArrowUp: -1}[event.key];
@@ -208,7 +220,7 @@ function fillMenu(places) {
   const beside = state.lines[menuLine - 1] || state.lines[menuLine - 2] || "";
   menuIndent = places.where === "top" ? "" : beside.match(/^\s*/)[0];
   menu.replaceChildren();
-  if (!places.exact) {
+  if (!places.exact && !isBare()) {
     element("p", "The text before this line isn't right yet: the numbers are those of the starts.", menu);
   }
   if (inCue || ["top", "repeat", "figure"].includes(places.where)) addActChoice(menu, places);
@@ -378,4 +390,12 @@ export function pickDrone(k, withOthers) {
   if (k === null || !state.found.lines || state.flightVersion !== state.version) return;
   const line = state.found.lines.acts[k][cueAt(state.now)] || state.found.lines.drones[k];
   if (!given.watch) scrollToLines(line, line);
+}
+// Chooses these drones, and no others.
+export function pickDrones(drones) {
+  pickDrone(null, false);
+  set({chosen: new Set(drones)});
+  press();
+  draw();
+  renewTool();
 }

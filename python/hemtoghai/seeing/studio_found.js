@@ -24,6 +24,10 @@ export function setBar(kind, headline, more, go) {
   element("b", headline, bar);
   for (const words of [more].flat()) if (words) element("span", words, bar);
   bar.onclick = go || null;
+  // Where a click does nothing it is no button for those who hear the page or go through it by Tab.
+  bar.tabIndex = go ? 0 : -1;
+  if (go) bar.removeAttribute("role");
+  else bar.setAttribute("role", "status");
 }
 export function showVerdict() {
   const {verdict, none} = state.found;

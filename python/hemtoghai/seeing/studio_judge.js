@@ -116,32 +116,10 @@ export async function take(stage) {
     await new Promise(go => setTimeout(go, left));  // what follows waits, too
     if (mine !== state.version) return;
   }
-  if (stage.stage === "verdict") {
-    set({found: {verdict: stage}, mark: null});
-    markLines();
-  } else if (stage.stage === "none") {
-    set({found: {none: stage}});
-  } else if (stage.stage === "margin") {
-    state.found.margin = {...state.found.margin, [stage.name]: stage};
-  } else {
-    state.found[stage.stage] = stage;
-  }
-  if (stage.stage === "flight" && !isKept(stage.flight)) {
-    await takeFlight(stage.flight);
-    if (mine !== state.version) return;
-  }
-  if (stage.stage === "lines") {
-    markLines();
-    drawLanes();
-  }
-  if (stage.stage === "regions" && stage.fault && state.flight) {
-    set({broken: stage.fault});
-    markLines();
-    await drawInParts();
-    if (mine !== state.version) return;
-  }
-  if (stage.stage === "marks" && state.flight) {
-    await takeMarks(stage);
+  note(stage);
+  const drawn = drawFound(stage);  // nothing is waited for where nothing is drawn: the bar says the verdict at once
+  if (drawn) {
+    await drawn;
     if (mine !== state.version) return;
   }
   showVerdict();
@@ -149,6 +127,22 @@ export async function take(stage) {
   showState();
   showAge();
   document.body.dataset.stage = stage.stage;  // for tests
+}
+function note(stage) {
+  if (stage.stage === "verdict") set({found: {verdict: stage}, mark: null});
+  else if (stage.stage === "none") set({found: {none: stage}});
+  else if (stage.stage === "margin") state.found.margin = {...state.found.margin, [stage.name]: stage};
+  else state.found[stage.stage] = stage;
+}
+// Draws and marks what a stage says of the flight and of lines.
+function drawFound(stage) {
+  if (stage.stage === "flight") return isKept(stage.flight) ? null : takeFlight(stage.flight);
+  if (stage.stage === "marks") return state.flight ? takeMarks(stage) : null;
+  const isBroken = stage.stage === "regions" && stage.fault && state.flight;
+  if (isBroken) set({broken: stage.fault});
+  if (isBroken || stage.stage === "verdict" || stage.stage === "lines") markLines();
+  if (stage.stage === "lines") drawLanes();
+  return isBroken ? drawInParts() : null;
 }
 // Whether the older flight stays in place of that of a beginning: while the faulty line is being typed it says more.
 function isKept({begun, names}) {

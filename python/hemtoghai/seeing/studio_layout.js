@@ -8,7 +8,7 @@ import {given} from "./given.js";
 import {DARK, LIGHT} from "./palettes.js";
 import {buildLegend, move, stop} from "./player.js";
 import {grab} from "./studio_drag.js";
-import {pickDrone, showNumber, stretchCue} from "./studio_edit.js";
+import {pickDrone, pickDrones, showNumber, stretchCue} from "./studio_edit.js";
 import {carryCue} from "./studio_cues.js";
 import {cursorLine, field, pointAt, resizeField, within} from "./studio_field.js";
 import {isStill, rest} from "./studio_judge.js";
@@ -86,7 +86,8 @@ function onChosen() {
 // What the drawings do in this page.
 export function bindDrawings() {
   set({shareWords: "nearest two, % of touching distance", spaceHeight: heightOfSpace});
-  set({onPlay: onPlaying, onMove: markCue, onChoose: onChosen, onPick: pickCue, onDrone: pickDrone});
+  set({onPlay: onPlaying, onMove: markCue, onPick: pickCue});
+  set({onChoose: onChosen, onDrone: pickDrone, onBand: pickDrones});
   if (!given.watch) set({onGrab: grab, onStretch: stretchCue, onCarry: carryCue});
   for (const id of ["room", "editor"]) watcher.observe(byId(id));
 }

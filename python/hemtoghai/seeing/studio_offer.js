@@ -91,8 +91,10 @@ export async function download(path, ending) {
   }
   return null;
 }
-export async function endStudio() {
+// It is asked first: End stands beside buttons that are often pressed, and ends the studio for all its tabs.
+export function endStudio() {
   keep();
-  if (dirty() && !confirm("The text isn't saved. End the studio? The text stays in this browser.")) return;
-  await post("end").catch(() => {});
+  const more = dirty() ? " The text isn't saved, and stays in this browser." : "";
+  tell(`End the studio, also for its other tabs?${more}`,
+    ["End it", () => { post("end").catch(() => {}); }], ["Go on", () => {}]);
 }

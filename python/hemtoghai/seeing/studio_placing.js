@@ -128,22 +128,49 @@ export function blockAt(line, block, isBefore = false) {
   }
   return {from: offsetOf(line), to: offsetOf(line), line, word: isBefore ? `${block}\n` : `\n${block}`};
 }
-// Copies of drones, so many millimetres aside on x: the line that declares each, its acts and its places in formations,
-// each behind its own. Null where there would be too many drones.
+// Copies of drones, so many millimetres aside on x: the line that declares each, its acts and its places in formations.
+// Those of lines that follow one another stand behind the last of these. Null where there would be too many drones.
 export function copiesOf(drones, aside, most) {
-  const names = [...state.flight.names], edits = [];
+  const names = [...state.flight.names], copies = new Map();
   for (const k of drones) {
     const name = nextName(names), own = state.found.lines;
     names.push(name);
     for (const line of new Set([own.drones[k], ...own.acts[k]].filter(Boolean))) {
       const text = state.lines[line - 1], row = slotsOf(wordsOf(text));
       if (!row || row.name !== state.flight.names[k]) continue;
-      const at = offsetOf(line) + text.length;
-      const words = movedLine(line, row, name, 1000 * aside);
-      edits.push({from: at, to: at, line, word: `\n${text.match(/^\s*/)[0]}${words}`});
+      copies.set(line, `\n${text.match(/^\s*/)[0]}${movedLine(line, row, name, 1000 * aside)}`);
     }
   }
-  return names.length > most ? null : edits;
+  return names.length > most ? null : behindRuns(copies);
+}
+// Words for lines, written behind the last of those that follow one another.
+function behindRuns(rows) {
+  const edits = [];
+  let word = "";
+  for (const line of [...rows.keys()].sort((a, b) => a - b)) {
+    word += rows.get(line);
+    if (rows.has(line + 1)) continue;
+    const at = offsetOf(line) + state.lines[line - 1].length;
+    edits.push({from: at, to: at, line, word});
+    word = "";
+  }
+  return edits;
+}
+/**
+ * The changes that take drones out of the text: the lines that declare them, their acts, their places in formations.
+ * @param {number[]} drones
+ * @returns {Edit[]}
+ */
+export function removalsOf(drones) {
+  const own = state.found.lines, names = drones.map(k => state.flight.names[k]);
+  const gone = new Set(drones.flatMap(k => [own.drones[k], ...own.acts[k]]));
+  state.lines.forEach((text, at) => { if (/^\s*at\s/.test(text)) gone.add(at + 1); });  // also of what is never formed
+  const isTheirs = line => {
+    const row = slotsOf(wordsOf(state.lines[line - 1] || ""));
+    return row !== null && names.includes(row.name);
+  };
+  const next = line => line < state.lines.length ? offsetOf(line + 1) : textLength();
+  return [...gone].filter(isTheirs).map(line => ({from: offsetOf(line), to: next(line), line, word: ""}));
 }
 // A line of a drone for another one, so many micrometres aside on x.
 function movedLine(line, row, name, by) {

@@ -16,9 +16,10 @@ let asked = 0, asking = null;  // how many were asked for, and how to end the re
  * Draws what another text would fly. What is said of it: that it is faulty, or how near its drones come, or nothing
  * where the text was changed or another one was asked for meanwhile.
  * @param {string} text
+ * @param {number | null} cue at whose end the ghosts stand until the playhead is moved, or null for the playhead
  * @returns {Promise<string | null>}
  */
-export async function showPreview(text) {
+export async function showPreview(text, cue = null) {
   const mine = asked += 1, version = state.version;
   if (asking) asking.abort();
   asking = new AbortController();
@@ -30,7 +31,8 @@ export async function showPreview(text) {
   }
   if (mine !== asked || version !== state.version) return null;
   const flight = found && found.flight;
-  takePreview(flight ? {flight, changed: changedIn(flight)} : null);
+  const at = !flight || cue === null ? state.now : (flight.cues[cue + 1] || [flight.end])[0];
+  takePreview(flight ? {flight, changed: changedIn(flight), from: state.now, at} : null);
   if (!flight) return found && found.words ? `not right: ${found.words}` : "no flight is known of it";
   const [share, i, j] = nearestOf(flight);
   const near = i === null ? "" : `; nearest: ${flight.names[i]} and ${flight.names[j]} with ${share.toFixed(0)} %`;

@@ -9,7 +9,9 @@ import hmac
 import json
 import os
 import re
+import resource
 import secrets
+import socket
 import subprocess
 import sys
 import tempfile
@@ -21,7 +23,6 @@ from http.server import BaseHTTPRequestHandler, ThreadingHTTPServer
 from typing import Any, Dict, TYPE_CHECKING
 from urllib.parse import urlsplit
 
-from hemtoghai import program
 from hemtoghai.companion import seconds, tool_name
 from hemtoghai.language import choreo
 from hemtoghai.seeing.showfile import bytes_of, difference, MOST_TEXT, MUSIC, read_at_most, stamp_of, text_of
@@ -36,12 +37,12 @@ Asked = Dict[str, Any]  # the JSON of a request, whose text is in bytes
 
 MOST_BODY = 3 * choreo.LONGEST_TEXT  # in JSON a line feed takes two bytes
 MOST_LISTENERS = 32  # pages that are told when the file changes
+MOST_WAITING = 512  # connections that have sent no request yet
 SETTLE = 0.12  # seconds without a newer text until the flight is worked out; the verdict comes at once
 FLIGHT, FASTER = 8, 40  # seconds that a simulated flight is to take, and how many times faster than real at most
 LOOK = 0.3  # seconds from one look at the file to the next
 MOST_ALONE = 6  # formations that are dealt alone, for the choice
 MOST_MUSIC = 1 << 27  # bytes of a file with music
-OTHER_PROGRAM = "This asked the program of %s, and not that of --program, of which the bar speaks." % program.COMMAND
 QUIET = 10  # seconds after which a page that listens is sent a word, which fails where it is gone
 
 
@@ -59,6 +60,12 @@ class Handler(BaseHTTPRequestHandler):
         return self.server.studio
 
     # -- who asks
+
+    def parse_request(self) -> bool:
+        """Reads the head of the request, which the server waits for no longer then."""
+        found = super().parse_request()
+        self.server.came(self.connection)
+        return found
 
     def foreign(self) -> int | None:
         """The status with which a request from elsewhere is refused, or None. The Host is looked at so that no name of
@@ -353,10 +360,10 @@ class Handler(BaseHTTPRequestHandler):
         return self.send_data({"stamp": stamp_of(data)})
 
     def made(self, words: list[str], text: bytes, *more: str) -> Answer:
-        """What a tool wrote: its status and both outputs."""
+        """What a tool wrote, which asks the page's program: its status and both outputs."""
         options = more or ("--depth", str(self.studio.depth))
         with self.studio.slots:
-            return answer(Job(), [*program.words_of(*words), *options, "-"], text)
+            return answer(Job(), [*self.studio.tool_words(*words), *options, "-"], text)
 
     def offer(self, status: int | None, old: bytes, texts: dict[str, bytes], said: str, more: str = "") -> None:
         """Sends new texts by words that say what each is, those that are none left out, with what changed."""
@@ -366,8 +373,6 @@ class Handler(BaseHTTPRequestHandler):
                 known.add(new)
                 after = new.decode("utf-8", "surrogateescape")
                 choices.append({"words": words, "text": after, "diff": difference(before, after)})
-        if not self.studio.program.is_own:
-            said += "\n" + OTHER_PROGRAM
         self.send_data({"status": status, "said": said.strip(), "more": more, "choices": choices})
 
     def cure(self, asked: Asked) -> None:
@@ -435,8 +440,15 @@ def feed(worker: subprocess.Popen[bytes], given: bytes) -> None:
         worker.stdin.close()
 
 
+def most_waiting() -> int:
+    """How many connections may wait for their requests: at most half of the files that this process may have open."""
+    most = resource.getrlimit(resource.RLIMIT_NOFILE)[0]
+    return MOST_WAITING if most == resource.RLIM_INFINITY else max(1, min(MOST_WAITING, most // 2))
+
+
 class Server(ThreadingHTTPServer):
-    """The server; requests that still run don't keep it from ending."""
+    """The server; requests that still run don't keep it from ending. Anybody on this machine may connect and be silent:
+    of too many such connections the oldest is closed, so that there is always room for one that asks."""
     daemon_threads, allow_reuse_address, request_queue_size = True, True, 128
     opening: Opening
 
@@ -444,6 +456,27 @@ class Server(ThreadingHTTPServer):
         super().__init__(address, Handler)
         self.listeners, self.studio = threading.Semaphore(MOST_LISTENERS), studio
         self.opening = Opening("http://127.0.0.1:%d/%s/" % (self.server_port, studio.token), self.server_port)
+        self.waiting: dict[socket.socket, None] = {}  # those that have sent no request yet, the oldest first
+        self.most_waiting, self.lock = most_waiting(), threading.Lock()
+
+    def process_request(self, request: Any, client_address: Any) -> None:
+        with self.lock:
+            self.waiting[request] = None
+            if len(self.waiting) > self.most_waiting:
+                oldest = next(iter(self.waiting))
+                del self.waiting[oldest]
+                with contextlib.suppress(OSError):
+                    oldest.shutdown(socket.SHUT_RDWR)  # its thread reads the end then, and closes it
+        super().process_request(request, client_address)
+
+    def came(self, request: socket.socket) -> None:
+        """A connection has sent its request, or is closed."""
+        with self.lock:
+            self.waiting.pop(request, None)
+
+    def shutdown_request(self, request: Any) -> None:
+        self.came(request)
+        super().shutdown_request(request)
 
     def handle_error(self, request: object, client_address: object) -> None:
         """Says in a line what went wrong with a request."""

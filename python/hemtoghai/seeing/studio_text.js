@@ -4,8 +4,9 @@ import {byId, element} from "./elements.js";
 import {endOfCue} from "./flight.js";
 import {given} from "./given.js";
 import {move, playOrStop, stop} from "./player.js";
+import {askWhere, sayWhere} from "./studio_again.js";
 import {placingOfKey} from "./studio_drag.js";
-import {openMenu, pickedLines} from "./studio_edit.js";
+import {openMenu, pickDrones, pickedLines} from "./studio_edit.js";
 import {field, hold, isMac, linesInView, redo, replaceText, undo, windowAt} from "./studio_field.js";
 import {findSoon, goHit, openFind} from "./studio_find.js";
 import {regionFault, setBar} from "./studio_found.js";
@@ -64,6 +65,14 @@ export function afterChange() {
 const STEP = 100;  // milliseconds by which an arrow moves the slider; ten times as many with Shift
 // What takes keys itself: with the focus there Space and the arrows have another meaning.
 const TAKES_KEYS = "textarea, select, button, summary, input:not([type=range])";
+const WRITES = "textarea, select, #menu, #tools, input:not([type=range], [type=checkbox])";
+// Which drones a key chooses: Ctrl-A outside of the text all, Escape none.
+function choosingOfKey(event) {
+  const isAll = (event.ctrlKey || event.metaKey) && event.key.toLowerCase() === "a";
+  if (!state.flight || !isAll && event.key !== "Escape" || event.altKey || byId("offer").open) return null;
+  if (event.target.closest && event.target.closest(WRITES)) return null;
+  return () => pickDrones(isAll ? state.flight.names.map((_, k) => k) : []);
+}
 // What a key does to the flight, or null: Space plays and stops, the arrows step; Ctrl-Enter plays from the text, too.
 function flyingOfKey(event) {
   const {key, shiftKey} = event, command = event.ctrlKey || event.metaKey, by = shiftKey ? 10 * STEP : STEP;
@@ -87,7 +96,7 @@ function undoOfKey(event) {
 }
 export function onKey(event) {
   const command = event.ctrlKey || event.metaKey, isHere = event.target.closest && event.target.closest("#editor");
-  const work = placingOfKey(event) || flyingOfKey(event) || undoOfKey(event);
+  const work = placingOfKey(event) || choosingOfKey(event) || flyingOfKey(event) || undoOfKey(event);
   if (work) {
     event.preventDefault();
     work();
@@ -221,17 +230,31 @@ export function listen() {
     // It may be the text that is being saved, or the one before: over another program's text no save goes well.
     setTimeout(() => count === saves && warn(said), 500);
   };
-  events.onerror = () => {
-    lost = true;
-    newVersion();
-    setBar("", "The studio has ended",
-      given.watch ? "start it again" :
-        "the text stays in this browser; the studio that is started again opens a page of its own");
-  };
+  events.onerror = onLost;
   events.onopen = () => {
     if (lost && (state.file || given.watch)) judge();
     lost = false;
+    sayWhere();
   };
+}
+const AGAIN = 5000;  // milliseconds until a page asks once more, where too many listen
+async function onLost() {
+  const isRefused = events.readyState === EventSource.CLOSED;
+  const asked = isRefused ? await fetch("text").catch(() => null) : null;
+  if (asked && asked.status !== 403) {  // this studio is there, and has too many pages
+    events = null;
+    setTimeout(listen, AGAIN);
+    return;
+  }
+  lost = true;
+  newVersion();
+  if (isRefused) {
+    setBar("", "The studio was started again", "this page goes on once its new address is open in this browser");
+  } else {
+    setBar("", "The studio has ended", [given.watch ? "" : "the text stays in this browser",
+      "start the studio again, and this page goes on"]);
+  }
+  askWhere();
 }
 function warn(said) {
   if (state.file && !said.there && !state.file.new && !saving) {

@@ -53,8 +53,8 @@ function ownLine(spot, words) {
 }
 /**
  * The changes by which a drone is at a place, in micrometres, at the playhead. Where others fly in the cue, too, it is
- * one curve, which begins and ends at speed. Where it flies alone the cue becomes two, whose curves join there without a
- * stop and are at rest at both ends.
+ * one curve, which begins and ends at speed. Where it flies alone the cue becomes two, whose curves join there without
+ * a stop and are at rest at both ends.
  * @returns {Edit[] | null}
  */
 export function editsThrough(spot, place) {

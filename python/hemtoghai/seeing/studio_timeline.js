@@ -7,9 +7,9 @@ import {byId, line, node, text} from "./elements.js";
 import {cueAt, endOfCue} from "./flight.js";
 import {given} from "./given.js";
 import {move, stop} from "./player.js";
-import {carryCue} from "./studio_cues.js";
+import {carryCue, removeCue} from "./studio_cues.js";
 import {pickDrone} from "./studio_edit.js";
-import {readStages} from "./studio_judge.js";
+import {isStill, readStages} from "./studio_judge.js";
 import {drawTimes} from "./studio_layout.js";
 import {post} from "./studio_text.js";
 import {set, state} from "./state.js";
@@ -196,6 +196,11 @@ function carryHere(by) {
   stop();
   carryCue(cue, other, by >= 0, by === 0);
 }
+function removeHere() {
+  if (!state.flight || !state.flight.lines || isStill()) return;
+  stop();
+  removeCue(cueAt(state.now));
+}
 export function bindTimeline() {
   byId("time-nearer").onclick = () => nearer(STEP);
   byId("time-farther").onclick = () => nearer(1 / STEP);
@@ -205,6 +210,7 @@ export function bindTimeline() {
   byId("cue-earlier").onclick = () => carryHere(-1);
   byId("cue-copy").onclick = () => carryHere(0);
   byId("cue-later").onclick = () => carryHere(1);
+  byId("cue-remove").onclick = removeHere;
   byId("time-scroll").addEventListener("scroll", onScroll);
   bindCharts();
   for (const id of ["heights", "share", "lane-rows"]) {

@@ -9,21 +9,24 @@ import {given} from "./given.js";
 import {press} from "./player.js";
 import {pointAt, writeAside} from "./studio_field.js";
 import {isStill} from "./studio_judge.js";
-import {copiesOf, cueEnding, endOf, isTooFar, joined, newCue, spotOf, textWith} from "./studio_placing.js";
+import {copiesOf, cueEnding, endOf, isTooFar, joined, newCue, removalsOf, spotOf,
+  textWith} from "./studio_placing.js";
 import {leavePreview, showPreview} from "./studio_preview.js";
 import {set, state} from "./state.js";
 
 /** @typedef {import("./studio_placing.js").Edit} Edit */
 
 const NAMES = {raise: "Raise", move: "Move", "mirror x": "Mirror ↔", "mirror y": "Mirror ↕", turn: "Turn",
-  scale: "Scale", ring: "Ring", grid: "Grid", line: "Line", duplicate: "Duplicate"};
+  scale: "Scale", ring: "Ring", grid: "Grid", line: "Line", duplicate: "Duplicate", remove: "Remove"};
 const WORDS = {"mirror x": "mirror left and right", "mirror y": "mirror front and back",
-  duplicate: "new drones beside them, that fly the same"};
+  duplicate: "new drones beside them, that fly the same",
+  remove: "take the chosen drones out of the text, with their acts and places"};
+const OF_TEXT = ["duplicate", "remove"];  // tools that put no drone elsewhere
 const FACTOR = {m: 1000, "°": 1, "%": 1};  // of what a field shows in the number that it stands for
 const PAUSE = 80;  // milliseconds from a number to its preview
 // The tool that is open: its name, at the end of which cue it works, its fields, whether it writes a new cue, and the
 // changes that it would make.
-let open = null, waiting = null;
+let open = null, waiting = null, wantsNew = false;  // a new cue stays wanted for the next tool
 
 // The drones that a tool works on: those that are chosen, or all.
 const worked = () => state.chosen.size ? [...state.chosen].sort((a, b) => a - b) : state.flight.names.map((_, k) => k);
@@ -64,8 +67,8 @@ function openTool(name) {
   if (!state.flight || state.flightVersion !== state.version) return say("the flight of this text isn't there yet");
   const cue = cueOfTool(), places = worked().map(k => endOf(k, cue).place);
   const copy = [{name: "aside by", unit: "m", value: besideOf(places), step: 100}];
-  const fields = name === "duplicate" ? copy : TOOLS[name].fields(places);
-  open = {name, cue, fields, isNew: open ? open.isNew : false, edits: null};
+  const fields = name === "duplicate" ? copy : name === "remove" ? [] : TOOLS[name].fields(places);
+  open = {name, cue, fields, isNew: wantsNew, edits: null};
   for (const it of byId("tools-kinds").children) it.setAttribute("aria-pressed", `${it.textContent === NAMES[name]}`);
   showFields();
   preview();
@@ -95,13 +98,13 @@ function showFields() {
     }
   }
   const where = byId("tools-where"), here = open.cue < 0 ? "at the start" : `at the end of cue ${open.cue + 1}`;
-  where.hidden = open.name === "duplicate";
+  where.hidden = OF_TEXT.includes(open.name);
   where.replaceChildren();
   for (const [words, value] of [[here, ""], ["in a new cue", "new"]]) {
     Object.assign(element("option", words, where), {value, selected: open.isNew === (value === "new")});
   }
   where.onchange = () => {
-    open.isNew = where.value === "new";
+    open.isNew = wantsNew = where.value === "new";
     preview();
   };
   byId("tools-own").hidden = false;
@@ -120,6 +123,7 @@ function editsOf() {
   const drones = worked(), {cue, fields} = open, numbers = fields.map(it => it.value), most = given.drones;
   if (!state.found.lines) return "the lines of the drones aren't known yet";
   if (open.name === "duplicate") return copiesOf(drones, numbers[0], most) ?? `a show has at most ${most} drones`;
+  if (open.name === "remove") return state.chosen.size ? removalsOf(drones) : "choose the drones first";
   const places = TOOLS[open.name].work(drones.map(k => endOf(k, cue).place), numbers);
   const targets = new Map(drones.map((k, at) => [k, places[at].map(it => 1000 * it)]));
   if ([...targets.values()].some(isTooFar)) return "that is too far away";
@@ -148,7 +152,7 @@ async function preview() {
     return say(typeof edits === "string" ? edits : "nothing changes");
   }
   say("working it out");
-  const said = await showPreview(textWith(mine.edits));
+  const said = await showPreview(textWith(mine.edits), mine.isNew && !OF_TEXT.includes(mine.name) ? mine.cue + 1 : null);
   if (said !== null && mine === open) say(`${drones.length === 1 ? "one drone" : `${drones.length} drones`}: ${said}`);
 }
 function takeTool() {
@@ -156,9 +160,9 @@ function takeTool() {
   const {from, to, words, line} = joined(open.edits), {name, isNew, cue} = open;
   leaveTool();
   writeAside(from, to, words);
-  pointAt(line, line);
-  if (isNew && name !== "duplicate") set({goal: {version: state.version, cue: cue + 1}});
-  if (name !== "duplicate") return;
+  pointAt(Math.min(line, state.lines.length), Math.min(line, state.lines.length));
+  if (isNew && !OF_TEXT.includes(name)) set({goal: {version: state.version, cue: cue + 1}});
+  if (!OF_TEXT.includes(name)) return;
   set({chosen: new Set()});  // the next tool works on the copies, too
   press();
 }

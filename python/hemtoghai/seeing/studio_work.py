@@ -2,6 +2,9 @@
 text comes:
 
     python3 seeing/studio_work.py DEPTH [REGIONS]
+    python3 seeing/studio_work.py --tool PROGRAM TOOL [WORDS]
+
+The second form runs a tool of the page's buttons that asks PROGRAM in the place of the one of ./show.
 
 Standard input has a line of JSON and then the show's text. The line has the path of the `program` or null, and what
 the page `want`s: "places", with a `line`, is what stands around that line (seeing/studio_places.py); "preview" is what
@@ -16,6 +19,7 @@ for nothing: only what the program says is proved.
 """
 from __future__ import annotations
 
+import importlib
 import itertools
 import json
 import os
@@ -26,11 +30,13 @@ from collections.abc import Iterator
 from functools import partial
 from typing import Any
 
+from hemtoghai import program as proved
 from hemtoghai.commands.why import cures_of
-from hemtoghai.companion import ask, ask_dynamics, begins, speeds_in
+from hemtoghai.companion import ask, ask_dynamics, begins, set_tool, speeds_in, stop
 from hemtoghai.geometry import separation
 from hemtoghai.language import choreo
-from hemtoghai.seeing.sampling import boxes_said, flight_of, Mark, mark_of, regions_of, rows_of_play, step_of
+from hemtoghai.seeing.sampling import (boxes_said, flight_of, Mark, mark_of, regions_of, rows_of_play, step_of,
+                                       told_marks)
 from hemtoghai.seeing.studio_motion import motion_of
 from hemtoghai.seeing.studio_places import begun, places_at
 from hemtoghai.writing.dealing import form_lines
@@ -38,6 +44,7 @@ from hemtoghai.writing.flyable import below, MOST as FASTEST, motion_if_known, s
 from hemtoghai.writing.margins import greatest, MOST, with_setting
 from hemtoghai.writing.remedies import written
 
+TOOLS = "why", "deal", "fly"  # of the page's buttons
 MOST_PLACES = 32000  # of all drones together: the page has to keep up with typing
 MOST_PREVIEW = 16000  # of a preview, which follows each step of a number
 MOST_MARKS = 200  # that are listed; the others are counted
@@ -83,14 +90,18 @@ def with_lines(flown: choreo.Flown, mark: Mark) -> Mark:
     return {**mark, "lines": lines_of(flown, flown.cues[mark["cue"]], [flown.names[k] for k in mark["pair"]])}
 
 
-def put_marks(flown: choreo.Flown, deep: int) -> None:
-    """Writes all blocked places, those first in which two come nearest; the list so far at times while it looks."""
+def put_marks(flown: choreo.Flown, text: bytes, program: str, deep: int) -> None:
+    """Writes the blocked places that the program names, those first in which two are nearest. Where it can't be asked,
+    all that are found here; the list so far at times while it looks."""
+    if said := told_marks(flown, text, deep, program):
+        put("marks", marks=[with_lines(flown, mark) for mark in said[0]], many=len(said[0]), all=said[1])
+        return
     marks: list[Mark] = []
     many, told = 0, time.monotonic()
     for found in separation.blocked_places(flown, deep):
         many += 1
         if many <= MOST_MEASURED:
-            marks.append({**mark_of(flown, deep, *found), "named": many == 1})
+            marks.append(mark_of(flown, separation.meeting(flown, deep, *found), many == 1))
         if time.monotonic() - told > MARK_TIME:
             put_marks_so_far(flown, marks, many, False)
             told = time.monotonic()
@@ -179,7 +190,10 @@ def put_preview(text: bytes) -> None:
     try:
         flown = choreo.flown_of(choreo.parts_of(text)[0])
     except choreo.Refused as refusal:
-        return put("preview", flight=None, words=str(refusal))
+        still = begun(text, None) if str(refusal).endswith(" no-cue") else None  # the drones at their starts
+        if still is None:
+            return put("preview", flight=None, words=str(refusal))
+        flown = still
     drawn, _ = flight_of(flown, step_of(flown, None, MOST_PREVIEW), None, (), [])
     return put("preview", flight={**drawn, "marks": []})
 
@@ -220,8 +234,8 @@ def put_flight(text: bytes, deep: int, program: str, answer: list[Any] | None, p
     first = None
     if status == 5:  # the place that `check` names
         _, _, _, i, j, _, cue, _, part, *_ = said.split()
-        mark = mark_of(flown, deep, flown.names.index(i), flown.names.index(j), int(cue) - 1, int(part))
-        first = with_lines(flown, {**mark, "named": True})
+        found = separation.meeting(flown, deep, flown.names.index(i), flown.names.index(j), int(cue) - 1, int(part))
+        first = with_lines(flown, mark_of(flown, found, True))
     step = step_of(flown, None, MOST_PLACES)
     rows = rows_of_play(text, program, deep, step) if status == 0 else None
     also = {round(first["nearest"])} if first else set()
@@ -235,7 +249,7 @@ def put_flight(text: bytes, deep: int, program: str, answer: list[Any] | None, p
     put("lines", **drone_lines(flown))
     put("notes", **notes_of(flown, text, program))
     if status == 5:
-        put_marks(flown, deep)
+        put_marks(flown, text, program, deep)
     if status == 0 and len(flown.names) > 1:
         time.sleep(QUIET)
         for name in ("stray", "late"):
@@ -244,8 +258,20 @@ def put_flight(text: bytes, deep: int, program: str, answer: list[Any] | None, p
     return None
 
 
+def tool(path: str, word: str, *words: str) -> int:
+    """Runs a tool that asks the program at a path. No real drone is flown by such a program."""
+    if word not in TOOLS or word == "fly" and "--simulate" not in words:
+        stop("%s is no tool of the page" % word)
+    proved.PROGRAM, proved.as_it_is[0] = path, True
+    set_tool(word)
+    status: int = importlib.import_module("hemtoghai.commands." + word).main(list(words))
+    return status
+
+
 def main(words: list[str]) -> int:
     """Reads the text, and says what is shown of it."""
+    if words[:1] == ["--tool"]:
+        return tool(*words[1:])
     deep, path = int(words[0]), words[1] if len(words) > 1 else None
     line, text = sys.stdin.buffer.readline(), sys.stdin.buffer.read()
     if not line:

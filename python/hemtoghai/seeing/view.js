@@ -235,6 +235,7 @@ export function moveDrones() {
   pen.globalAlpha = 1;
   for (const [k, by] of state.ghosts) drawGhost(places[k].slice(0, 3), by);
   drawPreview();
+  drawBand();
   if (state.caption) words(pen, 10, state.view.height - 12, state.caption(), state.paint.ink, "left");
 }
 // What another text would fly: the ways of its drones that fly otherwise, and where they would be. A ghost has one
@@ -253,16 +254,25 @@ function drawPreviewPaths() {
 }
 function drawPreview() {
   if (state.preview === null) return;
-  const {pen, to} = state.view, {flight, changed} = state.preview;
+  const {pen, to} = state.view, {flight, changed, from, at} = state.preview;
   pen.font = FONT;
   for (const k of changed) {
-    const point = to(placeAt(k, state.now, flight));
+    const point = to(placeAt(k, state.now === from ? at : state.now, flight));
     pen.lineWidth = 1.6;
     pen.setLineDash([4, 3]);
     ring(point, flight.r, flight.h, state.paint.grip, `${state.paint.grip}22`);
     pen.setLineDash([]);
     words(pen, point[0], point[1] - 14, flight.names[k], state.paint.grip);
   }
+}
+function drawBand() {
+  if (state.band === null) return;
+  const {pen} = state.view, [left, above, right, below] = state.band;
+  pen.lineWidth = 1;
+  pen.setLineDash([4, 3]);
+  pen.strokeStyle = state.paint.grip;
+  pen.strokeRect(left, above, right - left, below - above);
+  pen.setLineDash([]);
 }
 // Where a drone is dragged to: its ellipsoid there, the way, and the place in metres.
 function drawGhost(place, by) {
