@@ -153,6 +153,19 @@ class Runs(common.Folder, unittest.TestCase):
             self.assertEqual(sorted(os.listdir(place)), ["director.txt", "edits.txt"])
             self.assertEqual(subprocess.run([os.path.join(TOP, "bench", "all"), "--only", "none"], stderr=subprocess.DEVNULL).returncode, 2)
 
+    def test_list(self):
+        # Each row once, with its words, or why it isn't run; and nothing is.
+        def said(*words):
+            done = subprocess.run([os.path.join(TOP, "bench", "all"), "--list", "--unproved", *words], stdout=subprocess.PIPE,
+                                  universal_newlines=True, timeout=60)
+            self.assertEqual(done.returncode, 0)
+            return done.stdout.split("\n")[:-1]
+        self.assertEqual([line.split()[0] for line in said()], [row.name for row in ALL.ROWS])
+        self.assertEqual([line.split()[1:] for line in said("--seed", "7", "--only", "director", "edits")],
+                         [[".ci/edits"], ["bench/director"]])
+        self.assertTrue(said("--seed", "7", "--only", "flight_lists")[0].split("  (")[0].endswith(" --seed 7 --lists 10000"))
+        self.assertEqual(said("--quick", "--only", "mutants"), ["mutants        only without --quick"])
+
 
 if __name__ == "__main__":
     unittest.main()

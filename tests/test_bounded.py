@@ -1,14 +1,17 @@
 """What is bounded: the places that are blocked, what helps in them, and the judgement of long certificates. Processor
 seconds and memory of whole commands, with room for a slow machine; and the same answers as by the simple way."""
+import contextlib
+import io
 import os
 import random
 import subprocess
 import tempfile
 import unittest
+from unittest import mock
 
 import common
 from common import TOP
-from hemtoghai.commands import judge
+from hemtoghai.commands import flown, judge
 from hemtoghai.companion import value
 from hemtoghai.geometry import separation
 from hemtoghai.language import choreo
@@ -19,6 +22,7 @@ ALL = HEAD + "repeat 1000\ncue 1000\n" + "".join("d%d move 1000000 0 1000000 0\n
 COMMANDS = [["check", "--json"], ["why"], ["why", "--json"], ["why", "--force", "--cured", os.devnull], ["summary"],
             ["summary", "--json"], ["picture"]]
 SECONDS = 12.0  # six times what is promised of a machine with nothing else to do
+MIB = 286  # 300 MB
 
 
 def used(words, place):
@@ -135,6 +139,77 @@ class Certificates(common.Folder, unittest.TestCase):
                 self.assertEqual((ended, out), (status, said))
                 self.assertLess(mib, 120)
                 self.assertLess(seconds, SECONDS)
+
+
+    def test_105_megabytes(self):
+        # 35 million trees of a word, and trees of several lengths by turns: in 300 MB.
+        with tempfile.TemporaryDirectory() as self.place:
+            self.write("plan", common.example("crossing_cured")[1].plan())
+            for text, said in ((b"58\n", "judge: refused at tree 2, pair a b cue 2\n"),
+                               (b".4958\n49\n.49.5800\n", "judge: refused at tree 1, pair a b cue 1\n")):
+                with open(self.path("certificate"), "wb") as file:
+                    file.write(b"version 2\ncertificate 6\n")
+                    for _ in range(105):
+                        file.write(text * (1000000 // len(text)))
+                words = [common.SHOW, "judge", os.path.join(TOP, "examples", "crossing_cured.choreo"), self.path("plan"),
+                         self.path("certificate")]
+                ended, out, seconds, mib = used(words, self.place)
+                self.assertEqual((ended, out), (12, said))
+                self.assertLess(mib, MIB)
+                self.assertLess(seconds, 8 * SECONDS)
+
+
+class Logs(common.Folder, unittest.TestCase):
+    SHOW = os.path.join(TOP, "examples", "crossing_cured.choreo")
+
+    def judged(self, parts):
+        """How `flown` ends over a log of these bytes, each part so often: status, output, seconds and MiB."""
+        with open(self.path("log"), "wb") as file:
+            for data, count in parts:
+                for _ in range(count):
+                    file.write(data)
+        return used([common.SHOW, "flown", self.SHOW, self.path("log")], self.place)
+
+    def test_long(self):
+        # 105 MB each: 3.3 million good samples, samples of which one is bad, one row, and empty rows.
+        head, row = b"time,drone,x,y,z,variance\n", b"0.125,a,0.001,0.002,1.000,2e-05\n"
+        many = 105000000 // len(row)
+        with tempfile.TemporaryDirectory() as self.place:
+            for parts in ([(head, 1), (row, many)], [(head, 1), (row, 400000), (b"x,a,0,0,0,0\n", 1), (row, many)],
+                          [(b"1" * 1000000, 105)], [(head, 1), (b"\n" * 1000000, 105)]):
+                ended, said, seconds, mib = used_of = self.judged(parts)
+                self.assertEqual((ended, said), (70, ""), used_of)
+                self.assertLess(mib, MIB)
+                self.assertLess(seconds, 3 * SECONDS)
+
+    def test_most(self):
+        # As many lines as there may be are read, and one more isn't; a head and empty lines count too.
+        names = ["time,drone,x,y,z"]
+        rows = ["%d,%s,%g,0,1" % (t, name, x) for t in range(8) for name, x in (("a", 0), ("b", 1))]
+        for lines in (rows, names + rows, names + ["", *rows, "", ""]):
+            with tempfile.TemporaryDirectory() as self.place, mock.patch.object(flown, "MOST_LINES", len(lines)):
+                self.write("log", "\n".join(lines) + "\n")
+                found = flown.read_log(self.path("log"))
+                self.assertEqual({name: len(it) for name, it in found.items()}, {"a": 8, "b": 8})
+                self.assertEqual(found["b"][7], (7.0, (1000.0, 0.0, 1000.0), None, None))
+                for more in ("8,a,0,0,1", "\n"):
+                    self.write("log", "\n".join([*lines, more]))
+                    with self.assertRaises(SystemExit) as ended, contextlib.redirect_stderr(io.StringIO()) as told:
+                        flown.read_log(self.path("log"))
+                    self.assertEqual(ended.exception.code, 70)
+                    self.assertIn("more than %d lines" % len(lines), told.getvalue())
+
+    def test_bytes(self):
+        with tempfile.TemporaryDirectory() as self.place, mock.patch.object(flown.texts, "LOG", 60):
+            for count, wanted in ((5, None), (6, "more than 60 bytes")):
+                self.write("log", "1,a,0,0,1\n" * count + "\n" * 10)
+                with contextlib.redirect_stderr(io.StringIO()) as told:
+                    try:
+                        self.assertEqual(len(flown.read_log(self.path("log"))["a"]), 5)
+                    except SystemExit:
+                        self.assertIn(wanted or "?", told.getvalue())
+                    else:
+                        self.assertIsNone(wanted)
 
 
 if __name__ == "__main__":

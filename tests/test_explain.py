@@ -1,5 +1,5 @@
 """./show why: which remedies help, `stray` and `late` as causes, and the shortest cure. Shows worked by hand; the
-program isn't run here."""
+program is asked where it is built."""
 import os
 import sys
 import tempfile
@@ -7,6 +7,7 @@ import unittest
 
 sys.dont_write_bytecode = True
 sys.path.insert(0, os.path.dirname(os.path.abspath(__file__)))
+import common
 from test_deal import run
 from hemtoghai.language.converting import converted
 
@@ -92,11 +93,15 @@ class Causes(unittest.TestCase):
 
 class Cures(unittest.TestCase):
     def test_most_places(self):
+        """The program names one pair in 200 cues, which are alike; without it the tool finds 200 pairs in the first one."""
         drones = "".join("drone d%d 0 0 1000000 0\n" % k for k in range(32))
         text = "choreo 1\n" + drones + "repeat 1000\ncue 1000\nend\nend\n"
         status, said, told = run("why", "--most", "3", text=text)
-        self.assertEqual((status, said.count("TOO NEAR"), "and 197 more: --most N shows them" in said), (5, 3, True), told)
-        self.assertIn("More may be blocked: these are the place that is named and those of the first cues, at most 200.\n", said)
+        is_built = os.access(common.PROGRAM, os.X_OK)
+        self.assertEqual((status, said.count("TOO NEAR")), (5, 1 if is_built else 3), told)
+        self.assertEqual("and 197 more: --most N shows them" in said, not is_built)
+        self.assertIn("More are blocked: these are the first 200, by pair and then by cue.\n" if is_built else
+                      "More may be blocked: these are the place that is named and those of the first cues, at most 200.\n", said)
 
     def cured(self, text):
         """What was said of a show and its cure, and the cured show."""

@@ -107,6 +107,10 @@ class Answers(Case):
             {"first": "a", "second": "b", "cue": 1, "at": 15, "of": 32}, None])
         found = self.asked("explain", self.example("crossing_cured.choreo"))
         self.assertEqual((found["ok"], found["blocked_part"], found["closest"]["level"], found["touch"]), (True, None, 1777, None))
+        found = self.asked("explain", "--all", self.example("crossing.choreo"))
+        self.assertEqual([found[word] for word in ("ok", "blocked_part", "blocked_parts", "more_blocked")], [
+            False, {"first": "a", "second": "b", "cue": 1, "part": 28, "parts": 64},
+            [{"first": "a", "second": "b", "cue": 1, "part": 28, "parts": 64, "at": 16, "of": 32, "level": 0}], False])
         # Apart while they fly exactly, and not with a stray of 40 mm: 300 mm to the side, of the 320 that they need then.
         with open(self.path_of("near"), "w") as file:
             file.write("choreo 1\nstray 40\ndrone a 0 0 1000000 0\ndrone b 300000 0 1000000 0\ncue 1000\nend\n")

@@ -378,7 +378,8 @@ class Words(Processes):
 
     def test_json_of_the_sources(self):
         status, said, told = self.show("--unproved", "check", "--json", "good")
-        self.assertIn("show: --unproved and --json don't go together: leave one of them out\n", told)
+        self.assertIn("show: --unproved and --json don't go together, since JSON has the proved program's answer: "
+                      "leave one of them out\n", told)
         self.assertNotIn("ok", said)
 
     def test_help(self):

@@ -318,13 +318,9 @@ class Page(Room):
         return path
 
     def test_c(self):
-        for language, compiler, standard in (("c", "cc", "c99"), ("cpp", "c++", "c++17")):
-            if not shutil.which(compiler):
-                continue
-            (source, output), = blocks_of(language)
-            program = self.built(self.written("page/%s.%s" % (language, language), source), "-std=" + standard,
-                                 compiler=compiler)
-            self.assertEqual(said(program, place=TOP), (0, output.encode()), language)
+        (source, output), = blocks_of("c")
+        program = self.built(self.written("page/above.c", source), "-std=c99", compiler="cc")
+        self.assertEqual(said(program, place=TOP), (0, output.encode()))
 
     @unittest.skipUnless(shutil.which("cargo"), "there is no cargo")
     def test_rust(self):

@@ -49,6 +49,16 @@ class Watched(common.Folder, unittest.TestCase):
             self.assertEqual(ended.exception.code, 70)
             self.assertIn(line, self.told.getvalue())
 
+    def test_no_rt(self):
+        with mock.patch.dict(os.environ, PATH=self.place), contextlib.redirect_stderr(self.told), mock.patch.object(
+                library, "tool_name", lambda: "library"), mock.patch("hemtoghai.companion.tool_name", lambda: "library"):
+            for call in (library.toolchain, lambda: library.watched("rt", "check", place=self.place, doing="at work")):
+                with self.assertRaises(SystemExit) as ended:
+                    call()
+                self.assertEqual(ended.exception.code, 70)
+        wanted = "library: no rt on the PATH: the Rattle toolchain is needed to build the library"
+        self.assertEqual(self.told.getvalue().splitlines(), [wanted, "library: at work", wanted])
+
     def test_ended(self):
         # What it started is ended with it, also by a signal that only the tool gets.
         code = ("import sys; sys.path.insert(0, %r)\nfrom hemtoghai.commands import library\n"

@@ -15,7 +15,6 @@ from unittest import mock
 import common
 import hemtoghai
 from hemtoghai import answering, judging, program
-from hemtoghai.geometry import separation
 
 IS_BUILT = os.access(program.PROGRAM, os.X_OK)
 PROVED = "logic=proved functions=3 axioms=1"
@@ -64,27 +63,41 @@ class Verdicts(Case):
         # Of three in a row that all stand, 100 and 200 mm from one another, of 240 that they need.
         text = "choreo 1\ndrone a 0 0 1000000 0\ndrone b 200000 0 1000000 0\ndrone c 300000 0 1000000 0\ncue 1000\nend\n"
         verdict = hemtoghai.check(text)
-        self.assertEqual([(place.first, place.second, round(place.share, 4), place.named) for place in verdict.blocked],
-                         [("b", "c", round(100 / 240, 4), False), ("a", "b", round(200 / 240, 4), True)])
+        # The program says the squares of these shares in thousandths, rounded down: 173.6 and 694.4.
+        self.assertEqual([(place.first, place.second, place.share, place.named) for place in verdict.blocked],
+                         [("b", "c", 0.173 ** 0.5, False), ("a", "b", 0.694 ** 0.5, True)])
         self.assertEqual((verdict.status, verdict.line), (5, "error 5 pair a b cue 1 part 0 of 64"))
 
     def test_apart_but_for_the_stray(self):
         # 300 mm to the side, of 240 that they need and 2 * 40 more: they touch nowhere.
         text = "choreo 1\nstray 40\ndrone a 0 0 1000000 0\ndrone b 300000 0 1000000 0\ncue 1000\nend\n"
         place, = hemtoghai.check(text).blocked
-        self.assertEqual((place.touch, place.share), (False, 1.25))
-        self.assertIn("`stray 40`", place.cause)
+        self.assertEqual((place.touch, place.share, place.cause), (False, 1.562 ** 0.5, "`stray 40`"))
+        # 200 mm above the other, of 600 that they need: without the stray they are as near.
+        place, = hemtoghai.check(text.replace("b 300000 0 1000000", "b 0 0 1200000")).blocked
+        self.assertEqual((place.touch, place.share, place.cause), (True, 0.111 ** 0.5, None))
 
+    def test_asked_at_most_twice(self):
+        # One question for the places, and one more for the cause where the show has `stray` or `late`.
+        for text, wanted in ((CROSSING, 1), (CROSSING.replace("choreo 1", "choreo 1\nstray 10", 1), 1),
+                             ("choreo 1\nlate 40\ndrone a 0 0 1000000 0\ndrone b 241000 0 1000000 0\ncue 1000\n"
+                              "a line 1000000 0 1000000 0\nb line 1241000 0 1000000 0\nend\n", 2)):
+            verdict = hemtoghai.check(text)
+            with mock.patch.object(judging, "told", side_effect=judging.told) as asked:
+                self.assertEqual(len(verdict.blocked), 1)
+                self.assertEqual(verdict.as_data()["more_blocked"], False)
+            self.assertEqual(asked.call_count, wanted, text)
+
+    @common.wants_program
     def test_most_blocked(self):
         # 32 drones in one place, for 1,000 cues: 496 pairs in each are blocked.
         drones = "".join("drone d%d 0 0 1000000 0\n" % k for k in range(32))
         verdict = hemtoghai.check("choreo 1\n" + drones + "repeat 1000\ncue 1000\nend\nend\n")
-        begin = separation.looked[0]
         self.assertEqual((len(verdict.blocked), verdict.more_blocked, verdict.as_data()["more_blocked"]), (200, True, True))
-        # A part is blocked if its first half is, so there are seven to the first of depth 6.
-        self.assertLessEqual(separation.looked[0] - begin, 7 * 201)
         self.assertEqual([(it.first, it.second, it.cue) for it in verdict.blocked if it.named], [("d0", "d1", 1)])
-        self.assertEqual({it.cue for it in verdict.blocked}, {1})
+        # By pair and then by cue.
+        self.assertEqual({(it.first, it.second) for it in verdict.blocked}, {("d0", "d1")})
+        self.assertEqual({it.cue for it in verdict.blocked}, set(range(1, 201)))
         self.assertEqual((hemtoghai.check(CROSSING).more_blocked, hemtoghai.check(CURED).more_blocked), (False, False))
 
     def test_named_first(self):
@@ -95,11 +108,6 @@ class Verdicts(Case):
         self.assertEqual(verdict.line.split(" cue ")[0], "error 5 pair a b")
         self.assertEqual({(it.first, it.second, it.cue, it.named) for it in verdict.blocked},
                          {("a", "b", 2, True), ("c", "d", 1, False), ("c", "d", 2, False)})
-        with mock.patch.object(separation, "MOST_PLACES", 1):
-            self.assertEqual([(it.first, it.cue) for it in hemtoghai.check(text).blocked], [("a", 2)])
-        with mock.patch.object(separation, "MOST_PARTS", 0):
-            verdict = hemtoghai.check(text)
-            self.assertEqual(([(it.first, it.cue) for it in verdict.blocked], verdict.more_blocked), ([("a", 2)], True))
 
     def test_faulty(self):
         verdict = hemtoghai.check("choreo 1\ncue 1.5\n")
@@ -353,7 +361,7 @@ class Page(unittest.TestCase):
     def test_programs(self):
         with open(os.path.join(common.TOP, "docs", "PYTHON.md"), encoding="utf-8") as file:
             programs = re.findall(r"^```python\n(.*?)^```\n\n```text\n(.*?)^```", file.read(), re.M | re.S)
-        self.assertEqual(len(programs), 5)
+        self.assertEqual(len(programs), 4)
         for code, wanted in programs:
             done = subprocess.run([sys.executable, "-B", "-c", code], cwd=common.TOP, stdout=subprocess.PIPE,
                                   stderr=subprocess.PIPE, universal_newlines=True, timeout=120,

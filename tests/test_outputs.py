@@ -181,6 +181,8 @@ class Files(common.Folder, unittest.TestCase):
     def test_devices_and_folders(self):
         outputs.write_all({os.devnull: b"x"})
         self.assertIsNone(outputs.fault_of(os.devnull, False, []))
+        for force in (False, True):
+            self.assertIn("is a folder: give the path of a file", outputs.fault_of(self.place, force, []))
         for path in ("", "none/a"):
             with self.assertRaises(SystemExit):
                 outputs.write_all({self.path(path): b"x"})

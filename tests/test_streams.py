@@ -180,6 +180,18 @@ class Streams(unittest.TestCase):
             status, said, told = shell("./show " + " ".join(word or "''" for word in words))
             self.assertEqual((status, said, told.count("\n")), (70, "", 1), (words, told))
 
+    @wants_program
+    def test_folders(self):
+        # In the place of a file that is read or written; the line has no number of the system's, and no Python.
+        cured = "examples/crossing_cured.choreo"
+        for words in (["fly --simulate --log docs", cured], ["fly --simulate --pads docs", cured], ["legs --dry", cured, "docs"],
+                      ["fly --simulate --script docs", cured], ["fly --radio docs", cured], ["bridge --radio docs", cured],
+                      ["export skyc", cured, "docs"], ["fly --simulate --pads none/none", cured]):
+            status, said, told = shell("./show " + " ".join(words))
+            self.assertEqual((status, told.count("\n")), (70, 1), (words, told))
+            self.assertRegex(told, "docs: Is a directory|docs is a folder|none/none: No such file", words)
+            self.assertNotIn("Errno", said + told)
+
 
 class Swapped(unittest.TestCase):
     """A copy of the package beside a program that accepts everything, and beside a record."""

@@ -1,8 +1,9 @@
 """Each place of the package that prints or returns a yes, and what it rests on. Whoever adds one adds an entry, or the
 test fails: a yes is that of the proved program, or its words say whose it is.
 
-Looked for are the words of a yes in texts (`ok`, `valid`, `KEPT` ..), a status of 0, and a status that is handed on, in
-what is a command. That none of the commands says yes where the program doesn't is tried below."""
+Looked for are the words of a yes in texts (`ok`, `valid`, `KEPT` ..), a status of 0 and a status that is handed on in
+what is a command or a flight, and what is true or false for who imports the package. That none of the commands says yes
+where the program doesn't is tried below."""
 import ast
 import hashlib
 import json
@@ -19,12 +20,17 @@ from hemtoghai import judging, program
 from hemtoghai.flying import stages
 
 PACKAGE = os.path.join(PYTHON, "hemtoghai")
-WORDS = re.compile(r"\b(valid|KEPT|APART|PROVED|proved|accepted|accepts|apart|ok|kept|landed|stored|land now)\b")
-STATUSES = re.compile("commands/|exchange/export|launching/|__main__|geometry/separation")  # modules that end with one
+WORDS = re.compile(r"\b(valid|KEPT|APART|PROVED|proved|accepted|accepts|apart|separated|ok|kept|landed|disarmed|stored|"
+                   r"land now|judged as|judged stage|as a whole|stage by stage|as the show has them|has its trajectory|"
+                   r"has what it is to fly|[Nn]othing is blocked|nothing is refused)\b")
+STATUSES = re.compile("commands/|exchange/export|launching/|__main__|streams|geometry/separation|"
+                      "flying/(bridge|descent)|seeing/studio_work")  # modules that end with one
+TRUTHS = re.compile("judging|program")  # modules whose yes may be a value that is true
 
 # What a yes may rest on.
 PROGRAM = "an answer of the program, whose status, output and file program.ask or answering.py looked at"
 RUN = "the program's own status and output, over a file whose SHA-256 is that of its record: launching/launcher.py"
+PASSED = "hands on what others end with, each of which has its entry"
 RECORD = "the record or the manifest that has the SHA-256 of what runs, and the last line of its proof"
 WRITTEN = "says that something was written, and nothing of the show; what is wrong with that comes from elsewhere"
 NUMBER = "a number that is no status"
@@ -35,40 +41,46 @@ UPLOAD = "the end frame of the program's `upload`, and the status with which the
 DIRECTOR = "the end frame of the proved director, and `check` of the show and of each way before the take-off"
 LANDING = "`check` of the landing at each instant, or of each stage, by the file that was hashed: stages.refusal_of"
 DRONES = "what drones say of themselves, as its words say; no proof stands behind that"
+WAY = "`check` of the way as one show, or of each of its stages, by the file that was hashed: stages.refusal_of"
+TOLD = "says what was computed, and nothing of whether a show is accepted"
 # By module and function the words that are found there, and what they rest on.
 YESES = {
-    "__main__.py main": ("handed handed handed handed handed proved", RUN),
+    "__main__.py main": ("handed handed handed handed handed proved", PASSED + "; `--proved` is an option"),
     "__main__.py run": ("proved", WHAT),
     "answering.py library": ("proved", RECORD),
     "judging.py Verdict.as_data": ("ok proved", PROGRAM + "; `proved` is true of a record with its proof alone"),
     "program.py -": ("kept ok valid", "what the program writes where it accepts: no other answer is taken for one"),
     "program.py copy_of": ("proved", RECORD),
+    "program.py is_answer": ("true", "the words that each command writes where it accepts, by docs/COMMANDS.md"),
     "program.py runs": ("proved proved proved", NO),
     "program.py words_of": ("proved", WHAT),
+    "commands/as_json.py -": ("separated", "what `explain` writes where it finds no blocked part"),
     "commands/as_json.py Tee.write": ("handed", NUMBER),
     "commands/as_json.py by_program": ("handed", PROGRAM),
     "commands/as_json.py by_summary": ("handed handed", PROGRAM + "; 70 without it"),
     "commands/as_json.py by_why": ("handed handed", PROGRAM + "; 70 without it"),
-    "commands/as_json.py explained": ("ok", PROGRAM + ": true of the line `separated` alone"),
-    "commands/as_json.py main": ("handed handed handed handed", PROGRAM),
-    "commands/as_json.py put": ("handed", PROGRAM),
+    "commands/as_json.py explained": ("ok separated", PROGRAM + ": true of the line `separated` alone"),
+    "commands/as_json.py main": ("handed handed handed handed", PASSED),
+    "commands/as_json.py put": ("handed", "the status of the verdict that is written: " + PROGRAM + "; 70 without it"),
     "commands/bridge.py end_of": ("handed", NUMBER),
     "commands/bridge.py main": ("handed handed", UPLOAD),
+    "commands/bridge.py memory_lines": ("as the show has them", OWN + ": of the memories of simulated drones"),
     "commands/bridge.py print_end": ("handed", UPLOAD),
     "commands/as_json.py put_failure": ("handed ok proved", NO),
     "commands/convert.py main": ("0", WRITTEN),
     "commands/deal.py judged": ("handed handed", PROGRAM + "; 70 without it"),
     "commands/deal.py main": ("handed handed", PROGRAM + "; 70 without it"),
-    "commands/export.py main": ("2 handed", WRITTEN),
+    "commands/export.py main": ("2 handed", PASSED + "; 2 is of wrong words"),
     "commands/flown.py judge_all.outside": ("handed", NUMBER),
     "commands/flown.py main": ("0 apart", OWN + ": of samples"),
     "commands/flown.py print_verdict": ("KEPT KEPT KEPT", OWN + ": of samples"),
     "commands/fly.py -": ("apart apart", WHAT),
     "commands/fly.py emergency": ("handed", DRONES),
     "commands/fly.py fly": ("0 handed", DIRECTOR + "; --only look: the preflight alone; --only upload: " + UPLOAD),
-    "commands/fly.py main": ("handed handed handed handed", DIRECTOR),
+    "commands/fly.py main": ("handed handed handed handed", PASSED),
     "commands/fly.py only": ("0 handed handed", DRONES),
-    "commands/fly.py show": ("handed", DIRECTOR),
+    "commands/fly.py show": ("handed", PASSED),
+    "commands/fly.py upload": ("has its trajectory", UPLOAD),
     "commands/figures.py begin": ("handed handed", PROGRAM + "; 70 without it"),
     "commands/figures.py begun": ("handed", PROGRAM + "; 70 without it"),
     "commands/figures.py count": ("handed", NUMBER),
@@ -79,41 +91,53 @@ YESES = {
     "commands/figures.py quantity.read": ("handed", NUMBER),
     "commands/figures.py time_of": ("handed", NUMBER),
     "commands/importing.py head_of": ("kept", WHAT),
-    "commands/importing.py judge": ("0 APART handed handed", PROGRAM + " of each stretch, and the bound on what was cut"),
-    "commands/importing.py main": ("0 handed handed", WRITTEN),
+    "commands/importing.py judge": ("0 APART handed handed", PROGRAM + " of each stretch, and the exact bound on how "
+                                    "far these are from the file, by which their ellipsoids are larger"),
+    "commands/importing.py main": ("0 handed handed", WRITTEN + "; with --judge " + PASSED),
     "commands/importing.py print_why": ("apart", NO),
     "commands/judge.py Trees.__len__": ("handed", NUMBER),
     "commands/judge.py judge": ("0 0 valid valid", OWN),
     "commands/judge.py main": ("0 handed", OWN),
     "commands/judge.py trajectory.number": ("handed", NUMBER),
-    "commands/legs.py main": ("handed handed", PROGRAM + " of the show, and of each way by stages.refusal_of"),
-    "commands/library.py main": ("0 kept proved", WRITTEN),
+    "commands/legs.py main": ("handed handed", PROGRAM + " of the show; " + WAY),
+    "commands/legs.py summed_up": ("judged as judged stage", WAY),
+    "commands/library.py main": ("0 kept proved", WRITTEN + "; the words are an option's and a refusal's"),
     "commands/library.py over_built": ("proved", WHAT),
     "commands/library.py over_kept": ("proved proved proved", NO),
     "commands/library.py prove": ("proved", RECORD),
     "commands/picture.py main": ("0 0", WRITTEN),
+    "commands/picture.py picture_of": ("nothing is refused", OWN + ": the page begins with `Worked out without the "
+                                       "program`, and standard error says that `check` was not asked"),
     "commands/picture.py step": ("handed", NUMBER),
     "commands/release.py contents_of": ("proved", RECORD),
     "commands/release.py judged_record": ("proved", RECORD),
     "commands/release.py main": ("0", WRITTEN),
-    "commands/studio.py main": ("0", WRITTEN),
+    "commands/studio.py main": ("0", "says that the studio was ended, and nothing of the show"),
     "commands/studio.py port": ("handed", NUMBER),
     "commands/studio.py serve": ("PROVED proved", NO),
-    "commands/summary.py main": ("0", WRITTEN),
+    "commands/summary.py main": ("0", TOLD),
     "commands/summary.py places_in": ("handed", NUMBER),
     "commands/summary.py print_margin": ("accepted accepted", PROGRAM),
-    "commands/why.py explain_separation": ("0 handed ok", "how many are blocked: none is no yes by itself, see main"),
-    "commands/why.py main": ("4 apart handed", PROGRAM + "; 70 without it"),
-    "commands/why.py print_counts": ("apart apart", NO),
-    "commands/why.py print_place": ("APART APART", NO),
+    "commands/summary.py print_ways": ("as a whole stage by stage", WAY),
+    "commands/why.py blocked_in": ("nothing is blocked ok", PROGRAM + ": where `check` accepts, no place is looked for; "
+                                   "the words say that the rest wasn't asked"),
+    "commands/why.py explain_separation": ("0 handed", "how many are blocked: none is no yes by itself, see main"),
+    "commands/why.py main": ("4 Nothing is blocked apart handed", PROGRAM + "; 70 without it, and where the two differ"),
+    "commands/why.py print_counts": ("apart apart", "of places at which `check` or the tool refuses the show"),
+    "commands/why.py print_place": ("APART APART", "of two at one instant, of a place at which the show is refused"),
     "commands/without.py main": ("handed handed", PROGRAM + "; 70 without it"),
     "exchange/export_csv.py main": ("0", WRITTEN),
     "exchange/export_skyc.py main": ("0", WRITTEN),
     "exchange/foreign.py checked": ("apart", WHAT),
     "flying/bridge.py Bridge.down": ("kept", DIRECTOR + "; the line says that drones' own estimates are the premise"),
+    "flying/bridge.py Bridge.not_flown": ("handed", NO),
+    "flying/bridge.py Bridge.run": ("handed handed", PASSED),
     "flying/bridge.py Bridge.say_spread": ("apart", NO),
     "flying/bridge.py Bridge.tell_crew": ("apart apart land now", LANDING),
-    "flying/descent.py Descent.finish": ("landed landed", DRONES),
+    "flying/bridge.py Bridge.whole": ("handed handed handed", DIRECTOR + "; all are down by " + DRONES),
+    "flying/descent.py Descent.cut": ("handed", NO),
+    "flying/descent.py Descent.finish": ("disarmed landed landed", DRONES),
+    "flying/descent.py Descent.words_armed": ("disarmed", DRONES),
     "flying/home.py Home.break_off": ("apart", NO),
     "flying/home.py Home.come_home": ("apart", NO),
     "flying/home.py Home.fly_on": ("apart", NO),
@@ -126,8 +150,15 @@ YESES = {
     "flying/landings.py Landings.words": ("apart land now", LANDING),
     "flying/routes.py Planner.words": ("apart apart apart", NO),
     "flying/stages.py judge_stages": ("apart", NO),
+    "flying/uploads.py -": ("has what it is to fly", "the words of status 0: " + UPLOAD),
+    "flying/ways.py Ways.tell": ("as a whole stage by stage", WAY),
     "geometry/separation.py judged": ("0 ok", "taken for a refusal alone, but where words say that nothing is proved"),
     "geometry/separation.py most_borne": ("handed", NUMBER),
+    "judging.py Verdict.__bool__": ("true", PROGRAM + ": it is `ok`"),
+    "judging.py Verdict.more_blocked": ("true", NO),
+    "judging.py Verdict.ok": ("true", PROGRAM + ": its status alone, which is 0 with the command's own words only"),
+    "judging.py Verdict.proved": ("true", RECORD),
+    "judging.py is_path": ("true", NO),
     "language/cures.py -": ("apart apart", WHAT),
     "launching/building.py -": ("proved", NO),
     "launching/building.py Watch.lanes": ("handed handed", NUMBER),
@@ -143,19 +174,27 @@ YESES = {
     "launching/launcher.py fault_of_demand": ("proved proved", NO),
     "launching/launcher.py file_for": ("proved", NO),
     "launching/launcher.py input_number": ("0 handed handed", NUMBER),
-    "launching/launcher.py main": ("0 0 handed handed handed", RUN),
+    "launching/launcher.py main": ("0 0 handed handed handed", PASSED + "; 0 itself is of a help text"),
     "launching/manual.py main": ("0", WRITTEN),
     "launching/manual.py page": ("proved", WHAT),
-    "launching/records.py print_version": ("0 handed handed kept", RECORD),
+    "launching/records.py print_version": ("0 handed handed kept", RECORD + "; its lines name what differs from that"),
     "launching/records.py write_record": ("proved", RECORD),
     "launching/unproved.py fault": ("proved", NO),
     "launching/unproved.py take": ("proved", NO),
     "launching/running.py ended": ("handed", RUN),
     "launching/running.py fed": ("handed", RUN),
     "launching/running.py started": ("handed", NUMBER),
+    "launching/words.py fault_of_option": ("proved", NO),
     "seeing/sampling.py mark_of": ("apart apart", NO),
     "seeing/studio_program.py Program.now": ("proved proved", RECORD),
     "seeing/studio_server.py Handler.of_worker": ("proved", NO),
+    "seeing/studio_work.py judged": ("handed", NUMBER),
+    "seeing/studio_work.py main": ("0 0 handed", "the page is told that what this process finds is not proved: of_worker"),
+    "seeing/studio_work.py tool": ("handed", "a tool's own status, of the program that the studio was given: the page "
+                                   "says NOT PROVED of one without a record"),
+    "streams.py Heard.write": ("handed handed", NUMBER),
+    "streams.py status_of": ("handed handed handed handed handed", PASSED + "; 70 in place of 0 where words were lost"),
+    "writing/meetings.py -": ("separated", "what `explain` writes where it finds no blocked part"),
     "writing/flyable.py stacked": ("apart", NO),
 }
 # Scripts of the studio's page that may say so, and why. Their words are tried in tests/test_studio_safety.py.
@@ -173,14 +212,20 @@ def is_status(node):
     return ["handed"] if isinstance(node, (ast.Name, ast.Attribute, ast.Call, ast.Subscript, ast.BoolOp)) else []
 
 
+def is_truth(node):
+    """Whether a function's answer is true or false."""
+    return node.returns is not None and ast.unparse(node.returns) == "bool"
+
+
 def is_told(node):
     """Whether a function's answer may be a status, or one and its words."""
     return node.returns is not None and ast.unparse(node.returns) in ("int", "tuple[int, str]", "tuple[str, int]")
 
 
-def sites_of(text, ends):
-    """By function the words of a yes in a module's text, and the statuses that are returned, where `ends` says that it
-    has some. What stands in docstrings and in the help of options isn't looked at."""
+def sites_of(text, ends, truths=False):
+    """By function the words of a yes in a module's text, the statuses that are returned, where `ends` says that it has
+    some, and `true` of what is true or false, where it has `truths`. What stands in docstrings and in the help of
+    options isn't looked at."""
     found = {}
 
     def visit(node, name, status):
@@ -189,6 +234,8 @@ def sites_of(text, ends):
             if isinstance(child, (ast.FunctionDef, ast.ClassDef)):
                 own = "%s.%s" % (name, child.name) if name else child.name
                 told = isinstance(child, ast.FunctionDef) and ends and is_told(child)
+                if isinstance(child, ast.FunctionDef) and truths and is_truth(child):
+                    found.setdefault(own, []).append("true")
             if isinstance(child, ast.keyword) and child.arg in ("help", "metavar") or (
                     isinstance(child, ast.Expr) and isinstance(child.value, ast.Constant)):
                 continue
@@ -215,7 +262,7 @@ def modules():
 class Places(unittest.TestCase):
     def test_each_has_an_entry(self):
         found = {"%s %s" % (path, name): " ".join(sorted(words)) for path, text in modules()
-                 for name, words in sites_of(text, STATUSES.match(path) is not None).items()}
+                 for name, words in sites_of(text, *(it.match(path) is not None for it in (STATUSES, TRUTHS))).items()}
         wanted = {name: words for name, (words, _) in YESES.items()}
         self.assertEqual({name: (found.get(name), wanted.get(name)) for name in {*found, *wanted}
                           if found.get(name) != wanted.get(name)}, {}, "found, and as the entry has it")
@@ -238,6 +285,8 @@ class Places(unittest.TestCase):
         self.assertEqual(sites_of(text, True), {"-": ["ok"], "f": ["0"], "B.g": ["0", "valid"], "B.h": ["handed", "PROVED"],
                                                 "k": ["landed"]})
         self.assertEqual(sites_of(text, False), {"-": ["ok"], "B.g": ["valid"], "B.h": ["PROVED"], "k": ["landed"]})
+        text = "class C:\n    def __bool__(self) -> bool:\n        return 7\n    def m(self) -> int:\n        return 1"
+        self.assertEqual((sites_of(text, False, True), sites_of(text, False)), ({"C.__bool__": ["true"]}, {}))
 
 
 # Programs that lie: they accept nothing that `check` would, and each says so in another way.

@@ -1,8 +1,8 @@
 """What the proved program says of a show's text, as values: for `import hemtoghai`.
 
-The verdict is the program's, or that of the library with the same answers (answering.py). What helps beside it, the
-places in which drones are blocked and what no drone flies, is worked out by the companions and proves nothing; those
-agree with the program on whether anything is blocked.
+The verdict is the program's, or that of the library with the same answers (answering.py), and so are the places in
+which drones are blocked. What helps beside it, what no drone flies and the cure of a faulty line, is worked out by the
+companions and proves nothing.
 """
 from __future__ import annotations
 
@@ -10,16 +10,16 @@ import json
 import operator
 import os
 import re
-from collections.abc import Iterator, Mapping
+from collections.abc import Iterable, Iterator, Mapping
 from dataclasses import dataclass, field
 from functools import cached_property
 from typing import Any, Optional, Union
 
 from hemtoghai import answering, companion, program, texts
-from hemtoghai.geometry import separation
+from hemtoghai.geometry.separation import Meeting
 from hemtoghai.language import choreo, cures
 from hemtoghai.language.choreo import DEPTH
-from hemtoghai.writing import flyable
+from hemtoghai.writing import flyable, meetings
 
 Text = Union[str, bytes]
 Place = tuple[int, int, int]
@@ -31,19 +31,19 @@ Unusable = program.Unusable  # why neither the library nor the program can be as
 
 @dataclass(frozen=True)
 class Blocked:
-    """Two drones in a cue that are too near, or of which nothing shows that they are apart. Instants are milliseconds
-    from the begin of the show, places micrometres, cues count from 1 with repeats and figures written out, lines are
-    those of the text."""
+    """Two drones in a cue that are too near, or of which nothing shows that they are apart, as the program's
+    `explain --all` names them. Instants are milliseconds from the begin of the show, places micrometres, cues count
+    from 1 with repeats and figures written out, lines are those of the text."""
     first: str
     second: str
     cue: int
     begin_ms: float  # of the first of the cue's parts that is blocked
     end_ms: float  # of that part
-    nearest_ms: float  # where the two come nearest in the cue
+    nearest_ms: float  # where the two are nearest, of the 33 instants that cut the cue into 32 parts
     places: tuple[Place, Place]  # of both, there
     share: float  # how far apart they are there, as a share of the distance at which their ellipsoids touch
-    touch: bool  # whether the ellipsoids touch there: then no greater depth helps
-    cause: Optional[str]  # in words, where they fly apart and the show's `stray` or `late` is the cause
+    touch: bool  # whether the ellipsoids share a point there: then no greater depth helps
+    cause: Optional[str]  # the show's `stray` and `late`, where the program separates the two without both
     lines: tuple[int, ...]  # of the cue and of what the two fly in it
     named: bool  # whether it is the one that the program names
 
@@ -109,18 +109,18 @@ class Verdict:
 
     @cached_property
     def places(self) -> tuple[tuple[Blocked, ...], bool]:
-        """The places that are blocked, and whether these are all."""
-        return blocked_of(self.text, self.depth, self.line) if self.status == 5 else ((), True)
+        """The places that are blocked, and whether these are all; raises Unusable where the program can't be asked."""
+        return blocked_of(self.text, self.depth) if self.status == 5 else ((), True)
 
     @property
     def blocked(self) -> tuple[Blocked, ...]:
-        """The pairs and cues that are blocked, the nearest first, of a show that is refused with status 5: the one that
-        is named, and at most so many that not even the worst show takes long."""
+        """The pairs and cues that are blocked, the nearest first, of a show that is refused with status 5: the first
+        200 of them, in the order in which the program looks, by pair and then by cue."""
         return self.places[0]
 
     @property
     def more_blocked(self) -> bool:
-        """Whether more may be blocked than `blocked` has."""
+        """Whether more are blocked than `blocked` has."""
         return not self.places[1]
 
     @cached_property
@@ -188,19 +188,34 @@ def place_of(flown: Any, drone: int, cue: int, u: float) -> Place:
     return x, y, z
 
 
-def blocked_of(text: bytes, deep: int, line: str) -> tuple[tuple[Blocked, ...], bool]:
-    """The places in which drones of a show are blocked that `check` refuses with a line, that first in which they come
-    nearest, and whether these are all."""
-    flown, out = choreo.flown_of(text), []
-    blocked, are_all = separation.some_places(flown, deep, line)
-    for number, found in enumerate(blocked):
-        it = separation.Meeting(flown, deep, *found)
+def told(words: list[str], text: bytes) -> tuple[int, str]:
+    """The status and the output of a command; raises Unusable, and MemoryError where it is out of memory."""
+    answer = answering.runner().run(words, text)
+    if answer.status == NO_MEMORY:
+        raise MemoryError
+    return answer.status, answer.output.decode()
+
+
+def placed(flown: Any, found: Iterable[Meeting]) -> tuple[Blocked, ...]:
+    """Places in which drones are blocked, with the one that is named before the others, in the order of distances."""
+    out = []
+    for number, it in enumerate(found):
         cue, names = flown.cues[it.cue], (flown.names[it.i], flown.names[it.j])
         lines = {cue.number, *(cue.acts[name][0] for name in names if name in cue.acts)}
-        places = place_of(flown, it.i, it.cue, it.near.at), place_of(flown, it.j, it.cue, it.near.at)
-        out.append(Blocked(*names, it.cue + 1, it.begin, it.end, it.nearest, places, it.near.share, it.near.touch,
-                           it.cause, tuple(sorted(lines)), not number))
-    return tuple(sorted(out, key=lambda place: place.share)), are_all
+        places = place_of(flown, it.i, it.cue, it.at), place_of(flown, it.j, it.cue, it.at)
+        out.append(Blocked(*names, it.cue + 1, it.begin, it.end, it.nearest, places, it.share, it.touch, it.cause,
+                           tuple(sorted(lines)), not number))
+    return tuple(sorted(out, key=lambda place: place.share))
+
+
+def blocked_of(text: bytes, deep: int) -> tuple[tuple[Blocked, ...], bool]:
+    """The places in which drones of a show are blocked that `check` refuses, that first in which they are nearest, and
+    whether these are all."""
+    flown = choreo.flown_of(text)
+    found = meetings.meetings_of(told, flown, text, deep)
+    if found is None or not found[0]:
+        raise Unusable("the program doesn't name the places of a show that it refuses")
+    return placed(flown, found[0]), found[1]
 
 
 CAUTION = re.compile(r"line (\d+), (?:cue (\d+)|the end): (\S+) ")

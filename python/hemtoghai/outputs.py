@@ -40,6 +40,8 @@ def fault_of(path: str, force: bool, read: Iterable[str]) -> str | None:
         found = os.stat(path)
     except (OSError, ValueError):
         return None
+    if stat.S_ISDIR(found.st_mode):
+        return f"{path} is a folder: give the path of a file"
     if not stat.S_ISREG(found.st_mode):
         return None
     if any(is_same(other, found) for other in read):
@@ -103,9 +105,10 @@ def unbroken() -> Iterator[None]:
 
 
 class New:
-    """A file that is written whole beside the place that it is to have. Raises OSError, and leaves no file then."""
+    """A file that is written whole beside the place that it is to have, with the mode of what is there where none is
+    given. Raises OSError, and leaves no file then."""
 
-    def __init__(self, path: str, data: bytes) -> None:
+    def __init__(self, path: str, data: bytes, mode: int | None = None) -> None:
         self.path, self.folder = path, os.path.dirname(path)
         self.hidden: str | None = None  # a name of its own
         if (number := unnamed(self.folder)) is None:
@@ -115,7 +118,7 @@ class New:
             left = memoryview(data)
             while left:
                 left = left[os.write(number, left):]
-            os.fchmod(number, mode_of(path))
+            os.fchmod(number, mode_of(path) if mode is None else mode)
             os.fsync(number)
         except BaseException:
             self.drop()

@@ -52,6 +52,7 @@ def absent() -> str:
 # proof.
 _copies: dict[str, tuple[tuple[tuple[int, ...], ...], str, str | None]] = {}
 _kept: dict[str, tuple[str, tuple[int, ...]]] = {}  # by their SHA-256 the files in memory, and what they looked like
+as_it_is = [False]  # whether PROGRAM is one that a tool was told to take
 demanded = [False]  # whether no program runs but the proved one, also in processes that `words_of` starts
 
 
@@ -154,7 +155,7 @@ def runs(path: str | None = None) -> str:
     path = os.path.abspath(path) if path else PROGRAM
     if not os.path.isfile(path) or not os.access(path, os.X_OK):
         raise Unusable(absent())
-    if path != PROGRAM:
+    if path != PROGRAM or as_it_is[0]:
         if demanded[0]:
             raise Unusable("%s isn't the proved program, and --proved runs no other" % path)
         return path

@@ -4,7 +4,7 @@
     ./show compile --json [--depth D] SHOW
     ./show certify --json [--depth D] SHOW
     ./show verify --json SHOW CERTIFICATE
-    ./show explain --json [--depth D] [--fine E] SHOW
+    ./show explain --json [--depth D] [--fine E] [--all] SHOW
     ./show dynamics --json [--depth D] [--accel A] [--jump J] SHOW
     ./show speed --json [--depth D] [--limit V] SHOW
     ./show boxes --json [--depth D] SHOW REGIONS
@@ -33,6 +33,7 @@ from hemtoghai.language import choreo
 from hemtoghai.launching import launcher, words as commands
 from hemtoghai.program import NAME, Unusable
 from hemtoghai.writing.margins import margins_of
+from hemtoghai.writing.meetings import ALL, MORE, PLACE
 
 
 def put(command: str, verdict: judging.Verdict, **more: Any) -> int:
@@ -68,11 +69,18 @@ def pair_of(words: tuple[str | None, ...], *numbers: str) -> dict[str, Any] | No
 
 def explained(output: str) -> dict[str, Any]:
     """What `explain` writes. `ok` is whether all drones are separated: it ends with 0 of others too."""
+    rows, more = list(PLACE.finditer(output)), {}
+    if rows and ALL.fullmatch(output):  # --all: each pair and cue has a line
+        is_cut = output.startswith(MORE, rows[-1].end())
+        more = {"blocked_parts": [pair_of(row.groups(), "cue", "part", "parts", "at", "of", "level") for row in rows],
+                "more_blocked": is_cut}
+        output = "blocked pair %s %s cue %s part %s of %s\n" % rows[0].groups()[:5] + output[
+            rows[-1].end() + len(MORE) * is_cut:]
     found = EXPLAINED.fullmatch(output)
     if found is None:
         raise Unusable("what was run isn't the program: it gave no answer of `explain`")
     row = found.groups()
-    return {"ok": output.startswith("separated\n"), "blocked_part": pair_of(row[:5], "cue", "part", "parts"),
+    return {**more, "ok": output.startswith("separated\n"), "blocked_part": pair_of(row[:5], "cue", "part", "parts"),
             "closest": pair_of(row[5:11], "cue", "at", "of", "level"),
             "touch": pair_of(row[11:16], "cue", "at", "of"), "no_touch_instants": int(row[16]) if row[16] else None}
 
@@ -145,7 +153,13 @@ def verdict_of(text: bytes, depth: int) -> judging.Verdict:
         status, line = separation.judged(text, depth)
         if status == 0:
             status, line = streams.NO_ANSWER, companion.no_verdict()
-        return judging.Verdict(status, line.encode() + b"\n", None, text, depth)
+        verdict = judging.Verdict(status, line.encode() + b"\n", None, text, depth)
+    if status == 5:  # the places are those of the companions, too
+        flown = choreo.flown_of(text)
+        found, are_all = separation.some_places(flown, depth, line)
+        placed = judging.placed(flown, (separation.meeting(flown, depth, *it) for it in found))
+        vars(verdict)["places"] = placed, are_all
+    return verdict
 
 
 def helped(flown: choreo.Flown, place: judging.Blocked, depth: int) -> dict[str, Any]:

@@ -23,14 +23,19 @@ ms, 1000 without the option, after the one before, the begin of the show and its
 stop more than 300 ms before the end. For any other log it is `NOT KEPT` or `NOT KNOWN`. So it is where a column
 `variance`, as `fly` writes it, says that a drone wasn't sure of its place: above M2 square metres, 0.004 without the
 option. Of a sample without a variance nobody knows, so a log that lacks some isn't kept either. A log with a place or
-a time that isn't finite is refused. Status 0: kept. 1: not kept or not known. 70: no answer.
+a time that isn't finite is refused, and so is one of more than 500,000 lines. Status 0: kept. 1: not kept or not
+known. 70: no answer.
 """
 import argparse
 import csv
+import sys
+from contextlib import ExitStack
+from itertools import chain
 from math import dist, inf
-from typing import Dict, Iterable, List, Optional, Sequence, Tuple
+from typing import Dict, Iterable, Iterator, List, Optional, Sequence, Tuple
 
-from hemtoghai.companion import flown_of, many, parser, read_file, stop
+from hemtoghai import texts
+from hemtoghai.companion import flown_of, many, parser, stop
 from hemtoghai.flying import finite
 from hemtoghai.geometry.curves import Curve, curves_of
 
@@ -42,26 +47,55 @@ GAP, FEWEST = 1000, 5  # milliseconds without a sample, and samples of a drone, 
 LAST = 300  # milliseconds before the end of the show at which a log may stop: three samples of `fly`
 LEAP = 5.0  # seconds by which a drone's clock may differ from the log's at some samples more than at others
 LONGEST = 1e6  # seconds of a log, before and after its zero
+MOST_LINES = 500000  # of a log: those of 32 drones in 26 minutes, ten times a second
+LONGEST_ROW = 1 << 16  # bytes
 
-# Seconds, a place in mm, the drone's seconds or None, and the estimate's variance or None.
-Row = Tuple[float, List[float], Optional[float], Optional[float]]
-# Milliseconds by the drone's clock, a place in mm, milliseconds by the log's, and the variance.
-Sample = Tuple[float, List[float], float, Optional[float]]
+Place = Tuple[float, ...]  # in mm
+# Seconds, a place, the drone's seconds or None, and the estimate's variance or None.
+Row = Tuple[float, Place, Optional[float], Optional[float]]
+# Milliseconds by the drone's clock, a place, milliseconds by the log's, and the variance.
+Sample = Tuple[float, Place, float, Optional[float]]
+
+
+def lines_of(path: str) -> Iterator[str]:
+    """The lines of a log, one after the other; `-` is standard input. A log that is too long ends the tool."""
+    left, number = texts.LOG, 0
+    try:
+        with ExitStack() as stack:
+            file = sys.stdin.buffer if path == "-" else stack.enter_context(open(path, "rb"))
+            while line := file.readline(LONGEST_ROW + 1):
+                left, number = left - len(line), number + 1
+                if len(line) > LONGEST_ROW:
+                    stop(f"{path}: this is no CSV file: a row has more than {LONGEST_ROW} bytes")
+                if left < 0:
+                    stop(f"{path}: more than {texts.LOG} bytes")
+                if number > MOST_LINES:
+                    stop(f"{path}: more than {MOST_LINES} lines: judge a shorter part, or every second sample")
+                yield line.decode(errors="replace").removesuffix("\n")
+    except (OSError, ValueError) as error:
+        stop("%s: %s" % (path, getattr(error, "strerror", None) or error))
+
+
+def rows_of(path: str) -> Iterator[List[str]]:
+    """The rows of a log that have cells."""
+    try:
+        yield from filter(None, csv.reader(lines_of(path)))
+    except csv.Error as error:
+        stop("%s: this is no CSV file: %s" % (path, error))
 
 
 def read_log(path: str) -> Dict[str, List[Row]]:
     """The samples by drone."""
-    names, out = ["time", "drone", "x", "y", "z"], dict[str, List[Row]]()
-    try:
-        rows = [row for row in csv.reader(read_file(path).decode(errors="replace").split("\n")) if row]
-    except csv.Error as error:
-        stop("%s: this is no CSV file: %s" % (path, error))
-    if rows and set(names) <= {cell.strip() for cell in rows[0]}:
-        names, rows = [cell.strip() for cell in rows[0]], rows[1:]
+    names, rows, out = ["time", "drone", "x", "y", "z"], rows_of(path), dict[str, List[Row]]()
+    first: List[str] = next(rows, [])
+    if set(names) <= {cell.strip() for cell in first}:
+        names = [cell.strip() for cell in first]
+    else:
+        rows = chain(filter(None, [first]), rows)
     at = {name: names.index(name) for name in names}
     for number, row in enumerate(rows, 1):
         try:
-            place = [1000 * finite.number(row[at[axis]], -finite.FAR, finite.FAR) for axis in "xyz"]
+            place = tuple([1000 * finite.number(row[at[axis]], -finite.FAR, finite.FAR) for axis in "xyz"])
             stamp = finite.number(row[at["stamp"]], 0, 2 ** 32) / 1000 if "stamp" in at else None
             seconds = finite.number(row[at["time"]], -LONGEST, LONGEST)
             variance = variance_of(row[at["variance"]]) if "variance" in at else None

@@ -34,7 +34,7 @@ from hemtoghai.flying.crew import Cut, Interrupted, say, TELLER, Watch
 from hemtoghai.flying.descent import Descent, EARLY, LANDING
 from hemtoghai.flying.fleet import Fleet, FLIGHT, Log
 from hemtoghai.flying.own_clock import OwnClock
-from hemtoghai.flying.preflight import preflight
+from hemtoghai.flying.preflight import look_for_others, preflight
 from hemtoghai.flying.script import Script
 from hemtoghai.flying.simulation import begin_clock, set_simulation, simulated
 from hemtoghai.flying.stages import Place
@@ -71,19 +71,24 @@ NUMBERS = [
 
 # ---- words
 
-def options_of(words: list[str]) -> argparse.Namespace:
-    reader = parser(__doc__)
+def add_simulation(reader: argparse.ArgumentParser) -> None:
+    """The options that say which drones fly, and what befalls simulated ones."""
     reader.add_argument("--radio", metavar="DRONES", help="a text with a line `NAME URI` for each drone")
     reader.add_argument("--simulate", action="store_true", help="fly simulated drones")
     reader.add_argument("--sim", action="append", default=[], metavar="KEY=N",
                         help="of simulated drones: stray (mm), late (ms), loss (percent), rate (packets/s), seed, speed "
                         "(times real time, at most), dongles, strangers, blanks (drones on the channel that "
-                        "aren't in the show, with a trajectory and without); blocks, dies, usb and noise (s): "
-                        "what comes over dongle 0 so long after the start")
-    reader.add_argument("--fault", action="append", default=[], metavar="NAME:KIND[:S]",
-                        help="a fault of a simulated drone")
+                        "aren't in the show, with a trajectory and without), leap (m); blocks, dies, usb and noise "
+                        "(s): what comes over dongle 0 so long after the start")
+    reader.add_argument("--fault", action="append", default=[], metavar="NAME:KIND[:S[:up]]",
+                        help="a fault of a simulated drone, so many seconds after its start, or after its take-off")
     reader.add_argument("--script", metavar="FILE", help="what the crew of a simulated flight does, and when: a text "
                         "with lines `SECONDS WHAT WORDS`, as in `2 press:INT started`")
+
+
+def options_of(words: list[str]) -> argparse.Namespace:
+    reader = parser(__doc__)
+    add_simulation(reader)
     reader.add_argument("--pads", metavar="PADS", help="a text with a line `NAME X Y Z` in micrometres: where drones "
                         "stand; without it below their first places, at height 0")
     reader.add_argument("--ceiling", type=finite.option(1, 100000, True), metavar="MM",
@@ -93,7 +98,11 @@ def options_of(words: list[str]) -> argparse.Namespace:
                         "motors: for these two the show isn't read, but for simulated drones")
     reader.add_argument("--on-silence", choices=("continue", "land"), default="continue",
                         help="where a drone is silent in the show: fly on to its end, or land the others")
+    reader.add_argument("--home", action="store_true", help="upload the way down with the show, so that drones come "
+                        "home by themselves where the radio or this machine dies")
     reader.add_argument("--low", action="store_true", help="let a show below z 0 through")
+    reader.add_argument("--strangers", action="store_true", help="fly although drones are on that aren't in the show: "
+                        "they hear landings and stops")
     reader.add_argument("--yes", action="store_true", help="don't ask before upload, take-off and start")
     reader.add_argument("--log", metavar="FILE", help="write places to this CSV file, for ./show flown")
     outputs.add_force(reader)
@@ -175,22 +184,23 @@ def upload(radio: crazyradio.Radio, flown: Flown, text: bytes) -> None:
     say("uploaded and read back: each drone has its trajectory (%.1f s)" % (clock.now() - begin))
 
 
-def fly(radio: crazyradio.Radio, flown: Flown, text: bytes, pads: Sequence[Place], options: argparse.Namespace,
-        log: Log, watch: Watch) -> int:
+def fly(radio: crazyradio.Radio, flown: Flown, text: bytes, pads: Sequence[Place], hall: Dict[str, str],
+        options: argparse.Namespace, log: Log, watch: Watch) -> int:
     """All steps with drones that answer; the status."""
     fleet, ways, bridge = Fleet(radio, log), None, None
     try:
-        ways = Ways(flown, text, preflight(fleet, flown, pads, options), options)
+        ways = Ways(flown, text, preflight(fleet, flown, pads, hall, options), options)
         ways.tell()
         if options.only is None:
             ways.prepare()
         if options.only != "look":
             watch.confirm("Upload?")
-            upload(radio, flown, text)
+            upload(radio, ways.uploaded, ways.text)
         if options.only:
             return 0
         bridge = Bridge(fleet, ways, watch)
         ways.wait(watch.look)
+        look_for_others(fleet, hall, options)  # who was switched on meanwhile
         watch.confirm("Take off?")
         return bridge.run()
     finally:
@@ -246,7 +256,8 @@ def emergency(options: argparse.Namespace, watch: Watch, radios: List[crazyradio
     if options.simulate:
         flown = flown_of(options.show)[1]
         pads = legs.pads_of(options.pads, flown)
-        uris, floors = dict(zip(flown.names, set_simulation(flown, pads, options))), dict(zip(flown.names, pads))
+        hall, floors = set_simulation(flown, pads, options), dict(zip(flown.names, pads))
+        uris = {name: hall[name] for name in flown.names}
     else:
         uris = crazyradio.everybody(options.radio)
     radios.append(opened(list(uris), list(uris.values()), False))
@@ -259,10 +270,10 @@ def show(options: argparse.Namespace, watch: Watch, radios: List[crazyradio.Radi
     pads = legs.pads_of(options.pads, flown)
     Ways(flown, text, pads, options)  # refused before the link is opened, as a log is that can't be written
     log = Log(options.log, say)
-    uris = set_simulation(flown, pads, options) if options.simulate else crazyradio.addresses(
-        options.radio, flown.names)
+    hall = set_simulation(flown, pads, options) if options.simulate else crazyradio.everybody(options.radio)
+    uris = finite.in_order(hall, flown.names, options.radio, "address")
     radios.append(opened(flown.names, uris, True))
-    return fly(radios[0], flown, text, pads, options, log, watch)
+    return fly(radios[0], flown, text, pads, hall, options, log, watch)
 
 
 def main(words: list[str]) -> int:

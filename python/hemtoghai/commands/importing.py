@@ -136,7 +136,7 @@ def print_why(fit: fitting.Fit, text: str, wanted: Axes, deep: int, line: str) -
         print("  and %s blocked, of this or other pairs%s" % (
             many(len(found) - 1, "more place"), "" if are_all else "; there may be more"))
     print("%s why, of the import: its cues and lines, and its larger ellipsoids" % program.COMMAND)
-    why.print_place(flown, text.encode().split(b"\n"), separation.Meeting(flown, deep, i, j, cue, index), deep, [])
+    why.print_place(flown, text.encode().split(b"\n"), separation.meeting(flown, deep, i, j, cue, index), deep, [])
 
 
 # ---- limits

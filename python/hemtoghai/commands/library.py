@@ -51,13 +51,20 @@ VARIABLES = re.compile(r"\.(data|bss|tdata|tbss)\b(?!\.rel\.ro)")
 LINKING = "-Wl,-z,defs,-z,relro,-z,now,-z,noexecstack,--gc-sections,--build-id=none"
 
 
+def cause_of(command: str, error: OSError) -> str:
+    """Why a command can't be run."""
+    if command == "rt" and isinstance(error, FileNotFoundError):
+        return "no rt on the PATH: the Rattle toolchain is needed to build the library"
+    return "%s: %s" % (command, error.strerror)
+
+
 def said(*words: str, place: str = TOP) -> str:
     """What a command says; where it fails the tool ends with all that it said."""
     try:
         done = subprocess.run(words, cwd=place, stdin=subprocess.DEVNULL, stdout=subprocess.PIPE,
                               stderr=subprocess.STDOUT)
     except OSError as error:
-        return stop("%s: %s" % (words[0], error.strerror))
+        return stop(cause_of(words[0], error))
     text = done.stdout.decode(errors="replace")
     if done.returncode:
         stop("%s\n%s failed with status %d" % (text.rstrip("\n"), " ".join(words), done.returncode))
@@ -83,7 +90,7 @@ def watched(*words: str, place: str, doing: str, every: float = 60) -> str:
                     tell(tool_name(), "%s for %s so far%s" % (
                         " ".join(words[:2]), many(round((told - begun) / 60), "minute"), "; " + last if last else ""))
         except OSError as error:
-            stop("%s: %s" % (words[0], error.strerror))
+            stop(cause_of(words[0], error))
         finally:
             if process:
                 building.end(process)

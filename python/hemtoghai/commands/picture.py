@@ -52,7 +52,7 @@ def picture_of(options: argparse.Namespace, text: bytes, flown: Flown) -> dict[s
     step = step_of(flown, options.step)
     marks: list[Mark] = []
     if status == 5:
-        marks, are_all = blocked_marks(flown, options.depth, line)
+        marks, are_all = blocked_marks(flown, text, options.depth, line, options.program)
         line += "" if are_all else f" (more may be blocked than the {len(marks)} places that are marked)"
     rows = rows_of_play(text, options.program, options.depth, step) if status == 0 else None
     regions = regions_of(options.regions) if options.regions else []

@@ -61,6 +61,8 @@ class Studio:
         self.file, self.watch = ShowFile(options.show), options.watch
         self.program, self.depth = Program(options.program), options.depth
         self.regions = [os.path.abspath(options.regions)] if options.regions else []
+        # By this the browser knows the file, in its store and among its pages.
+        self.key = program.digest_of(self.file.path.encode("utf-8", "surrogateescape"))[:16]
         self.token, self.lock, self.texts = secrets.token_urlsafe(24), threading.Lock(), Texts()
         self.pages: dict[str, tuple[int, Job | None]] = {}
         self.spare: subprocess.Popen[bytes] | None = None
@@ -95,6 +97,12 @@ class Studio:
         """The words by which a worker is begun."""
         return program.words_of("studio_work", str(self.depth), *self.regions)
 
+    def tool_words(self, *words: str) -> list[str]:
+        """The words by which a tool is begun that asks the program of which the bar speaks."""
+        if self.program.is_own:
+            return program.words_of(*words)
+        return program.words_of("studio_work", "--tool", self.program.now()[1], *words)
+
     def make_ready(self) -> None:
         """Starts the worker of the next text."""
         if not self.ending.is_set():
@@ -128,9 +136,9 @@ class Studio:
 
     def page(self, nonce: str) -> bytes:
         """The page, with what it has to know at first."""
-        given = {"name": self.file.name, "watch": self.watch, "most": choreo.LONGEST_TEXT, "depth": self.depth,
-                 "regions": bool(self.regions), "music": os.path.basename(self.file.music() or ""),
-                 "drones": choreo.MOST_DRONES, "language": words_of_language()}
+        given = {"name": self.file.name, "key": self.key, "watch": self.watch, "most": choreo.LONGEST_TEXT,
+                 "depth": self.depth, "regions": bool(self.regions), "language": words_of_language(),
+                 "music": os.path.basename(self.file.music() or ""), "drones": choreo.MOST_DRONES}
         words = json.dumps(given).replace("<", "\\u003C")  # in a script `<` could begin an end tag
         page = page_of("studio.html").replace("/*STYLE*/", read("studio.css"))
         return page.replace("/*NONCE*/", nonce).replace("/*GIVEN*/", words).encode()
@@ -140,7 +148,7 @@ class Studio:
         data = self.file.read()
         text, ends, mixed = text_of(TEMPLATE if data is None else data)
         return {"text": text, "ends": ends, "mixed": bool(mixed), "new": data is None, "stamp": stamp_of(data),
-                "key": program.digest_of(self.file.path.encode("utf-8", "surrogateescape"))[:16]}
+                "key": self.key}
 
     def verdict(self, text: bytes, said: str, status: int, lasted: int) -> dict[str, object]:
         """What the page shows of an answer of `check`, with the SHA-256 of the text that was judged."""

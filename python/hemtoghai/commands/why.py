@@ -1,6 +1,7 @@
 """Says where and when drones of a show come too close, or why a show has no room, and lists changes that help.
 
-It computes the flight by itself and proves nothing; if the program is built, the first line is the answer of `check`.
+If the program is built, the first line is the answer of `check`, and the pairs and cues are those that its `explain
+--all` names. All else is computed here, and proves nothing; so are the pairs and cues if the program isn't built.
 With --cured it writes the show with remedies, place by place, and takes among several the one that adds the least time.
 The status is that of the show: 0 if it is accepted, 5 or 4 if it is refused. 70: no answer.
 """
@@ -9,17 +10,18 @@ from __future__ import annotations
 from collections.abc import Iterable, Iterator
 from math import hypot
 
-from hemtoghai.companion import (add_depth, ask_check, begins, cue_words, many, missing, no_verdict, parser, place,
+from hemtoghai.companion import (add_depth, ask, ask_check, begins, cue_words, many, missing, no_verdict, parser, place,
                                  seconds, stop, words_and_show)
 from hemtoghai import outputs
 from hemtoghai.geometry import separation
-from hemtoghai.geometry.separation import is_clear, Meeting, ruler_of
+from hemtoghai.geometry.separation import cause_of, is_clear, Meeting, meeting, ruler_of
 from hemtoghai.language import choreo
 from hemtoghai.language.choreo import Flown
 from hemtoghai.program import COMMAND
 from hemtoghai.streams import shown
 from hemtoghai.writing.dealing import costs, dealt, form_lines, total
 from hemtoghai.writing.flyable import small
+from hemtoghai.writing.meetings import meetings_of
 from hemtoghai.writing.remedies import ENOUGH, first_of, last_of, lift_all, lifted, remedies, Remedy, written
 
 MOST_CURES = 40
@@ -124,7 +126,7 @@ def print_help(flown: Flown, i: int, j: int, cue: int, deep: int) -> None:
 def print_place(flown: Flown, lines: list[bytes], found: Meeting, deep: int, others: list[int],
                 may_try: bool = True) -> None:
     """Prints what is known of one pair in one cue, and what helps; `others` are later cues with the same."""
-    near, i, j, cue, index = found.near, found.i, found.j, found.cue, found.index
+    i, j, cue, index = found.i, found.j, found.cue, found.index
     begin, time, parts = begins(flown)[cue], flown.cues[cue].milliseconds, 2 ** deep
     print("%s and %s in cue %d, %s" % (flown.names[i], flown.names[j], cue + 1, cue_words(flown.cues[cue])))
     if others:
@@ -135,13 +137,13 @@ def print_place(flown: Flown, lines: list[bytes], found: Meeting, deep: int, oth
     print("  first blocked part: %d of %d" % (index, parts))
     for u, word in ((index / parts, "begins"), ((index + 1) / parts, "ends")):
         print("    it %s at %s: %s" % (word, seconds(begin + time * u), both_words(flown, i, j, cue, u)[0]))
-    words, side, up = both_words(flown, i, j, cue, near.at)
+    words, side, up = both_words(flown, i, j, cue, found.at)
     print("  nearest at %s: %s" % (seconds(found.nearest), words))
-    print("  there they have %.1f %% of the distance at which their ellipsoids touch" % (100 * near.share))
-    if near.touch:
+    print("  there they have %.1f %% of the distance at which their ellipsoids touch" % (100 * found.share))
+    if found.touch:
         print("  TOO NEAR: no depth helps")
     elif found.cause:
-        print("  APART WHILE THEY FLY EXACTLY: the cause is " + found.cause)
+        print("  APART WHILE THEY FLY EXACTLY: the cause is " + (cause_of(flown, i, j, cue, deep) or found.cause))
     else:
         print("  APART, BUT ALONG NO DIRECTION: none of the 98 directions shows it for a whole part%s"
               % ("; --depth 8 may do" if deep < 8 and not standing(flown, i, j, cue, deep) else ""))
@@ -162,12 +164,11 @@ def alike(flown: Flown, found: list[Meeting]) -> list[list[Meeting]]:
     return list(groups.values())
 
 
-def print_counts(deep: int, found: list[Meeting], are_all: bool) -> None:
+def print_counts(deep: int, found: list[Meeting], more: str) -> None:
     """Prints how many pairs, cues and places are blocked, and how near they are there."""
-    if not are_all:
-        print("More may be blocked: these are the place that is named and those of the first cues, at most %d."
-              % separation.MOST_PLACES)
-    touching = sum(it.near.touch for it in found)
+    if more:
+        print(more)
+    touching = sum(it.touch for it in found)
     cues = sorted({it.cue + 1 for it in found})
     pairs = len({(it.i, it.j) for it in found})
     listed = ", ".join(map(str, cues[:12])) + (" .." if len(cues) > 12 else "")
@@ -180,16 +181,32 @@ def print_counts(deep: int, found: list[Meeting], are_all: bool) -> None:
     print("Cues are counted with repeats and figures written out.\n")
 
 
-def explain_separation(flown: Flown, lines: list[bytes], deep: int, most: int, line: str) -> int:
-    """Prints pairs and cues that are blocked, in the order of time, of a show that `check` refuses with a line; the
-    number of them."""
+def blocked_in(flown: Flown, text: bytes, deep: int, line: str) -> tuple[list[Meeting], str]:
+    """Pairs and cues that are blocked, of a show of which `check` says a line, or nothing if it can't be asked; and
+    words where there are more, or may be. They are the program's, and else those that are found here."""
+    if line.startswith("ok "):
+        return [], ""
+    told = meetings_of(ask, flown, text, deep) if line else None
+    if told is not None:
+        return told[0], "" if told[1] else (
+            "More are blocked: these are the first %d, by pair and then by cue." % len(told[0]))
     places, are_all = separation.some_places(flown, deep, line)
-    found = [Meeting(flown, deep, *place) for place in places]
+    found = [meeting(flown, deep, *place) for place in places]
+    if not found and not are_all:
+        stop("nothing is blocked in the first cues, and the program wasn't asked about the rest")
+    return found, "" if are_all else (
+        "More may be blocked: these are the place that is named and those of the first cues, at most %d."
+        % separation.MOST_PLACES)
+
+
+def explain_separation(flown: Flown, text: bytes, deep: int, most: int, line: str) -> int:
+    """Prints pairs and cues that are blocked, in the order of time, of a show of which `check` says a line; the number
+    of them."""
+    (found, more), lines = blocked_in(flown, text, deep, line), text.split(b"\n")
     if not found:
-        return 0 if are_all or line.startswith("ok ") else stop(
-            "nothing is blocked in the first cues, and the program wasn't asked about the rest")
-    print_counts(deep, found, are_all)
-    found.sort(key=lambda it: (it.cue, it.near.share))
+        return 0
+    print_counts(deep, found, more)
+    found.sort(key=lambda it: (it.cue, it.share))
     groups, begin = alike(flown, found), separation.looked[0]
     for group in groups[:most]:
         print_place(flown, lines, group[0], deep, [it.cue for it in group[1:]],
@@ -308,14 +325,13 @@ def main(words: list[str]) -> int:
     print("check: " + answer[1] if answer else missing(), end="\n\n")
     if smallness := small(flown):
         print(smallness + "\n")
-    lines = text.split(b"\n")
     try:
         choreo.judge_room(flown)
     except choreo.Refused as refusal:
         print(refusal)
         explain_room(flown)
         return 4
-    blocked = explain_separation(flown, lines, options.depth, options.most, answer[1] if answer else "")
+    blocked = explain_separation(flown, text, options.depth, options.most, answer[1] if answer else "")
     own = 5 if blocked else 0
     if blocked and options.cured:
         write_cured(options.cured, text, flown, options.depth, options.force)

@@ -285,15 +285,24 @@ def most_borne(most: int, is_borne: Callable[[int], bool]) -> int:
 
 class Meeting:
     """Two drones that are blocked in a cue, numbered from 0, with the first of its parts in which they are: the
-    milliseconds of the show at which that part begins and ends and at which they come nearest, where that is, and the
-    cause in words where they are apart there by the show's `stray` or `late`."""
+    milliseconds of the show at which that part begins and ends and at which they are nearest, at which fraction of the
+    cue that is, how far apart they are there as a share of the distance at which their ellipsoids touch, whether these
+    touch there, and the cause in words where they are apart there by the show's `stray` or `late`."""
 
-    def __init__(self, flown: Flown, deep: int, i: int, j: int, cue: int, index: int) -> None:
-        self.i, self.j, self.cue, self.index, self.near = i, j, cue, index, nearest_in(flown, i, j, cue)
-        begin, lasts, parts = flown.begins[cue], flown.cues[cue].milliseconds, 2 ** deep
+    def __init__(self, flown: Flown, i: int, j: int, cue: int, index: int, parts: int, at: float, share: float,
+                 touch: bool, cause: str | None) -> None:
+        self.i, self.j, self.cue, self.index, self.at = i, j, cue, index, at
+        self.share, self.touch, self.cause = share, touch, cause
+        begin, lasts = flown.begins[cue], flown.cues[cue].milliseconds
         self.begin, self.end = begin + lasts * index / parts, begin + lasts * (index + 1) / parts
-        self.nearest = begin + lasts * self.near.at
-        self.cause = None if self.near.touch else cause_of(flown, i, j, cue, deep)
+        self.nearest = begin + lasts * at
+
+
+def meeting(flown: Flown, deep: int, i: int, j: int, cue: int, index: int) -> Meeting:
+    """Such a place as it is worked out here: nearest in the whole cue, and with as much of the cause as they bear."""
+    near = nearest_in(flown, i, j, cue)
+    cause = None if near.touch else cause_of(flown, i, j, cue, deep)
+    return Meeting(flown, i, j, cue, index, 2 ** deep, near.at, near.share, near.touch, cause)
 
 
 def cause_of(flown: Flown, i: int, j: int, cue: int, deep: int) -> str | None:

@@ -111,6 +111,10 @@ def number_row(line: bytes, form: int) -> Row | None:
                 return None
             if slot.counts is None:
                 found = re.fullmatch("(-?[0-9]+)([a-z]+)", word)
+                if found and found[2] == "deg" and name == "TURNS of `perform`":
+                    turns, rest = divmod(int(found[1]), 90)
+                    return [f"{name} is {word}, and counts quarter turns", "",
+                            "write 0, 1, 2 or 3" if rest else f"write {turns % 4}"]
                 return [f"{name} is {word}, and has no unit", "", f"write {found[1]}"] if found else [
                     f"{name} is {word}, which is no whole number", "",
                     f"write digits alone, without a unit: {slot.least} to {slot.most}"]

@@ -160,8 +160,9 @@ def place_row(at: Around) -> Row | None:
     if len(at.words) > 1 and at.words[1] in ACTS and is_name(first):
         return [f"an act stands in a cue, and this line stands {at.where()}", "",
                 "write `cue TIME` before it, and `end` after the acts of the cue"]
-    if first == "perform":
-        return [f"{what}: a figure performs no other", "", "write the cues of that figure into this one"]
+    if first == "perform" and at.place != "formation":
+        return [f"{what}: a figure performs no other", f"the `end` of line {at.blocks[-1].number} is missing",
+                "write `end` before this line; or write the cues of that figure into this one"]
     if first in LINES:
         inner = [kind for kind in PLACES if first in PLACES[kind]]
         if at.place in ("formation", "repeat", "figure") and "top" in inner:

@@ -111,13 +111,13 @@ def git(*words: str) -> str:
 def write_record(said: str, stamped: str) -> None:
     """Notes what is known of a build of the program: what rt said last of its proof, and the stamp of its sources."""
     import json
+    from hemtoghai import outputs
     lines = [line for line in said.split("\n") if line.startswith("logic=proved ")]
     changed = answer_of("git", "status", "--porcelain", "--", "crates", "crates.txt") != ""
     record = {"commit": answer_of("git", "rev-parse", "HEAD"), "changed_since": changed,
               "toolchain": answer_of("rt", "version"), "rests_on": lines[-1] if lines else "",
               "sha256": sha256(PROGRAM), "stamp": stamped}
-    with open(PROGRAM + RECORD, "w", encoding="utf-8") as file:
-        json.dump(record, file, indent=1)
+    outputs.write_all({PROGRAM + RECORD: json.dumps(record, indent=1).encode()})
 
 
 def differing(wanted: dict[str, str]) -> Iterator[str]:

@@ -122,7 +122,8 @@ def fault_of_option(command: str, word: str, its: Iterable[str]) -> str:
     """What is wrong with an option that a command hasn't. Only the program that is proved answers as JSON."""
     from hemtoghai.__main__ import WITH_JSON
     if word == "--json" and command in WITH_JSON:
-        return "--unproved and --json don't go together: leave one of them out"
+        return ("--unproved and --json don't go together, since JSON has the proved program's answer: "
+                "leave one of them out")
     return "%s has no option %s%s" % (command, word, meant(word.partition("=")[0], its))
 
 
