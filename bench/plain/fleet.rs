@@ -1,7 +1,7 @@
 //! A show as its text says it, and what its drones fly.
 use crate::curves::{raised, Curve};
 use crate::lanes::extent;
-use crate::text::Text;
+use crate::text::{Text, MICROMETRES, MILLIMETRES, MILLISECONDS};
 
 /// Millimetres on x, y and z. The fourth number is 0, so that four lanes hold a place.
 pub type Place = [i16; 4];
@@ -124,7 +124,7 @@ const MEMORY: usize = 4096;
 #[inline(always)]
 fn millimetres(text: &mut Text) -> i16 {
     // Made positive, so that the quotient is rounded down.
-    let micrometres = text.number(-100_000_000, 100_000_000) + 100_000_500;
+    let micrometres = text.quantity(-100_000_000, 100_000_000, MICROMETRES) + 100_000_500;
     i16::try_from((micrometres as u32 / 1000) as i32 - 100_000).expect("a coordinate that fits")
 }
 
@@ -135,6 +135,11 @@ fn place(text: &mut Text) -> Place {
         *v = millimetres(text);
     }
     place
+}
+
+/// The next half axis in millimetres.
+fn axis(text: &mut Text) -> i64 {
+    text.quantity(1, 2000, MILLIMETRES)
 }
 
 fn no_yaw(text: &mut Text) {
@@ -167,18 +172,18 @@ impl Show {
     fn line(&mut self, word: &[u8], text: &mut Text) {
         match word {
             b"" | b"end" => {}
-            b"choreo" => assert!(text.word() == b"1", "a text of form 1"),
+            b"choreo" => text.has_units = text.word() == b"2",
             b"memory" => (self.memory, self.offset) = (text.number(0, 255) as u8, text.number(0, 4095) as u32),
-            b"ellipsoid" => (self.r, self.h) = (text.number(1, 2000), text.number(1, 2000)),
-            b"stray" => self.stray = text.number(0, 1000),
-            b"late" => self.late = text.number(0, 1000),
+            b"ellipsoid" => (self.r, self.h) = (axis(text), axis(text)),
+            b"stray" => self.stray = text.quantity(0, 1000, MILLIMETRES),
+            b"late" => self.late = text.quantity(0, 1000, MILLISECONDS),
             b"drone" => {
                 assert!(self.times.is_empty(), "drones before cues");
                 self.names.push(String::from_utf8_lossy(text.word()).into_owned());
                 self.starts.push(place(text));
                 no_yaw(text);
             }
-            b"cue" => self.begin_cue(text.number(1, 65_535)),
+            b"cue" => self.begin_cue(text.quantity(1, 65_535, MILLISECONDS)),
             name => self.act(name, text),
         }
     }

@@ -4,7 +4,15 @@
 pub struct Text<'a> {
     bytes: &'a [u8],
     at: usize,
+    /// Whether quantities have units, as in the second form of the language.
+    pub has_units: bool,
 }
+
+/// The units of what a place counts: each by its word, with the power of ten that it is.
+pub type Units = [(&'static [u8], u32)];
+pub const MICROMETRES: &Units = &[(b"m", 6), (b"cm", 4), (b"mm", 3), (b"um", 0)];
+pub const MILLIMETRES: &Units = &[(b"m", 3), (b"cm", 1), (b"mm", 0)];
+pub const MILLISECONDS: &Units = &[(b"s", 3), (b"ms", 0)];
 
 /// Eight bytes that are all this one.
 const fn eight(byte: u8) -> u64 {
@@ -13,7 +21,7 @@ const fn eight(byte: u8) -> u64 {
 
 impl<'a> Text<'a> {
     pub fn new(bytes: &'a [u8]) -> Text<'a> {
-        Text { bytes, at: 0 }
+        Text { bytes, at: 0, has_units: false }
     }
 
     /// The next byte. The end of the text reads as a line feed.
@@ -108,5 +116,32 @@ impl<'a> Text<'a> {
         let value = if is_negative { -(size as i64) } else { size as i64 };
         assert!(low <= value && value <= high, "a number in its bounds");
         value
+    }
+
+    /// The next word as a quantity between two others: a whole number, or one with a unit.
+    #[inline(always)]
+    pub fn quantity(&mut self, low: i64, high: i64, units: &Units) -> i64 {
+        if !self.has_units {
+            return self.number(low, high);
+        }
+        let value = self.measured(units);
+        assert!(low <= value && value <= high, "a quantity in its bounds");
+        value
+    }
+
+    /// The next word as a decimal number with a unit. Zero needs none.
+    fn measured(&mut self, units: &Units) -> i64 {
+        self.skip_blanks();
+        let is_negative = self.peek() == b'-';
+        self.at += usize::from(is_negative);
+        let (whole, _) = self.digits();
+        let has_point = self.peek() == b'.';
+        self.at += usize::from(has_point);
+        let (rest, places) = if has_point { self.digits() } else { (0, 0) };
+        let unit = self.word();
+        let power = units.iter().find(|(word, _)| *word == unit).map_or(0, |(_, power)| *power);
+        assert!((power >= places && !unit.is_empty()) || whole + rest == 0, "a quantity");
+        let size = whole * 10_u64.pow(power) + rest * 10_u64.pow(power.saturating_sub(places));
+        if is_negative { -(size as i64) } else { size as i64 }
     }
 }

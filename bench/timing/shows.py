@@ -140,8 +140,52 @@ def lanes(cues: int) -> bytes:
     return show([(0, 1000000 * i) for i in range(4)], [(1000, acts(cue)) for cue in range(cues)])
 
 
+def turned(x: float, y: float, degrees: float) -> Point:
+    """A place that is turned around the origin."""
+    a = math.radians(degrees)
+    return round(x * math.cos(a) - y * math.sin(a)), round(x * math.sin(a) + y * math.cos(a))
+
+
+def diagonal(cues: int) -> bytes:
+    """Eight files of four drones, all turned by 35 degrees. Neighbouring files fly against one another, there and
+    back, 450 mm apart; drones stray and are late."""
+    homes = [(4000000 + 700000 * (i % 4), 450000 * (i // 4), 1 if i // 4 % 2 else -1) for i in range(32)]
+
+    def acts(begin: int, end: int) -> list[str]:
+        return [curve(i, *(turned(x + way * by, y, 35) for by in (begin, end, end)))
+                for i, (x, y, way) in enumerate(homes)]
+    both = acts(0, 300000), acts(300000, 0)
+    steps = [(2000, both[cue % 2]) for cue in range(cues)]
+    return show([turned(x, y, 35) for x, y, _ in homes], steps, (*MEMORY, "stray 25", "late 60"))
+
+
+def measured(micrometres: int, unit: str, places: int) -> str:
+    """A length in the second form of the language."""
+    whole, rest = divmod(abs(micrometres), 10 ** places)
+    return "%s%d.%0*d%s" % ("-" if micrometres < 0 else "", whole, places, rest, unit)
+
+
+def with_units(cues: int) -> bytes:
+    """The show of `curves` with 32 drones, in the second form of the language: x in metres, y in centimetres, z in
+    millimetres, each to the micrometre."""
+    places = grid(32, 2000000)
+
+    def point(x: int, y: int) -> str:
+        return " ".join((measured(x, "m", 6), measured(y, "cm", 4), measured(HEIGHT, "mm", 3)))
+
+    def acts(out: int, back: int) -> list[str]:
+        return ["d%d curve %s 0" % (i + 1, " ".join(point(x + by, y) for by in (out, out, back)))
+                for i, (x, y) in enumerate(places)]
+    both = acts(200000, 300000), acts(100000, 0)
+    lines = ["choreo 2", *MEMORY, *("drone d%d %s 0" % (i + 1, point(x, y)) for i, (x, y) in enumerate(places))]
+    for cue in range(cues):
+        lines += ["cue 1s", *both[cue % 2], "end"]
+    return ("\n".join(lines) + "\n").encode()
+
+
 def compared() -> list[tuple[str, bytes]]:
     """The shows of `bench/time plain` and of bench/count, by name."""
     return [("dense", dense(255)), ("XL", rings(255)), ("XL set", rings(255, ("ellipsoid 65 300", *STRAYED))),
             ("spread", curves(32, 255)), ("spread set", curves(32, 255, STRAYED)),
-            ("ring", turning_ring(120)), ("lanes", lanes(1000))]
+            ("ring", turning_ring(120)), ("lanes", lanes(1000)), ("diagonal", diagonal(160)),
+            ("units", with_units(255))]
