@@ -33,7 +33,7 @@ HELP = (
     b"upload [--depth D] [--start] [--readback]\n"
     b"direct [--depth D] [--near MM] [--at MM] [--silence MS] [--floor MM] [--descent MS] [--then land|fly]\n"
     b"drill N [--depth D]\n"
-    b"boxes [--depth D]\nspeed [--depth D] [--limit V]\nexplain [--depth D] [--fine E]\n"
+    b"boxes [--depth D]\nspeed [--depth D] [--limit V]\nexplain [--depth D] [--fine E] [--all]\n"
     b"dynamics [--depth D] [--accel A] [--jump J]\nversion\n"
 )
 

@@ -45,6 +45,24 @@ ARC = b"choreo 1\ndrone solo 1000000 0 1000000 0\ncue 1000\nsolo arc ccw 0 0 0\n
 # A millimetre backwards in three milliseconds.
 BACK = b"choreo 1\ndrone solo 0 0 1000000 0\ncue 3\nsolo line -1000 0 1000000 0\nend\n"
 
+# Three in a row at rest: a and b are 200 mm apart, b and c 100 mm, of 240 mm at which they touch.
+ROW = (b"choreo 1\ndrone a 0 0 1000000 0\ndrone b 200000 0 1000000 0\ndrone c 300000 0 1000000 0\n"
+       b"cue 1000\nend\n")
+
+
+def together(cues: int) -> bytes:
+    """Two drones in one place, for so many cues."""
+    return (b"choreo 1\ndrone a 0 0 1000000 0\ndrone b 0 0 1000000 0\nrepeat %d\ncue 1000\nend\nend\n" % cues)
+
+
+def together_said(cues: int) -> bytes:
+    """What `explain --all` says of them: at most 200 cues, and whether there are more."""
+    lines = [b"blocked pair a b cue %d part 0 of 64 closest at 0 of 32 level 0\n" % k
+             for k in range(1, min(cues, 200) + 1)]
+    return (b"".join(lines) + b"blocked more than 200\n" * (cues > 200)
+            + b"closest pair a b cue 1 at 0 of 32 level 0\ntouch pair a b cue 1 at 0 of 32\n")
+
+
 STUDIES: Rows = [
     ("speed", SHOW, 0, b"speed solo 1093750 0 0\n"),
     ("speed --depth 0", SHOW, 0, b"speed solo 3500000 0 0\n"),
@@ -65,6 +83,27 @@ STUDIES: Rows = [
     ("explain", SHOW, 0, b"separated\n"),
     ("explain", b"choreo 3\n", 3, b"error 3 line 1 header\n"),
     ("explain --fine 6", SHOW, 2, b"error 2 usage\n"),
+    ("explain --all", CROSSING, 0,
+     b"blocked pair a b cue 1 part 28 of 64 closest at 16 of 32 level 0\n"
+     b"closest pair a b cue 1 at 16 of 32 level 0\ntouch pair a b cue 1 at 15 of 32\n"),
+    ("explain --all", APART, 0, b"separated\nclosest pair a b cue 2 at 16 of 32 level 2777\n"),
+    ("explain --all", SHOW, 0, b"separated\n"),
+    # 1,000 times (200 / 240)^2 and (100 / 240)^2, rounded down; a and c are 300 mm apart, and separated.
+    ("explain --all", ROW, 0,
+     b"blocked pair a b cue 1 part 0 of 64 closest at 0 of 32 level 694\n"
+     b"blocked pair b c cue 1 part 0 of 64 closest at 0 of 32 level 173\n"
+     b"closest pair b c cue 1 at 0 of 32 level 173\ntouch pair a b cue 1 at 0 of 32\n"),
+    ("explain --all --fine 0 --depth 0", ROW, 0,
+     b"blocked pair a b cue 1 part 0 of 1 closest at 0 of 1 level 694\n"
+     b"blocked pair b c cue 1 part 0 of 1 closest at 0 of 1 level 173\n"
+     b"closest pair b c cue 1 at 0 of 1 level 173\ntouch pair a b cue 1 at 0 of 1\n"),
+    ("explain", ROW, 0,
+     b"blocked pair a b cue 1 part 0 of 64\nclosest pair b c cue 1 at 0 of 32 level 173\n"
+     b"touch pair a b cue 1 at 0 of 32\n"),
+    ("explain --all", together(199), 0, together_said(199)),
+    ("explain --all", together(200), 0, together_said(200)),
+    ("explain --all", together(201), 0, together_said(201)),
+    ("explain --all --all", ROW, 2, b"error 2 usage\n"),
 ]
 
 # A drone that stays.
