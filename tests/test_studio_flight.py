@@ -40,6 +40,16 @@ class Flight(Led):
         """Whether the flight is played."""
         return self.words("go") == "Pause"
 
+    def is_played(self, wanted):
+        """The flight is played, or it stands: so says the button at once, and so does the playhead some frames later."""
+        found = self.browser.run("""
+            const frame = () => new Promise(requestAnimationFrame), from = now, said = document.getElementById("go").innerText;
+            return frame().then(frame).then(frame).then(() => [said, now !== from])""")
+        self.assertEqual(found, ["Pause", True] if wanted else ["Play", False], self.browser.run("""
+            return {now, end: flight.end, speed: document.getElementById("speed").value, version, flightVersion,
+                    stage: document.body.dataset.stage, focus: document.activeElement.outerHTML.slice(0, 80),
+                    hasFocus: document.hasFocus(), hidden: document.hidden}"""))
+
 
 class Keys(Flight):
     def test_scrub_and_play(self):
@@ -52,14 +62,58 @@ class Keys(Flight):
             self.assertAlmostEqual(self.at(), 5000 * end, delta=60)
             self.assertEqual((self.selected(), self.focused()), ("", "BODY"))
             self.assertEqual(self.browser.run("return cursorLine()"), 7)  # that of the second cue
-            self.browser.keys(" ")
-            self.assertTrue(self.plays())
-            self.browser.keys(" ")
-            self.assertFalse(self.plays())
+            for wanted in (True, False):
+                self.browser.keys(" ")
+                self.is_played(wanted)
             for key in ("x", "\uE017", "\uE003", ENTER):
                 self.browser.keys(key)
             self.assertEqual(self.text(), TWO)
         self.assertEqual(self.browser.faults(), [])
+
+    def test_at_once(self):
+        """Keys that come within one frame count each: after two the flight stands, and after a third one it is played."""
+        self.open(TWO)
+        self.says("2 cues")
+        press = ("for (let k = 0; k < arguments[0]; k += 1)"
+                 "document.body.dispatchEvent(new KeyboardEvent('keydown', {key: ' ', bubbles: true}))")
+        for many, wanted in ((2, False), (3, True), (1, False), (4, False), (1, True), (2, True)):
+            self.browser.run("move(500); " + press, many)
+            self.is_played(wanted)
+        self.browser.keys("   ")
+        self.is_played(False)
+
+    def test_hiccup(self):
+        """A page that was busy for two seconds goes on where the playhead was, and doesn't skip them."""
+        self.open(TWO)
+        self.says("2 cues")
+        self.browser.keys(" ")
+        self.is_played(True)
+        moved = self.browser.run("""
+            const frame = () => new Promise(requestAnimationFrame), until = performance.now() + 2000, from = now;
+            while (performance.now() < until);
+            return frame().then(frame).then(frame).then(() => now - from)""")
+        self.assertTrue(0 < moved < 350, moved)  # a tenth of a second a frame at most
+        self.is_played(True)
+
+    def test_followed(self):
+        """Where the slider follows the cursor a flight that is played goes on, whatever is drawn anew, until the cursor
+        goes into a line of another cue."""
+        self.open(TWO)
+        self.says("2 cues")
+        self.browser.run("document.getElementById('follow').checked = true")
+        self.put_cursor("a move")
+        self.browser.type(CONTROL + ENTER)
+        self.browser.run("move(2500)")  # in the cue after that of the cursor
+        self.browser.run("onCursor()")  # as once a flight is drawn
+        self.is_played(True)
+        self.assertGreater(self.at(), 2400)
+        self.browser.type("\uE013" * 3)  # up
+        self.wait(lambda: self.words("where") == "line 2", "the cursor isn't in line 2")
+        self.is_played(True)
+        self.browser.type("\uE015" * 3)
+        self.wait(lambda: not self.plays(), "it doesn't go to the cursor's cue")
+        self.assertEqual(self.at(), 1)
+        self.is_played(False)
 
     def test_steps(self):
         """The arrows step by a tenth of a second, with Shift by a second, and not beyond the ends."""

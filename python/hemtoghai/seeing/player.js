@@ -54,31 +54,30 @@ function walkLegend(event) {
   for (const it of all) it.tabIndex = it === next ? 0 : -1;
   next.focus();
 }
-let before = null;  // the stamp of the frame before, while it plays
+let frame = 0;  // the frame that is asked for while it plays; two presses within one leave none behind
+let before = 0;  // the stamp of the frame before
+const MOST = 100;  // milliseconds from frame to frame that count: after a hiccup it goes on where it was
 function play(stamp) {
-  if (before === null) return;
-  const ms = state.now + (stamp - before) * Number(byId("speed").value), again = byId("loop").checked;
+  const step = Math.max(0, Math.min(MOST, stamp - before)), again = byId("loop").checked;
+  const ms = state.now + step * Number(byId("speed").value), isOver = ms >= endOfPlay();
   before = stamp;
-  if (ms >= endOfPlay() && !again) {
-    move(endOfPlay());
-    stop();
-    return;
-  }
-  move(ms >= endOfPlay() ? 0 : ms);
-  requestAnimationFrame(play);
+  frame = requestAnimationFrame(play);
+  move(isOver && again ? 0 : ms);
+  if (isOver && !again) stop();
 }
+export const isPlaying = () => frame !== 0;
 export function stop() {
-  const plays = before !== null;
-  before = null;
+  const plays = isPlaying();
+  cancelAnimationFrame(frame);
+  frame = 0;
   byId("go").textContent = "Play";
   if (plays && state.onPlay) state.onPlay(false);
 }
 export function playOrStop() {
-  if (before !== null) return stop();
+  if (isPlaying()) return stop();
   if (state.now >= endOfPlay()) set({now: 0});
   byId("go").textContent = "Pause";
-  requestAnimationFrame(stamp => { before = stamp; play(stamp); });
-  before = performance.now();
+  frame = requestAnimationFrame(stamp => { before = stamp; play(stamp); });
   if (state.onPlay) state.onPlay(true);
   return null;
 }

@@ -6,7 +6,7 @@ import {byId} from "./elements.js";
 import {cueAt} from "./flight.js";
 import {given} from "./given.js";
 import {DARK, LIGHT} from "./palettes.js";
-import {buildLegend, move, stop} from "./player.js";
+import {buildLegend, isPlaying, move, stop} from "./player.js";
 import {grab} from "./studio_drag.js";
 import {pickDrone, pickDrones, showNumber, stretchCue} from "./studio_edit.js";
 import {carryCue} from "./studio_cues.js";
@@ -126,16 +126,19 @@ function cuesAt(line) {
   });
   return own.length ? own : other;
 }
-let cursorCues = [];
+let cursorCues = [], knownLine = 0;  // of the cursor
 export function onCursor() {
   if (given.watch) return;
-  const line = cursorLine();
+  const line = cursorLine(), isOther = line !== knownLine;
+  knownLine = line;
   cursorCues = cuesAt(line);
   const names = cursorCues.slice(0, 6).map(k => k + 1).join(", ") + (cursorCues.length > 6 ? " .." : "");
   byId("where").textContent = `line ${line}` + (cursorCues.length ? ` · cue ${names}` : "");
   byId("to-cue").hidden = cursorCues.length === 0;
   showNumber(false);
-  if (byId("follow").checked && document.activeElement === field && !cursorCues.includes(cueAt(state.now))) toCue();
+  // A flight that is played goes on where the cursor stays in its line.
+  const follows = byId("follow").checked && document.activeElement === field && (isOther || !isPlaying());
+  if (follows && !cursorCues.includes(cueAt(state.now))) toCue();
 }
 // Goes to the cue of the cursor, and at the next call to the next one of a repeat.
 export function toCue() {
