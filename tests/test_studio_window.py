@@ -130,9 +130,8 @@ class Window(page.Led):
         self.wait(lambda: self.words("where").startswith("line 105"), "the cursor isn't one line lower")
         self.is_drawn(105)
 
-    def test_drag(self):
-        """A selection by the mouse goes on while the text scrolls below it, past the ends of the window."""
-        self.begin()
+    def drag(self):
+        """Selects by the mouse from the fourth line in view on, while the text scrolls by 1,500 lines below it."""
         self.scroll(100)
         mouse = lambda kind, y: self.browser.ask("POST", "/goog/cdp/execute", {
             "cmd": "Input.dispatchMouseEvent", "params": {"type": kind, "x": x, "y": y, "button": "left", "buttons": 1,
@@ -145,6 +144,11 @@ class Window(page.Led):
             mouse("mouseMoved", top + 30 + 20 * (number // 100 % 3))
         mouse("mouseMoved", top + 8 + 20 * 4)
         mouse("mouseReleased", top + 8 + 20 * 4)
+
+    def test_drag(self):
+        """A selection by the mouse goes on while the text scrolls below it, past the ends of the window."""
+        self.begin()
+        self.drag()
         lines = TEXT.split("\n")
         begin, last = (self.browser.run("readSelection(); return lineAt(%s)" % it) for it in ("anchor", "head"))
         self.assertEqual(last - begin, 1500)
@@ -152,6 +156,14 @@ class Window(page.Led):
         self.assertLess(self.holds(), 300)
         self.keys(BACK)
         self.assertEqual(self.text(), "\n".join(lines[:begin] + lines[last:]))
+
+    def test_drag_late(self):
+        """The same where the browser tells of what is selected only after the text was scrolled."""
+        self.begin()
+        self.browser.run("addEventListener('selectionchange', event => event.stopPropagation(), true)")
+        self.drag()
+        begin, last = (self.browser.run("readSelection(); return lineAt(%s)" % it) for it in ("anchor", "head"))
+        self.assertEqual(last - begin, 1500)
 
     def test_composition(self):
         """Letters that are put together from several keys are one step, also over a selection beyond the window."""

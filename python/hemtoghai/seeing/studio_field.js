@@ -72,6 +72,9 @@ function onScroll() {
   const isOwn = scroller.scrollTop === state.viewTop;  // the page scrolled, and knows where it is
   set({viewTop: scroller.scrollTop});
   if (!isOwn) closeMenu(false);
+  // What is selected is read before the field gets other lines: the event that tells of it may come later.
+  readSelection();
+  if (drag) drag = 2;
   holdView();
   drawPaper();
 }
