@@ -171,15 +171,34 @@ class Film(Timeline):
         self.assertTrue(1.5 < lasts < 12, lasts)
         self.assertEqual((self.browser.run("return caption"), self.text(), self.browser.faults()), (None, GOOD, []))
 
+    STOPS = ("document.querySelector('#told button').click()", "document.getElementById('film').click()",
+             "replaceText(wholeText() + '# x\\n')")
+
+    def is_stopped(self):
+        """The page says that the recording was stopped; nothing is played, and there is no film."""
+        self.wait(lambda: "was stopped" in self.words("told"), "it doesn't say so, but %s; at %s" % (
+            self.words("told"), self.at()))
+        self.is_played(False)
+        self.assertEqual(self.browser.run("return [films.length, caption, document.getElementById('film').ariaPressed]"),
+                         [0, None, "false"])
+
     def test_stopped(self):
         """A recording that is stopped, or whose text changes, gives no film, and the page says so."""
         for work in (lambda: self.browser.click("#told button"), lambda: self.browser.click("#film"),
-                     lambda: self.browser.run("replaceText(wholeText() + '# x\\n')")):
+                     lambda: self.browser.run(self.STOPS[2])):
             self.start(SHOW.replace("cue 5s", "cue 60s"))
-            self.wait(lambda: self.at() > 200, "it doesn't play")
+            self.wait(lambda: self.browser.run("return caption !== null") and self.at() > 200, "it isn't recorded")
             work()
-            self.wait(lambda: "was stopped" in self.words("told"), "it doesn't say so")
-            self.assertEqual((self.plays(), self.browser.run("return [films.length, caption]")), (False, [0, None]))
+            self.is_stopped()
+
+    def test_stopped_at_once(self):
+        """The same where it is stopped before it began: within the frame in which the button was clicked."""
+        self.start()
+        self.browser.click("#film")
+        for work in self.STOPS:
+            self.is_stopped()
+            self.browser.run("document.getElementById('film').click(); " + work)
+        self.is_stopped()
 
 
 if __name__ == "__main__":
