@@ -137,5 +137,60 @@ class Charts(Timeline):
         self.assertIn("a and c, metres", self.browser.run("return document.querySelector('#share').textContent"))
 
 
+class Dips(Timeline):
+    """Where the words stand that name a dip of the chart of the nearest pair."""
+    MEET = "choreo 2\ndrone %s 0 0 1m 0\ndrone %s 1m 0 1m 0\ncue 3s\n%s move %s 0 1m 0\n%send\n"
+
+    def dip(self, text, size=(1280, 800)):
+        """Of the only dip of a show: its words; how far they begin to the right of it, end to the left of it, are above
+        it and below it, in pixels; and whether the curve goes through them."""
+        self.begin(text, size)
+        return self.browser.run("""
+            const words = [...document.querySelectorAll("#share .name")].filter(it => / m$/.test(it.textContent));
+            const [dot, ...more] = document.querySelectorAll("#share circle");
+            if (words.length !== 1 || more.length) return words.map(it => it.textContent);
+            const box = words[0].getBoundingClientRect(), at = dot.getBoundingClientRect(), near = document.querySelector("#share .near");
+            const x = at.left + at.width / 2, y = at.top + at.height / 2, to = near.getScreenCTM(), all = near.getTotalLength();
+            const isIn = k => {
+              const p = near.getPointAtLength(all * k / 5000).matrixTransform(to);
+              return box.left < p.x && p.x < box.right && box.top + 2 < p.y && p.y < box.bottom - 2;
+            };
+            const frame = document.querySelector("#share rect[fill=none]").getBoundingClientRect();
+            return {words: words[0].textContent, right: box.left - x, left: x - box.right, above: y - box.bottom, below: box.top - y,
+                    isCrossed: [...Array(5001).keys()].some(isIn),
+                    isInside: frame.left <= box.left && box.right <= frame.right && box.bottom <= frame.bottom + 2}""")
+
+    def test_middle(self):
+        """Two who fly through one place: the words are beside the dip, which reaches the floor of the chart, and the
+        curve goes through none of them."""
+        found = self.dip(self.MEET % ("a", "b", "a", "1m", "b move 0 0 1m 0\n"))
+        self.assertEqual((found["words"], found["isCrossed"], found["isInside"]), ("a, b 0 % · 0 m", False, True))
+        self.assertTrue(10 < found["right"] < 30, found)
+
+    def test_end(self):
+        """Two who meet slowly at the end: the curve is nearly level there, and the words are above it."""
+        found = self.dip(self.MEET % ("a", "b", "a", "1m", ""))
+        self.assertEqual((found["isCrossed"], found["isInside"]), (False, True), found)
+        self.assertTrue(0 < found["above"] < 20, found)
+
+    def test_edge(self):
+        """Beside a steep dip at the right edge the words are to the left."""
+        found = self.dip((self.MEET % ("a", "b", "a", "1m", "")).replace("a move", "a line").replace("cue", "cue 12s\nend\ncue"))
+        self.assertEqual((found["isCrossed"], found["isInside"]), (False, True), found)
+        self.assertTrue(10 < found["left"] < 30, found)
+
+    def test_no_room_beside(self):
+        """Where there is no room at either side the words are above the dip."""
+        names = "the_first_of_all", "second_of_them_a"
+        found = self.dip(self.MEET % (*names, names[0], "1m", names[1] + " move 0 0 1m 0\n"), (390, 844))
+        self.assertTrue(0 < found["above"] < 20 and found["right"] < 0 and found["left"] < 0, found)
+
+    def test_high(self):
+        """A dip that isn't low has its words below it."""
+        found = self.dip(self.MEET % ("a", "b", "b", "0.6m", ""))  # 600 of 240 mm: 250 %
+        self.assertEqual((found["words"], found["isCrossed"]), ("a, b 250 % · 0.6 m", False))
+        self.assertTrue(0 < found["below"] < 20, found)
+
+
 if __name__ == "__main__":
     unittest.main()

@@ -27,7 +27,7 @@ function timeTicks(most) {
 
 function chart(svg, low, high, marks, words, height) {
   const width = svg.clientWidth, [above, below] = state.chartEdges[svg.id] || [24, 34], floor = height - below;
-  const scale = scaleOf(width), {left, right, x} = scale, y = v => floor - (floor - above) * (v - low) / (high - low);
+  const scale = scaleOf(width), {left, right, x, ms} = scale, y = v => floor - (floor - above) * (v - low) / (high - low);
   svg.replaceChildren();
   svg.setAttribute("viewBox", `0 0 ${width} ${height}`);
   svg.style.height = `${height}px`;
@@ -56,7 +56,7 @@ function chart(svg, low, high, marks, words, height) {
     for (const end of ["x1", "x2"]) cursor.setAttribute(end, `${x(Math.min(state.flight.end, state.now))}`);
     strip();
   };
-  return {x, y, cursor, plot, left, right, set: place};
+  return {x, y, ms, cursor, plot, left, right, set: place};
 }
 // The frame, the axis of time, and what is drawn.
 function drawAxes(svg, {left, right, x}, [above, below], words, height) {
@@ -268,7 +268,34 @@ function wordsOfShares() {
 // Whether the pair stays below a share from one sample to another.
 const isLevel = (rows, from, to, share) =>
   rows.slice(Math.min(from, to), Math.max(from, to) + 1).every(([it]) => it < share);
-const BESIDE = 16;  // pixels from a low dip to its words
+const BESIDE = 16, FAR = 36;  // pixels from a low dip to its words beside it, and at most to those above it
+const NARROW = 0.43;  // of the width that words may take: half of what they take in most letters
+/**
+ * Where the words of a dip stand, as [middle, foot]: below it, or of one that is so low that its own line would go
+ * through them beside it or above the line; and where that goes through none, as far as there is such a place. Null
+ * where others are.
+ * @returns {number[] | null}
+ */
+function placeOfWords(it, far, high, s, wide, edge, taken) {
+  const px = it.x(state.flight.times[s]), at = it.y(far[s]), by = BESIDE + wide / 2;
+  const inside = m => Math.max(it.left + wide / 2 + 2, Math.min(it.right - wide / 2 - 2, m));
+  const curve = m => {  // the heights of the line above or below words there
+    const [first, last] = [m - NARROW * wide, m + NARROW * wide].map(x => sampleAt(it.ms(x)));
+    return far.slice(first, last + 1).map(v => it.y(Math.min(high, v)));
+  };
+  const middle = inside(px), beside = [px + by, px - by].filter(m => m === inside(m));
+  const isLow = at + 20 > it.y(0), above = [Math.min(...curve(middle)) - 6, at - 10].filter(foot => at - foot < FAR);
+  const places = isLow ? [...beside.map(m => [m, at - 4]), ...above.map(foot => [middle, foot])] : [[middle, at + 17]];
+  const isFree = ([m]) => !taken.some(([n, w]) => Math.abs(n - m) < (w + wide) / 2 + 6);
+  const offEdge = ([m, foot]) => Math.abs(foot - 4 - edge) >= 10 ? [m, foot] :
+    [m, edge + (foot - 4 < edge && foot - 10 > it.y(high) ? -8 : 18)];
+  const isClear = ([m, foot]) => {
+    const heights = curve(m);
+    return foot - 10 > it.y(high) && (Math.max(...heights) < foot - 11 || Math.min(...heights) > foot + 3);
+  };
+  const free = places.filter(isFree).map(offEdge);
+  return free.find(isClear) || free[0] || null;
+}
 // Names at the lowest dips, with the distance in metres, as far as they have room.
 function nameDips(svg, it, rows, far, high) {
   const dips = [], [first, last] = shownOf(state.flight.times);
@@ -284,20 +311,13 @@ function nameDips(svg, it, rows, far, high) {
     const edge = it.y(state.farIn === "%" ? 100 : far[s] / Math.max(1, v) * 100);
     if (named.some(other => isLevel(rows, other, s, v + 2))) continue;  // no dip of its own, but for rounding
     const words = `${state.flight.names[i]}, ${state.flight.names[j]} ${v.toFixed(0)} % · ${metres(farAt(i, j, s))} m`;
-    const wide = 7.2 * words.length;
-    const px = it.x(state.flight.times[s]);
+    const px = it.x(state.flight.times[s]), wide = 7.2 * words.length;
     if (px < it.left - 1 || px > it.right + 1) continue;
-    // Below the dip, or beside one that is so low that its own line would go through the words; else above it.
-    const isLow = at + 20 > it.y(0), by = BESIDE + wide / 2;
-    const inside = m => Math.max(it.left + wide / 2 + 2, Math.min(it.right - wide / 2 - 2, m));
-    const beside = isLow ? [px + by, px - by].filter(m => m === inside(m)) : [];
-    const middle = [...beside, inside(px)].find(m => !taken.some(([n, w]) => Math.abs(n - m) < (w + wide) / 2 + 6));
-    if (middle === undefined) continue;
-    taken.push([middle, wide]);
+    const place = placeOfWords(it, far, high, s, wide, edge, taken);
+    if (!place) continue;
+    taken.push([place[0], wide]);
     named.push(s);
-    let py = at + (!isLow ? 17 : beside.includes(middle) ? -4 : -10);
-    if (Math.abs(py - 4 - edge) < 10) py = edge + (py - 4 < edge && py - 10 > it.y(high) ? -8 : 18);
     svg.append(node("circle", {cx: px, cy: at, r: 3, fill: v <= 100 ? state.paint.touch : state.paint.ink}));
-    text(svg, middle, py, words, "middle", {class: "name"});
+    text(svg, place[0], place[1], words, "middle", {class: "name"});
   }
 }
