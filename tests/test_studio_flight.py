@@ -368,6 +368,22 @@ class Begun(Flight):
 
 
 class Sizes(Flight):
+    def test_rows(self):
+        """From 1,120 pixels on the buttons above the view and those above the charts are a row each, also with beats."""
+        self.open(TWO, size=(1120, 700))
+        self.says("2 cues")
+        for width in (1120, 1280, 1920):
+            self.browser.size(width, 800)
+            self.browser.run("document.getElementById('beats-even').hidden = arguments[0] < 1280", width)
+            rows, least = self.browser.run("""
+                const seen = css => [...document.querySelectorAll(css)].filter(it => it.checkVisibility());
+                const tops = css => new Set(seen(css).map(it => Math.round(it.getBoundingClientRect().top))).size;
+                const all = seen(".views > button, #views button, .times :is(button, select)").map(it => it.getBoundingClientRect());
+                return [[tops(".views > button, #views button"), tops(".times :is(button, select)")],
+                        Math.min(...all.flatMap(it => [it.width, it.height]))]""")
+            self.assertEqual(rows, [1, 1], width)
+            self.assertGreaterEqual(least, 24)
+
     def test_low(self):
         """A low window shows the flight, its charts and the text, and nothing is wider than it."""
         self.open(TWO, size=(844, 390))
