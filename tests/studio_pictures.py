@@ -46,6 +46,12 @@ class Session(Page):
 
     def picture(self, name, settle=1.0):
         """Takes a picture of the page."""
+        self.browser.ask("POST", "/actions", {"actions": [{"type": "pointer", "id": "mouse", "actions": [
+            {"type": "pointerMove", "duration": 0, "x": SIZE[0] // 3, "y": 20}]}]})  # beside all buttons
+        self.shoot(name, settle)
+
+    def shoot(self, name, settle):
+        """The same with the mouse where it is."""
         time.sleep(settle)
         with open(os.path.join(self.folder, name + ".png"), "wb") as file:
             file.write(base64.b64decode(self.browser.ask("GET", "/screenshot")))
@@ -86,7 +92,27 @@ class Session(Page):
             if name == "b":
                 self.picture("studio_numbers")
             self.fill(x, y, 0.5)
+        self.choose_two()
         self.end_of("drone")
+
+    def choose_two(self):
+        """Chooses c and d by a rectangle, from above, and leaves them again."""
+        self.wait(lambda: self.browser.run("return flightVersion === version && flight.names.length") == 4, "no four")
+        self.browser.run("setView('from above')")
+        left, right = self.browser.run("""
+            const {left, top} = document.getElementById("space").getBoundingClientRect();
+            return [[3, -40], [2, 40]].map(([k, by]) => view.to(placeAt(k, 0)).map((v, side) => v + [left, top][side] + by))""")
+        mouse = lambda *acts: self.browser.ask("POST", "/actions", {"actions": [
+            {"type": "key", "id": "keys", "actions": [{"type": "keyDown", "value": CONTROL}]},
+            {"type": "pointer", "id": "mouse", "actions": [{"type": "pause"}, *acts]}]})
+        at = lambda point: {"type": "pointerMove", "duration": 60, "x": round(point[0]), "y": round(point[1])}
+        mouse(at(left), {"type": "pointerDown", "button": 0}, at(right))
+        self.shoot("studio_chosen", 0.6)
+        mouse({"type": "pointerUp", "button": 0})
+        self.browser.ask("DELETE", "/actions")
+        self.wait(lambda: self.browser.run("return [...chosen]") == [2, 3], "not chosen")
+        self.browser.keys("\uE00C")
+        self.browser.run("setView('in space')")
 
     def rise(self):
         """Step 3: all rise in five seconds."""

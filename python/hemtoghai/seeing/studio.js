@@ -43,8 +43,8 @@ function bindText() {
 }
 function bindButtons() {
   byId("save").onclick = () => save(false);
-  byId("cure").onclick = () => offer("cure", "A change after which no two are too near (./show why)");
-  byId("deal").onclick = () => offer("deal", "The places of formations go to nearer drones (./show deal)");
+  byId("cure").onclick = () => offer("cure", "A change after which no two are too near");
+  byId("deal").onclick = () => offer("deal", "The places of formations go to nearer drones");
   byId("fly").onclick = () => offer("fly", "A flight with simulated drones (./show fly)");
   byId("compile").onclick = () => download("compile", ".plan");
   byId("certify").onclick = () => download("certify", ".certificate");
