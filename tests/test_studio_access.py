@@ -85,6 +85,27 @@ class Access(Flight):
             self.assertEqual(contrast(edge, ground), 1)  # the edge of a name is of the ground's colour, and no blob
             self.assertRegex(letters, r"rgba\(.*, 0\)|transparent")  # the text is drawn once, with its marks
 
+    def test_number_clicked(self) -> None:
+        """A click on the field of the number takes all of it, also where the field waits for a number; the next click
+        there puts the cursor into it."""
+        self.open(TWO)
+        self.says("2 cues")
+        self.put_cursor("end\ncue 3000\nb hold\nend")
+        self.browser.click("#insert")
+        self.press("cue of 3 s without")
+        self.wait(lambda: self.number() == ["length of cue", "3", "s"] and self.focused() == "number-value", "it doesn't wait")
+        self.browser.click("#number-value")
+        self.browser.keys("10")
+        self.assertIn("cue 10000\n", self.text())
+        self.browser.click("#number-value")  # beside the letters
+        self.browser.keys(END + "1")
+        self.assertIn("cue 101000\n", self.text())
+        self.put_cursor("drone b 1000")
+        self.wait(lambda: self.number() == ["x of b", "1", "m"], "no number")
+        self.browser.click("#number-value")
+        self.browser.keys("2")
+        self.assertIn("drone b 2000000 0", self.text())
+
     def test_legend_by_keys(self) -> None:
         """The list of drones is one stop of Tab; arrows go through it, and Space chooses."""
         self.open("choreo 2\n%scue 1s\nend\n" % "".join("drone d%d %dm 0 1m 0\n" % (k, k) for k in range(9)))

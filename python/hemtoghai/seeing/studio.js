@@ -3,7 +3,7 @@
 import {byId} from "./elements.js";
 import {given} from "./given.js";
 import {buildControls} from "./player.js";
-import {closeMenu, onMenuKey, onNumber, onNumberKey, openMenu, selectNumber, showNumber} from "./studio_edit.js";
+import {closeMenu, onMenuKey, onNumber, onNumberDown, onNumberKey, openMenu, showNumber} from "./studio_edit.js";
 import {bindField, redo, undo} from "./studio_field.js";
 import {bindFind} from "./studio_find.js";
 import {keep, onOtherTab} from "./studio_kept.js";
@@ -27,11 +27,7 @@ function bindText() {
   addEventListener("pagehide", keepSession);
   addEventListener("visibilitychange", () => { if (document.hidden) keep(); });
   addEventListener("storage", onOtherTab);
-  byId("number-value").addEventListener("mousedown", event => {
-    if (document.activeElement === event.target) return;
-    event.preventDefault();  // it would put the cursor into the number
-    selectNumber();
-  });
+  byId("number-value").addEventListener("mousedown", onNumberDown);
   byId("number-value").addEventListener("input", onNumber);
   byId("number-value").addEventListener("keydown", onNumberKey);
   byId("number-value").addEventListener("blur", () => { if (!state.isWriting) showNumber(true); });

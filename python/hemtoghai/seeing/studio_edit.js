@@ -96,6 +96,7 @@ function sayNumber(isOne) {
   byId("no-number").textContent = isOne ? "" : "no number";
 }
 export function onNumberKey(event) {
+  isWaiting = false;
   const step = {ArrowUp: 1, ArrowDown: -1}[event.key];
   if (event.key === "Escape") {
     event.preventDefault();
@@ -114,10 +115,19 @@ export function onNumberKey(event) {
     if (writeNumber(Math.round(value))) byId("number-value").value = asShown(target.value, target.unit);
   }
 }
+let isWaiting = false;  // whether the field has the keys and waits for a number: nobody came to it by the mouse
 // The number can be written over at once, in metres or seconds.
 export function selectNumber() {
   byId("number-value").focus();
   byId("number-value").select();
+  isWaiting = true;
+}
+// The first click takes the whole number, also where the field waits for one; the next puts the cursor into it.
+export function onNumberDown(event) {
+  if (document.activeElement === event.target && !isWaiting) return;
+  event.preventDefault();
+  selectNumber();
+  isWaiting = false;
 }
 // Goes to the next number of the line, and after the last one back to the text.
 function nextNumber() {
