@@ -29,6 +29,9 @@ class Warnings(unittest.TestCase):
         from hemtoghai.launching import glance
         self.assertEqual((flyable.MOST["jump"], glance.JUMP, summary.LEAST), (30, 30, 0.03))
         self.assertEqual(flyable.MOST["accel"], glance.ACCEL)
+        from hemtoghai.flying import routes
+        for limits in (flyable, glance, routes):
+            self.assertEqual((limits.GROUND, limits.LIFT), (50, 200))
 
     def test_jumps(self):
         # half a metre in a second after a hold, and 0.04 m/s at the end of a cubic from rest: 3 times 0.04 / 3 m in a second;
@@ -51,6 +54,27 @@ class Warnings(unittest.TestCase):
         self.assertEqual(warning("cue 5000", "a move 0 0 0 0", "end", "repeat 2", "cue 5000", "a move 0 0 -1000 0", "end", "end"),
                          "line 7, cue 2: a goes below z 0")
         self.assertIsNone(warning("cue 5000", "a move 0 0 0 0", "end", "cue 5000", "a move 0 0 500000 0", "end"))
+
+    def test_the_floor(self):
+        # A way up leads 200 mm above the pad and higher; a way down from 51 mm and higher. Of a show below z 0, or one in
+        # which all lies near the origin, that is said alone.
+        takes = ": ./show fly takes a show that is at least 200 mm above the pads there"
+        rows = ["choreo 1", "drone a 0 0 1000000 0", "drone b 900000 0 199000 0", "cue 5000", "a move 0 0 51000 0", "end", ""]
+        self.assertEqual(flyable.warning(STAND_IN, "\n".join(rows).encode()),
+                         "line 3, cue 1: b begins 199 mm above z 0" + takes)
+        rows[2] = "drone b 900000 0 200000 0"
+        self.assertIsNone(flyable.warning(STAND_IN, "\n".join(rows).encode()))
+        rows[4] = "a move 0 0 50000 0"
+        self.assertEqual(flyable.warning(STAND_IN, "\n".join(rows).encode()),
+                         "line 4, the end: a ends 50 mm above z 0" + takes)
+        rows[4] = "a move 0 0 -1000 0"
+        self.assertEqual(flyable.warning(STAND_IN, "\n".join(rows).encode()), "line 4, cue 1: a goes below z 0")
+
+    def test_a_short_look_at_the_floor(self):
+        from hemtoghai.launching import glance
+        for height, wanted in ((199499, True), (199500, False), (200000, False)):
+            text = "choreo 1\ndrone a 0 0 1000000 0\ndrone b 900000 0 %d 0\ncue 1\nend\n" % height
+            self.assertEqual(glance.begin_badly(text.encode()), wanted, height)
 
     def test_millimetres_for_micrometres(self):
         text = b"choreo 1\ndrone a 0 0 1000 0\ncue 2000\na move 1000 0 1000 0\nend\n"

@@ -132,6 +132,9 @@ class Verdicts(Case):
         cautions = hemtoghai.check(text).cautions
         self.assertEqual([(it.kind, it.drone, it.cue, it.line) for it in cautions], [("motion", "a", 1, 3), ("low", "a", 1, 3)])
         self.assertTrue(all(it.words.startswith("line 3, cue 1: a ") for it in cautions))
+        # one that begins 199 mm above z 0, where its pad may be
+        cautions = hemtoghai.check("choreo 1\ndrone a 0 0 199000 0\ncue 1000\nend\n").cautions
+        self.assertEqual([(it.kind, it.drone, it.cue, it.line) for it in cautions], [("floor", "a", 1, 2)])
 
     def test_values_stay(self):
         verdict = hemtoghai.check(CROSSING)

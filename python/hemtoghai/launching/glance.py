@@ -12,7 +12,8 @@ from hemtoghai.launching import running
 
 ACCEL, JUMP = 10000, 30  # as flyable.MOST
 SMALL = 40  # millimetres, as flyable.SMALL
-ABOVE = b"volume -40000 -40000 0 40000 40000 40000\n"
+GROUND, LIFT = 50, 200  # millimetres, as flyable has them
+ABOVE = b"volume -40000 -40000 %d 40000 40000 40000\n" % GROUND
 
 
 def rounded(micrometres: int) -> int:
@@ -26,8 +27,8 @@ def whole(word: bytes) -> bool:
 
 
 def begin_badly(text: bytes) -> bool:
-    """Whether drones may begin above each other, or all of them within some millimetres of the origin; also where that
-    isn't clear from lines that begin with `drone`."""
+    """Whether drones may begin above each other, near to the floor, or all of them within some millimetres of the origin;
+    also where that isn't clear from lines that begin with `drone`."""
     radius, stray, places = 120, 0, []
     for line in text.split(b"\n"):
         words = line.partition(b"#")[0].split()
@@ -41,7 +42,7 @@ def begin_badly(text: bytes) -> bool:
             stray = int(words[1])
     near = any(hypot(x - u, y - v) <= 2 * (radius + stray)
                for k, (x, y, _) in enumerate(places) for u, v, _ in places[:k])
-    return near or all(abs(v) <= SMALL for place in places for v in place)
+    return near or any(z < LIFT for _, _, z in places) or all(abs(v) <= SMALL for place in places for v in place)
 
 
 ARCS = b"arc", b"swing", b"arc_in", b"arc_out"

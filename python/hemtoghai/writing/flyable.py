@@ -14,6 +14,7 @@ MOST = {"accel": 10000, "jump": 30}  # millimetres per second squared, and per s
 AT_SPEED = ": `line`, `arc`, and a `curve` that begins or ends at speed, do so"
 PLACES = 32  # of a cue, where heights are looked at
 SMALL = 40  # millimetres: a show that was written in millimetres lies within 33, which are 33 m then
+GROUND, LIFT = 50, 200  # millimetres, as flying/routes.py has them: on the floor, and where a way up may lead
 
 
 class NoAnswer(Exception):
@@ -73,6 +74,19 @@ def small_text(text: bytes) -> str | None:
         return None
 
 
+def on_floor(flown: Flown) -> str | None:
+    """The first drone that begins lower above z 0 than a way up leads, or ends on the floor, or None; `./show fly` brings
+    none of these up and down, if its pad is at z 0."""
+    for line, name, flight in zip(flown.show.drones, flown.names, flown.sent):
+        begin, end = flight[0][1][2][0], flight[-1][1][2][-1]
+        where = ("line %d, cue 1: %s begins %d mm above z 0" % (line.number, name, begin) if begin < LIFT else
+                 "line %d, the end: %s ends %d mm above z 0" % (line_of_cue(flown, len(flown.cues)), name, end)
+                 if end <= GROUND else None)
+        if where:
+            return "%s: %s fly takes a show that is at least %d mm above the pads there" % (where, proved.COMMAND, LIFT)
+    return None
+
+
 def stacked(flown: Flown) -> str | None:
     """The first two drones that begin so near to each other from above that they can't go up below their places, or
     None; `./show legs` plans their ways, and judges them."""
@@ -111,7 +125,9 @@ def warning(program: str, text: bytes) -> str | None:
         flown = choreo.flown_of(text)
     except choreo.Refused:
         return None
-    found = motion_if_known(program, flown, text), below(flown), small(flown) or stacked(flown), still(flown)
+    low, little = below(flown), small(flown)
+    found = (motion_if_known(program, flown, text), low, little, None if low or little else on_floor(flown),
+             None if little else stacked(flown), still(flown))
     if found[0] and " jumps by " in found[0]:
         found = found[0] + AT_SPEED, *found[1:]
     return "; ".join(filter(None, found)) or None
