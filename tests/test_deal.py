@@ -243,10 +243,12 @@ class Forms(unittest.TestCase):
 
 class Cured(unittest.TestCase):
     def cured(self, text):
-        """The status and what was said of a show, and the cured one."""
+        """The status and what was said of a show, and the cured one, or None where none was written."""
         with tempfile.TemporaryDirectory() as folder:
             path = os.path.join(folder, "new")
             status, said, told = run("why", "--cured", path, text=text)
+            if not os.path.exists(path):
+                return status, said + told, None
             with open(path) as file:
                 return status, said + told, file.read()
 
@@ -293,8 +295,28 @@ end
     def test_nothing_helps(self):
         text = "choreo 1\ndrone a 0 0 0 0\ndrone b 100000 0 0 0\ncue 1\nend\n"
         status, said, new = self.cured(text)
-        self.assertEqual((status, new), (5, text))
-        self.assertIn("nothing that helps could be written for a and b in cue 1", said)
+        self.assertEqual((status, new), (5, None))
+        self.assertIn("nothing that helps could be written for a and b in cue 1\nno file is written: the show isn't cured", said)
+
+    def test_half_cured(self):
+        """Of two pairs one can be cured, and two that begin in one place can't: then nothing is written."""
+        text = "choreo 1\ndrone a 0 0 1000000 0\ndrone b 1000000 0 1000000 0\ndrone c 5000000 0 1000000 0\n" \
+               "drone d 9000000 0 1000000 0\ncue 3000\na move 1000000 0 1000000 0\nb move 0 0 1000000 0\nend\n" \
+               "cue 3000\nd move 5000000 0 1000000 0\nend\n"
+        status, said, new = self.cured(text)
+        self.assertEqual((status, new, said.count("cured in cue 1: ")), (5, None, 1))
+        self.assertIn("\nno file is written: the show isn't cured", said)
+
+    def test_nothing_to_cure(self):
+        """A show with too many bytes, and one that is accepted."""
+        move = "cue 2000\na move %d %d %d %d\nend\n"
+        text = "choreo 1\ndrone a 0 0 0 0\n" + "".join(move % (10000 * k, 10000 * k, 10000 * k, k) for k in range(1, 71))
+        status, said, new = self.cured(text)
+        self.assertEqual((status, new), (4, None))
+        self.assertIn("\nno file is written: only nearness is cured", said)
+        status, said, new = self.cured("choreo 1\ndrone a 0 0 0 0\ncue 1\nend\n")
+        self.assertEqual((status in (0, 70), new), (True, None))
+        self.assertEqual("no file is written: there is nothing to cure" in said, status == 0)
 
     def test_deal_is_said_where_it_helps(self):
         with open(os.path.join(TOP, "examples", "grid_to_ring.choreo")) as file:

@@ -104,10 +104,12 @@ class Cures(unittest.TestCase):
                       "More may be blocked: these are the place that is named and those of the first cues, at most 200.\n", said)
 
     def cured(self, text):
-        """What was said of a show and its cure, and the cured show."""
+        """What was said of a show and its cure, and the cured show, or None where none was written."""
         with tempfile.TemporaryDirectory() as folder:
             path = os.path.join(folder, "new")
             said = run("why", "--cured", path, text=text)[1]
+            if not os.path.exists(path):
+                return said, None
             with open(path) as file:
                 return said, file.read()
 
@@ -117,7 +119,7 @@ class Cures(unittest.TestCase):
         self.assertIn("nothing that was tried helps these two", said)
         self.assertNotIn("what helps", said)
         self.assertNotIn("let a", said)
-        self.assertEqual(new, ABOVE)
+        self.assertIsNone(new)
 
     def test_shortest(self):
         """A cue of 20 s: the ways up and down take 2 s each, and not 20."""
@@ -143,7 +145,7 @@ class Cures(unittest.TestCase):
         """The cure of a text in `choreo 2` is in `choreo 2`, and the same show as that of the text in `choreo 1`."""
         formed = CROSS.replace("a move 1000000 0 1000000 0\nb move 0 0 1000000 0\n", "form f move\n") + (
             "formation f\nat a 1000000 0 1000000 1\nat b 0 0 1000000 -1\nend\n")
-        for text in (CROSS, CROSS.replace("20000", "1001"), PAIRS, formed, formed.replace("20000", "900"), ABOVE):
+        for text in (CROSS, CROSS.replace("20000", "1001"), PAIRS, formed, formed.replace("20000", "900")):
             said, new = self.cured(text)
             said_2, new_2 = self.cured(converted(text.encode(), 2).decode())
             self.assertEqual(converted(new_2.encode(), 1).decode(), new)

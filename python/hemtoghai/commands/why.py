@@ -2,7 +2,8 @@
 
 If the program is built, the first line is the answer of `check`, and the pairs and cues are those that its `explain
 --all` names. All else is computed here, and proves nothing; so are the pairs and cues if the program isn't built.
-With --cured it writes the show with remedies, place by place, and takes among several the one that adds the least time.
+With --cured it writes the show with remedies, place by place, and takes among several the one that adds the least time;
+no file is written where something stays blocked, or `check` refuses the new show.
 The status is that of the show: 0 if it is accepted, 5 or 4 if it is refused. 70: no answer.
 """
 from __future__ import annotations
@@ -296,7 +297,8 @@ def cured(text: bytes, deep: int, flown: Flown | None = None) -> tuple[bytes, li
 
 
 def write_cured(path: str, text: bytes, flown: Flown, deep: int, force: bool) -> None:
-    """Writes the cured show, and says what was done, how long it lasts, and what `check` says of it."""
+    """Writes the cured show, and says what was done, how long it lasts, and what `check` says of it; where it isn't
+    cured nothing is written."""
     try:
         new, done, left = cured(text, deep, flown)
         before, after = flown.milliseconds, choreo.flown_of(new).milliseconds if done else flown.milliseconds
@@ -304,12 +306,14 @@ def write_cured(path: str, text: bytes, flown: Flown, deep: int, force: bool) ->
         stop("the cured show is refused for another reason: %s" % refusal)
     for line in done:
         print("cured in " + line)
-    if done:
-        print("the show lasts %s, before %s" % (seconds(after), seconds(before)))
     if left:
         print("nothing that helps could be written for " + left)
-    outputs.write_all({path: new}, force)
     answer = ask_check(new, deep)
+    if left or not done or answer and answer[0]:
+        print("no file is written: the show isn't cured%s" % (", and `check` says " + answer[1] if answer else ""))
+        return
+    print("the show lasts %s, before %s" % (seconds(after), seconds(before)))
+    outputs.write_all({path: new}, force)
     print("%s: %s" % (shown(path), answer[1] if answer else missing()))
 
 
@@ -330,6 +334,8 @@ def main(words: list[str]) -> int:
     except choreo.Refused as refusal:
         print(refusal)
         explain_room(flown)
+        if options.cured:
+            print("no file is written: only nearness is cured")
         return 4
     blocked = explain_separation(flown, text, options.depth, options.most, answer[1] if answer else "")
     own = 5 if blocked else 0
@@ -339,6 +345,8 @@ def main(words: list[str]) -> int:
         stop(no_verdict())
     if answer and answer[0] == own == 0:
         print("Nothing is blocked at depth %d: all drones are apart." % options.depth)
+        if options.cured:
+            print("no file is written: there is nothing to cure")
     elif answer and answer[0] != own:
         stop("check ends with %d and this tool with %d: one of them is wrong; please report the show"
              % (answer[0], own))
