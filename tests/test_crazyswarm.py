@@ -124,6 +124,15 @@ class Names(Case):
         told = self.said(importing.main, "--starts", self.path("crazyflies.yaml"), self.path("traj.csv"))[2]
         self.assertNotIn("floor", told)
 
+    def test_starts_before_faults(self):
+        # Two files that count from each drone's start, in which no cues are found: that the starts are missing is said all
+        # the same, and first.
+        for name in ("a", "b"):
+            self.write(name + ".csv", HEAD + ROW)
+        status, out, told = self.said(importing.main, "--comparisons", "1", self.path("a.csv"), self.path("b.csv"))
+        self.assertEqual((status, out), (3, ""))
+        self.assertRegex(told, r"(?s)^all 2 drones begin in one place: .*--starts FILE adds it.*no cues were found")
+
 
 class Export(Case):
     SHOW = os.path.join(common.TOP, "examples", "crossing_cured.choreo")

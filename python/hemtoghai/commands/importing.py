@@ -334,6 +334,7 @@ def head_of(options: argparse.Namespace, bound: Fraction, turned: Fraction, fact
 def main(words: list[str]) -> int:
     options = options_of(words)
     paths = paths_of(options)
+    say_left_out(options, paths)
     try:
         fit = fit_of(paths, options, options.tolerance)
     except TooLong:
@@ -351,7 +352,6 @@ def main(words: list[str]) -> int:
     if max(large) > 2000:
         stop("the ellipsoid would be %d %d, and a show's half axes are at most 2000 mm" % large, FAULTY)
     say_cues(fit, bounds)
-    say_left_out(options, paths)
     head = head_of(options, bound, turned, factor, large)
     if options.judge:
         print("wanted: ellipsoids %d %d; judged: %d %d, %.4f times as large for %.2f mm of the import" % (
