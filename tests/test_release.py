@@ -164,7 +164,7 @@ class Refusals(unittest.TestCase):
         os.remove(program + ".built")
         self.refused("isn't the one of these sources")
         os.remove(program)
-        self.refused("isn't the one of these sources")
+        self.refused("the program isn't built: ./show check FILE builds it, then ./show library the library")
 
     def test_record(self):
         self.repository.record("nothing of a proof")
@@ -186,7 +186,7 @@ class Refusals(unittest.TestCase):
         self.repository.library("nothing of a proof")
         self.refused("the library's manifest hasn't the last line")
         shutil.rmtree(out)
-        self.refused("the library isn't the one of these sources")
+        self.refused("the library isn't built: ./show library builds it")
 
     def test_files(self):
         self.repository.write("docs/more.md", "more\n")

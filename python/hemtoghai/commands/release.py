@@ -63,6 +63,8 @@ def judged_record(changed: bool) -> Record:
     """The record of the program's build, where it is good enough for a release."""
     if os.path.exists(program.MANIFEST):
         stop("this is a release: another one is made in the repository")
+    if not os.path.exists(program.PROGRAM):
+        stop("the program isn't built: ./show check FILE builds it, then ./show library the library")
     if not records.is_current(records.crates_below(records.LAST)):
         stop("the program isn't the one of these sources: ./show check FILE builds it")
     record = program.record_of(program.PROGRAM + program.RECORD)
@@ -90,7 +92,8 @@ def contents_of() -> Contents:
     """The files of a release as (path, bytes, mode): of the commit, the program, the library, page and completions."""
     record = program.record_of(os.path.join(TOP, LIBRARY, "MANIFEST.json"))
     if not is_library(record):
-        stop("the library isn't the one of these sources: ./show library builds it")
+        is_there = os.path.exists(os.path.join(TOP, LIBRARY))
+        stop("the library isn't %s: ./show library builds it" % ("the one of these sources" if is_there else "built"))
     if not re.match("logic=proved ", record.get("rests_on", "")):
         stop("the library's manifest hasn't the last line of its proof: ./show library builds it")
     found = [(PROGRAM, 0o755)] + [(os.path.join(LIBRARY, path), 0o644) for path in (*record["files"], "MANIFEST.json")]
