@@ -127,7 +127,8 @@ class Units(unittest.TestCase):
             "write 0 or 1um"),
             (b"drone a -1.0000001m 0 0 0", "micrometres", "0.000001m", "write -1.000001m or -1m"),
             (b"stray 1.5mm", "`stray` is 1.5mm, which is no whole number of millimetres", "1mm", "write 1mm or 2mm"),
-            (b"cue 0.0005s", "milliseconds", "0.001s", "write 0 or 0.001s"),
+            (b"cue 0.0005s", "milliseconds", "0.001s", "write 0.001s"),
+            (b"cue 70.0005s", "milliseconds", "0.001s", "see the ranges of numbers"),
             (b"a turn 0.05deg", "tenths of a degree", "0.1deg", "write 0 or 0.1deg"))
 
     def test_other_units(self):
@@ -142,6 +143,11 @@ class Units(unittest.TestCase):
             (b"a move -1.m 0 0 0", "is -1.m", "no digit before", "write -1m"),
             (b"a move 1,5m 0 0 0", "is 1,5m", "comma", "write 1.5m"),
             (b"a move +1m 0 0 0", "is +1m", "a `+`", "write 1m"),
+            (b"a move m2 0 0 0", "with its unit in front", "", "write 2m"), (b"a move s2 0 0 0", "is no number", "", "m, cm"),
+            (b"a move 1e3m 0 0 0", "an exponent", "", "write 1000m"), (b"a turn 1e1", "an exponent", "", "with its unit"),
+            (b"a move 1m, 0, 0, 0", "is 1m,", "separated by commas", "write 1m"), (b"cue 1.5.2s", "two points", "", "one point"),
+            (b"a move l 0 0 0", "is l", "a letter in place of a digit", "the digit"),
+            (b"perform f none 0 0 0 a b", "is a, which has no digits", "a number is missing before it", "DX DY DZ"),
             (b"a move m 0 0 0", "no digits", "", "m, cm, mm or um"), (b"repeat 3s", "has no unit", "", "write 3"))
         self.says("bad-count", 2, (
             b"drone a 0 0 1 m 0 # x", "too many", "a blank between a number and its unit", "write 1m"))
@@ -164,9 +170,15 @@ class Units(unittest.TestCase):
             (b"cue 1.5", "is 1.5, which isn't whole", "1.5s is meant", "1.5s is 1500 milliseconds"),
             (b"a turn 90deg", "is 90deg, which is an angle", "`choreo 2`", "90deg is 900 tenths of a degree"),
             (b"a move 3s 0 0 0", "is 3s, which is a time", "`choreo 2`", "write whole numbers, here of micrometres"))
-        for word in (b"1e6", b"1,000", b"x", b"9" * 5000 + b"m"):
-            line = b"a move " + word + b" 0 0 0"
-            self.assertEqual(cures.cure_of("bad-number", line, 1), cures.row_of("bad-number"))
+        self.says("bad-number", 1, (
+            b"a move 1e6 0 0 0", "is 1e6, which has an exponent", "", "write 1000000"),
+            (b"a move 1.5e3 0 0 0", "is 1.5e3", "", "write 1500"), (b"a move 1e-3 0 0 0", "exponent", "", "write the number out"),
+            (b"a move 1,000 0 0 0", "is 1,000", "a comma between thousands", "write 1000"),
+            (b"a move 5, 0, 0, 0", "is 5,", "separated by commas", "write 5"),
+            (b"a move +5 0 0 0", "is +5", "a `+`", "write 5"), (b"a move 5- 0 0 0", "no whole number", "", "digits alone"),
+            (b"a turn O", "is O", "a letter in place of a digit", "the digit"),
+            (b"cue x", "is x, which is no whole number", "", "here of milliseconds"))
+        self.assertEqual(cures.cure_of("bad-number", b"a move %sm 0 0 0" % (b"9" * 5000), 1), cures.row_of("bad-number"))
         self.assertEqual(cures.cure_of("bad-count", b"drone a 0 0 1 m 0", 1)[2], "write `drone` and then NAME X Y Z YAW")
 
     def test_form_of_the_text(self):

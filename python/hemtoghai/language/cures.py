@@ -13,9 +13,9 @@ from typing import Tuple
 
 from hemtoghai.language.choreo import ACTS, form_of, is_name, LINES, Number, number_of, parts_of, YAW
 from hemtoghai.language.quantities import Counts, FAR, in_unit, KINDS, value_of, written
-from hemtoghai.language.text_cures import (alone_row, around, block_row, byte_row, fixed_row, header_row, length_row,
-                                           listed, LONGEST_SHOWN, name_row, names_row, open_row, Row, show_row,
-                                           unit_row, word_row, words_of)
+from hemtoghai.language.text_cures import (alone_row, around, block_row, byte_row, count_row, fixed_row, header_row,
+                                           length_row, listed, LONGEST_SHOWN, name_row, names_row, open_row, Row,
+                                           show_row, unit_row, word_row, words_of)
 from hemtoghai.program import TOP
 
 Meaning = Tuple[str, str, str, str]  # of a number: what it is, its unit, a cause of being out of range, the cure
@@ -109,6 +109,9 @@ def number_row(line: bytes, form: int) -> Row | None:
         if number_of(slot, word, form) is None:
             if len(word) > LONGEST_SHOWN:
                 return None
+            if slot.counts and line.split()[0] == b"perform" and is_name(word) and word not in KINDS:
+                return [f"{name} is {word}, which has no digits", "a number is missing before it",
+                        "write `perform` and then FIGURE MIRROR TURNS DX DY DZ and the drones"]
             if slot.counts is None:
                 found = re.fullmatch("(-?[0-9]+)([a-z]+)", word)
                 if found and found[2] == "deg" and name == "TURNS of `perform`":
@@ -131,7 +134,10 @@ def whole_row(name: str, slot: Number, counts: Counts, word: str) -> Row | None:
     """The row of a word that is no whole number, in `choreo 1`."""
     found = re.fullmatch("-?[0-9]+([.][0-9]+)?([a-z]*)", word)
     if not found or found[2] and not kind_of(found[2]):
-        return None
+        cause = "a comma between thousands" if re.fullmatch("-?[0-9]{1,3}(,[0-9]{3})+", word) else ""
+        return odd_row(name, word, "[0-9]+") or [
+            f"{name} is {word}, which is no whole number", cause, f"write {word.replace(',', '')}" if cause else
+            f"write digits alone, with a `-` before them if it is below zero: here of {counts.name}"]
     kind, meant = kind_of(found[2]), word if found[2] else word + next(iter(counts.units))
     value = value_of(counts, meant)
     what = f"{name} is {word}, which is {kind}" if kind else f"{name} is {word}, which isn't whole"
@@ -142,13 +148,36 @@ def whole_row(name: str, slot: Number, counts: Counts, word: str) -> Row | None:
                          f"`choreo 2`, and write {meant}: there each length, time and angle has a unit"]
 
 
+def odd_row(name: str, word: str, number: str) -> Row | None:
+    """The row of a word that is nearly a number, by the form of one without its sign: with a comma or a `+`, with its
+    unit in front, with an exponent, with two points, or a letter in place of a digit; None where it is none of these."""
+    bare = word.strip(",;+")
+    if bare != word and re.fullmatch(f"-?(?:{number})", bare):
+        cause = "a `+`" if word[0] == "+" else "words that are separated by commas: a blank is enough"
+        return [f"{name} is {word}", cause, f"write {bare}"]
+    found = re.fullmatch("([a-z]+)(-?[0-9.]+)", word)
+    if found and re.fullmatch(f"-?(?:{number})", found[2] + found[1]):
+        return [f"{name} is {word}, with its unit in front", "", f"write {found[2]}{found[1]}"]
+    found = re.fullmatch("(-?[0-9]+)([.][0-9]+)?[eE]([+]?[0-9]|-[1-9])([a-z]*)", word)
+    if found:
+        value = Fraction(found[1] + (found[2] or "")) * Fraction(10) ** int(found[3])
+        there = f"{int(value)}{found[4]}" if value.denominator == 1 else ""
+        is_one = re.fullmatch(f"-?(?:{number})", there)
+        return [f"{name} is {word}, which has an exponent", "", f"write {there}" if is_one else
+                "write the number out" + ", with its unit" * ("(" in number)]
+    if word.count(".") > 1:
+        return [f"{name} is {word}, which has two points", "", "write one number with at most one point"]
+    return [f"{name} is {word}", "a letter in place of a digit", "write the digit"] if word in list("oOlI") else None
+
+
 def quantity_row(name: str, slot: Number, counts: Counts, word: str) -> Row:
     """The row of a word that is no quantity in its place, in `choreo 2`."""
-    (sign, whole, point, fraction, unit), = re.findall(r"\A([+-]?)([0-9]*)([.,]?)([0-9]*)(.*)\Z", word, re.S)
     units = counts.units
+    if row := odd_row(name, word, "0+|[0-9]+([.][0-9]+)?(%s)" % "|".join(units)):
+        return row
+    (sign, whole, point, fraction, unit), = re.findall(r"\A([+-]?)([0-9]*)([.,]?)([0-9]*)(.*)\Z", word, re.S)
     if not whole + fraction:
-        is_next = is_name(word) and word not in KINDS
-        return [f"{name} is {word}, which has no digits", "a number is missing before it" if is_next else "",
+        return [f"{name} is {word}, which {'is no number' if re.search('[0-9]', word) else 'has no digits'}", "",
                 f"write a number with its unit: {listed(units)}"]
     if not unit:
         return bare_row(name, slot, counts, word, point == "")
@@ -161,16 +190,18 @@ def quantity_row(name: str, slot: Number, counts: Counts, word: str) -> Row:
         cause = "a `+`" if sign == "+" else "a comma in place of the point" if point == "," else \
             "no digit before the point or after it"
         return [f"{name} is {word}", cause, f"write {plain}"]
-    return finer_row(name, counts, word, unit)
+    return finer_row(name, slot, counts, word, unit)
 
 
-def finer_row(name: str, counts: Counts, word: str, unit: str) -> Row:
-    """The row of a quantity that isn't whole in its place: it lies between two that are."""
+def finer_row(name: str, slot: Number, counts: Counts, word: str, unit: str) -> Row:
+    """The row of a quantity that isn't whole in its place: it lies between two that are, of which those are named that
+    may stand there."""
     size = Fraction(word[:-len(unit)]) * Fraction(10) ** counts.units[unit]
     below = size.numerator // size.denominator
-    near = [in_unit(counts, value, unit) if value else "0" for value in (below, below + 1)]
+    near = [in_unit(counts, value, unit) if value else "0" for value in (below, below + 1) if slot.has(value)]
     return [f"{name} is {word}, which is no whole number of {counts.name}",
-            f"more digits than fit: the next after 0 is {in_unit(counts, 1, unit)}", f"write {listed(near)}"]
+            f"more digits than fit: the next after 0 is {in_unit(counts, 1, unit)}", f"write {listed(near)}" if near
+            else "see the ranges of numbers"]
 
 
 def bare_row(name: str, slot: Number, counts: Counts, word: str, is_whole: bool) -> Row:
@@ -225,7 +256,7 @@ def row_in(text: bytes, number: int, word: str) -> Row | None:
     if word == "bad-name":
         return name_row(at)
     if word == "bad-count":
-        return alone_row(at)
+        return alone_row(at) or count_row(at)
     return block_row(at, word)
 
 

@@ -84,7 +84,8 @@ def meant(word: str, known: Sequence[str], kind: str) -> str:
     """What to write in the place of a word: the known one that is near to it, and else which there are."""
     if near := nearest(word, known):
         return "write `%s`" % near
-    return "the %ss are %s" % (kind, names_listed(known)) if known else "there is no %s yet" % kind
+    return "there is no %s yet" % kind if not known else "the only %s is %s" % (kind, known[0]) if len(known) == 1 else (
+        "the %ss are %s" % (kind, names_listed(known)))
 
 
 def around(text: bytes, number: int) -> Around | None:
@@ -107,7 +108,7 @@ def around(text: bytes, number: int) -> Around | None:
 def header_row(line: bytes) -> Row | None:
     """The row of a first line that begins nearly as a header does; None where it doesn't."""
     words, forms = words_of(line), "write `choreo 2` where numbers have units, and `choreo 1` where they are whole"
-    if not words or not words[0].lower().startswith("choreo"):
+    if not any(word.lower().startswith("choreo") for word in words[:2]):
         return None
     what = f"the first line is `{short_word(' '.join(words))}`"
     if words[0] == "choreo" and words[1:2] and words[1].isdigit() and words[1].strip("0") not in ("1", "2"):
@@ -143,6 +144,11 @@ def act_row(at: Around) -> Row | None:
     if first in LINES and first not in ("form", "end", "at"):
         return [f"{at.where()} `{first} {second} ..` is taken for an act of a drone called `{first}`",
                 f"the `end` of the cue in line {cue} is missing", "write `end` before this line"]
+    if first in ACTS and is_name(second):
+        return ["the drone comes before its act", "", f"write `{second} {form_of_line(first)}`"]
+    if second == "end":
+        return [f"`end` closes the cue of line {cue} only by itself", "",
+                f"write `end` alone, and no `{short_word(first)}` before it"]
     if second in LINES["form"][1] | {"none"} or at.words[1] in LINES:
         return [f"`{second}` is no act", "", f"the acts are {', '.join(ACTS)}"]
     near = nearest(second, ACTS)
@@ -158,7 +164,10 @@ def place_row(at: Around) -> Row | None:
         return ["`end` closes a block, and none is open here", "one `end` too many" + last_closed(at),
                 "remove this line, or look for a block above that was closed too early"]
     if len(at.words) > 1 and at.words[1] in ACTS and is_name(first):
-        return [f"an act stands in a cue, and this line stands {at.where()}", "",
+        before = at.blocks[-1].body[-1:]
+        is_cut = before and before[0].kind == "cue" and not before[0].body
+        return [f"an act stands in a cue, and this line stands {at.where()}", "one `end` too many" + last_closed(at)
+                if is_cut else "", "remove that `end`" if is_cut else
                 "write `cue TIME` before it, and `end` after the acts of the cue"]
     if first == "perform" and at.place != "formation":
         return [f"{what}: a figure performs no other", f"the `end` of line {at.blocks[-1].number} is missing",
@@ -169,8 +178,10 @@ def place_row(at: Around) -> Row | None:
             return [what, f"the `end` of line {at.blocks[-1].number} is missing", "write `end` before this line"]
         return [what, "", f"write it in a {listed(inner)}" if "top" not in inner else "write it outside of the block"]
     what = f"no line {at.where()} begins with `{short_word(first)}`"
-    if near := nearest(first, own):
-        return [what, "", f"write `{form_of_line(near)}`"]
+    if near := nearest(first, own) or next((word for word in at.words[1:] if word in own), None):
+        return [what, "", f"write `{form_of_line(near)}`" + ", that word first" * (near in at.words)]
+    if "cue" in own and len(at.words) == 2 and re.fullmatch("[0-9.]+m?s", at.words[1]):
+        return [what, "", f"write `cue {at.words[1]}`: a drone without a line holds in it"]
     return [what, "", f"here a line begins with {listed(own)}; a comment begins with `#`"]
 
 
@@ -219,6 +230,10 @@ def name_row(at: Around) -> Row | None:
         figure = next(block.number for block in at.blocks if block.kind == "figure")
         return ["in a figure no formation is formed", f"the `end` of the figure in line {figure} is missing",
                 "write that `end`; or, in the figure, give each role a line of its own"]
+    if in_cue(at) and at.words[1:] == ["end"]:
+        return act_row(at)
+    if in_cue(at) and re.sub("[^a-z]", "", word.lower()) == "end":
+        return [f"`{short_word(word)}` is no name, and doesn't close the cue", "", "write `end`"]
     new = re.sub("[^a-z0-9_]", "_", word.lower())[:16]
     new = new if not new[:1].isdigit() and new[:1] != "_" else "d" + new[:15]
     why = ("it is a word of the language" if word in ("form", "end") else
@@ -241,9 +256,11 @@ def unit_row(line: bytes) -> Row | None:
             f"write {number}{unit}"]
 
 
-def length_row(words: list[str]) -> Row | None:
-    """The row of a line that has too many or too few words; None where it isn't known how many are wanted."""
-    what, given = (words[1], words[2:]) if words[1:] and words[1] in ACTS else ("".join(words[:1]), words[1:])
+def length_row(words: list[str], may_act: bool = True) -> Row | None:
+    """The row of a line that has too many or too few words, of an act where it may be one; None where it isn't known how
+    many are wanted."""
+    is_act = may_act and words[1:] and words[1] in ACTS
+    what, given = (words[1], words[2:]) if is_act else ("".join(words[:1]), words[1:])
     aside = [at for at, word in enumerate(words) if word.startswith("//")]
     if aside:
         return ["the line has too many words", "a comment that begins with //", "write `#` before a comment"]
@@ -256,15 +273,29 @@ def length_row(words: list[str]) -> Row | None:
     wanted = 2 if what == "form" else len(AFTER[what].split())
     if len(given) == wanted:
         return None
-    cause = "the yaw is missing" if len(given) == wanted - 1 and AFTER[what].endswith("YAW") else ""
+    cause = "" if len(given) != wanted - 1 or not AFTER[what].endswith("YAW") else (
+        "a number before the yaw is missing" if given[-1:] and given[-1].endswith("deg") else "the yaw is missing")
     return [f"`{what}` takes {wanted} word{'s' * (wanted != 1)} after it, and {have}", cause,
             f"write `{what}` and then {AFTER[what]}" if AFTER[what] else f"write `{what}` and no word after it"]
+
+
+def count_row(at: Around) -> Row | None:
+    """The row of a line outside of cues whose second word is one of an act."""
+    return length_row(at.words, False) if at.words[1:] and at.words[1] in ACTS and not in_cue(at) else None
 
 
 def alone_row(at: Around) -> Row | None:
     """The row of a line of a cue that has a name and no act."""
     if not in_cue(at) or len(at.words) != 1:
         return None
+    figures = [block.values[1:] for block in at.blocks if block.kind == "figure"]
+    names = figures[0] if figures else [line.values[0] for line in at.blocks[0].body if line.kind == "drone"]
+    if names and at.words[0] not in names:
+        near = nearest(at.words[0], [*names, "end"])
+        cure = "`end`" if near == "end" else f"`{near or names[0]}` and its act, or `end` to close the cue"
+        kind = "role" if figures else "drone"
+        return [f"`{short_word(at.words[0])}` stands alone in a cue, and no {kind} is called so", "",
+                f"write {cure}; a {kind} without a line holds"]
     return [f"`{at.words[0]}` has no act", "", f"write `{at.words[0]} hold`, or another act: {', '.join(ACTS)}; or "
             "remove the line, since a drone without a line holds"]
 
@@ -351,7 +382,8 @@ def unknown_row(show: choreo.Show, line: Line, inside: list[Line], row: str) -> 
         return [f"no figure is called `{name}`", "", meant(name, list(show.figures), "figure")]
     if row == "unknown-name performer":
         name = next(it for it in line.values[6:] if it not in drones)
-        return [f"no drone is called `{name}`, which shall perform", "", meant(name, drones, "drone")]
+        return [f"no drone is called `{name}`, which shall perform", "", meant(name, drones, "drone") +
+                f"; or declare it: `drone {name} X Y Z YAW`"]
     if row == "unknown-name act in a figure":
         roles, figure = inside[0].values[1:], inside[0].values[0]
         cause = f"a drone's name inside the figure `{figure}`" if name in drones else ""
