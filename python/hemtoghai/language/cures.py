@@ -118,7 +118,9 @@ def number_row(line: bytes, form: int) -> Row | None:
                     turns, rest = divmod(int(found[1]), 90)
                     return [f"{name} is {word}, and counts quarter turns", "",
                             "write 0, 1, 2 or 3" if rest else f"write {turns % 4}"]
-                return [f"{name} is {word}, and has no unit", "", f"write {found[1]}"] if found else [
+                if found:
+                    return [f"{name} is {word}, and has no unit", "", f"write {found[1]}"]
+                return odd_row(name, word, "[0-9]+") or [
                     f"{name} is {word}, which is no whole number", "",
                     f"write digits alone, without a unit: {slot.least} to {slot.most}"]
             return (quantity_row if form == 2 else whole_row)(name, slot, slot.counts, word)

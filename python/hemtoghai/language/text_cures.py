@@ -151,7 +151,7 @@ def act_row(at: Around) -> Row | None:
                 f"write `end` alone, and no `{short_word(first)}` before it"]
     if second in LINES["form"][1] | {"none"} or at.words[1] in LINES:
         return [f"`{second}` is no act", "", f"the acts are {', '.join(ACTS)}"]
-    near = nearest(second, ACTS)
+    near = nearest(second, ACTS) or next((word for word in at.words[2:] if word in ACTS), None)
     return [f"there is no act `{second}`", "",
             f"write `{first} {form_of_line(near)}`" if near else f"the acts are {', '.join(ACTS)}"]
 
@@ -168,7 +168,9 @@ def place_row(at: Around) -> Row | None:
         is_cut = before and before[0].kind == "cue" and not before[0].body
         return [f"an act stands in a cue, and this line stands {at.where()}", "one `end` too many" + last_closed(at)
                 if is_cut else "", "remove that `end`" if is_cut else
-                "write `cue TIME` before it, and `end` after the acts of the cue"]
+                "write `cue TIME` before it, and `end` after the acts of the cue" + (
+                    f"; or remove the `end` of line {before[0].last}, if it belongs to the cue of line {before[0].number}"
+                    if before and before[0].kind == "cue" else "")]
     if first == "perform" and at.place != "formation":
         return [f"{what}: a figure performs no other", f"the `end` of line {at.blocks[-1].number} is missing",
                 "write `end` before this line; or write the cues of that figure into this one"]
@@ -176,12 +178,14 @@ def place_row(at: Around) -> Row | None:
         inner = [kind for kind in PLACES if first in PLACES[kind]]
         if at.place in ("formation", "repeat", "figure") and "top" in inner:
             return [what, f"the `end` of line {at.blocks[-1].number} is missing", "write `end` before this line"]
-        return [what, "", f"write it in a {listed(inner)}" if "top" not in inner else "write it outside of the block"]
+        is_after = at.blocks[-1].body and at.blocks[-1].body[-1].kind in inner
+        return [what, "one `end` too many" + last_closed(at) if is_after else "", f"write it in a {listed(inner)}"
+                if "top" not in inner else "write it outside of the block"]
     what = f"no line {at.where()} begins with `{short_word(first)}`"
     if near := nearest(first, own) or next((word for word in at.words[1:] if word in own), None):
         return [what, "", f"write `{form_of_line(near)}`" + ", that word first" * (near in at.words)]
-    if "cue" in own and len(at.words) == 2 and re.fullmatch("[0-9.]+m?s", at.words[1]):
-        return [what, "", f"write `cue {at.words[1]}`: a drone without a line holds in it"]
+    if "cue" in own and len(at.words) < 3 and re.fullmatch("[0-9.]+m?s", at.words[-1]):
+        return [what, "", f"write `cue {at.words[-1]}`: a drone without a line holds in it"]
     return [what, "", f"here a line begins with {listed(own)}; a comment begins with `#`"]
 
 
@@ -230,6 +234,8 @@ def name_row(at: Around) -> Row | None:
         figure = next(block.number for block in at.blocks if block.kind == "figure")
         return ["in a figure no formation is formed", f"the `end` of the figure in line {figure} is missing",
                 "write that `end`; or, in the figure, give each role a line of its own"]
+    if not in_cue(at) and re.fullmatch(r"-?[0-9]+([.][0-9]+)?(%s)?" % "|".join(KINDS), word):
+        return [f"`{short_word(word)}` is a number, and here stands a name", "", f"write `{form_of_line(at.words[0])}`"]
     if in_cue(at) and at.words[1:] == ["end"]:
         return act_row(at)
     if in_cue(at) and re.sub("[^a-z]", "", word.lower()) == "end":
