@@ -163,8 +163,12 @@ class Verdicts(Case):
                 with self.assertRaises(TypeError) as refused:
                     call(wrong)
                 self.assertEqual(str(refused.exception), "a text is a str or bytes, and not " + type(wrong).__name__)
-        with self.assertRaises(TypeError):
-            hemtoghai.check(CURED, 6.0)
+        for call, words in ((lambda: hemtoghai.check(CURED, 6.0), "the depth is a whole number, and not float"),
+                            (lambda: hemtoghai.speed(CURED, 1e6), "limit is a whole number, and not float"),
+                            (lambda: hemtoghai.run(["check"], CURED), "the words are one str, as 'check --depth 4', and not list")):
+            with self.assertRaises(TypeError) as refused:
+                call()
+            self.assertEqual(str(refused.exception), words)
 
     def test_limits(self):
         # They are those of the options of the program.

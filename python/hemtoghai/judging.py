@@ -255,10 +255,14 @@ LIMITS = {"depth": (0, 8), "step": (1, 60000), "limit": (1, 999999999), "accel":
 
 def within(name: str, number: int) -> int:
     """A number of a parameter; raises TypeError where it is none, and ValueError where it is out of its limits."""
-    (least, most), whole = LIMITS[name], operator.index(number)
+    least, most = LIMITS[name]
+    called = {"depth": "the depth", "step": "step_ms"}.get(name, name)
+    try:
+        whole = operator.index(number)
+    except TypeError:
+        raise TypeError("%s is a whole number, and not %s" % (called, type(number).__name__)) from None
     if not least <= whole <= most:
-        raise ValueError("%s is %d to %d, and not %d" % (
-            {"depth": "the depth", "step": "step_ms"}.get(name, name), least, most, whole))
+        raise ValueError("%s is %d to %d, and not %d" % (called, least, most, whole))
     return whole
 
 
@@ -291,6 +295,8 @@ def accepted(verdict: Verdict) -> Verdict:
 def run(words: str, text: Text = b"") -> Verdict:
     """The answer to a command with its options, as "explain --depth 4", over its whole input: nothing, a show, or a
     show with a marker line and a second text (docs/COMMANDS.md). Its bytes are the verdict's `output`."""
+    if not isinstance(words, str):
+        raise TypeError("the words are one str, as 'check --depth 4', and not %s" % type(words).__name__)
     listed, whole = re.findall(r"[^\0- ]+", words), bytes_of(text)
     depth = re.search(r"--depth 0*([0-8])(?: |$)", " ".join(listed))
     return verdict_of(listed, choreo.parts_of(whole)[0], whole, int(depth[1]) if depth else DEPTH)
