@@ -134,7 +134,7 @@ def over_kept(room: str) -> Optional[tuple[str, str]]:
     kept = rt.Kept(crates)
     for below in crate.below():
         if not kept.give(below, False, kept.key(below)):
-            tell(tool_name(), "%s was not proved by `rt ci` on this machine, or has changed since" % below.name)
+            tell(tool_name(), "nothing is taken from `rt ci`: it has not proved %s as it is on this machine" % below.name)
             return None
         kept.is_built(below)
     archive = os.path.join(crate.folder, "out", ARCHIVE)
