@@ -113,6 +113,29 @@ class Splitter(Timeline):
         self.assertAlmostEqual(self.widths()[0], text, delta=1)
         self.assertEqual((self.text(), self.browser.faults()), (SHOW, []))
 
+    def test_all_open(self):
+        """With lanes and formation tools open the charts get lower, so that the view in space stays; both end within the
+        window, and get their heights back."""
+        self.begin()
+        sizes = ("return ['room', 'heights'].map(id => document.getElementById(id).clientHeight).concat("
+                 "document.getElementById('near').getBoundingClientRect().bottom - innerHeight)")
+        heights = {}
+        for size, least in (((1280, 800), 160), ((1120, 700), 110)):
+            self.browser.size(*size)
+            heights[size] = self.browser.run(sizes)[1]
+            self.browser.click("#form")
+            self.browser.click("#lanes-open")
+            self.browser.run("[...document.querySelectorAll('#tools-kinds button')].find(it => it.textContent === 'Ring').click()")
+            self.wait(lambda: "nearest: a and b" in self.words("tools-said"), "no preview")
+            self.wait(lambda: self.browser.run(sizes)[0] >= least, "a view of %s" % self.browser.run(sizes))
+            _, chart, below = self.browser.run(sizes)
+            self.assertTrue(70 <= chart <= heights[size] and below <= 0, (size, chart, below))
+            self.browser.click("#tools-leave")
+            self.browser.click("#form")
+            self.browser.click("#lanes-open")
+            self.wait(lambda: self.browser.run(sizes)[1] == heights[size], "the charts stay lower")
+        self.assertEqual(self.browser.faults(), [])
+
     def test_small(self):
         """On a telephone there is none."""
         self.begin(size=(390, 844))

@@ -20,12 +20,19 @@ import {filmStopped} from "./studio_video.js";
 import {drawSpace} from "./view.js";
 import {set, state} from "./state.js";
 
+const LEAST_SPACE = 170, LEAST_CHART = 76;  // pixels of the view in space, for which charts are lower, and of a chart
+function heightOfChart() {
+  const left = byId("flight").clientHeight - BESIDE_CHARTS - byId("timeline").clientHeight;
+  if (isLow()) return within(left / 2, 84, 200);
+  if (isSmall()) return 130;
+  const all = ["room", "heights", "share"].reduce((sum, id) => sum + byId(id).clientHeight, 0);
+  return Math.round(within((all - LEAST_SPACE) / 2, LEAST_CHART, innerHeight > 860 ? 130 : 108));
+}
 // The charts get their heights first: what is left is that of the view in space.
 function layOut() {
   charts.length = 0;
   askMotion();
-  const left = byId("flight").clientHeight - BESIDE_CHARTS - byId("timeline").clientHeight;
-  set({chartHeight: isLow() ? within(left / 2, 84, 200) : isSmall() || innerHeight > 860 ? 130 : 108});
+  set({chartHeight: heightOfChart()});
   // cue numbers above both, times below both
   set({chartEdges: {heights: [22, state.drones > 1 ? 6 : 32], share: [6, 32]}});
   for (const id of ["heights", "share"]) byId(id).style.height = `${state.chartHeight}px`;
@@ -108,7 +115,9 @@ export function resize() {
 const watcher = new ResizeObserver(entries => {
   for (const {target} of entries) {
     if (target !== byId("editor")) {
-      if (state.flight) drawSpace();
+      if (!state.flight) continue;
+      if (isStill() || heightOfChart() === state.chartHeight) drawSpace();
+      else draw();
     } else if (!given.watch) {
       resizeField();
       drawPaper();
