@@ -302,18 +302,19 @@ class Begun(Flight):
 
     def is_drawn(self, places, cues):
         """Waits until drones are drawn at these places, moved by so many cues."""
-        self.wait(lambda: self.drawn() == [places, cues], "not drawn: %s" % self.drawn())
+        self.wait(lambda: self.drawn() == [places, cues], lambda: "not drawn: %s" % self.drawn())
 
-    def shown(self):
-        """The class of the flight, and the words in it."""
-        return self.browser.run("return [document.getElementById('flight').className, document.getElementById('before').innerText]")
+    def is_shown(self, *wanted):
+        """Waits until this is the class of the flight, and these are the words in it."""
+        shown = "return [document.getElementById('flight').className, document.getElementById('before').innerText]"
+        self.wait(lambda: self.browser.run(shown) == list(wanted), lambda: "shown is %s" % self.browser.run(shown))
 
     def test_without_cue(self):
         """Drones are drawn where the text puts them before there is a cue, each as soon as its line is right."""
         self.open("choreo 2\ndrone a 0 0 1m 0\n")
         self.is_drawn({"a": [0, 0, 1000]}, 0)
-        self.assertEqual(self.shown(), ["flight still", "the drones at their starts: there is no cue yet"])
-        self.assertEqual(self.browser.run("return getComputedStyle(document.getElementById('space')).opacity"), "1")
+        self.is_shown("flight still", "the drones at their starts: there is no cue yet")
+        self.wait(lambda: self.browser.run("return getComputedStyle(document.getElementById('space')).opacity") == "1", "grey")
         self.put_cursor("choreo 2\ndrone a 0 0 1m 0\n")
         self.browser.type("drone b 30cm -2m 1.5m 0\n")
         self.is_drawn({"a": [0, 0, 1000], "b": [300, -2000, 1500]}, 0)
@@ -322,7 +323,7 @@ class Begun(Flight):
         self.says("2 drones, 1 cue")
         self.is_drawn({"a": [0, 0, 1000], "b": [300, -2000, 1500]}, 1)
         self.assertTrue(self.browser.run("return document.getElementById('slider').checkVisibility()"))
-        self.assertGreater(self.browser.run("return document.querySelectorAll('#heights polyline').length"), 1)
+        self.wait(lambda: self.browser.run("return document.querySelectorAll('#heights polyline').length") > 1, "no heights")
         self.assertEqual(self.browser.faults(), [])
 
     def test_cues_deleted(self):
@@ -336,14 +337,14 @@ class Begun(Flight):
         """Of a faulty text the cues before the faulty line are flown, grey, and the page says so."""
         self.open(TWO.replace("b hold", "b hald"))
         self.is_drawn({"a": [0, 0, 1000], "b": [1000, 0, 1000]}, 1)
-        self.assertEqual(self.shown(), ["flight old", "line 8 isn't right yet: this is the flight of what stands before it"])
+        self.is_shown("flight old", "line 8 isn't right yet: this is the flight of what stands before it")
         self.wait(lambda: self.browser.run("return getComputedStyle(document.getElementById('space')).opacity") == "0.4",
                   "not grey")
         self.browser.run("move(2000)")
         self.is_drawn({"a": [0, 1000, 1000], "b": [1000, 0, 1000]}, 1)
         self.browser.run("replaceText(arguments[0])", TWO)
         self.says("2 cues")
-        self.assertEqual(self.shown(), ["flight", ""])
+        self.is_shown("flight", "")
         self.assertEqual(self.browser.faults(), [])
 
     def test_line_being_typed(self):
@@ -355,16 +356,16 @@ class Begun(Flight):
         self.says("line 8: ")
         self.wait(lambda: self.browser.run("return found.flight && found.flight.flight.begun.cues === 1"), "no beginning")
         self.assertEqual(self.browser.run("return flight.cues.length"), 2)
-        self.assertEqual(self.shown(), ["flight old", "this is the flight of an earlier text"])
+        self.is_shown("flight old", "this is the flight of an earlier text")
 
     def test_between(self):
         """From a key to the new flight the older one is grey, once that takes long."""
         self.open(GOOD)
         self.says("accepted")
-        self.browser.run("replaceText(wholeText() + '# x\\n')")
-        self.assertEqual(self.shown()[0], "flight old")
+        then = "replaceText(wholeText() + '# x\\n'); return document.getElementById('flight').className"
+        self.assertEqual(self.browser.run(then), "flight old")
         self.says("accepted")
-        self.assertEqual(self.shown()[0], "flight")
+        self.is_shown("flight", "")
 
 
 class Sizes(Flight):

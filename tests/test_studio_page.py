@@ -182,14 +182,14 @@ class Led(unittest.TestCase):
                                 "return it.classList.contains('old') ? '' : it.innerText")
 
     def wait(self, found, what):
-        """Waits until something is so."""
+        """Waits until something is so; `what` says what isn't, as words or as what gives them then."""
         until = time.monotonic() + WAIT
         while time.monotonic() < until:
             value = found()
             if value:
                 return value
             time.sleep(0.05)
-        return self.fail("%s; the verdict: %s" % (what, self.words("verdict")))
+        return self.fail("%s; the verdict: %s" % (what() if callable(what) else what, self.words("verdict")))
 
     def words(self, name):
         """The words of an element."""

@@ -127,7 +127,7 @@ class Splitter(Timeline):
             self.browser.click("#lanes-open")
             self.browser.run("[...document.querySelectorAll('#tools-kinds button')].find(it => it.textContent === 'Ring').click()")
             self.wait(lambda: "nearest: a and b" in self.words("tools-said"), "no preview")
-            self.wait(lambda: self.browser.run(sizes)[0] >= least, "a view of %s" % self.browser.run(sizes))
+            self.wait(lambda: self.browser.run(sizes)[0] >= least, lambda: "a view of %s" % self.browser.run(sizes))
             _, chart, below = self.browser.run(sizes)
             self.assertTrue(70 <= chart <= heights[size] and below <= 0, (size, chart, below))
             self.browser.click("#tools-leave")
@@ -199,7 +199,7 @@ class Film(Timeline):
 
     def is_stopped(self):
         """The page says that the recording was stopped; nothing is played, and there is no film."""
-        self.wait(lambda: "was stopped" in self.words("told"), "it doesn't say so, but %s; at %s" % (
+        self.wait(lambda: "was stopped" in self.words("told"), lambda: "it doesn't say so, but %s; at %s" % (
             self.words("told"), self.at()))
         self.is_played(False)
         self.assertEqual(self.browser.run("return [films.length, caption, document.getElementById('film').ariaPressed]"),

@@ -71,7 +71,7 @@ export function filmStopped() {
   if (recorder) endFilm(state.now >= state.flight.end);
 }
 function takeFilm(parts) {
-  set({caption: null});
+  if (!recorder) set({caption: null});  // the next one may have begun
   moveDrones();
   const link = element("a", ""), name = `${given.name.replace(/\.choreo$/, "")}.webm`;
   link.href = URL.createObjectURL(new Blob(parts, {type: "video/webm"}));
