@@ -195,6 +195,64 @@ class Flown(unittest.TestCase):
         self.assertEqual(self.flown.milliseconds, 9000)
         self.assertIn("left out: 40 samples before the start and 52 after the end\n", out)
 
+    def whole(self, ends={}, until={}, below={}):
+        """The path of a log of a flight in which each drone stands below its first place, without more 1000 mm, until
+        1 s before the show, and again from 2 s after its end on, beside there by so many; and that has it until some
+        time after that end, without more 4000 ms."""
+        path, end, rows = self.log(), self.flown.milliseconds, []
+        for name, curve in curves.curves_of(self.flown).items():
+            for t in (*range(-3000, -500, 50), *range(end + 700, end + 4050, 50)):
+                at = curve.at(0 if t > end + 2000 else t)
+                if not -1000 <= t <= end + 2000:
+                    at[2] -= below.get(name, 1000)
+                if t > end + 2000:
+                    at = [v + w for v, w in zip(at, ends.get(name, (0, 0, 0)))]
+                if t <= end + until.get(name, 4000):
+                    rows.append("%.4f,%s,%.6f,%.6f,%.6f,2e-05\n" % (t / 1000, name, *(v / 1000 for v in at)))
+        with open(path, "a") as file:
+            file.write("".join(rows))
+        return path
+
+    def test_home(self):
+        # Within 300 mm beside where it stood, and 120 mm above or below, a drone is home, also where it is switched off
+        # there; at 301 and 121 the show was kept, and it isn't home, which is no yes. Nor is one that is missing more
+        # than a second before the end of the log, 13 s after the start.
+        def judged(*given):
+            status, _, out = self.judged(self.whole(*given), "--stray", "5", "--late", "5")
+            found = re.search("not home at the end of the log: (.*)\n", out)
+            return status, re.search("(?m)^([A-Z ]+): 724 of 724 samples", out)[1], found and found[1].split("; ")
+        self.assertEqual(judged({"a": (180, -240, 120), "b": (300, 0, -120), "c": (0, 300, 0)}, {"c": 2500, "d": 2999}),
+                         (0, "KEPT", None))
+        ends = {"a": (301, 0, 0), "b": (0, 0, 121), "c": (301, 0, 0), "d": (0, 0, -121)}
+        self.assertEqual(judged(ends, {"c": 2950}), (
+            1, "NOT HOME", ["a is 301 mm beside where it stood, and 0 mm above that",
+                            "b is 0 mm beside where it stood, and 121 mm above that", "c is missing from 11.95 s on",
+                            "d is 0 mm beside where it stood, and -121 mm above that"]))
+        self.assertEqual(judged({"d": (0, 301, 0)}, {"d": 3000}),
+                         (1, "NOT HOME", ["d is 301 mm beside where it stood, and 0 mm above that"]))
+        # Who is 100 mm below its first place isn't taken to stand on a pad, and who is 101 mm below it is. One without
+        # a pad only has to be in the log to its end.
+        self.assertEqual(judged({"a": (0, 3000, 0), "b": (0, 3000, 0)}, {"c": 2999, "d": 2999},
+                                {"a": 100, "b": 101, "c": 100, "d": 101}),
+                         (1, "NOT HOME", ["b is 3000 mm beside where it stood, and 0 mm above that",
+                                          "c is missing from 11.95 s on"]))
+
+    def test_a_log_that_begins_in_the_show(self):
+        # A drone that sinks by 0.8 m in 2 s, at one speed, is 200 mm lower at its first sample, after 0.5 s: no pad.
+        path = os.path.join(self.room.name, "late.csv")
+        with open(path, "w") as file:
+            file.write("time,drone,x,y,z,variance\n" + "".join(
+                "%.1f,a,0,0,%.3f,1e-5\n" % (t / 10, 1 - 0.04 * t) for t in range(5, 21)))
+        text = "choreo 1\nstray 20\nlate 20\ndrone a 0 0 1000000 0\ncue 2000\na line 0 0 200000 0\nend\n"
+        status, out, _ = common.run("flown", "-", path, text=text)
+        self.assertEqual((status, "KEPT: 16 of 16 samples" in out), (0, True), out)
+
+    def test_home_comes_last(self):
+        # what a sample says of the show comes first, and who isn't home is named all the same
+        status, _, out = self.judged(self.whole({"a": (3000, 0, 0)}), "--stray", "0", "--late", "0")
+        self.assertEqual((status, "NOT KEPT: " in out, "NOT HOME" in out), (1, True, False))
+        self.assertIn("not home at the end of the log: a is 3000 mm beside", out)
+
     def test_a_log_that_stops(self):
         # 400 ms before the end of 9 s nothing is known of that, though no gap is as long as a second
         for last, status in ((8.6, 1), (8.75, 0)):

@@ -22,9 +22,11 @@ The verdict is `KEPT` only for a log that covers the show: each drone has at lea
 ms, 1000 without the option, after the one before, the begin of the show and its end counted as samples. Nor may a log
 stop more than 300 ms before the end. For any other log it is `NOT KEPT` or `NOT KNOWN`. So it is where a column
 `variance`, as `fly` writes it, says that a drone wasn't sure of its place: above M2 square metres, 0.004 without the
-option. Of a sample without a variance nobody knows, so a log that lacks some isn't kept either. A log with a place or
-a time that isn't finite is refused, and so is one of more than 500,000 lines. Status 0: kept. 1: not kept or not
-known. 70: no answer.
+option. Of a sample without a variance nobody knows, so a log that lacks some isn't kept either.
+
+Of the ways up and down only the log's begin and end are looked at. It is `NOT HOME` where a drone that stood below its
+first place isn't back there at the end of the log, or is missing then. A log with a place or a time that isn't finite
+is refused, and so is one of more than 500,000 lines. Status 0: kept. 1: not kept, not known or not home. 70: no answer.
 """
 import argparse
 import csv
@@ -32,6 +34,7 @@ import sys
 from contextlib import ExitStack
 from itertools import chain
 from math import dist, inf
+from operator import itemgetter
 from typing import Dict, Iterable, Iterator, List, Optional, Sequence, Tuple
 
 from hemtoghai import texts
@@ -45,6 +48,8 @@ TOLD = 3.0  # millimetres by which an offset has to matter to be told
 FLAT = 0.5  # millimetres of the greatest distance below which offsets are as good as each other
 GAP, FEWEST = 1000, 5  # milliseconds without a sample, and samples of a drone, with which a log covers a show
 LAST = 300  # milliseconds before the end of the show at which a log may stop: three samples of `fly`
+RISEN = 100.0  # millimetres above its pad at least at which the first place of a drone that rose is
+ASIDE, ABOVE = 300.0, 120.0  # millimetres beside its pad, and above or below it, within which it is home
 LEAP = 5.0  # seconds by which a drone's clock may differ from the log's at some samples more than at others
 LONGEST = 1e6  # seconds of a log, before and after its zero
 MOST_LINES = 500000  # of a log: those of 32 drones in 26 minutes, ten times a second
@@ -200,11 +205,11 @@ class Judged:
     """A drone's flight: `late` is its offset, `own` the greatest distance at that offset, `worst` the greatest
     distance from the places within the window, each with its time, `samples` those of the show by the clock that was
     found, `outside` those that are farther than `stray`, `unsure` those whose variance is too great, `gap` the longest
-    time without one in the show, with when it began, `stops` how long before its end the last one is, and `wrong` what
-    is wrong with its clock."""
+    time without one in the show, with when it began, `stops` how long before its end the last one is, `begin` the
+    instant of the show's begin, and `wrong` what is wrong with its clock."""
 
     def __init__(self, samples: Sequence[Sample], wrong: Optional[str], curve: Curve) -> None:
-        self.all, self.curve, self.wrong = samples, curve, wrong
+        self.all, self.curve, self.wrong, self.begin = samples, curve, wrong, 0.0
         self.samples = self.within(0.0)
         self.late = offset_of(self.samples, curve) if self.samples else None
         self.own = max(((dist(place, curve.at(t - (self.late or 0))), t) for t, place, *_ in self.samples),
@@ -226,9 +231,21 @@ class Judged:
             return f"no sample in the last {self.stops:.0f} ms"
         return "%s in all" % many(len(self.samples), "sample") if len(self.samples) < FEWEST else None
 
+    def away(self, last: float, longest: float) -> Optional[str]:
+        """What keeps the drone from being home at the last instant of the log, in words, or None. One that never stood
+        below its first place has no home in the log, and only has to be in it to its end."""
+        first, final = min(self.all, key=itemgetter(2)), max(self.all, key=itemgetter(2))
+        rose = first[0] < self.begin and self.curve.at(0)[2] - first[1][2] > RISEN
+        aside, above = dist(final[1][:2], first[1][:2]), final[1][2] - first[1][2]
+        if rose and aside <= ASIDE and abs(above) <= ABOVE:
+            return None
+        if last - final[2] > longest:
+            return f"missing from {final[2] / 1000:.2f} s on"
+        return f"{aside:.0f} mm beside where it stood, and {above:.0f} mm above that" if rose else None
+
     def judge(self, middle: float, window: float, stray: float, unsure: float) -> None:
         """Looks at the places within half a window around each sample's time, where the show begins at an instant."""
-        self.worst, self.outside, self.samples = (0.0, 0.0), [], self.within(middle)
+        self.worst, self.outside, self.samples, self.begin = (0.0, 0.0), [], self.within(middle), middle
         end = self.curve.end + middle
         times = [middle, *sorted(t for t, *_ in self.samples if middle <= t <= end), end]
         self.gap, self.gap_at = max((b - a, a) for a, b in zip(times, times[1:]))
@@ -275,6 +292,13 @@ def print_left_out(judged: Dict[str, Judged]) -> None:
         print(f"left out: {many(before, 'sample')} before the start and {left - before} after the end")
 
 
+def away_at_the_end(judged: Dict[str, Judged], longest: float) -> Dict[str, str]:
+    """By its name what keeps a drone from being home at the end of the log."""
+    last = max(row[2] for it in judged.values() for row in it.all)
+    found = {name: it.away(last, longest) for name, it in judged.items()}
+    return {name: words for name, words in found.items() if words}
+
+
 def print_verdict(judged: Dict[str, Judged], options: argparse.Namespace) -> bool:
     """Prints what the log says, and whether that is enough; whether all was kept."""
     count, outside = sum(len(it.samples) for it in judged.values()), sum(len(it.outside) for it in judged.values())
@@ -283,7 +307,8 @@ def print_verdict(judged: Dict[str, Judged], options: argparse.Namespace) -> boo
     unsure = {name: it.unsure for name, it in judged.items() if it.unsure}
     bare = {name: sum(row[3] is None for row in it.samples) for name, it in judged.items()}
     bare = {name: count for name, count in bare.items() if count}
-    word = "NOT KEPT" if outside else "NOT KNOWN" if lacking or unsure or bare else "KEPT"
+    away = away_at_the_end(judged, options.gap)
+    word = "NOT KEPT" if outside else "NOT KNOWN" if lacking or unsure or bare else "NOT HOME" if away else "KEPT"
     print("%s: %d of %s within %g mm of the curve at an instant within %g ms of the others'; the farthest is %s, "
           "%.1f mm at %.2f s"
           % (word, count - outside, many(count, "sample"), options.stray, options.late,
@@ -297,6 +322,8 @@ def print_verdict(judged: Dict[str, Judged], options: argparse.Namespace) -> boo
     if bare:
         print("no variance says how sure they were of their places: %s" % "; ".join(
             f"{name} at {many(count, 'sample')}" for name, count in bare.items()))
+    if away:
+        print("not home at the end of the log: %s" % "; ".join("%s is %s" % it for it in away.items()))
     return word == "KEPT"
 
 
