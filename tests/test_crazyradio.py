@@ -569,7 +569,7 @@ class Bridge(unittest.TestCase):
             self.assertEqual((status, said in out), (70, True), out)
             self.assertTrue(all(map(common.untouched, common.drones(flown))))
         status, out, _ = self.run_bridge(drones="a radio://0/80/2M/E7E7E7E701\n")
-        self.assertEqual((status, "has no address for b" in out), (70, True), out)
+        self.assertEqual((status, "has no address for b" in out, out.count("/tmp/")), (70, True, 1), out)
 
     def test_without_the_library(self):
         with tempfile.NamedTemporaryFile("w") as file:

@@ -111,6 +111,22 @@ class Streams(unittest.TestCase):
             done = subprocess.run(["./show", "export", "skyc", file.name, name], cwd=TOP, stdout=subprocess.PIPE, timeout=300)
             self.assertEqual((done.returncode, b"\x1b" in done.stdout, os.path.exists(name)), (0, False, True))
 
+    @wants_program
+    def test_control_characters_among_what_is_found(self):
+        # Lines with a file's name, or with a name from a file, that a tool prints where it did its work.
+        with tempfile.TemporaryDirectory() as room:
+            for name in ("crossing", "solo"):
+                shutil.copy(os.path.join(TOP, "examples", name + ".choreo"), os.path.join(room, name + "\x1b[31m"))
+            with open(os.path.join(room, "log"), "w") as file:
+                file.write("time,drone,x,y,z\n1,a\x1b[31m,0,0,0\n1,solo,0,0,1\n")
+            for words, status, said in (
+                    (["bridge", "crossing\x1b[31m"], 5, "why crossing\\x1b[31m explains the refusal"),
+                    (["flown", "solo\x1b[31m", "log"], 1, "left out: a\\x1b[31m\n")):
+                done = subprocess.run([*common.AS_BUILT, *words], cwd=room, stdin=subprocess.DEVNULL,
+                                      stdout=subprocess.PIPE, stderr=subprocess.PIPE, timeout=300)
+                self.assertEqual((done.returncode, b"\x1b" in done.stdout + done.stderr), (status, False), (words, done.stderr))
+                self.assertIn(said, done.stdout.decode(), words)
+
     def test_beside_a_module_of_the_same_name(self):
         # `python3 -m hemtoghai` takes Python's own modules, and not what lies in the folder in which it is typed.
         with tempfile.TemporaryDirectory() as room:

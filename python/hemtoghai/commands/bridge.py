@@ -27,6 +27,7 @@ from hemtoghai.flying import clock, finite, links
 from hemtoghai.flying.own_clock import OwnClock
 from hemtoghai.flying.uploads import Carrying, ENDS, Traffic, uploaded, wanted_packets
 from hemtoghai.language.choreo import Flown
+from hemtoghai.streams import shown
 
 
 # ---- what drones hold
@@ -147,7 +148,11 @@ def radio_of(options: Namespace, flown: Flown, heard: links.Heard) -> links.Link
     from hemtoghai.flying import crazyradio
     radio = None
     try:
-        radio = crazyradio.Radio(flown.names, crazyradio.addresses(options.radio, flown.names))
+        where = crazyradio.addresses(options.radio, flown.names)
+    except ValueError as error:  # which names the file
+        return stop(str(error))
+    try:
+        radio = crazyradio.Radio(flown.names, where)
         return crazyradio.Link(flown.names, heard, radio, flown.show.settings["memory"][0], options.repeat_starts)
     except BaseException as error:
         if radio:
@@ -171,7 +176,7 @@ def print_end(options: Namespace, done: Carrying, ended: int) -> int:
     for line in done.traffic.end_lines(status):
         print(line)
     if status in (4, 5):
-        print("%s why %s explains the refusal and lists changes that help" % (program.COMMAND, options.show))
+        print(f"{program.COMMAND} why {shown(options.show)} explains the refusal and lists changes that help")
     if ended != status:
         stop("the program ended with status %d, but its end frame says %d" % (ended, status))
     return status

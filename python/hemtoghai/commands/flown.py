@@ -41,6 +41,7 @@ from hemtoghai import texts
 from hemtoghai.companion import flown_of, many, parser, stop
 from hemtoghai.flying import finite
 from hemtoghai.geometry.curves import Curve, curves_of
+from hemtoghai.streams import shown
 
 WRAP = 2 ** 24 / 1000  # seconds after which a drone's stamps begin anew
 REACH = 1500  # milliseconds within which an offset is looked for
@@ -351,7 +352,7 @@ def main(words: list[str]) -> int:
     log, curves, judged = read_log(options.log), curves_of(flown), {}
     strangers = sorted(set(log) - set(flown.names))
     if strangers:
-        print("not of the show, and left out: %s" % ", ".join(strangers))
+        print("not of the show, and left out: %s" % shown(", ".join(strangers)))
     for name, curve in curves.items():
         it = Judged(*by_own_clock(log.get(name, []), curve.end), curve)
         if it.samples:
