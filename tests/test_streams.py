@@ -117,11 +117,15 @@ class Streams(unittest.TestCase):
         with tempfile.TemporaryDirectory() as room:
             for name in ("crossing", "solo"):
                 shutil.copy(os.path.join(TOP, "examples", name + ".choreo"), os.path.join(room, name + "\x1b[31m"))
+            os.mkdir(os.path.join(room, "\x1b[31m"))
             with open(os.path.join(room, "log"), "w") as file:
                 file.write("time,drone,x,y,z\n1,a\x1b[31m,0,0,0\n1,solo,0,0,1\n")
             for words, status, said in (
                     (["bridge", "crossing\x1b[31m"], 5, "why crossing\\x1b[31m explains the refusal"),
-                    (["flown", "solo\x1b[31m", "log"], 1, "left out: a\\x1b[31m\n")):
+                    (["flown", "solo\x1b[31m", "log"], 1, "left out: a\\x1b[31m\n"),
+                    (["legs", "--out", "\x1b[31m", "solo\x1b[31m"], 0, "; \\x1b[31m/up.choreo\n"),
+                    (["fly", "--simulate", "--yes", "--log", "log\x1b[31m", "solo\x1b[31m"], 0,
+                     "flown solo\\x1b[31m log\\x1b[31m judges them")):
                 done = subprocess.run([*common.AS_BUILT, *words], cwd=room, stdin=subprocess.DEVNULL,
                                       stdout=subprocess.PIPE, stderr=subprocess.PIPE, timeout=300)
                 self.assertEqual((done.returncode, b"\x1b" in done.stdout + done.stderr), (status, False), (words, done.stderr))

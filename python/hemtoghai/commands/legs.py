@@ -26,6 +26,7 @@ from hemtoghai.flying import legs
 from hemtoghai.flying.landings import Landings
 from hemtoghai.flying.stages import Leg
 from hemtoghai.program import COMMAND
+from hemtoghai.streams import shown
 
 NO_WAY = 16
 
@@ -33,7 +34,7 @@ NO_WAY = 16
 def summed_up(leg: Leg, path: str, name: str, show: str, top: int) -> bytes:
     """A leg as a show, whose summary is printed; the show's own curves stay below `top`."""
     words = "judged as a whole" if leg.whole else "judged stage by stage: the next begins when the one before has ended"
-    print(f"way {name}: {many(len(leg.stages), 'stage')}, {leg.milliseconds() / 1000:.1f} s; {words}; {path}")
+    print(f"way {name}: {many(len(leg.stages), 'stage')}, {leg.milliseconds() / 1000:.1f} s; {words}; {shown(path)}")
     if leg.why_below:
         print("  below the last places, since there is no way to the pads: %s" % leg.why_below)
     for line in leg.lines():

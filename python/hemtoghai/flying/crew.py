@@ -128,7 +128,7 @@ def put(text: str) -> None:
 
 
 def say(text: str) -> None:
-    put(text + "\n")
+    put(streams.shown(text) + "\n")
 
 
 class Answers:
