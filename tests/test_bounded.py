@@ -7,6 +7,7 @@ import random
 import subprocess
 import tempfile
 import unittest
+from itertools import chain
 from unittest import mock
 
 import common
@@ -140,7 +141,6 @@ class Certificates(common.Folder, unittest.TestCase):
                 self.assertLess(mib, 120)
                 self.assertLess(seconds, SECONDS)
 
-
     def test_105_megabytes(self):
         # 35 million trees of a word, and trees of several lengths by turns: in 300 MB.
         with tempfile.TemporaryDirectory() as self.place:
@@ -160,15 +160,13 @@ class Certificates(common.Folder, unittest.TestCase):
 
 
 class Logs(common.Folder, unittest.TestCase):
-    SHOW = os.path.join(TOP, "examples", "crossing_cured.choreo")
-
-    def judged(self, parts):
+    def judged(self, parts, show=os.path.join(TOP, "examples", "crossing_cured.choreo")):
         """How `flown` ends over a log of these bytes, each part so often: status, output, seconds and MiB."""
         with open(self.path("log"), "wb") as file:
             for data, count in parts:
                 for _ in range(count):
                     file.write(data)
-        return used([common.SHOW, "flown", self.SHOW, self.path("log")], self.place)
+        return used([common.SHOW, "flown", self.path(show), self.path("log")], self.place)
 
     def test_long(self):
         # 105 MB each: 3.3 million good samples, samples of which one is bad, one row, and empty rows.
@@ -181,6 +179,18 @@ class Logs(common.Folder, unittest.TestCase):
                 self.assertEqual((ended, said), (70, ""), used_of)
                 self.assertLess(mib, MIB)
                 self.assertLess(seconds, 3 * SECONDS)
+
+    def test_taken(self):
+        # 105 MB that are judged to their end: 450,000 lines of one drone, each with another time, place and stamp.
+        with tempfile.TemporaryDirectory() as self.place:
+            rows = ((b"%d.%03d,a,0.%05d,0,1.0%05d,%d,%d.5e-05" % (
+                k // 1000, k % 1000, k % 977, k, k, k % 9) + b" " * 200 + b"\n", 1) for k in range(450000))
+            self.write("show", "choreo 1\ndrone a 0 0 1000000 0\ncue 2000\nend\n")
+            ended, said, seconds, mib = self.judged(chain([(b"time,drone,x,y,z,stamp,variance\n", 1)], rows), "show")
+            self.assertGreater(os.path.getsize(self.path("log")), 105000000)
+            self.assertEqual((ended, "left out: 0 samples before the start and 447999 after the end\n" in said), (1, True))
+            self.assertLess(mib, MIB)
+            self.assertLess(seconds, 3 * SECONDS)
 
     def test_most(self):
         # As many lines as there may be are read, and one more isn't; a head and empty lines count too.

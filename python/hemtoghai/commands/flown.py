@@ -31,7 +31,9 @@ is refused, and so is one of more than 500,000 lines. Status 0: kept. 1: not kep
 import argparse
 import csv
 import sys
+from array import array
 from contextlib import ExitStack
+from functools import lru_cache
 from itertools import chain
 from math import dist, inf
 from operator import itemgetter
@@ -112,16 +114,17 @@ def read_log(path: str) -> Dict[str, List[Row]]:
     return out
 
 
+@lru_cache(1000)  # many are the same word, and are then the same number in memory
 def variance_of(word: str) -> Optional[float]:
     """The variance of a word, in square metres; None where there is none. One that is no number is infinite."""
     variance = float(word) if word.strip() else None
     return inf if variance is not None and not 0 <= variance < inf else variance
 
 
-def lives_of(rows: Sequence[Row]) -> Optional[List[List[float]]]:
+def lives_of(rows: Sequence[Row]) -> Optional[List["array[float]"]]:
     """The drone's seconds of all samples, in a list for each time that it was switched on: its stamps go back then, and
     not by what they wrap at. None where not all samples have one, or its clock leaps away from the log's."""
-    lives: List[List[float]] = []
+    lives: List["array[float]"] = []
     turns, lags = 0.0, [0.0, 0.0]
     for seconds, _, stamp, _ in rows:
         if stamp is None:
@@ -131,7 +134,7 @@ def lives_of(rows: Sequence[Row]) -> Optional[List[List[float]]]:
         lag = seconds - stamp - turns
         if not lives or stamp + turns < lives[-1][-1]:
             turns, lag = 0.0, seconds - stamp
-            lives.append([])
+            lives.append(array("d"))
             lags = [lag, lag]
         lags = [min(lags[0], lag), max(lags[1], lag)]
         if lags[1] - lags[0] > LEAP:
@@ -143,7 +146,7 @@ def lives_of(rows: Sequence[Row]) -> Optional[List[List[float]]]:
 def by_own_clock(rows: Sequence[Row], end: float) -> Tuple[List[Sample], Optional[str]]:
     """The samples by the drone's own clock if known, set so that no packet came early. And what is wrong with it, in
     words, where the drone started anew between the begin and the end in milliseconds: then the log's clock counts."""
-    out = [(1000 * t, place, 1000 * t, variance) for t, place, _, variance in rows]
+    out = [(ms := 1000 * t, place, ms, variance) for t, place, _, variance in rows]
     if all(row[2] is None for row in rows):
         return out, None
     lives, at = lives_of(rows), 0
@@ -354,7 +357,7 @@ def main(words: list[str]) -> int:
     if strangers:
         print("not of the show, and left out: %s" % shown(", ".join(strangers)))
     for name, curve in curves.items():
-        it = Judged(*by_own_clock(log.get(name, []), curve.end), curve)
+        it = Judged(*by_own_clock(log.pop(name, []), curve.end), curve)  # a log of many samples takes much memory
         if it.samples:
             judged[name] = it
     missing = [name for name in flown.names if name not in judged]
