@@ -31,7 +31,7 @@ mod upload;
 pub use fitted::{FitError, Fitted, PlanFault};
 pub use fitting::fit;
 pub use separation::{
-    BlockedPart, SeparationFault, certificate, clearance_of, count_nodes, separation_law,
+    BlockedPart, SeparationFault, certificate, clearance_of, count_nodes, ruler_of, separation_law,
 };
 pub use text::{plan_law, plan_text};
 pub use upload::{landing_law, session, uploadable_law, uploads_law};

@@ -73,8 +73,8 @@ pub fn clearance_of(f: &Fitted) -> Clearance
     }
 }
 
-// The ruler of a clearance: the 98 directions.
-fn ruler_of(clearance: Clearance) -> Ruler<98>
+/// The 98 directions, measured for a clearance.
+pub fn ruler_of(clearance: Clearance) -> Ruler<98>
     requires { IsClearance clearance }
     ensures { result ≡ measure_of clearance }
 {

@@ -1,7 +1,6 @@
 //! Each pair of drones and each cue in which no direction separates them.
 ghost use Rattle.std.specs.Prelude.{◌≡◌, ℕ, ◌≤◌, [], ◌++◌, List, length, IfOk, IfSome, OnOk};
 ghost use Rattle.fleet_curves.specs.Raised.{cues_in, raised_of};
-ghost use Rattle.sep_parts.specs.Directions.{IsClearance};
 ghost use Rattle.sep_parts.specs.Slots.{IsSlot};
 ghost use Rattle.show_plan.specs.Fitting.{IsValidFitted};
 ghost use Rattle.show_plan.specs.Separation.{clearance_of, measure_of};
@@ -13,9 +12,9 @@ use fleet_curves::Curves;
 use fleet_io::Lines;
 use fleet_math::{Depth, Fine};
 use pair_search::{Found, search_with};
-use sep_parts::{Clearance, Node, Ruler, Slot, WIDE, table_law};
+use sep_parts::{Node, Ruler, Slot};
 use show_judge::name_at;
-use show_plan::{BlockedPart, Fitted, clearance_of};
+use show_plan::{BlockedPart, Fitted, clearance_of, ruler_of};
 use std::alloc::{AllocError, Global};
 use touch_witness::{Axes, Part, closest_in, put_blocked_closest, put_more_blocked};
 
@@ -27,15 +26,6 @@ const MOST_BLOCKED: u16 = 200;
 pub fn blocked_law()
     ensures { BlockedLaw }
 {}
-
-// The ruler of a clearance: the 98 directions.
-fn ruler_of(clearance: Clearance) -> Ruler<98>
-    requires { IsClearance clearance }
-    ensures { result ≡ measure_of clearance }
-{
-    table_law();
-    Ruler::make(&WIDE, clearance)
-}
 
 // The first part of a slot's cue that no direction separates.
 fn part_in(
