@@ -1,22 +1,15 @@
 //! Numbers with a unit.
 
-ghost use Rattle.std.specs.Prelude.{◌≡◌, ℕ, ◌+◌, ◌*◌, ◌^◌, ◌<◌, ◌≤◌, ◌==◌, ◌≤ℤ◌, ◌<ℤ◌, pos, neg_ℤ, min, option_map};
-ghost use Rattle.std.specs.Prelude.{Option, IsTrue, IfOk, length};
+ghost use Rattle.std.specs.Prelude.{◌≡◌, ◌+◌, ◌*◌, ◌^◌, ◌<◌, ◌≤◌, ◌==◌, ◌≤ℤ◌, ◌<ℤ◌, pos, neg_ℤ, option_map};
+ghost use Rattle.std.specs.Prelude.{IsTrue, IfOk, length};
 ghost use Rattle.std.specs.List.{prefix_len, list_all};
-ghost use Rattle.text_lines.specs.Numbers.{is_digit as is_digit_of, signed, begins_with_minus as begins_with_minus_of};
-ghost use Rattle.text_lines.specs.Numbers.{in_range as in_range_of};
+ghost use Rattle.text_lines.specs.Numbers.{in_range as in_range_of, is_digit as is_digit_of};
 ghost use Rattle.quantities.specs.Quantities as spec;
 ghost use Rattle.quantities.specs.Steps.{AreDigits, number_after, capped, moved as moved_of};
 ghost use Rattle.quantities.specs.declared.unit.Shift.TheVariants as shift;
 
 use crate::unit::{Counts, Shift, shift_of};
-use text_lines::{LARGE, NumberFault, natural, number_in};
-
-fn is_digit(byte: u8) -> bool
-    ensures { result ≡ is_digit_of byte }
-{
-    matches!(byte, b'0'..=b'9')
-}
+use text_lines::{LARGE, NumberFault, begins_with_minus, in_range, is_digit, natural, number_in};
 
 // How many decimal digits some bytes begin with.
 fn digit_count(bytes: &[u8]) -> usize
@@ -168,40 +161,6 @@ fn size(counts: Counts, bytes: &[u8]) -> Option<u64>
     } else {
         size_at(counts, &bytes[..count], &bytes[count..])
     }
-}
-
-fn begins_with_minus(word: &[u8]) -> bool
-    ensures value { result ≡ begins_with_minus_of word.now }
-    ensures some { IsTrue result → 0 < length word.now }
-{
-    match word {
-        [first, ..] => *first == b'-',
-        [] => false,
-    }
-}
-
-// The value of a size with its sign, in a range. A size above `LARGE` may be shown as that.
-fn in_range(size: Option<u64>, negative: bool, low: i64, high: i64) -> Result<i64, NumberFault>
-    requires low { neg_ℤ (pos LARGE) <ℤ low }
-    requires high { high <ℤ pos LARGE }
-    ensures within { IfOk result (λ v. (low ≤ℤ v) × (v ≤ℤ high)) }
-    ensures value { (n : Option ℕ) → size ≡ option_map capped n
-        → result ≡ in_range_of low high (option_map (signed negative) n) }
-{
-    let Some(size) = size else {
-        return Err(NumberFault::NotANumber);
-    };
-    let Ok(size) = i64::try_from(size) else {
-        return Err(NumberFault::OutOfRange);
-    };
-    let value = if negative { -size } else { size };
-    if value < low {
-        return Err(NumberFault::OutOfRange);
-    }
-    if high < value {
-        return Err(NumberFault::OutOfRange);
-    }
-    Ok(value)
 }
 
 // A number with a unit, which has to lie from `low` to `high`.

@@ -12,5 +12,5 @@ mod number;
 mod token;
 
 pub use line::{len_before, split_line};
-pub use number::{LARGE, NumberFault, natural, number_in};
+pub use number::{LARGE, NumberFault, begins_with_minus, in_range, is_digit, natural, number_in};
 pub use token::{Comments, Token, line_word_count, put_line, tokens, visible, word_at};

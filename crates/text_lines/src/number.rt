@@ -19,7 +19,8 @@ pub enum NumberFault {
 /// The greatest number that is told from greater ones. The bounds of all numbers that are read lie below it.
 pub const LARGE: u64 = 1_000_000_000_000;
 
-fn is_digit(byte: u8) -> bool
+/// Whether a byte is one of the decimal digits `0` to `9`.
+pub fn is_digit(byte: u8) -> bool
     ensures { result ≡ is_digit_of byte }
 {
     matches!(byte, b'0'..=b'9')
@@ -135,7 +136,8 @@ pub fn natural(word: &[u8]) -> Option<u64>
     }
 }
 
-fn begins_with_minus(word: &[u8]) -> bool
+/// Whether the first byte of a word is `-`.
+pub fn begins_with_minus(word: &[u8]) -> bool
     ensures value { result ≡ begins_with_minus_of word.now }
     ensures some { IsTrue result → 0 < length word.now }
 {
@@ -145,8 +147,9 @@ fn begins_with_minus(word: &[u8]) -> bool
     }
 }
 
-// The value of a size with its sign, in a range. A size above `LARGE` may be shown as that.
-fn in_range(size: Option<u64>, negative: bool, low: i64, high: i64) -> Result<i64, NumberFault>
+/// A size with its sign, where that lies from `low` to `high`. A size above [`LARGE`] may be given as that; none is
+/// `NotANumber`.
+pub fn in_range(size: Option<u64>, negative: bool, low: i64, high: i64) -> Result<i64, NumberFault>
     requires low { neg_ℤ (pos LARGE) <ℤ low }
     requires high { high <ℤ pos LARGE }
     ensures within { IfOk result (λ v. (low ≤ℤ v) × (v ≤ℤ high)) }
