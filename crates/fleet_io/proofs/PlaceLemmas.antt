@@ -1,5 +1,5 @@
 -- What one byte of a template gives.
-use Rattle.fleet_io.proofs.Prelude.{◌≡◌, ℕ, List, [], ◌∷◌, ◌++◌, drop, length, map, false, eqb, refl, arith, ne_eqb, filled, word_bytes}
+use Rattle.fleet_io.proofs.Prelude.{◌≡◌, ℕ, List, [], ◌∷◌, length, map, false, eqb, refl, arith, ne_eqb, filled, word_bytes}
 use Rattle.fleet_io.specs.declared.words.Word.{Word}
 
 -- with no words left, the byte
@@ -12,7 +12,3 @@ filled_all byte rest (word ∷ words) none = absurd (omega (arith, none))
 pub filled_byte : (byte : ℕ) (rest : List ℕ) (words : List Word) → (byte ≡ 63 → ⊥) → filled (byte ∷ rest) (map word_bytes words) ≡ byte ∷ filled rest (map word_bytes words)
 filled_byte byte rest [] other = filled_all byte rest [] refl
 filled_byte byte rest (word ∷ words) other = let plain : eqb byte 63 ≡ false = ne_eqb byte 63 other in rw (plain, filled) refl
-
--- at a place, the next word
-pub filled_word : (rest : List ℕ) (words : List Word) (word : Word) (others : List Word) → words ≡ word ∷ others → filled (63 ∷ rest) (map word_bytes words) ≡ word_bytes word ++ filled rest (map word_bytes (drop 1 words))
-filled_word rest words word others is = rw is refl

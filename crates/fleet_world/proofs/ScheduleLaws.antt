@@ -60,10 +60,6 @@ number_of-read w n l is some =
     sym (ap (λ (b : Bool). cond b (counted_from_0 (natural_of w)) None) (le-leb (length w) 9 l)
     ∙ ap counted_from_0 is ∙ ap (λ (b : Bool). cond b None (Some (n - 1))) (ne_eqb n 0 some))
 
-pub prepended-nothing : {E : Type 0} (later : Result (List E) ℕ) → prepended [] later ≡ later
-prepended-nothing {E} (Ok later) = refl
-prepended-nothing {E} (Err faulty) = refl
-
 -- one event more
 pub prepended-more : {E : Type 0} (events : List E) (event : E) (number : ℕ) (later : Result (List E) ℕ) →
     prepended (events ++ event ∷ []) later ≡ prepended events (put_event number (Some event) later)

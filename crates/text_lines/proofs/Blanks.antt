@@ -1,5 +1,5 @@
 -- Bytes before the next blank, and the bits that mark blanks.
-use Rattle.text_lines.proofs.Prelude.{◌≡◌, ◌≢◌, ℕ, ◌+◌, ◌-◌, ◌<◌, ◌≤◌, true, false, List, ◌++◌, length, get_or, drop, drop-drop, get_or-drop, length-drop, sym, ap, ◌∙◌, ⊎_elim, arith, nat_tests, cases_lt, false_from_ne_true, position_or_len, is_blank, word_token, line_tokens, Token, NoBlank, Marks}
+use Rattle.text_lines.proofs.Prelude.{◌≡◌, ◌≢◌, ℕ, ◌+◌, ◌-◌, ◌<◌, ◌≤◌, true, List, ◌++◌, length, get_or, drop, drop-drop, get_or-drop, length-drop, sym, ap, ◌∙◌, ⊎_elim, arith, nat_tests, cases_lt, false_from_ne_true, position_or_len, is_blank, word_token, line_tokens, Token, NoBlank, Marks}
 use Rattle.std.specs.Int.{bit_at}
 use Rattle.std.proofs.Common.{◌%◌, pow_pos}
 use Rattle.std.proofs.Math.Nat.{div-eq_of_lt}
@@ -39,11 +39,6 @@ put_last line at bytes start old new total within none made so_far =
 -- at the start of a line all of its words are to come
 pub from_start : (line at : ℕ) (bytes : List ℕ) (old : List Token) → old ++ line_tokens line (at + 0) (drop 0 bytes) ≡ old ++ line_tokens line at bytes
 from_start line at bytes old = let e : at + 0 ≡ at = omega arith in ap (λ (k : ℕ). old ++ line_tokens line k bytes) e
-
--- one more byte that isn't blank
-pub one_passed : (bytes : List ℕ) (start at : ℕ) → NoBlank bytes start at → is_blank (get_or bytes at 0) ≡ false → NoBlank bytes start (at + 1)
-one_passed bytes start at none plain k low high =
-    ⊎_elim (λ lt. none k low lt) (λ ge. let e : k ≡ at = omega arith in ap (λ (i : ℕ). is_blank (get_or bytes i 0)) e ∙ plain) (cases_lt k at)
 
 -- no blank stands before the lowest bit that is set
 pub none_before : (bytes : List ℕ) (base start marks t : ℕ) → t ≤ 16 → Marks bytes base start marks → NoBlank bytes start base → ((k : ℕ) → k < t → bit_at marks k ≡ 0) → NoBlank bytes start (base + t)

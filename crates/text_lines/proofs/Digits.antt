@@ -1,5 +1,5 @@
 -- Decimal digits that are read from a place on.
-use Rattle.text_lines.proofs.Prelude.{◌≡◌, ℕ, ◌+◌, ◌-◌, ◌*◌, ◌<◌, ◌≤◌, Bool, true, false, ◌&&◌, List, [], ◌∷◌, length, get_or, drop, drop-cons, drop_all, add-one, refl, ap, ◌∙◌, arith, min, Option, Some, None, IfSome, option_map, is_digit, digits_after, natural_of, are_digits_at, number_at}
+use Rattle.text_lines.proofs.Prelude.{◌≡◌, ℕ, ◌+◌, ◌-◌, ◌*◌, ◌<◌, ◌≤◌, Bool, true, false, ◌&&◌, List, [], ◌∷◌, length, get_or, drop, drop-cons, drop_all, add-one, refl, ap, ◌∙◌, arith, min, Some, is_digit, digits_after, natural_of, are_digits_at, number_at}
 
 both : (a b : Bool) → (a && b) ≡ true → (a ≡ true) × (b ≡ true)
 both true b h = (refl, h)
@@ -40,8 +40,3 @@ four_more m k w within are =
 -- the same up to a number that stands for all that are greater
 pub capped_one : (m n e most : ℕ) → n ≡ min m most → min (10 * n + e) most ≡ min (10 * m + e) most
 capped_one m n e most is = omega (arith, is)
-
--- a small number is that, and no number stays none
-pub cap_small : (o : Option ℕ) → IfSome o (λ m. m < 100000000) → o ≡ option_map (λ n. min n 1000000000000) o
-cap_small None small = refl
-cap_small (Some m) small = let e : m ≡ min m 1000000000000 = omega (arith, small) in ap (λ (n : ℕ). Some n) e
