@@ -50,7 +50,6 @@ fn nothing() -> Difference {
     Difference::make([Bez { b: [0; 8] }; 3])
 }
 
-// The difference of the curves of a pair in a cue.
 fn difference(curves: &Curves, slot: Slot) -> Difference
     requires { IsSlotOrPast curves.now slot }
     ensures { IsDifference curves.now slot result }
@@ -135,7 +134,6 @@ impl Judging {
         Judging::over(difference(curves, slot), slot, trees)
     }
 
-    // Goes before the tree of a pair and cue.
     fn go_before(&mut self, curves: &Curves, slot: Slot, trees: u32)
         requires { IsSlotOrPast curves.now slot }
         ensures judged { self.new.judged ≡ before_tree slot trees }
@@ -176,7 +174,6 @@ impl Judging {
         }
     }
 
-    // The tree is whole.
     pub fn end_tree(&mut self, curves: &Curves)
         requires next { IsNext curves.now self.old.judged self.old.diff }
         requires few { HasAtMost most_bytes self.old.judged }

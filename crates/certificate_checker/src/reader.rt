@@ -65,7 +65,6 @@ fn leaf(first: u8, second: u8) -> Option<u8>
 }
 
 impl Reader {
-    // Before the first byte.
     pub fn start() -> Reader
         ensures read { reading_of result ≡ FirstLine [] }
         ensures sound { IsSound result }
@@ -169,7 +168,6 @@ impl Reader {
         }
     }
 
-    // A byte of the line of a tree.
     fn tree_byte(&mut self, curves: &Curves, tables: &Tables, b: u8)
         requires reader { IsReader curves.now self.old }
         requires stage { self.old.stage ≡ Stage.Tree }
@@ -248,7 +246,6 @@ impl Reader {
         }
     }
 
-    // The line of a tree is whole.
     fn end_tree(&mut self, curves: &Curves)
         requires reader { IsReader curves.now self.old }
         requires stage { self.old.stage ≡ Stage.Tree }
@@ -266,7 +263,6 @@ impl Reader {
         self.judging.end_tree(curves);
     }
 
-    // The line is whole.
     pub fn end_line(&mut self, curves: &Curves)
         requires reader { IsReader curves.now self.old }
         requires room { HasTreeRoom self.old }

@@ -34,7 +34,6 @@ impl Model for Tables {
 }
 
 impl Tables {
-    // The tables for a clearance.
     pub fn make(clearance: Clearance) -> Tables
         requires clearance { IsClearance clearance }
         ensures { result ≡ clearance }

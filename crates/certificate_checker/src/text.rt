@@ -21,7 +21,6 @@ pub struct TextReader {
 }
 
 impl TextReader {
-    // Before the first byte.
     pub fn start() -> TextReader
         ensures read { checking_of result ≡ nothing_checked }
         ensures sound { IsTextSound result }
@@ -33,7 +32,6 @@ impl TextReader {
         }
     }
 
-    // One byte more.
     fn take(&mut self, curves: &Curves, tables: &Tables, byte: u8)
         requires reader { IsTextReader curves.now self.old }
         requires few { AreFew most_bytes (checking_of self.old).reading }
@@ -56,7 +54,6 @@ impl TextReader {
         self.returned = false;
     }
 
-    // More bytes.
     pub fn take_all(&mut self, curves: &Curves, tables: &Tables, bytes: &[u8])
         requires reader { IsTextReader curves.now self.old }
         requires few { (n : ℕ) × (n + length bytes.now ≤ most_bytes) × AreFew n (checking_of self.old).reading }

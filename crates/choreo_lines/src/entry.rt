@@ -107,7 +107,6 @@ fn name_at(values: &[Value], k: usize) -> Name
     }
 }
 
-// The number at a place, from 0 to `most`.
 fn natural_at(values: &[Value], k: usize, most: u32) -> u32
     requires { IsNatural most (number_of_place values.now k) }
     ensures value { result ≡ spec.natural_at values.now k }
@@ -291,7 +290,6 @@ fn line_in(
     }
 }
 
-// What the words of a line say at a place.
 fn entry_at(
     alloc: Global,
     form: Form,

@@ -473,7 +473,6 @@ impl Reader {
         }
     }
 
-    // What is wrong with an entry in its context.
     fn fault(&self, entry: &Entry) -> Option<LineKind>
         ensures { result ≡ entry_fault_of (context_of (built_of self.now)) entry.now }
     {
@@ -619,7 +618,6 @@ impl Reader {
     }
 }
 
-// The line that opened a block.
 fn opening_line(block: &OpenBlock) -> u32
     ensures { result ≡ (opening_of (open_of block.now)).line }
 {
@@ -700,7 +698,6 @@ fn read_allowed(alloc: Global, text: &[u8]) -> Result<Show, ShowFault>
     reader.finish()
 }
 
-// The show of a text, or its first fault.
 fn read_text(alloc: Global, text: &[u8]) -> Result<Show, ShowFault>
     requires { length text.now ≤ most_text }
     ensures { ShowGives plain_show result (reading text.now) }

@@ -212,7 +212,6 @@ fn drill(words: &[String]) -> Option<Command>
     Some(Command::Drill { drones, depth })
 }
 
-// The command of this name, with the words after it.
 fn named(name: &[u8], words: &[String]) -> Option<Command>
     ensures value { result ≡ commands.named name.now (map string_bytes words.now) }
     ensures command { IfSome result IsCommand }

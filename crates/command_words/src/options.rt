@@ -10,7 +10,6 @@ ghost use Rattle.command_words.specs.Steps.{AreInRange, IsInRange};
 use fleet_math::{Depth, Fine, MOST_DEPTH, MOST_FINE};
 use text_lines::natural;
 
-// The depth where no option names one.
 const DEFAULT_DEPTH: u32 = 6;
 
 // The step where no option names one, in milliseconds.

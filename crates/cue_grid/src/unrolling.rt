@@ -95,7 +95,6 @@ fn unrolled(alloc: Global, show: &Lookup) -> Result<Grid, UnrollError>
     Ok(whole_grid(alloc, show)?)
 }
 
-// The grid of a show without a fault.
 fn whole_grid(alloc: Global, show: &Lookup) -> Result<Grid, AllocError>
     requires { grid_fault (shown show.now) ≡ None }
     ensures { IfOk result (λ g. g ≡ grid_of (shown show.now)) }

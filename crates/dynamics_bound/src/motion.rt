@@ -39,7 +39,6 @@ pub struct Motion {
 }
 
 impl Axes {
-    // On each axis the greater of two numbers.
     fn greater(self, other: Axes) -> Axes
         ensures { result ≡ greater_axes self other }
     {

@@ -264,7 +264,6 @@ pub fn row_of_four(first: i16, v: [i16; 3]) -> [i128; 4]
     row!(first, v; 0 1 2)
 }
 
-// The control values of degree seven.
 fn row_of_eight(first: i16, v: [i16; 7]) -> [i128; 8]
     ensures exact { result ≡ first ∷ v }
     ensures small { All (IsBelow 32769) result }

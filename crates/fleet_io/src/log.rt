@@ -22,7 +22,6 @@ pub(crate) struct Piece<'a> {
 }
 
 impl Log {
-    // No bytes.
     pub(crate) fn new() -> Log
         ensures { result.bytes ≡ [] }
     {
@@ -37,7 +36,6 @@ impl Log {
     }
 }
 
-// A log with these bytes more.
 pub(crate) fn logged(log: &Log, bytes: &[u8]) -> Log
     ensures { result.bytes ≡ log.now.bytes ++ bytes.now }
 {

@@ -92,7 +92,6 @@ pub fn drone_of(names: &[Name], word: &[u8]) -> Option<u8>
     None
 }
 
-// What a line of three words does.
 fn named_event(kind: &[u8], drone: Option<u8>, n: Option<u32>) -> Option<WorldEvent>
     ensures { result ≡ event_with kind.now drone n }
 {

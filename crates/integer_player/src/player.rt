@@ -129,7 +129,6 @@ impl Player {
         ms - self.before > self.segment.ms as u32
     }
 
-    // To the next segment.
     fn step(&mut self, t: &Traj)
         requires place { IsPlaceIn t.now self.old }
         requires more { self.old.cue + 1 < length t.now.segments }
@@ -146,14 +145,12 @@ impl Player {
     }
 }
 
-// The control points of a cubic element that begins with `first`.
 fn cubic_points(first: i16, v: &[i16; 3]) -> [i16; 4]
     ensures { result ≡ first ∷ v.now }
 {
     [first, v[0], v[1], v[2]]
 }
 
-// The control points of an element of degree seven that begins with `first`.
 fn seven_points(first: i16, v: &[i16; 7]) -> [i16; 8]
     ensures { result ≡ first ∷ v.now }
 {

@@ -4,7 +4,6 @@
 ghost use Rattle.std.specs.Prelude.{◌≡◌, ℕ, ◌+◌, ◌*◌, ◌/◌, ◌^◌, ◌<◌, ◌≤◌, List, slice_index, IfSome};
 ghost use Rattle.integer_player.specs.Weights.{dot_below, IsNarrowed};
 
-// How many bits are kept.
 const KEPT_BITS: u32 = 36;
 
 // Eight control values of 16 bits sum to no more.

@@ -14,7 +14,6 @@ pub const ROW_BYTES: usize = 112;
 /// A row. It takes no memory.
 pub type Row = ArrayVec<u8, ROW_BYTES>;
 
-// Adds a space and a number.
 fn put_number(row: &mut Row, value: i64)
     requires { length row.old.items + 21 ≤ row_bytes }
     ensures number { row.new.items ≡ row.old.items ++ 32 ∷ signed_decimal value }

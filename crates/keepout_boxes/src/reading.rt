@@ -14,7 +14,6 @@ use crate::region::Region;
 use std::alloc::{AllocError, Global};
 use text_lines::{Comments, Token, line_word_count, number_in, tokens, word_at};
 
-// The most regions of a text.
 const MOST_REGIONS: usize = 64;
 
 // How far the ends of a region may lie from the origin, in millimetres.
@@ -87,7 +86,6 @@ fn are_ordered(low: [i32; 3], high: [i32; 3]) -> bool
     low[0] <= high[0] && low[1] <= high[1] && low[2] <= high[2]
 }
 
-// The region of a line with these words.
 fn region_on(text: &[u8], words: &[Token]) -> Option<Region>
     ensures value { result ≡ region_of (words_in text.now words.now) }
     ensures near { IfSome result IsNear }

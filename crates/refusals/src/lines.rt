@@ -79,7 +79,6 @@ impl Refusal {
         }
     }
 
-    // The line, if it is of an upload.
     fn upload_line(&self) -> Option<ShortLine>
         requires { IsSayable self.now }
         ensures { MatchOption result (is_of_upload self.now ≡ false) (λ line. line ≡ line_of self.now) }

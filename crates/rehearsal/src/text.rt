@@ -96,7 +96,6 @@ fn put_started(text: &mut Lines, started: Option<u8>) -> Result<(), AllocError>
     }
 }
 
-// The values with which a trajectory ends.
 fn ends_of(t: &Traj) -> [i16; 4]
     ensures { (axis : ℕ) → axis < 4 → at result axis ≡ last_value t.now axis }
 {

@@ -11,7 +11,6 @@ use serde_json::{Value, json};
 use std::alloc::{AllocError, Global};
 use std::str;
 
-// A list of numbers.
 fn numbers_of(alloc: Global, numbers: &[u32]) -> Result<Value, AllocError>
     ensures { IfOk result (λ value. view value ≡ array (number_items numbers.now)) }
 {
@@ -22,7 +21,6 @@ fn numbers_of(alloc: Global, numbers: &[u32]) -> Result<Value, AllocError>
     Ok(Value::from(list))
 }
 
-// A list of names.
 fn names_of(alloc: Global, names: &[ArrayVec<u8, 16>]) -> Result<Value, AllocError>
     requires { All (λ name. IsAscii name.items) names.now }
     ensures { IfOk result (λ value. view value ≡ array (name_items (map (λ name. name.items) names.now))) }
@@ -63,7 +61,6 @@ fn report_of(
     })
 }
 
-// A text and a line feed.
 fn with_line_feed(mut text: String) -> Result<Vec<u8>, AllocError>
     ensures { IfOk result (λ line. line.items ≡ string_bytes text ++ 10 ∷ []) }
 {

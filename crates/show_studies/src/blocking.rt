@@ -47,7 +47,6 @@ fn part_in(
     }
 }
 
-// The line of a blocked part.
 fn put_part(
     text: &mut Lines,
     fitted: &Fitted,

@@ -42,7 +42,6 @@ pub fn closest_in(trajs: &[Traj], slot: Slot, axes: Axes, fine: Fine) -> Closest
     }
 }
 
-// Where each drone begins a cue.
 fn starts_in(trajs: &[Traj], cue: u16) -> [Start; MOST_DRONES]
     requires show { IsOneShow trajs.now }
     requires cue { cue < cues_in trajs.now }

@@ -135,7 +135,6 @@ pub fn put_touch<'a>(
     )
 }
 
-// The number of instants that are listed.
 fn listed_instants(cues: u16, fine: Fine) -> u32
     ensures { result ≡ cues * (2 ^ fine + 1) }
 {

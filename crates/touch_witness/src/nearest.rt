@@ -131,7 +131,6 @@ fn nearest_at(
     }
 }
 
-// The closest two of the first drones.
 fn least_pair(points: &[Point; MOST_DRONES], drones: usize, axes: Axes) -> Pair
     requires two { 2 ≤ drones }
     requires few { drones ≤ most_drones }

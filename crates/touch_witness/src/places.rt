@@ -113,7 +113,6 @@ fn next_start(t: &Traj, start: Start, cue: usize) -> Start
     }
 }
 
-// Where a drone is at a fraction of a cue.
 fn place_of(t: &Traj, start: Start, cue: usize, at: u8, fine: Fine) -> Point
     requires cue { HasCue cue t.now }
     requires start { IsStart t.now cue start }
