@@ -1,16 +1,17 @@
 -- Ends of parts: what marks tell of them, and that the halves of a part share them.
-use Rattle.pair_search.proofs.Prelude.{below_more, drop, get_or, get_or-set_other, get_or-set_same, slice_set, ◌≡◌, ◌≢◌, ◌⊎◌, inl, inr, ℕ, suc, ◌+◌, ◌-◌, ◌*◌, ◌^◌, ◌≤◌, ◌<◌, ◌<ℤ◌, ◌+ℤ◌, ◌*ℤ◌, ℤ, pos, Bool, true, false, arith, refl, sym, ◌∙◌, ap, subst, List, [], ◌∷◌, ◌++◌, length, Option, Some, None, is_some, is_none, at, by_lt, linear, pow-add, mul_left_comm_ℤ, Bez, controls, Place, part_value, direction_of, threshold, IsLevel, IsStack, left_half, right_half, root, places_of, Measure, Level, Node, Leaf, Split, IsShallow, places_below, least_value, low_value, part_along, first_low-values, AreOpposites, first_by, does_separate}
+use Rattle.pair_search.proofs.Prelude.{below_more, drop, get_or, get_or-set_other, get_or-set_same, slice_set, ◌≡◌, ◌≢◌, ◌⊎◌, inl, inr, ℕ, suc, ◌+◌, ◌-◌, ◌*◌, ◌^◌, ◌≤◌, ◌<◌, ◌<ℤ◌, ◌+ℤ◌, ◌*ℤ◌, ℤ, pos, Bool, true, false, arith, refl, sym, ◌∙◌, ap, subst, List, [], ◌∷◌, ◌++◌, length, Option, Some, None, is_some, is_none, at, by_lt, linear, pow-add, mul_left_comm_ℤ, Bez, controls, Place, part_value, direction_of, threshold, IsLevel, IsStack, left_half, right_half, root, places_of, Measure, Level, Node, Leaf, Split, IsShallow, places_below, least_value, low_value, part_along, first_low-values, IsPoint, Point, AreOpposites, first_by, does_separate}
 use Rattle.std.specs.Int.{bit_at}
-use Rattle.std.proofs.Common.{bit_and}
+use Rattle.std.proofs.Common.{bit_and, bit_or}
 use Rattle.std.proofs.lemmas.List.{drop-drop, length-map}
-use Rattle.std.proofs.lemmas.Nat.Bits.{bit_at-lt, bit_at-zero, bit_at_and}
+use Rattle.std.proofs.lemmas.Nat.Bits.{bit_at-lt, bit_at-zero, bit_at_and, bit_at_or}
 use Rattle.fleet_math.proofs.BernsteinLemmas.{bernstein-zero}
 use Rattle.halving.proofs.HalfLemmas.{left_edge, right_edge}
 use Rattle.halving.proofs.PolarLemmas.{part-part}
 use Rattle.pair_search.specs.declared.opposites.Opposites.{Opposites}
 use Rattle.pair_search.specs.declared.marking.Marks.{Marks}
 use Rattle.pair_search.specs.declared.ends.Ends.{Ends}
-use Rattle.pair_search.specs.Marks.{AreLeft, FindsMarked, IsLowEnd, MarkTells, MarksAt, TellAll, TellsEnds, TellsOf}
+use Rattle.pair_search.specs.declared.ends.Weighed.{Weighed}
+use Rattle.pair_search.specs.Marks.{AreEarly, AreEnds, AreLeft, FindsEarly, FindsMarked, IsLowEnd, IsMarked, IsMarkedIn, MarkTells, MarksAt, TellAll, TellsEnds, TellsOf}
 use Rattle.pair_search.proofs.LaneLemmas.{by_same, lane_along}
 use Rattle.pair_search.proofs.Marks.{none_there, some_there}
 
@@ -30,6 +31,12 @@ middle_value : (e m : ℕ) (f : ℕ → ℤ) → part_value (suc e) (2 * m + 0) 
 middle_value e m f =
     sym (part-part e m 0 7 f (omega arith) (omega arith)) ∙ sym (left_edge 7 (part_value e m f))
     ∙ right_edge 7 (part_value e m f) (omega arith) ∙ part-part e m 1 0 f (omega arith) (omega arith)
+
+-- ---- bits of two numbers
+-- a bit of both of two numbers is clear where it is in one
+pub either_clear : (a b i : ℕ) → bit_at (bit_and a b) i ≡ 0 → (bit_at a i ≡ 0) ⊎ (bit_at b i ≡ 0)
+either_clear a b i clear =
+    by_lt (bit_at a i) 1 (λ less. inl (omega (arith, less))) (λ more. inr (omega (arith, more, clear, bit_at_and a b i)))
 
 -- ---- ends that are too low
 least_next : (t : ℤ) (e : ℕ) → least_value t (suc e) ≡ pos 128 *ℤ least_value t e
@@ -75,14 +82,58 @@ module _ (m : Measure) (diff : List (Bez 8)) where
       failed None e = absurd (omega (arith, linear, low, first_low-values (part_along m.clearance.r m.clearance.h diff place (direction_of m.directions dir)) (least_value (threshold m.clearance (direction_of m.directions dir)) place.depth) e k few))
       failed (Some j) e = refl
 
+  -- what one bit of a point tells of the end that it is
+  front_told : (s : Opposites) (level : Level) (k begin past : ℕ) (p : Point) (marks : Marks) (i : ℕ) → k ≤ 7 → AreOpposites m s → IsLevel diff level → IsPoint level k p → IsMarkedIn begin past s p marks →
+      begin ≤ i → i < past → i + i < length m.directions → bit_at marks.front i ≡ 0 → IsLowEnd m diff level.place k i
+  front_told s level k begin past p marks i few opposites is point marked from before inside clear =
+      lane_along diff level m.clearance (direction_of m.directions i) s.lanes p i k few is point (opposites.lanes.each i (omega (arith, inside))) (marked.front i from before clear)
+
   -- the marks of a point tell of the end that it is
   pub told : (s : Opposites) (level : Level) (k : ℕ) (marks : Marks) → k ≤ 7 → length m.directions ≤ 98 → AreOpposites m s → IsLevel diff level → MarksAt s level k marks → TellsOf m diff level.place k marks
   told s level k marks few count opposites is at_point = record {
-    front = λ i inside clear. lane_along diff level m.clearance (direction_of m.directions i) s.lanes at_point.0 i k few is at_point.2 (opposites.lanes.each i (omega (arith, inside))) (at_point.3.front i (omega (arith, inside, count)) clear);
+    front = λ i inside clear. front_told s level k 0 49 at_point.0 marks i few opposites is at_point.2 at_point.3 (omega arith) (omega (arith, inside, count)) inside clear;
     back = λ i inside clear.
         lane_along diff level m.clearance (direction_of m.directions (length m.directions - (i + 1))) s.lanes at_point.0 (length m.directions - (i + 1)) k few is at_point.2 (opposites.lanes.each (length m.directions - (i + 1)) (omega (arith, inside)))
-        (opposites.each i inside at_point.0 at_point.1 (at_point.3.back i (omega (arith, inside, count)) clear));
+        (opposites.each i inside at_point.0 at_point.1 (at_point.3.back i (omega arith) (omega (arith, inside, count)) clear));
   }
+
+  -- ---- the whole cue, whose ends are weighed
+  -- of the first 16 directions those for which one of the ends is too low don't separate it
+  pub early_left : (s : Opposites) (first last : Weighed) → AreOpposites m s → IsLevel diff (record { place = root; part = diff }) → AreEnds s diff first last → AreEarly m diff (bit_and first.early.front last.early.front)
+  early_left s first last opposites is ends = λ i early inside clear. fails i early inside (either_clear first.early.front last.early.front i clear)
+    where
+      fails : (i : ℕ) → i < 16 → i + i < length m.directions → (bit_at first.early.front i ≡ 0) ⊎ (bit_at last.early.front i ≡ 0) → does_separate m diff root i ≡ false
+      fails i early inside (inl clear) =
+          low_end root 0 i (omega arith) (front_told s (record { place = root; part = diff }) 0 0 16 first.point first.early i (omega arith) opposites is ends.at_first ends.first_weighed.early (omega arith) early inside clear)
+      fails i early inside (inr clear) =
+          low_end root 7 i (omega arith) (front_told s (record { place = root; part = diff }) 7 0 16 last.point last.early i (omega arith) opposites is ends.at_last ends.last_weighed.early (omega arith) early inside clear)
+
+  -- the marks of both ends tell of it
+  pub ends_told : (s : Opposites) (first last : Weighed) (ends : Ends) → length m.directions ≤ 98 → AreOpposites m s → IsLevel diff (record { place = root; part = diff }) → AreEnds s diff first last →
+      IsMarked s first.point ends.first → IsMarked s last.point ends.last → TellsEnds m diff root ends
+  ends_told s first last ends few opposites is weighed at_first at_last = record {
+    first = told s (record { place = root; part = diff }) 0 ends.first (omega arith) few opposites is (first.point, weighed.first_weighed.small, weighed.at_first, at_first);
+    last = told s (record { place = root; part = diff }) 7 ends.last (omega arith) few opposites is (last.point, weighed.last_weighed.small, weighed.at_last, at_last);
+  }
+
+  -- where none of the first 16 directions separates it, what the late marks leave, and those of opposites
+  pub late_left : (s : Opposites) (first last : Weighed) (late ends : Ends) (near : Marks) → length m.directions ≤ 98 → AreOpposites m s → IsLevel diff (record { place = root; part = diff }) → AreEnds s diff first last → FindsEarly m diff None →
+      IsMarkedIn 16 49 s first.point late.first → IsMarkedIn 16 49 s last.point late.last → TellsEnds m diff root ends →
+      MarkTells late.first.front late.last.front near.front → MarkTells ends.first.back ends.last.back near.back → AreLeft m diff root near
+  late_left s first last late ends near few opposites is weighed early at_first at_last tells fronts backs = record {
+    front = λ i inside clear. by_lt i 16 (λ less. early i less inside) (λ more. front_fails i more inside (fronts i clear));
+    back = λ i inside clear. back_fails i inside (backs i clear);
+  }
+    where
+      front_fails : (i : ℕ) → 16 ≤ i → i + i < length m.directions → (bit_at late.first.front i ≡ 0) ⊎ (bit_at late.last.front i ≡ 0) → does_separate m diff root i ≡ false
+      front_fails i more inside (inl clear) =
+          low_end root 0 i (omega arith) (front_told s (record { place = root; part = diff }) 0 16 49 first.point late.first i (omega arith) opposites is weighed.at_first at_first more (omega (arith, inside, few)) inside clear)
+      front_fails i more inside (inr clear) =
+          low_end root 7 i (omega arith) (front_told s (record { place = root; part = diff }) 7 16 49 last.point late.last i (omega arith) opposites is weighed.at_last at_last more (omega (arith, inside, few)) inside clear)
+
+      back_fails : (i : ℕ) → i + i < length m.directions → (bit_at ends.first.back i ≡ 0) ⊎ (bit_at ends.last.back i ≡ 0) → does_separate m diff root (length m.directions - (i + 1)) ≡ false
+      back_fails i inside (inl clear) = low_end root 0 (length m.directions - (i + 1)) (omega arith) (tells.first.back i inside clear)
+      back_fails i inside (inr clear) = low_end root 7 (length m.directions - (i + 1)) (omega arith) (tells.last.back i inside clear)
 
   -- ---- the ends of halves
   first_kept : (place : Place) (marks : Marks) → TellsOf m diff place 0 marks → TellsOf m diff (left_half place) 0 marks
@@ -168,10 +219,9 @@ module _ (m : Measure) (diff : List (Bez 8)) where
   marked_none place bits back o finds is = subst (λ (x : Option ℕ). FindsMarked m diff place bits back x) is finds
 
 -- ---- bits
--- a bit of both of two numbers is clear where it is in one
-pub either_clear : (a b i : ℕ) → bit_at (bit_and a b) i ≡ 0 → (bit_at a i ≡ 0) ⊎ (bit_at b i ≡ 0)
-either_clear a b i clear =
-    by_lt (bit_at a i) 1 (λ less. inl (omega (arith, less))) (λ more. inr (omega (arith, more, clear, bit_at_and a b i)))
+-- a bit of one of two numbers is clear in both
+pub both_clear : (a b i : ℕ) → bit_at (bit_or a b) i ≡ 0 → (bit_at a i ≡ 0) × (bit_at b i ≡ 0)
+both_clear a b i clear = (omega (arith, clear, bit_at_or a b i), omega (arith, clear, bit_at_or a b i))
 
 -- what holds of the bytes before one, and of a new one, holds after the new one is put in
 pub set_bytes : (P : ℕ → ℕ → Type 0) (xs : List ℕ) (i v : ℕ) → i < length xs → P i v → ((k : ℕ) → k < i → P k (get_or xs k 0)) → (k : ℕ) → k < i + 1 → P k (get_or (slice_set xs i v) k 0)

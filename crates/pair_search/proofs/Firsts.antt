@@ -1,9 +1,9 @@
 -- The first direction that separates a place.
-use Rattle.pair_search.proofs.Prelude.{◌⊎◌, inl, inr, common_steps, ◌≡◌, ℕ, ◌+◌, ◌-◌, ◌≤◌, ◌<◌, Bool, true, false, zero, suc, ◌∷◌, cond, nat_lt, arith, refl, sym, subst, List, [], length, get_or, Option, Some, None, is_none, not, position_or_len_is, nat_tests, by_lt, Bez, Place, Measure, low_value, first_by, first_direction, FindsFirst, does_separate}
+use Rattle.pair_search.proofs.Prelude.{◌⊎◌, inl, inr, common_steps, ◌≡◌, ℕ, ◌+◌, ◌-◌, ◌≤◌, ◌<◌, Bool, true, false, zero, suc, ◌∷◌, cond, nat_lt, arith, refl, sym, subst, List, [], length, get_or, Option, Some, None, is_none, not, position_or_len_is, nat_tests, by_lt, Bez, Place, Measure, low_value, root, ap, option_map, option_or, Leaf, Split, node_for, first_by, first_direction, FindsFirst, does_separate}
 use Rattle.std.specs.Int.{bit_at}
 use Rattle.std.specs.List.{position, position_or_len}
 use Rattle.pair_search.specs.declared.marking.Marks.{Marks}
-use Rattle.pair_search.specs.Marks.{AreLeft, FindsEarliest, IsOut}
+use Rattle.pair_search.specs.Marks.{AreEarly, AreLeft, FindsEarliest, FindsEarly, IsOut}
 
 -- the first place where a test passes
 pub position-is : {X : Type 0} (p : X → Bool) (xs : List X) (i : ℕ) (d : X) → i < length xs → ((k : ℕ) → k < i → p (get_or xs k d) ≡ false) → p (get_or xs i d) ≡ true → position p xs ≡ Some i
@@ -96,3 +96,28 @@ first_found m diff place near count None left same finds =
 first_found m diff place near count (Some dir) left same finds =
     sym (position-is (λ n. is_none (low_value m.clearance diff place n)) m.directions dir [] (omega (arith, same, finds.0))
     (λ k less. passed m diff place near count left same k (omega (arith, less, finds.0)) (finds.1 k less)) (sym finds.2))
+
+-- one of the first 16 directions without a bit, or that failed, doesn't separate the whole cue
+early_fails : (m : Measure) (diff : List (Bez 8)) (near i : ℕ) → AreEarly m diff near → i < 16 → i + i < length m.directions → (bit_at near i ≡ 0) ⊎ (false ≡ does_separate m diff root i) → does_separate m diff root i ≡ false
+early_fails m diff near i left early inside (inl clear) = left i early inside clear
+early_fails m diff near i left early inside (inr answer) = sym answer
+
+-- the first of the first 16 directions, where those without a bit don't separate the whole cue
+pub early_found : (m : Measure) (diff : List (Bez 8)) (near count few : ℕ) (o : Option ℕ) → AreEarly m diff near → count ≡ length m.directions → few ≤ count → few ≤ 32 → ((i : ℕ) → i < 16 → i + i < count → i + i < few) →
+    FindsEarliest (λ k. false ≡ does_separate m diff root k) (λ k. true ≡ does_separate m diff root k) few near false o → FindsEarly m diff o
+unfolding first_direction
+early_found m diff near count few None left same less most enough finds = λ i early inside.
+    early_fails m diff near i left early inside (finds i (enough i early (omega (arith, same, inside))))
+early_found m diff near count few (Some dir) left same less most enough finds =
+    sym (position-is (λ n. is_none (low_value m.clearance diff root n)) m.directions dir [] (omega (arith, same, less, finds.1, finds.2))
+    (λ k before. early_fails m diff near k left (omega (arith, most, before, finds.1, finds.2)) (omega (arith, same, less, before, finds.1, finds.2)) (finds.4 k (omega (arith, before, finds.1, finds.2)) (omega (arith, before, finds.2))))
+    (sym finds.3))
+
+-- its node is a leaf
+pub early_node : (m : Measure) (diff : List (Bez 8)) (depth dir : ℕ) (o : Option ℕ) → FindsEarly m diff o → o ≡ Some dir → node_for (first_by m diff) depth root ≡ Some (Leaf dir)
+early_node m diff depth dir o finds is =
+    ap (λ (x : Option ℕ). option_or (option_map Leaf x) (cond (nat_lt 0 depth) (Some Split) None)) (sym (subst (λ (x : Option ℕ). FindsEarly m diff x) is finds))
+
+-- or none of the first 16 directions separates it
+pub early_none : (m : Measure) (diff : List (Bez 8)) (o : Option ℕ) → FindsEarly m diff o → o ≡ None → FindsEarly m diff None
+early_none m diff o finds is = subst (λ (x : Option ℕ). FindsEarly m diff x) is finds

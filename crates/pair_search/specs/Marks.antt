@@ -7,23 +7,44 @@ use Rattle.bezier_core.specs.declared.Bez.{Bez}
 use Rattle.halving.specs.declared.Place.{Place}
 use Rattle.sep_parts.specs.declared.stack.Level.{Level}
 use Rattle.sep_parts.specs.Directions.{direction_of, threshold}
+use Rattle.sep_parts.specs.Levels.{root}
 use Rattle.sep_parts.specs.Rulers.{Measure}
 use Rattle.sep_parts.specs.Separates.{least_value, part_along}
 use Rattle.pair_search.specs.declared.lanes.Point.{Point}
 use Rattle.pair_search.specs.declared.opposites.Opposites.{Opposites}
 use Rattle.pair_search.specs.declared.marking.Marks.{Marks}
 use Rattle.pair_search.specs.declared.ends.Ends.{Ends}
+use Rattle.pair_search.specs.declared.ends.Weighed.{Weighed}
 use Rattle.pair_search.specs.Lanes.{IsPoint, IsSmallPoint, lane_value}
+use Rattle.pair_search.specs.Search.{first_by}
 use Rattle.pair_search.specs.Steps.{IsSome, does_separate}
 
--- where a bit of a point is clear, the point is too low in its lane, or too high for the opposite one
-pub record IsMarked (s : Opposites) (p : Point) (marks : Marks) : Type 0 where
-  pub front : (i : ℕ) → i < 49 → bit_at marks.front i ≡ 0 → lane_value s.lanes p i <ℤ at s.lanes.low i
-  pub back : (i : ℕ) → i < 49 → bit_at marks.back i ≡ 0 → at s.high i <ℤ lane_value s.lanes p i
+-- where a bit of a point is clear, the point is too low in its lane, or too high for the opposite one: in the lanes
+-- from one on and before another
+pub record IsMarkedIn (begin past : ℕ) (s : Opposites) (p : Point) (marks : Marks) : Type 0 where
+  pub front : (i : ℕ) → begin ≤ i → i < past → bit_at marks.front i ≡ 0 → lane_value s.lanes p i <ℤ at s.lanes.low i
+  pub back : (i : ℕ) → begin ≤ i → i < past → bit_at marks.back i ≡ 0 → at s.high i <ℤ lane_value s.lanes p i
+
+-- in all lanes
+abbrev pub IsMarked : Opposites → Point → Marks → Type 0
+IsMarked s p marks = IsMarkedIn 0 49 s p marks
+
+-- the marks of a point in the first 16 lanes, and in the others where they are made
+pub record IsWeighed (s : Opposites) (w : Weighed) : Type 0 where
+  pub small : IsSmallPoint w.point
+  pub early : IsMarkedIn 0 16 s w.point w.early
+  pub late : (marks : Marks) → w.late ≡ Some marks → IsMarkedIn 16 49 s w.point marks
 
 -- the marks are those of the control values k of a level
 abbrev pub MarksAt : Opposites → Level → ℕ → Marks → Type 0
 MarksAt s level k marks = (p : Point) × IsSmallPoint p × IsPoint level k p × IsMarked s p marks
+
+-- the two ends of a whole cue, weighed
+pub record AreEnds (s : Opposites) (diff : List (Bez 8)) (first last : Weighed) : Type 0 where
+  pub first_weighed : IsWeighed s first
+  pub last_weighed : IsWeighed s last
+  pub at_first : IsPoint (record { place = root; part = diff }) 0 first.point
+  pub at_last : IsPoint (record { place = root; part = diff }) 7 last.point
 
 -- a bit is clear only where that of one of two others is
 abbrev pub MarkTells : ℕ → ℕ → ℕ → Type 0
@@ -77,6 +98,16 @@ FindsBit m diff place back i None =
 FindsBit m diff place back i (Some dir) = IsSome m diff place dir
 
 -- ---- the first direction that marks leave
+-- the whole cue has none of the first 16 directions, those whose bit is clear
+abbrev pub AreEarly : Measure → List (Bez 8) → ℕ → Type 0
+AreEarly m diff near =
+    (i : ℕ) → i < 16 → i + i < length m.directions → bit_at near i ≡ 0 → does_separate m diff root i ≡ false
+
+-- the first direction of the whole cue, or that it is none of the first 16
+abbrev pub FindsEarly : Measure → List (Bez 8) → Option ℕ → Type 0
+FindsEarly m diff None = (i : ℕ) → i < 16 → i + i < length m.directions → does_separate m diff root i ≡ false
+FindsEarly m diff (Some dir) = Some dir ≡ first_by m diff root
+
 -- marks don't leave the direction with this number: its own bit in the first half of the table, else that of its
 -- opposite, is clear
 abbrev pub IsOut : ℕ → Marks → ℕ → Type 0

@@ -6,12 +6,13 @@ ghost use Rattle.sep_parts.specs.Rulers.{Measure};
 ghost use Rattle.sep_parts.specs.Trees.{IsShallow, places_below};
 ghost use Rattle.sep_parts.specs.declared.stack.Level.{Level};
 ghost use Rattle.pair_search.specs.declared.ends.Ends.{Ends};
+ghost use Rattle.pair_search.specs.declared.opposites.Opposites.{Opposites};
 ghost use Rattle.pair_search.specs.Lanes.{AreSmallLanes, IsSmallPoint};
-ghost use Rattle.pair_search.specs.Marks.{IsMarked, MarksAt, TellAll};
+ghost use Rattle.pair_search.specs.Marks.{AreEnds, IsMarked, IsMarkedIn, IsWeighed, MarkTells, MarksAt, TellAll};
 ghost use Rattle.pair_search.specs.Opposites.{AreOpposites, AreSmallHighs};
 
 use crate::lanes::{Point, point_at, whole_point_at};
-use crate::marking::{Marks, marks_of};
+use crate::marking::{Marks, both, early_marks, late_marks, marks_of};
 use crate::opposites::Opposites;
 use fleet_curves::Difference;
 use sep_parts::{Level, Node, Waiting};
@@ -24,12 +25,12 @@ pub struct Ends {
     pub last: Marks,
 }
 
-/// A point and its marks: the last end of a whole cue that was weighed. The next cue of the same two drones mostly
-/// begins there.
+/// A point with its early marks, and its late ones where they are made.
 #[derive(Clone, Copy)]
-pub struct Kept {
+pub struct Weighed {
     pub point: Point,
-    pub marks: Marks,
+    pub early: Marks,
+    pub late: Option<Marks>,
 }
 
 /// The ends of at most nine parts, the next one first. It takes no memory.
@@ -119,46 +120,124 @@ pub fn ends_of_whole(diff: &Difference, opposites: &Opposites) -> Ends
     }
 }
 
-/// The same, where the end of a cue before is kept with its marks. The last end is kept then.
-pub fn ends_from(diff: &Difference, opposites: &Opposites, kept: &mut Kept) -> Ends
+/// The first end of a whole cue, and the last one, which is kept: the next cue of the same two drones mostly begins
+/// there. Only early marks are made.
+pub fn weighed_ends(diff: &Difference, opposites: &Opposites, kept: &mut Weighed) -> Weighed
     requires lanes { AreSmallLanes opposites.now.lanes }
     requires high { AreSmallHighs opposites.now.high }
-    requires kept { IsMarked opposites.now kept.old.point kept.old.marks }
-    ensures first { MarksAt opposites.now (record { place = root; part = diff.now }) 0 result.first }
-    ensures last { MarksAt opposites.now (record { place = root; part = diff.now }) 7 result.last }
-    ensures kept { IsMarked opposites.now kept.new.point kept.new.marks }
+    requires kept { IsWeighed opposites.now kept.old }
+    ensures { AreEnds opposites.now diff.now result kept.new }
 {
-    let first = keep(opposites, whole_point_at(diff, 0), kept);
-    let last = keep(opposites, whole_point_at(diff, 7), kept);
-    Ends { first, last }
+    let first = weighed_at(opposites, whole_point_at(diff, 0), kept);
+    *kept = weighed_at(opposites, whole_point_at(diff, 7), &first);
+    first
 }
 
-/// The point 0 with its marks.
-pub fn kept_at_zero(opposites: &Opposites) -> Kept
+/// The point 0, weighed.
+pub fn weighed_zero(opposites: &Opposites) -> Weighed
     requires lanes { AreSmallLanes opposites.now.lanes }
     requires high { AreSmallHighs opposites.now.high }
-    ensures { IsMarked opposites.now result.point result.marks }
+    ensures { IsWeighed opposites.now result }
 {
-    let point = Point { x: 0, y: 0, z: 0 };
-    let marks = marks_of(opposites, &point);
-    Kept { point, marks }
+    newly_weighed(opposites, Point { x: 0, y: 0, z: 0 })
 }
 
-// The marks of a point, which is kept with them. They aren't made anew where it is the one that is kept: two drones
-// that fly alike have one difference at both ends.
-fn keep(opposites: &Opposites, p: Point, kept: &mut Kept) -> Marks
+// A point, weighed. It isn't weighed anew where it is one that is: two drones that fly alike have one difference at
+// both ends.
+fn weighed_at(opposites: &Opposites, point: Point, other: &Weighed) -> Weighed
     requires lanes { AreSmallLanes opposites.now.lanes }
     requires high { AreSmallHighs opposites.now.high }
-    requires p { IsSmallPoint p }
-    requires kept { IsMarked opposites.now kept.old.point kept.old.marks }
-    ensures marks { IsMarked opposites.now p result }
-    ensures kept { IsMarked opposites.now kept.new.point kept.new.marks }
+    requires point { IsSmallPoint point }
+    requires other { IsWeighed opposites.now other.now }
+    ensures point { result.point ≡ point }
+    ensures weighed { IsWeighed opposites.now result }
 {
-    if !are_same(&p, &kept.point) {
-        kept.marks = marks_of(opposites, &p);
-        kept.point = p;
+    if are_same(&point, &other.point) {
+        return *other;
     }
-    kept.marks
+    newly_weighed(opposites, point)
+}
+
+fn newly_weighed(opposites: &Opposites, point: Point) -> Weighed
+    requires lanes { AreSmallLanes opposites.now.lanes }
+    requires high { AreSmallHighs opposites.now.high }
+    requires point { IsSmallPoint point }
+    ensures point { result.point ≡ point }
+    ensures weighed { IsWeighed opposites.now result }
+{
+    Weighed {
+        point,
+        early: early_marks(opposites, &point),
+        late: None,
+    }
+}
+
+/// The late marks of the first end of a whole cue, and of the last one, which is kept with them.
+pub fn late_ends(opposites: &Opposites, first: &Weighed, kept: &mut Weighed) -> Ends
+    requires lanes { AreSmallLanes opposites.now.lanes }
+    requires high { AreSmallHighs opposites.now.high }
+    requires first { IsWeighed opposites.now first.now }
+    requires last { IsWeighed opposites.now kept.old }
+    ensures first { IsMarkedIn 16 49 opposites.now first.now.point result.first }
+    ensures last { IsMarkedIn 16 49 opposites.now kept.old.point result.last }
+    ensures kept { IsWeighed opposites.now kept.new }
+    ensures point { kept.new.point ≡ kept.old.point }
+{
+    let late = late_of(opposites, first);
+    let last = late_from(opposites, kept, first, late);
+    kept.late = Some(last);
+    Ends { first: late, last }
+}
+
+/// The marks of both ends of a whole cue, whose late marks these are.
+pub fn whole_ends(first: &Weighed, last: &Weighed, late: Ends) -> Ends
+    ensures first { (s : Opposites) → IsWeighed s first.now → IsMarkedIn 16 49 s first.now.point late.first
+        → IsMarked s first.now.point result.first }
+    ensures last { (s : Opposites) → IsWeighed s last.now → IsMarkedIn 16 49 s last.now.point late.last
+        → IsMarked s last.now.point result.last }
+{
+    Ends {
+        first: both(first.early, late.first),
+        last: both(last.early, late.last),
+    }
+}
+
+/// What both ends of a whole cue leave of all directions but the first 16, whose bits are clear.
+pub fn left_late(late: Ends, ends: Ends) -> Marks
+    ensures front { MarkTells late.first.front late.last.front result.front }
+    ensures back { MarkTells ends.first.back ends.last.back result.back }
+{
+    Marks {
+        front: late.first.front & late.last.front,
+        back: ends.first.back & ends.last.back,
+    }
+}
+
+// The late marks of a point, which aren't made anew where it is another one.
+fn late_from(opposites: &Opposites, w: &Weighed, other: &Weighed, late: Marks) -> Marks
+    requires lanes { AreSmallLanes opposites.now.lanes }
+    requires high { AreSmallHighs opposites.now.high }
+    requires weighed { IsWeighed opposites.now w.now }
+    requires late { IsMarkedIn 16 49 opposites.now other.now.point late }
+    ensures { IsMarkedIn 16 49 opposites.now w.now.point result }
+{
+    if are_same(&w.point, &other.point) {
+        return late;
+    }
+    late_of(opposites, w)
+}
+
+// The late marks of a point, which aren't made anew where they are made.
+fn late_of(opposites: &Opposites, w: &Weighed) -> Marks
+    requires lanes { AreSmallLanes opposites.now.lanes }
+    requires high { AreSmallHighs opposites.now.high }
+    requires weighed { IsWeighed opposites.now w.now }
+    ensures { IsMarkedIn 16 49 opposites.now w.now.point result }
+{
+    match w.late {
+        Some(late) => late,
+        None => late_marks(opposites, &w.point),
+    }
 }
 
 fn are_same(p: &Point, q: &Point) -> bool

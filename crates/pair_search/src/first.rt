@@ -2,7 +2,7 @@
 
 ghost use Rattle.std.specs.Prelude.{◌≡◌, ◌⊎◌, ℕ, ◌+◌, ◌≤◌, ◌<◌, true, false, length};
 ghost use Rattle.sep_parts.specs.Levels.{IsLevel, root};
-ghost use Rattle.pair_search.specs.Marks.{AnswersBit, AreLeft, FindsEarliest, IsOut};
+ghost use Rattle.pair_search.specs.Marks.{AnswersBit, AreEarly, AreLeft, FindsEarliest, FindsEarly, IsOut};
 ghost use Rattle.pair_search.specs.Search.{first_by};
 ghost use Rattle.pair_search.specs.Steps.{FindsFirst, does_separate};
 
@@ -54,6 +54,32 @@ pub fn first_of_whole<const M: usize>(
             ensures { result ≡ does_separate ruler.entry.now diff.entry.now root dir }
         { ruler.separates_whole(diff, dir) },
     )
+}
+
+/// The number of the first direction of a ruler that separates the whole cue, if it is one of the first 16: mostly it
+/// is. `near` has a bit for each of these that is left.
+#[inline(never)]
+pub fn first_early<const M: usize>(diff: &Difference, ruler: &Ruler<M>, near: u64) -> Option<u8>
+    requires near { AreEarly ruler.now diff.now near }
+    ensures { FindsEarly ruler.now diff.now result }
+{
+    first_marked(
+        early_of(ruler.count()),
+        near,
+        false,
+        &|dir: usize| -> bool
+            requires { dir < length ruler.now.directions }
+            ensures { result ≡ does_separate ruler.entry.now diff.entry.now root dir }
+        { ruler.separates_whole(diff, dir) },
+    )
+}
+
+// How many directions a table has, at most 32: its first 16 and their opposites.
+fn early_of(count: usize) -> usize
+    ensures few { (result ≤ count) × (result ≤ 32) }
+    ensures enough { (i : ℕ) → i < 16 → i + i < count → i + i < result }
+{
+    if count < 32 { count } else { 32 }
 }
 
 // The first of `count` directions that marks leave and that `asks` answers with yes.

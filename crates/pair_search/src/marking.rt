@@ -1,10 +1,12 @@
 //! Which directions a point leaves, as bits: the ends of parts are weighed once, and neighbours share them.
 
-ghost use Rattle.std.specs.Prelude.{◌≡◌, ◌≢◌, ℕ, ◌<◌, ◌<ℤ◌, slice_index, IsTrue};
+ghost use Rattle.std.specs.Prelude.{◌≡◌, ◌≢◌, ℕ, ◌≤◌, ◌<◌, ◌<ℤ◌, slice_index, IsTrue};
 ghost use Rattle.std.specs.Int.{bit_at};
 ghost use Rattle.pair_search.specs.Lanes.{AreSmallLanes, IsSmallPoint};
 ghost use Rattle.pair_search.specs.Opposites.{AreSmallHighs};
-ghost use Rattle.pair_search.specs.Marks.{IsBefore, IsMarked, MarkTells};
+ghost use Rattle.pair_search.specs.Marks.{IsBefore, IsMarked, IsMarkedIn, MarkTells};
+ghost use Rattle.pair_search.specs.declared.lanes.Point.{Point};
+ghost use Rattle.pair_search.specs.declared.opposites.Opposites.{Opposites};
 
 use crate::lanes::{Point, lane_at};
 use crate::opposites::Opposites;
@@ -25,9 +27,52 @@ pub fn marks_of(opposites: &Opposites, p: &Point) -> Marks
     requires p { IsSmallPoint p.now }
     ensures { IsMarked opposites.now p.now result }
 {
+    marks_from(opposites, p, 0)
+}
+
+/// Those of the first 16 directions and their opposites. The other bits are clear.
+pub fn early_marks(opposites: &Opposites, p: &Point) -> Marks
+    requires lanes { AreSmallLanes opposites.now.lanes }
+    requires high { AreSmallHighs opposites.now.high }
+    requires p { IsSmallPoint p.now }
+    ensures { IsMarkedIn 0 16 opposites.now p.now result }
+{
+    let mut front = [0; 16];
+    let mut back = [0; 16];
+    for i in 0..16 {
+        let value = lane_at(&opposites.lanes, p, i);
+        front[i] = is_low(value, opposites.lanes.low[i]);
+        back[i] = is_low(opposites.high[i], value);
+    }
+    Marks {
+        front: clear_of_sixteen(&front),
+        back: clear_of_sixteen(&back),
+    }
+}
+
+/// Those of the other directions and their opposites. The first 16 bits are clear.
+#[inline(never)]
+pub fn late_marks(opposites: &Opposites, p: &Point) -> Marks
+    requires lanes { AreSmallLanes opposites.now.lanes }
+    requires high { AreSmallHighs opposites.now.high }
+    requires p { IsSmallPoint p.now }
+    ensures { IsMarkedIn 16 49 opposites.now p.now result }
+{
+    marks_from(opposites, p, 16)
+}
+
+// The marks of a point in the lanes from one on. The bits before are clear.
+#[inline(always)]
+fn marks_from(opposites: &Opposites, p: &Point, begin: usize) -> Marks
+    requires begin { begin ≤ 49 }
+    requires lanes { AreSmallLanes opposites.now.lanes }
+    requires high { AreSmallHighs opposites.now.high }
+    requires p { IsSmallPoint p.now }
+    ensures { IsMarkedIn begin 49 opposites.now p.now result }
+{
     let mut front = [255; 64];
     let mut back = [255; 64];
-    for i in 0..49 {
+    for i in begin..49 {
         let value = lane_at(&opposites.lanes, p, i);
         front[i] = is_low(value, opposites.lanes.low[i]);
         back[i] = is_low(opposites.high[i], value);
@@ -35,6 +80,16 @@ pub fn marks_of(opposites: &Opposites, p: &Point) -> Marks
     Marks {
         front: clear_bytes(&front),
         back: clear_bytes(&back),
+    }
+}
+
+/// The marks of a point in the first 16 lanes with those in the others.
+pub fn both(early: Marks, late: Marks) -> Marks
+    ensures { (s : Opposites) (p : Point) → IsMarkedIn 0 16 s p early → IsMarkedIn 16 49 s p late → IsMarked s p result }
+{
+    Marks {
+        front: early.front | late.front,
+        back: early.back | late.back,
     }
 }
 
@@ -52,6 +107,16 @@ fn clear_bytes(bytes: &[u8; 64]) -> u64
 {
     u8x64::from_slice(bytes)
         .simd_le(u8x64::splat(0))
+        .to_bitmask()
+}
+
+// The same of 16 bytes.
+#[inline(always)]
+fn clear_of_sixteen(bytes: &[u8; 16]) -> u64
+    ensures { (k : ℕ) → k < 16 → bit_at result k ≡ 0 → slice_index bytes.now k ≢ 0 }
+{
+    u8x16::from_slice(bytes)
+        .simd_le(u8x16::splat(0))
         .to_bitmask()
 }
 

@@ -9,13 +9,15 @@ ghost use Rattle.sep_parts.specs.declared.stack.Level.{Level};
 ghost use Rattle.pair_search.specs.Search.{IsClear, SearchGives, first_by, first_direction};
 ghost use Rattle.pair_search.specs.Lanes.{AreSmallLanes};
 ghost use Rattle.pair_search.specs.Laws.{SearchLaw};
-ghost use Rattle.pair_search.specs.Marks.{IsMarked, TellAll, TellsEnds};
+ghost use Rattle.pair_search.specs.Marks.{AreEnds, AreLeft, FindsEarly, IsWeighed, TellAll, TellsEnds};
 ghost use Rattle.pair_search.specs.Opposites.{AreOpposites, AreSmallHighs};
 ghost use Rattle.pair_search.specs.Steps.{WalkGives, node_for};
 
-use crate::ends::{Ends, Kept, WaitingEnds, ends_from, kept_at_zero, pass};
-use crate::first::{first_direction, first_of_whole};
-use crate::marking::common;
+use crate::ends::{
+    Ends, WaitingEnds, Weighed, late_ends, left_late, pass, weighed_ends, weighed_zero, whole_ends,
+};
+use crate::first::{first_direction, first_early, first_of_whole};
+use crate::marking::{Marks, common};
 use crate::opposites::{Opposites, opposites_of};
 use fleet_curves::Difference;
 use fleet_math::Depth;
@@ -70,7 +72,7 @@ pub fn search_with<const M: usize>(
         (found ≡ Found.Clear) ↔ IsClear ruler.now.clearance diff.now ruler.now.directions depth) }
 {
     let opposites = opposites_of(ruler);
-    let mut kept = kept_at_zero(&opposites);
+    let mut kept = weighed_zero(&opposites);
     let mut waiting = Waiting::none();
     search_by(
         diff,
@@ -84,7 +86,7 @@ pub fn search_with<const M: usize>(
 }
 
 /// As [`search_with`], with the lanes of the ruler made before, and a list for waiting parts. What it has before is
-/// dropped: it takes longer to make one than to search most cues. The last end of the cue is kept with its marks.
+/// dropped: it takes longer to make one than to search most cues. The last end of the cue is kept, weighed.
 pub fn search_by<const M: usize>(
     diff: &Difference,
     ruler: &Ruler<M>,
@@ -92,15 +94,15 @@ pub fn search_by<const M: usize>(
     depth: Depth,
     nodes: &mut Vec<Node>,
     waiting: &mut Waiting,
-    kept: &mut Kept,
+    kept: &mut Weighed,
 ) -> Result<Found, AllocError>
     requires empty { nodes.old.items ≡ [] }
     requires opposites { AreOpposites ruler.now opposites.now }
-    requires kept { IsMarked opposites.now kept.old.point kept.old.marks }
+    requires kept { IsWeighed opposites.now kept.old }
     ensures exact { SearchGives (first_by ruler.now diff.now) depth result nodes.new.items }
     ensures clear { IfOk result (λ found.
         (found ≡ Found.Clear) ↔ IsClear ruler.now.clearance diff.now ruler.now.directions depth) }
-    ensures kept { IsMarked opposites.now kept.new.point kept.new.marks }
+    ensures kept { IsWeighed opposites.now kept.new }
 {
     let answer = walk(diff, ruler, opposites, depth, nodes, waiting, kept);
     if !matches!(answer, Ok(Found::Clear)) {
@@ -118,19 +120,52 @@ fn walk<const M: usize>(
     depth: Depth,
     nodes: &mut Vec<Node>,
     waiting: &mut Waiting,
-    kept: &mut Kept,
+    kept: &mut Weighed,
 ) -> Result<Found, AllocError>
     requires empty { nodes.old.items ≡ [] }
     requires opposites { AreOpposites ruler.now opposites.now }
-    requires kept { IsMarked opposites.now kept.old.point kept.old.marks }
+    requires kept { IsWeighed opposites.now kept.old }
     ensures gives { WalkGives (first_by ruler.now diff.now) depth result nodes.new.items }
-    ensures kept { IsMarked opposites.now kept.new.point kept.new.marks }
+    ensures kept { IsWeighed opposites.now kept.new }
+{
+    diff.raised_law();
+    let first = weighed_ends(diff, opposites, kept);
+    let near = first.early.front & kept.early.front;
+    match first_early(diff, ruler, near) {
+        Some(dir) => {
+            nodes.push(Node::Leaf { dir })?;
+            Ok(Found::Clear)
+        }
+        None => walk_late(diff, ruler, opposites, &first, depth, nodes, waiting, kept),
+    }
+}
+
+// The same of a whole cue that none of the first 16 directions separates, with its ends. They are weighed along the
+// others.
+fn walk_late<const M: usize>(
+    diff: &Difference,
+    ruler: &Ruler<M>,
+    opposites: &Opposites,
+    first: &Weighed,
+    depth: Depth,
+    nodes: &mut Vec<Node>,
+    waiting: &mut Waiting,
+    kept: &mut Weighed,
+) -> Result<Found, AllocError>
+    requires empty { nodes.old.items ≡ [] }
+    requires opposites { AreOpposites ruler.now opposites.now }
+    requires ends { AreEnds opposites.now diff.now first.now kept.old }
+    requires early { FindsEarly ruler.now diff.now None }
+    ensures gives { WalkGives (first_by ruler.now diff.now) depth result nodes.new.items }
+    ensures kept { IsWeighed opposites.now kept.new }
 {
     // a ruler has at most 98 directions
     let _count = ruler.count();
     diff.raised_law();
-    let ends = ends_from(diff, opposites, kept);
-    match node_of_whole(diff, ruler, ends, depth) {
+    let late = late_ends(opposites, first, kept);
+    let ends = whole_ends(first, kept, late);
+    let near = left_late(late, ends);
+    match node_of_whole(diff, ruler, near, depth) {
         Some(Node::Leaf { dir }) => {
             nodes.push(Node::Leaf { dir })?;
             Ok(Found::Clear)
@@ -140,17 +175,18 @@ fn walk<const M: usize>(
     }
 }
 
-// The node of a whole cue: a leaf where a direction separates it, else a split where the depth allows one.
+// The node of a whole cue: a leaf where a direction separates it, else a split where the depth allows one. `near` are
+// marks that leave each direction that separates it.
 fn node_of_whole<const M: usize>(
     diff: &Difference,
     ruler: &Ruler<M>,
-    ends: Ends,
+    near: Marks,
     depth: Depth,
 ) -> Option<Node>
-    requires ends { TellsEnds ruler.now diff.now root ends }
+    requires near { AreLeft ruler.now diff.now root near }
     ensures { result ≡ node_for (first_by ruler.now diff.now) depth root }
 {
-    match first_of_whole(diff, ruler, common(ends.first, ends.last)) {
+    match first_of_whole(diff, ruler, near) {
         Some(dir) => Some(Node::Leaf { dir }),
         None if depth.levels() > 0 => Some(Node::Split),
         None => None,

@@ -1,48 +1,43 @@
-use Rattle.pair_search.proofs.Prelude.{rules, ◌∷◌, ◌++◌, [], sym, ◌∙◌, ap, refl, arith, List, Some, Bez, root, Node, Leaf, Level, first_by}
+use Rattle.pair_search.proofs.Prelude.{rules, ◌∷◌, ◌++◌, [], ◌∙◌, ap, refl, List, Bez, root, Node, Leaf, Level, first_by}
 use Rattle.sep_parts.proofs.Parts.{raised_level}
-use Rattle.pair_search.proofs.EndLemmas.{root_told}
+use Rattle.pair_search.proofs.EndLemmas.{early_left}
+use Rattle.pair_search.proofs.Firsts.{early_node, early_none}
 use Rattle.pair_search.proofs.Halves.{left_has, right_has}
-use Rattle.pair_search.proofs.Trees.{begun, past_pending, blocked_pending, ended_pending}
+use Rattle.pair_search.proofs.Trees.{begun, past_pending, ended_pending}
 use Rattle.pair_search.proofs.walk.walk.Goals as goal
 
 abbrev whole : (diff : List (Bez 8)) → Level
 whole diff = record { place = root; part = diff }
 
-pub node_of_whole-requires : goal.node_of_whole-requires
-node_of_whole-requires g c = (
+pub first_early-requires : goal.first_early-requires
+first_early-requires g c = (
   search rules,
-  root_told c.args.ruler.now c.args.diff.now c.args.opposites.now c.ends_from-ends.result (omega (arith, c.count-count.ensures.exact, c.count-count.ensures.few)) c.requires.opposites
-      (raised_level c.args.diff.now c.raised_law.ensures) c.ends_from-ends.ensures.first c.ends_from-ends.ensures.last,
+  early_left c.args.ruler.now c.args.diff.now c.args.opposites.now c.weighed_ends-first.result c.weighed_ends-first.new.kept c.requires.opposites
+      (raised_level c.args.diff.now c.raised_law.ensures) c.weighed_ends-first.ensures,
 )
 
-pub walk_halves-requires : goal.walk_halves-requires
-walk_halves-requires g c = (
+pub walk_late-requires : goal.walk_late-requires
+walk_late-requires g c = (
   search rules,
   (
     c.requires.empty,
     (
-      sym c.node_of_whole.ensures ∙ c.in-Some-Split.is ∙ ap Some c.in-Some-Split.field-0-is,
+      c.requires.opposites,
       (
-        c.requires.opposites,
-        root_told c.args.ruler.now c.args.diff.now c.args.opposites.now c.ends_from-ends.result (omega (arith, c.count-count.ensures.exact, c.count-count.ensures.few)) c.requires.opposites
-            (raised_level c.args.diff.now c.raised_law.ensures) c.ends_from-ends.ensures.first c.ends_from-ends.ensures.last,
+        c.weighed_ends-first.ensures,
+        early_none c.args.ruler.now c.args.diff.now c.first_early.result c.first_early.ensures c.in-None.is,
       ),
     ),
   ),
 )
 
-pub returns-in_ok-push-in-Some-Leaf-clause-gives : goal.returns-in_ok-push-in-Some-Leaf-clause-gives
-returns-in_ok-push-in-Some-Leaf-clause-gives g c =
+pub returns-in_ok-push-in-Some-clause-gives : goal.returns-in_ok-push-in-Some-clause-gives
+returns-in_ok-push-in-Some-clause-gives g c =
     let first = first_by c.args.ruler.now c.args.diff.now in
     ended_pending first c.args.depth [] c.push.new.self.items refl
     (past_pending first c.args.depth
     (left_has c.args.ruler.now.clearance c.args.diff.now c.args.ruler.now.directions) (right_has c.args.ruler.now.clearance c.args.diff.now c.args.ruler.now.directions)
-    (whole c.args.diff.now ∷ []) [] [] (whole c.args.diff.now) [] c.push.new.self.items (Leaf c.in-Some-Leaf.dir) refl
-    (sym c.node_of_whole.ensures ∙ c.in-Some-Leaf.is ∙ ap Some c.in-Some-Leaf.field-0-is) refl
-    (c.in_ok-push-in-Some-Leaf.ensures.items ∙ ap (λ (xs : List Node). xs ++ Leaf c.in-Some-Leaf.dir ∷ []) c.requires.empty)
+    (whole c.args.diff.now ∷ []) [] [] (whole c.args.diff.now) [] c.push.new.self.items (Leaf c.in-Some.dir) refl
+    (early_node c.args.ruler.now c.args.diff.now c.args.depth c.in-Some.dir c.first_early.result c.first_early.ensures c.in-Some.is) refl
+    (c.in_ok-push-in-Some.ensures.items ∙ ap (λ (xs : List Node). xs ++ Leaf c.in-Some.dir ∷ []) c.requires.empty)
     (begun first c.args.depth))
-
-pub returns-in-None-clause-gives : goal.returns-in-None-clause-gives
-returns-in-None-clause-gives g c =
-    let first = first_by c.args.ruler.now c.args.diff.now in
-    blocked_pending first c.args.depth (whole c.args.diff.now ∷ []) [] (whole c.args.diff.now) [] refl (omega arith) (sym c.node_of_whole.ensures ∙ c.in-None.is) (begun first c.args.depth)
