@@ -10,8 +10,8 @@ use Rattle.halving.proofs.PolarLemmas.{part-part}
 use Rattle.pair_search.specs.declared.opposites.Opposites.{Opposites}
 use Rattle.pair_search.specs.declared.marking.Marks.{Marks}
 use Rattle.pair_search.specs.declared.ends.Ends.{Ends}
-use Rattle.pair_search.specs.declared.ends.Weighed.{Weighed}
-use Rattle.pair_search.specs.Marks.{AreEarly, AreEnds, AreLeft, FindsEarly, FindsMarked, IsLowEnd, IsMarked, IsMarkedIn, MarkTells, MarksAt, TellAll, TellsEnds, TellsOf}
+use Rattle.pair_search.specs.declared.ends.Kept.{Kept}
+use Rattle.pair_search.specs.Marks.{AreEarly, AreEnds, AreLeft, AreWeighed, FindsEarly, FindsMarked, IsLowEnd, IsMarked, IsMarkedIn, MarkTells, MarksAt, TellAll, TellsEnds, TellsOf}
 use Rattle.pair_search.proofs.LaneLemmas.{by_same, lane_along}
 use Rattle.pair_search.proofs.Marks.{none_there, some_there}
 
@@ -98,38 +98,47 @@ module _ (m : Measure) (diff : List (Bez 8)) where
   }
 
   -- ---- the whole cue, whose ends are weighed
+  -- they stay its ends while their points stay
+  pub ends_kept : (s : Opposites) (old now : Kept) → AreEnds s diff old → AreWeighed s now → now.first.point ≡ old.first.point → now.last.point ≡ old.last.point → AreEnds s diff now
+  ends_kept s old now ends weighed first_same last_same = record {
+    first = weighed.0;
+    last = weighed.1;
+    at_first = subst (λ (p : Point). IsPoint (record { place = root; part = diff }) 0 p) (sym first_same) ends.at_first;
+    at_last = subst (λ (p : Point). IsPoint (record { place = root; part = diff }) 7 p) (sym last_same) ends.at_last;
+  }
+
   -- of the first 16 directions those for which one of the ends is too low don't separate it
-  pub early_left : (s : Opposites) (first last : Weighed) → AreOpposites m s → IsLevel diff (record { place = root; part = diff }) → AreEnds s diff first last → AreEarly m diff (bit_and first.early.front last.early.front)
-  early_left s first last opposites is ends = λ i early inside clear. fails i early inside (either_clear first.early.front last.early.front i clear)
+  pub early_left : (s : Opposites) (kept : Kept) → AreOpposites m s → IsLevel diff (record { place = root; part = diff }) → AreEnds s diff kept → AreEarly m diff (bit_and kept.first.early.front kept.last.early.front)
+  early_left s kept opposites is ends = λ i early inside clear. fails i early inside (either_clear kept.first.early.front kept.last.early.front i clear)
     where
-      fails : (i : ℕ) → i < 16 → i + i < length m.directions → (bit_at first.early.front i ≡ 0) ⊎ (bit_at last.early.front i ≡ 0) → does_separate m diff root i ≡ false
+      fails : (i : ℕ) → i < 16 → i + i < length m.directions → (bit_at kept.first.early.front i ≡ 0) ⊎ (bit_at kept.last.early.front i ≡ 0) → does_separate m diff root i ≡ false
       fails i early inside (inl clear) =
-          low_end root 0 i (omega arith) (front_told s (record { place = root; part = diff }) 0 0 16 first.point first.early i (omega arith) opposites is ends.at_first ends.first_weighed.early (omega arith) early inside clear)
+          low_end root 0 i (omega arith) (front_told s (record { place = root; part = diff }) 0 0 16 kept.first.point kept.first.early i (omega arith) opposites is ends.at_first ends.first.early (omega arith) early inside clear)
       fails i early inside (inr clear) =
-          low_end root 7 i (omega arith) (front_told s (record { place = root; part = diff }) 7 0 16 last.point last.early i (omega arith) opposites is ends.at_last ends.last_weighed.early (omega arith) early inside clear)
+          low_end root 7 i (omega arith) (front_told s (record { place = root; part = diff }) 7 0 16 kept.last.point kept.last.early i (omega arith) opposites is ends.at_last ends.last.early (omega arith) early inside clear)
 
   -- the marks of both ends tell of it
-  pub ends_told : (s : Opposites) (first last : Weighed) (ends : Ends) → length m.directions ≤ 98 → AreOpposites m s → IsLevel diff (record { place = root; part = diff }) → AreEnds s diff first last →
-      IsMarked s first.point ends.first → IsMarked s last.point ends.last → TellsEnds m diff root ends
-  ends_told s first last ends few opposites is weighed at_first at_last = record {
-    first = told s (record { place = root; part = diff }) 0 ends.first (omega arith) few opposites is (first.point, weighed.first_weighed.small, weighed.at_first, at_first);
-    last = told s (record { place = root; part = diff }) 7 ends.last (omega arith) few opposites is (last.point, weighed.last_weighed.small, weighed.at_last, at_last);
+  pub ends_told : (s : Opposites) (kept : Kept) (ends : Ends) → length m.directions ≤ 98 → AreOpposites m s → IsLevel diff (record { place = root; part = diff }) → AreEnds s diff kept →
+      IsMarked s kept.first.point ends.first → IsMarked s kept.last.point ends.last → TellsEnds m diff root ends
+  ends_told s kept ends few opposites is weighed at_first at_last = record {
+    first = told s (record { place = root; part = diff }) 0 ends.first (omega arith) few opposites is (kept.first.point, weighed.first.small, weighed.at_first, at_first);
+    last = told s (record { place = root; part = diff }) 7 ends.last (omega arith) few opposites is (kept.last.point, weighed.last.small, weighed.at_last, at_last);
   }
 
   -- where none of the first 16 directions separates it, what the late marks leave, and those of opposites
-  pub late_left : (s : Opposites) (first last : Weighed) (late ends : Ends) (near : Marks) → length m.directions ≤ 98 → AreOpposites m s → IsLevel diff (record { place = root; part = diff }) → AreEnds s diff first last → FindsEarly m diff None →
-      IsMarkedIn 16 49 s first.point late.first → IsMarkedIn 16 49 s last.point late.last → TellsEnds m diff root ends →
+  pub late_left : (s : Opposites) (kept : Kept) (late ends : Ends) (near : Marks) → length m.directions ≤ 98 → AreOpposites m s → IsLevel diff (record { place = root; part = diff }) → AreEnds s diff kept → FindsEarly m diff None →
+      IsMarkedIn 16 49 s kept.first.point late.first → IsMarkedIn 16 49 s kept.last.point late.last → TellsEnds m diff root ends →
       MarkTells late.first.front late.last.front near.front → MarkTells ends.first.back ends.last.back near.back → AreLeft m diff root near
-  late_left s first last late ends near few opposites is weighed early at_first at_last tells fronts backs = record {
+  late_left s kept late ends near few opposites is weighed early at_first at_last tells fronts backs = record {
     front = λ i inside clear. by_lt i 16 (λ less. early i less inside) (λ more. front_fails i more inside (fronts i clear));
     back = λ i inside clear. back_fails i inside (backs i clear);
   }
     where
       front_fails : (i : ℕ) → 16 ≤ i → i + i < length m.directions → (bit_at late.first.front i ≡ 0) ⊎ (bit_at late.last.front i ≡ 0) → does_separate m diff root i ≡ false
       front_fails i more inside (inl clear) =
-          low_end root 0 i (omega arith) (front_told s (record { place = root; part = diff }) 0 16 49 first.point late.first i (omega arith) opposites is weighed.at_first at_first more (omega (arith, inside, few)) inside clear)
+          low_end root 0 i (omega arith) (front_told s (record { place = root; part = diff }) 0 16 49 kept.first.point late.first i (omega arith) opposites is weighed.at_first at_first more (omega (arith, inside, few)) inside clear)
       front_fails i more inside (inr clear) =
-          low_end root 7 i (omega arith) (front_told s (record { place = root; part = diff }) 7 16 49 last.point late.last i (omega arith) opposites is weighed.at_last at_last more (omega (arith, inside, few)) inside clear)
+          low_end root 7 i (omega arith) (front_told s (record { place = root; part = diff }) 7 16 49 kept.last.point late.last i (omega arith) opposites is weighed.at_last at_last more (omega (arith, inside, few)) inside clear)
 
       back_fails : (i : ℕ) → i + i < length m.directions → (bit_at ends.first.back i ≡ 0) ⊎ (bit_at ends.last.back i ≡ 0) → does_separate m diff root (length m.directions - (i + 1)) ≡ false
       back_fails i inside (inl clear) = low_end root 0 (length m.directions - (i + 1)) (omega arith) (tells.first.back i inside clear)

@@ -14,6 +14,7 @@ use Rattle.pair_search.specs.declared.lanes.Point.{Point}
 use Rattle.pair_search.specs.declared.opposites.Opposites.{Opposites}
 use Rattle.pair_search.specs.declared.marking.Marks.{Marks}
 use Rattle.pair_search.specs.declared.ends.Ends.{Ends}
+use Rattle.pair_search.specs.declared.ends.Kept.{Kept}
 use Rattle.pair_search.specs.declared.ends.Weighed.{Weighed}
 use Rattle.pair_search.specs.Lanes.{IsPoint, IsSmallPoint, lane_value}
 use Rattle.pair_search.specs.Search.{first_by}
@@ -39,12 +40,16 @@ pub record IsWeighed (s : Opposites) (w : Weighed) : Type 0 where
 abbrev pub MarksAt : Opposites → Level → ℕ → Marks → Type 0
 MarksAt s level k marks = (p : Point) × IsSmallPoint p × IsPoint level k p × IsMarked s p marks
 
--- the two ends of a whole cue, weighed
-pub record AreEnds (s : Opposites) (diff : List (Bez 8)) (first last : Weighed) : Type 0 where
-  pub first_weighed : IsWeighed s first
-  pub last_weighed : IsWeighed s last
-  pub at_first : IsPoint (record { place = root; part = diff }) 0 first.point
-  pub at_last : IsPoint (record { place = root; part = diff }) 7 last.point
+-- two points, weighed
+abbrev pub AreWeighed : Opposites → Kept → Type 0
+AreWeighed s kept = IsWeighed s kept.first × IsWeighed s kept.last
+
+-- they are the two ends of a whole cue
+pub record AreEnds (s : Opposites) (diff : List (Bez 8)) (kept : Kept) : Type 0 where
+  pub first : IsWeighed s kept.first
+  pub last : IsWeighed s kept.last
+  pub at_first : IsPoint (record { place = root; part = diff }) 0 kept.first.point
+  pub at_last : IsPoint (record { place = root; part = diff }) 7 kept.last.point
 
 -- a bit is clear only where that of one of two others is
 abbrev pub MarkTells : ℕ → ℕ → ℕ → Type 0

@@ -8,7 +8,7 @@ ghost use Rattle.sep_parts.specs.declared.stack.Level.{Level};
 ghost use Rattle.pair_search.specs.declared.ends.Ends.{Ends};
 ghost use Rattle.pair_search.specs.declared.opposites.Opposites.{Opposites};
 ghost use Rattle.pair_search.specs.Lanes.{AreSmallLanes, IsSmallPoint};
-ghost use Rattle.pair_search.specs.Marks.{AreEnds, IsMarked, IsMarkedIn, IsWeighed, MarkTells, MarksAt, TellAll};
+ghost use Rattle.pair_search.specs.Marks.{AreEnds, AreWeighed, IsMarked, IsMarkedIn, IsWeighed, MarkTells, MarksAt, TellAll};
 ghost use Rattle.pair_search.specs.Opposites.{AreOpposites, AreSmallHighs};
 
 use crate::lanes::{Point, point_at, whole_point_at};
@@ -31,6 +31,14 @@ pub struct Weighed {
     pub point: Point,
     pub early: Marks,
     pub late: Option<Marks>,
+}
+
+/// Two points that were weighed last: the ends of a whole cue. The next cue of the same two drones mostly begins where
+/// this one ends.
+#[derive(Clone, Copy)]
+pub struct Kept {
+    pub first: Weighed,
+    pub last: Weighed,
 }
 
 /// The ends of at most nine parts, the next one first. It takes no memory.
@@ -120,30 +128,57 @@ pub fn ends_of_whole(diff: &Difference, opposites: &Opposites) -> Ends
     }
 }
 
-/// The first end of a whole cue, and the last one, which is kept: the next cue of the same two drones mostly begins
-/// there. Only early marks are made.
-pub fn weighed_ends(diff: &Difference, opposites: &Opposites, kept: &mut Weighed) -> Weighed
+/// The ends of a whole cue take the place of those that were weighed last. Only early marks are made.
+pub fn weigh_ends(diff: &Difference, opposites: &Opposites, kept: &mut Kept)
     requires lanes { AreSmallLanes opposites.now.lanes }
     requires high { AreSmallHighs opposites.now.high }
-    requires kept { IsWeighed opposites.now kept.old }
-    ensures { AreEnds opposites.now diff.now result kept.new }
+    requires kept { AreWeighed opposites.now kept.old }
+    ensures { AreEnds opposites.now diff.now kept.new }
 {
-    let first = weighed_at(opposites, whole_point_at(diff, 0), kept);
-    *kept = weighed_at(opposites, whole_point_at(diff, 7), &first);
-    first
+    weigh(
+        opposites,
+        whole_point_at(diff, 0),
+        &mut kept.first,
+        &kept.last,
+    );
+    weigh(
+        opposites,
+        whole_point_at(diff, 7),
+        &mut kept.last,
+        &kept.first,
+    );
 }
 
-/// The point 0, weighed.
-pub fn weighed_zero(opposites: &Opposites) -> Weighed
+/// Twice the point 0.
+pub fn kept_at_zero(opposites: &Opposites) -> Kept
     requires lanes { AreSmallLanes opposites.now.lanes }
     requires high { AreSmallHighs opposites.now.high }
-    ensures { IsWeighed opposites.now result }
+    ensures { AreWeighed opposites.now result }
 {
-    newly_weighed(opposites, Point { x: 0, y: 0, z: 0 })
+    let zero = newly_weighed(opposites, Point { x: 0, y: 0, z: 0 });
+    Kept {
+        first: zero,
+        last: zero,
+    }
 }
 
-// A point, weighed. It isn't weighed anew where it is one that is: two drones that fly alike have one difference at
-// both ends.
+// A point takes the place of one that was weighed. It isn't weighed anew where it is that one, or another: two drones
+// that fly alike have one difference at both ends.
+fn weigh(opposites: &Opposites, point: Point, here: &mut Weighed, other: &Weighed)
+    requires lanes { AreSmallLanes opposites.now.lanes }
+    requires high { AreSmallHighs opposites.now.high }
+    requires point { IsSmallPoint point }
+    requires here { IsWeighed opposites.now here.old }
+    requires other { IsWeighed opposites.now other.now }
+    ensures point { here.new.point ≡ point }
+    ensures weighed { IsWeighed opposites.now here.new }
+{
+    if are_same(&point, &here.point) {
+        return;
+    }
+    *here = weighed_at(opposites, point, other);
+}
+
 fn weighed_at(opposites: &Opposites, point: Point, other: &Weighed) -> Weighed
     requires lanes { AreSmallLanes opposites.now.lanes }
     requires high { AreSmallHighs opposites.now.high }
@@ -172,33 +207,66 @@ fn newly_weighed(opposites: &Opposites, point: Point) -> Weighed
     }
 }
 
-/// The late marks of the first end of a whole cue, and of the last one, which is kept with them.
-pub fn late_ends(opposites: &Opposites, first: &Weighed, kept: &mut Weighed) -> Ends
+/// The late marks of both ends of a whole cue, which are kept with them.
+pub fn late_ends(opposites: &Opposites, kept: &mut Kept) -> Ends
     requires lanes { AreSmallLanes opposites.now.lanes }
     requires high { AreSmallHighs opposites.now.high }
-    requires first { IsWeighed opposites.now first.now }
-    requires last { IsWeighed opposites.now kept.old }
-    ensures first { IsMarkedIn 16 49 opposites.now first.now.point result.first }
-    ensures last { IsMarkedIn 16 49 opposites.now kept.old.point result.last }
-    ensures kept { IsWeighed opposites.now kept.new }
-    ensures point { kept.new.point ≡ kept.old.point }
+    requires kept { AreWeighed opposites.now kept.old }
+    ensures kept { AreWeighed opposites.now kept.new }
+    ensures first_point { kept.new.first.point ≡ kept.old.first.point }
+    ensures last_point { kept.new.last.point ≡ kept.old.last.point }
+    ensures first { IsMarkedIn 16 49 opposites.now kept.new.first.point result.first }
+    ensures last { IsMarkedIn 16 49 opposites.now kept.new.last.point result.last }
 {
-    let late = late_of(opposites, first);
-    let last = late_from(opposites, kept, first, late);
-    kept.late = Some(last);
-    Ends { first: late, last }
+    let first = late_of(opposites, &mut kept.first);
+    let last = late_from(opposites, &mut kept.last, &kept.first, first);
+    Ends { first, last }
+}
+
+// The late marks of a point, which aren't made anew where it is another one.
+fn late_from(opposites: &Opposites, w: &mut Weighed, other: &Weighed, late: Marks) -> Marks
+    requires lanes { AreSmallLanes opposites.now.lanes }
+    requires high { AreSmallHighs opposites.now.high }
+    requires weighed { IsWeighed opposites.now w.old }
+    requires late { IsMarkedIn 16 49 opposites.now other.now.point late }
+    ensures weighed { IsWeighed opposites.now w.new }
+    ensures point { w.new.point ≡ w.old.point }
+    ensures late { IsMarkedIn 16 49 opposites.now w.new.point result }
+{
+    if are_same(&w.point, &other.point) {
+        w.late = Some(late);
+        return late;
+    }
+    late_of(opposites, w)
+}
+
+// The late marks of a point, which aren't made anew where they are made.
+fn late_of(opposites: &Opposites, w: &mut Weighed) -> Marks
+    requires lanes { AreSmallLanes opposites.now.lanes }
+    requires high { AreSmallHighs opposites.now.high }
+    requires weighed { IsWeighed opposites.now w.old }
+    ensures weighed { IsWeighed opposites.now w.new }
+    ensures point { w.new.point ≡ w.old.point }
+    ensures late { IsMarkedIn 16 49 opposites.now w.new.point result }
+{
+    if let Some(late) = w.late {
+        return late;
+    }
+    let late = late_marks(opposites, &w.point);
+    w.late = Some(late);
+    late
 }
 
 /// The marks of both ends of a whole cue, whose late marks these are.
-pub fn whole_ends(first: &Weighed, last: &Weighed, late: Ends) -> Ends
-    ensures first { (s : Opposites) → IsWeighed s first.now → IsMarkedIn 16 49 s first.now.point late.first
-        → IsMarked s first.now.point result.first }
-    ensures last { (s : Opposites) → IsWeighed s last.now → IsMarkedIn 16 49 s last.now.point late.last
-        → IsMarked s last.now.point result.last }
+pub fn whole_ends(kept: &Kept, late: Ends) -> Ends
+    ensures first { (s : Opposites) → IsWeighed s kept.now.first → IsMarkedIn 16 49 s kept.now.first.point late.first
+        → IsMarked s kept.now.first.point result.first }
+    ensures last { (s : Opposites) → IsWeighed s kept.now.last → IsMarkedIn 16 49 s kept.now.last.point late.last
+        → IsMarked s kept.now.last.point result.last }
 {
     Ends {
-        first: both(first.early, late.first),
-        last: both(last.early, late.last),
+        first: both(kept.first.early, late.first),
+        last: both(kept.last.early, late.last),
     }
 }
 
@@ -210,33 +278,6 @@ pub fn left_late(late: Ends, ends: Ends) -> Marks
     Marks {
         front: late.first.front & late.last.front,
         back: ends.first.back & ends.last.back,
-    }
-}
-
-// The late marks of a point, which aren't made anew where it is another one.
-fn late_from(opposites: &Opposites, w: &Weighed, other: &Weighed, late: Marks) -> Marks
-    requires lanes { AreSmallLanes opposites.now.lanes }
-    requires high { AreSmallHighs opposites.now.high }
-    requires weighed { IsWeighed opposites.now w.now }
-    requires late { IsMarkedIn 16 49 opposites.now other.now.point late }
-    ensures { IsMarkedIn 16 49 opposites.now w.now.point result }
-{
-    if are_same(&w.point, &other.point) {
-        return late;
-    }
-    late_of(opposites, w)
-}
-
-// The late marks of a point, which aren't made anew where they are made.
-fn late_of(opposites: &Opposites, w: &Weighed) -> Marks
-    requires lanes { AreSmallLanes opposites.now.lanes }
-    requires high { AreSmallHighs opposites.now.high }
-    requires weighed { IsWeighed opposites.now w.now }
-    ensures { IsMarkedIn 16 49 opposites.now w.now.point result }
-{
-    match w.late {
-        Some(late) => late,
-        None => late_marks(opposites, &w.point),
     }
 }
 

@@ -6,12 +6,12 @@ ghost use Rattle.sep_parts.specs.Levels.{root};
 ghost use Rattle.fleet_curves.specs.Raised.{difference};
 ghost use Rattle.pair_search.specs.Extents.{AreExtents, AreFlights, HasAxes};
 ghost use Rattle.pair_search.specs.Fleets.{GivesCount, GivesTrees};
-ghost use Rattle.pair_search.specs.Marks.{IsWeighed};
+ghost use Rattle.pair_search.specs.Marks.{AreWeighed};
 ghost use Rattle.pair_search.specs.Opposites.{AreOpposites};
 ghost use Rattle.pair_search.specs.Search.{HasDirection};
 ghost use Rattle.pair_search.specs.Steps.{FindsCount, FindsTree, IsPairFar};
 
-use crate::ends::{Weighed, weighed_zero};
+use crate::ends::{Kept, kept_at_zero};
 use crate::extents::{Extent, are_far, extent_at, extents_of, flights_of, has_axes};
 use crate::opposites::{Opposites, opposites_of};
 use crate::shape::count_with;
@@ -51,7 +51,7 @@ fn difference_of(curves: &Curves, slot: Slot) -> Difference
 }
 
 // The nodes of a slot's tree, put into `nodes`, which is empty before; or the first part of its cue that no direction
-// separates. What `waiting` has before is dropped; `kept` is as of `weighed_ends`.
+// separates. What `waiting` has before is dropped; `kept` is as of `weigh_ends`.
 fn tree_of<const M: usize>(
     curves: &Curves,
     ruler: &Ruler<M>,
@@ -60,14 +60,14 @@ fn tree_of<const M: usize>(
     slot: Slot,
     nodes: &mut Vec<Node>,
     waiting: &mut Waiting,
-    kept: &mut Weighed,
+    kept: &mut Kept,
 ) -> Result<(), SearchFault>
     requires slot { IsSlot curves.now.drones curves.now.cues slot }
     requires empty { nodes.old.items ≡ [] }
     requires opposites { AreOpposites ruler.now opposites.now }
-    requires kept { IsWeighed opposites.now kept.old }
+    requires kept { AreWeighed opposites.now kept.old }
     ensures finds { FindsTree ruler.now depth curves.now slot nodes.new.items result }
-    ensures kept { OnOk result (IsWeighed opposites.now kept.new) }
+    ensures kept { OnOk result (AreWeighed opposites.now kept.new) }
 {
     let diff = difference_of(curves, slot);
     match search_by(&diff, ruler, opposites, depth, nodes, waiting, kept)? {
@@ -96,7 +96,7 @@ pub fn search_all<const M: usize>(
     let mut trees = Forest::none(alloc);
     let mut nodes = Vec::new(alloc);
     let mut waiting = Waiting::none();
-    let mut kept = weighed_zero(&opposites);
+    let mut kept = kept_at_zero(&opposites);
     let mut slot = Slot::first();
     while usize::from(slot.b) < drones {
         nodes.clear();

@@ -9,12 +9,12 @@ ghost use Rattle.sep_parts.specs.declared.stack.Level.{Level};
 ghost use Rattle.pair_search.specs.Search.{IsClear, SearchGives, first_by, first_direction};
 ghost use Rattle.pair_search.specs.Lanes.{AreSmallLanes};
 ghost use Rattle.pair_search.specs.Laws.{SearchLaw};
-ghost use Rattle.pair_search.specs.Marks.{AreEnds, AreLeft, FindsEarly, IsWeighed, TellAll, TellsEnds};
+ghost use Rattle.pair_search.specs.Marks.{AreEnds, AreLeft, FindsEarly, AreWeighed, TellAll, TellsEnds};
 ghost use Rattle.pair_search.specs.Opposites.{AreOpposites, AreSmallHighs};
 ghost use Rattle.pair_search.specs.Steps.{WalkGives, node_for};
 
 use crate::ends::{
-    Ends, WaitingEnds, Weighed, late_ends, left_late, pass, weighed_ends, weighed_zero, whole_ends,
+    Ends, Kept, WaitingEnds, kept_at_zero, late_ends, left_late, pass, weigh_ends, whole_ends,
 };
 use crate::first::{first_direction, first_early, first_of_whole};
 use crate::marking::{Marks, common};
@@ -72,7 +72,7 @@ pub fn search_with<const M: usize>(
         (found ≡ Found.Clear) ↔ IsClear ruler.now.clearance diff.now ruler.now.directions depth) }
 {
     let opposites = opposites_of(ruler);
-    let mut kept = weighed_zero(&opposites);
+    let mut kept = kept_at_zero(&opposites);
     let mut waiting = Waiting::none();
     search_by(
         diff,
@@ -86,7 +86,7 @@ pub fn search_with<const M: usize>(
 }
 
 /// As [`search_with`], with the lanes of the ruler made before, and a list for waiting parts. What it has before is
-/// dropped: it takes longer to make one than to search most cues. The last end of the cue is kept, weighed.
+/// dropped: it takes longer to make one than to search most cues. The ends of the cue are kept, weighed.
 pub fn search_by<const M: usize>(
     diff: &Difference,
     ruler: &Ruler<M>,
@@ -94,15 +94,15 @@ pub fn search_by<const M: usize>(
     depth: Depth,
     nodes: &mut Vec<Node>,
     waiting: &mut Waiting,
-    kept: &mut Weighed,
+    kept: &mut Kept,
 ) -> Result<Found, AllocError>
     requires empty { nodes.old.items ≡ [] }
     requires opposites { AreOpposites ruler.now opposites.now }
-    requires kept { IsWeighed opposites.now kept.old }
+    requires kept { AreWeighed opposites.now kept.old }
     ensures exact { SearchGives (first_by ruler.now diff.now) depth result nodes.new.items }
     ensures clear { IfOk result (λ found.
         (found ≡ Found.Clear) ↔ IsClear ruler.now.clearance diff.now ruler.now.directions depth) }
-    ensures kept { IsWeighed opposites.now kept.new }
+    ensures kept { AreWeighed opposites.now kept.new }
 {
     let answer = walk(diff, ruler, opposites, depth, nodes, waiting, kept);
     if !matches!(answer, Ok(Found::Clear)) {
@@ -120,23 +120,23 @@ fn walk<const M: usize>(
     depth: Depth,
     nodes: &mut Vec<Node>,
     waiting: &mut Waiting,
-    kept: &mut Weighed,
+    kept: &mut Kept,
 ) -> Result<Found, AllocError>
     requires empty { nodes.old.items ≡ [] }
     requires opposites { AreOpposites ruler.now opposites.now }
-    requires kept { IsWeighed opposites.now kept.old }
+    requires kept { AreWeighed opposites.now kept.old }
     ensures gives { WalkGives (first_by ruler.now diff.now) depth result nodes.new.items }
-    ensures kept { IsWeighed opposites.now kept.new }
+    ensures kept { AreWeighed opposites.now kept.new }
 {
     diff.raised_law();
-    let first = weighed_ends(diff, opposites, kept);
-    let near = first.early.front & kept.early.front;
+    weigh_ends(diff, opposites, kept);
+    let near = kept.first.early.front & kept.last.early.front;
     match first_early(diff, ruler, near) {
         Some(dir) => {
             nodes.push(Node::Leaf { dir })?;
             Ok(Found::Clear)
         }
-        None => walk_late(diff, ruler, opposites, &first, depth, nodes, waiting, kept),
+        None => walk_late(diff, ruler, opposites, depth, nodes, waiting, kept),
     }
 }
 
@@ -146,24 +146,23 @@ fn walk_late<const M: usize>(
     diff: &Difference,
     ruler: &Ruler<M>,
     opposites: &Opposites,
-    first: &Weighed,
     depth: Depth,
     nodes: &mut Vec<Node>,
     waiting: &mut Waiting,
-    kept: &mut Weighed,
+    kept: &mut Kept,
 ) -> Result<Found, AllocError>
     requires empty { nodes.old.items ≡ [] }
     requires opposites { AreOpposites ruler.now opposites.now }
-    requires ends { AreEnds opposites.now diff.now first.now kept.old }
+    requires ends { AreEnds opposites.now diff.now kept.old }
     requires early { FindsEarly ruler.now diff.now None }
     ensures gives { WalkGives (first_by ruler.now diff.now) depth result nodes.new.items }
-    ensures kept { IsWeighed opposites.now kept.new }
+    ensures kept { AreWeighed opposites.now kept.new }
 {
     // a ruler has at most 98 directions
     let _count = ruler.count();
     diff.raised_law();
-    let late = late_ends(opposites, first, kept);
-    let ends = whole_ends(first, kept, late);
+    let late = late_ends(opposites, kept);
+    let ends = whole_ends(kept, late);
     let near = left_late(late, ends);
     match node_of_whole(diff, ruler, near, depth) {
         Some(Node::Leaf { dir }) => {

@@ -7,7 +7,7 @@ loop-depth-init g c = (
   slots_in c.args.curves.now,
   record { ahead = rw c.first-slot.ensures (first_ahead c.args.curves.now.drones c.args.curves.now.cues (omega arith) (omega arith)); blocked = refl },
   rw c.none-trees.ensures refl,
-  c.weighed_zero-kept.ensures,
+  c.kept_at_zero-kept.ensures,
 )
 
 pub returns-in_err-tree_of : goal.returns-in_err-tree_of

@@ -12,8 +12,8 @@ whole diff = record { place = root; part = diff }
 pub first_early-requires : goal.first_early-requires
 first_early-requires g c = (
   search rules,
-  early_left c.args.ruler.now c.args.diff.now c.args.opposites.now c.weighed_ends-first.result c.weighed_ends-first.new.kept c.requires.opposites
-      (raised_level c.args.diff.now c.raised_law.ensures) c.weighed_ends-first.ensures,
+  early_left c.args.ruler.now c.args.diff.now c.args.opposites.now c.weigh_ends.new.kept c.requires.opposites
+      (raised_level c.args.diff.now c.raised_law.ensures) c.weigh_ends.ensures,
 )
 
 pub walk_late-requires : goal.walk_late-requires
@@ -24,7 +24,7 @@ walk_late-requires g c = (
     (
       c.requires.opposites,
       (
-        c.weighed_ends-first.ensures,
+        c.weigh_ends.ensures,
         early_none c.args.ruler.now c.args.diff.now c.first_early.result c.first_early.ensures c.in-None.is,
       ),
     ),
