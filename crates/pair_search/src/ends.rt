@@ -162,8 +162,9 @@ pub fn kept_at_zero(opposites: &Opposites) -> Kept
     }
 }
 
-// A point takes the place of one that was weighed. It isn't weighed anew where it is that one, or another: two drones
-// that fly alike have one difference at both ends.
+// A point takes the place of one that was weighed, if it is another: two drones that keep their distance have one
+// difference in all cues.
+#[inline(always)]
 fn weigh(opposites: &Opposites, point: Point, here: &mut Weighed, other: &Weighed)
     requires lanes { AreSmallLanes opposites.now.lanes }
     requires high { AreSmallHighs opposites.now.high }
@@ -173,24 +174,27 @@ fn weigh(opposites: &Opposites, point: Point, here: &mut Weighed, other: &Weighe
     ensures point { here.new.point ≡ point }
     ensures weighed { IsWeighed opposites.now here.new }
 {
-    if are_same(&point, &here.point) {
-        return;
+    if !are_same(&point, &here.point) {
+        replace(opposites, point, here, other);
     }
-    *here = weighed_at(opposites, point, other);
 }
 
-fn weighed_at(opposites: &Opposites, point: Point, other: &Weighed) -> Weighed
+// A point takes the place of one that was weighed. It isn't weighed anew where it is the other one: two drones that fly
+// alike have one difference at both ends.
+#[inline(never)]
+fn replace(opposites: &Opposites, point: Point, here: &mut Weighed, other: &Weighed)
     requires lanes { AreSmallLanes opposites.now.lanes }
     requires high { AreSmallHighs opposites.now.high }
     requires point { IsSmallPoint point }
     requires other { IsWeighed opposites.now other.now }
-    ensures point { result.point ≡ point }
-    ensures weighed { IsWeighed opposites.now result }
+    ensures point { here.new.point ≡ point }
+    ensures weighed { IsWeighed opposites.now here.new }
 {
     if are_same(&point, &other.point) {
-        return *other;
+        *here = *other;
+    } else {
+        *here = newly_weighed(opposites, point);
     }
-    newly_weighed(opposites, point)
 }
 
 fn newly_weighed(opposites: &Opposites, point: Point) -> Weighed
