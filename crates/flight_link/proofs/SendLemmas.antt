@@ -1,5 +1,5 @@
 -- What is sent over events that come one after the other.
-use Rattle.flight_link.proofs.Prelude.{◌≡◌, List, [], ◌∷◌, ◌++◌, append_assoc, append-nil, refl, sym, ap, ◌∙◌, ℕ, flat_map-append, Option, Some, None, Appends, Event, Frame, Flight, State, after, happens, says, sent, start, output_bytes, ended, end_in, end_of, first_of_two, frames_bytes, sent_over, BeginsWith}
+use Rattle.flight_link.proofs.Prelude.{◌≡◌, List, [], ◌∷◌, ◌++◌, append_assoc, append-nil, refl, sym, ap, ◌∙◌, ℕ, flat_map-append, Option, Some, None, Event, Frame, Flight, State, after, happens, says, sent, start, output_bytes, ended, end_in, end_of, first_of_two, frames_bytes, sent_over, BeginsWith}
 
 -- what is said at an event that comes after others
 abbrev pub said_at : Flight → List Event → Event → List Frame
@@ -31,10 +31,9 @@ frames-append : (xs ys : List Frame) → frames_bytes (xs ++ ys) ≡ frames_byte
 frames-append xs ys = flat_map-append output_bytes xs ys
 
 -- before any event nothing is sent
-pub sends-nothing : (f : Flight) (old : Option (List ℕ)) → Appends old old (sent_over f [])
+pub sends-nothing : (f : Flight) → sent_over f [] ≡ []
 unfolding sent_over
-sends-nothing f None = tt
-sends-nothing f (Some bytes) = sym (append-nil bytes)
+sends-nothing f = refl
 
 -- what one event more sends
 pub sent-push : (f : Flight) (events : List Event) (x : Event) → sent_over f (events ++ x ∷ []) ≡ sent_over f events ++ answer f events x

@@ -1,6 +1,6 @@
 //! The event that is begun, byte by byte.
 
-ghost use Rattle.std.specs.Prelude.{◌≡◌, ◌≤◌, ◌-◌, ◌==◌, ◌++◌, [], ◌∷◌, length, take, replicate};
+ghost use Rattle.std.specs.Prelude.{◌≡◌, ◌≤◌, ◌-◌, ◌++◌, [], ◌∷◌, length, take, replicate};
 ghost use Rattle.flight_link.specs.Sends.{IsBegun};
 ghost use Rattle.flight_link.specs.Steps.{FedGives};
 
@@ -9,7 +9,7 @@ use flight_model::Event;
 use std::marker::Model;
 
 // The most bytes of an event: a sample.
-pub const EVENT_BYTES: usize = 11;
+const EVENT_BYTES: usize = 11;
 
 #[derive(Clone, Copy, Debug, PartialEq, Eq)]
 pub enum Fed {
@@ -65,13 +65,6 @@ impl Begun {
             bytes: [0; EVENT_BYTES],
             count: 0,
         }
-    }
-
-    // No event is begun: no byte has come since the last whole one.
-    pub fn is_empty(&self) -> bool
-        ensures { result ≡ (length self.now == 0) }
-    {
-        self.count == 0
     }
 
     // What the next byte gives after those before it, in a flight of this many drones.

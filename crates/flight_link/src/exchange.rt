@@ -1,26 +1,30 @@
 //! A flight between a source and a sink, from the first event to the end frame.
 
-ghost use Rattle.std.specs.Prelude.{◌≡◌, ◌≢◌, ◌⊎◌, ◌≤◌, ◌++◌, [], ◌∷◌, ℕ, List, length, false, IsTrue, Contains, IfOk};
-ghost use Rattle.std.specs.Prelude.{IfSome, OnOk, OnErr, Err};
+ghost use Rattle.std.specs.Prelude.{◌≡◌, ◌≢◌, ◌⊎◌, ◌≤◌, ◌++◌, [], ◌∷◌, ℕ, List, length, false, None, IsTrue, Contains};
+ghost use Rattle.std.specs.Prelude.{IfSome};
 ghost use Rattle.std.specs.Io.KnownBytes.{Appends, Consumes};
 ghost use Rattle.fleet_io.specs.Causes.{Rose};
 ghost use Rattle.fleet_io.specs.Held.{buffer_bytes, stream};
 ghost use Rattle.fleet_io.specs.Taken.{AppendsFront};
 ghost use Rattle.fleet_io.specs.Told.{MayGive, Went, to_come};
+ghost use Rattle.flight_model.specs.declared.events.Event.{Event};
+ghost use Rattle.flight_model.specs.declared.flights.Flight.{Flight};
 ghost use Rattle.flight_model.specs.Directors.{drones};
 ghost use Rattle.flight_director.specs.Held.{IsHeld};
-ghost use Rattle.flight_link.specs.Sends.{end_in, end_of, status_of as word_status};
-ghost use Rattle.link_dialogue.specs.Steps.{Breaks, Ends, Fails};
+ghost use Rattle.flight_frames.specs.Frames.{IsEvent, event_bytes};
+ghost use Rattle.flight_link.specs.Sends.{end_in, end_of, ended};
+ghost use Rattle.link_dialogue.specs.Machines.{TakesItem};
 ghost use Rattle.flight_link.specs.Flights.{FlightFails, FlightGives, StaysPrompt, StopsAtEnd, dialogue_of};
+ghost use Rattle.flight_link.specs.Steps.{Stands};
 
-use crate::input::{Next, next_event};
-use crate::output::{Bytes, send};
-use fleet_io::status::{DONE, ENDED, FAULTY, READ_FAILED, TOO_MANY_FRAMES, WRITE_FAILED};
-use fleet_io::{Failed, Parts, Sink, Source};
+use crate::begun::{Begun, Fed as EventFed};
+use crate::output::{Bytes, put_all};
+use fleet_io::status::DONE;
+use fleet_io::{Parts, Sink, Source};
 use flight_director::{Director, Out};
 use flight_frames::frame_law;
-use flight_model::{Flight, Frame};
-use link_dialogue::finish;
+use flight_model::{Event, Flight, Frame};
+use link_dialogue::{Fed, Machine, Taken, run};
 
 /// The flight is over, and it wasn't flown to its last step, or a drone left its curve in the show or was silent.
 pub const NOT_FLOWN: u8 = 20;
@@ -56,73 +60,58 @@ fn drone_count(flight: &Flight) -> usize
     flight.curves.as_slice().len()
 }
 
-// Why events are taken no further, short of the end of the flight.
-#[derive(Clone, Copy, Debug, PartialEq, Eq)]
-enum Broken {
-    Read,
-    Write,
+// The director of a flight, the event that is begun, and what was said last.
+#[derive(Drop)]
+struct Linked {
+    director: Director,
+    drones: usize,
+    begun: Begun,
+    said: Out,
+    bytes: Bytes,
 }
 
-const EVENT_LIMIT: u32 = 4_000_000;
+impl Linked {
+    // Hands an event to the director of a flight that is going, with no other one begun.
+    fn hear(&mut self, event: &Event) -> Option<u8>
+        ensures { (f : Flight) (events : List Event)
+            → Stands f self.old.director self.old.drones self.old.begun events [] → ended f events ≡ None
+            → IsEvent (drones f) event.now
+            → TakesItem (dialogue_of f) (λ now. Stands f self.new.director self.new.drones self.new.begun now [])
+            (λ whole. whole ≡ event_bytes event.now) events result self.new.bytes.items }
+    {
+        self.director.event(event, &mut self.said);
+        put_all(self.said.as_slice(), &mut self.bytes);
+        end_in(self.said.as_slice())
+    }
+}
 
-// Carries a flight to its end, and returns the status. All that the events lead to has gone out then, but not the end
-// frame.
-fn carry<S: Source, K: Sink>(
-    parts: &mut Parts,
-    source: &mut S,
-    flight: Flight,
-    sink: &mut K,
-) -> Result<u8, Broken>
-    requires sound { IsTrue parts.old.sound }
-    requires at_end { IsTrue parts.old.ended → IsTrue (S.told source.old).ended }
-    requires holds { length parts.old.waiting ≤ buffer_bytes }
-    requires held { IsHeld flight }
-    ensures ends { (all : List ℕ) → MayGive parts.new.ended (S.told source.new) all
-        → IfOk result (λ status. Ends (dialogue_of flight) status (stream parts.old (to_come all (S.told source.old)))
-        (K.written sink.old) (K.written sink.new)) }
-    ensures read { (all : List ℕ) → MayGive parts.new.ended (S.told source.new) all → result ≡ Err Broken.Read
-        → Rose (S.told source.old).faults (S.told source.new).faults × (parts.old.ended ≡ false)
-        × Fails (dialogue_of flight) (stream parts.old (to_come all (S.told source.old)))
-        (to_come all (S.told source.new)) (K.written sink.old) (K.written sink.new) }
-    ensures write { (all : List ℕ) → MayGive parts.new.ended (S.told source.new) all → result ≡ Err Broken.Write
-        → Rose (K.faults sink.old) (K.faults sink.new)
-        × Breaks (dialogue_of flight) (stream parts.old (to_come all (S.told source.old))) (K.written sink.old)
-        (K.written sink.new) }
-    ensures prompt { (all : List ℕ) → MayGive parts.new.ended (S.told source.new) all
-        → StaysPrompt flight (stream parts.old (to_come all (S.told source.old))) (to_come all (S.told source.new))
-        (K.written sink.old) (K.written sink.new) }
-    ensures stops { (all : List ℕ) → MayGive parts.new.ended (S.told source.new) all
-        → StopsAtEnd flight (stream parts.old (to_come all (S.told source.old))) (to_come all (S.told source.new)) }
-    ensures grown { (sent : List ℕ) × Appends (K.written sink.old) (K.written sink.new) sent }
-    ensures known { IfOk result (λ status. Contains (0 ∷ 8 ∷ 11 ∷ 13 ∷ 20 ∷ []) status) }
-    ensures went { Went parts.old.ended parts.new.ended (S.told source.old) (S.told source.new) }
-    ensures sink_later { K.faults sink.old ≤ K.faults sink.new }
-{
-    frame_law();
-    let drones = drone_count(&flight);
-    let mut director = Director::make(flight);
-    let mut said = Out::new();
-    let mut bytes = Bytes::new();
-    'events: for n in 0..EVENT_LIMIT {
-        let next = match next_event(parts, source, drones) {
-            Ok(next) => next,
-            Err(Failed) => return Err(Broken::Read),
-        };
-        match next {
-            Next::Whole { e } => director.event(&e, &mut said),
-            Next::End => return Ok(ENDED),
-            Next::Faulty => return Ok(FAULTY),
-        }
-        match send(said.as_slice(), &mut bytes, sink) {
-            Ok(()) => {}
-            Err(Failed) => return Err(Broken::Write),
-        }
-        match end_in(said.as_slice()) {
-            None => {}
-            Some(status) => return Ok(status),
+impl Machine for Linked {
+    ghost dialogue = { λ m. dialogue_of m.director.flight };
+
+    ghost stands = { λ start now events begun. Stands start.director.flight now.director now.drones now.begun events begun };
+
+    ghost sends = { λ m. m.bytes.items };
+
+    fn feed(&mut self, byte: u8) -> Fed {
+        match self.begun.feed(byte, self.drones) {
+            EventFed::More => Fed::More,
+            EventFed::Whole { e } => {
+                self.begun = Begun::make();
+                Fed::Whole {
+                    status: self.hear(&e),
+                }
+            }
+            EventFed::Bad => Fed::Bad,
         }
     }
-    Ok(TOO_MANY_FRAMES)
+
+    fn take(&mut self, _bytes: &[u8]) -> Option<Taken> {
+        None
+    }
+
+    fn answer(&self) -> &[u8] {
+        self.bytes.as_slice()
+    }
 }
 
 /// Flies a flight through frames (docs/PROMISES.md, "Its frames"). The director hears each event that the source gives,
@@ -173,9 +162,14 @@ pub fn direct<S: Source, K: Sink>(
     ensures went { Went parts.old.ended parts.new.ended (S.told source.old) (S.told source.new) }
     ensures sink_later { K.faults sink.old ≤ K.faults sink.new }
 {
-    match carry(parts, source, flight, sink) {
-        Ok(status) => finish(sink, status),
-        Err(Broken::Read) => finish(sink, READ_FAILED),
-        Err(Broken::Write) => WRITE_FAILED,
-    }
+    frame_law();
+    let drones = drone_count(&flight);
+    let mut machine = Linked {
+        director: Director::make(flight),
+        drones,
+        begun: Begun::make(),
+        said: Out::new(),
+        bytes: Bytes::new(),
+    };
+    run(&mut machine, parts, source, sink)
 }

@@ -12,7 +12,6 @@
 
 mod begun;
 mod exchange;
-mod input;
 mod law;
 mod output;
 

@@ -1,6 +1,6 @@
 -- What is carried from item to item, and how it ends.
-use Rattle.std.proofs.Common.{Bool, List, None, Option, Some, [], ap, append-nil, append_assoc, arith, false, inl, inr, length, length-append, refl, sym, take, ℕ, ◌++◌, ◌+◌, ◌<◌, ◌∙◌, ◌∷◌, ◌≡◌, ◌≤◌}
-use Rattle.std.proofs.lemmas.List.{length_push, take_at}
+use Rattle.std.proofs.Common.{Bool, List, None, Option, Some, [], ap, append-nil, append_assoc, arith, false, inl, inr, length, length-append, refl, sym, take, drop, Result, ℕ, ◌++◌, ◌+◌, ◌<◌, ◌∙◌, ◌∷◌, ◌≡◌, ◌≤◌}
+use Rattle.std.proofs.lemmas.List.{length_push, take-append-drop, take_at}
 use Rattle.std.proofs.lemmas.List.Elements.{All-head, All-nil, All-push}
 use Rattle.std.specs.Io.KnownBytes.{Appends, Consumes, IsAtEnd, prepend_known}
 use Rattle.std.specs.List.{All}
@@ -9,7 +9,10 @@ use Rattle.fleet_io.proofs.SentLemmas.{Appends-append}
 use Rattle.fleet_io.proofs.TakenLemmas.{Consumes-append, Consumes-nil}
 use Rattle.fleet_io.specs.Held.{buffer_bytes}
 use Rattle.fleet_io.specs.Taken.{AppendsFront}
+use Rattle.fleet_io.specs.Told.{Told, Took}
 use Rattle.link_dialogue.specs.Dialogues.{BeginsNone, BeginsWith, Dialogue, EndsGoing, IsDialogue, StaysPrompt, StopsAtEnd, Takes, item_limit, items_bytes}
+use Rattle.link_dialogue.specs.Machines.{CarryEnds, CarryGives, TakesItem}
+use Rattle.link_dialogue.specs.declared.driver.Broken.{Broken}
 use Rattle.link_dialogue.specs.Steps.{Breaks, Ends, Fails, IsFaulty}
 use Rattle.link_dialogue.proofs.ItemLemmas.{All-later, BeginsWith-trans, Takes-none, at_some, bytes-push, compare, front_more, going-push, grown, left_of, less_or_not, not_full, same_front, when_some}
 use Rattle.link_dialogue.proofs.EndLemmas.{some}
@@ -41,32 +44,46 @@ Carries-none t stream old new Stands stands going sent = record {
   stands = stands;
 }
 
--- What one item more leads to: it was taken, and this is sent for it.
-pub record Answers (t : Dialogue) (xs : List t.Item) (i : t.Item) (mid now : Option (List ℕ)) (answer : List ℕ) : Type 0 where
-  pub formed : t.IsItem i
-  pub taken : Consumes mid now (t.bytes i)
-  pub sends : t.sent (xs ++ i ∷ []) ≡ t.sent xs ++ answer
+-- what is told of an item that was taken, in other words
+pub moved : (t : Dialogue) (Stands Next : List t.Item → Type 0) (Taken Now : List ℕ → Type 0) (items : List t.Item) (p : Option ℕ) (answer : List ℕ) → ((later : List t.Item) → Stands later → Next later) →
+    ((whole : List ℕ) → Taken whole → Now whole) → TakesItem t Stands Taken items p answer → TakesItem t Next Now items p answer
+moved t Stands Next Taken Now items p answer next now took = record {
+  item = took.item;
+  formed = took.formed;
+  taken = now (t.bytes took.item) took.taken;
+  stands = next (items ++ took.item ∷ []) took.stands;
+  ended = took.ended;
+  sends = took.sends;
+}
 
-sent_more : (t : Dialogue) (old mid new a b : Option (List ℕ)) (xs : List t.Item) (i : t.Item) (answer : List ℕ) → Answers t xs i a b answer → Appends old mid (t.sent xs) → Appends mid new answer →
-    Appends old new (t.sent (xs ++ i ∷ []))
-sent_more t old mid new a b xs i answer more before now = rw more.sends (Appends-append old mid new _ _ before now)
+-- the first of the bytes that wait are taken
+pub took_front : (waiting waits : List ℕ) (size : ℕ) (s : Told) → waits ≡ drop size waiting → Took waiting waits s s (take size waiting)
+took_front waiting waits size s is = record {
+  read = [];
+  given = sym (append-nil s.given);
+  wait = append-nil waiting ∙ sym (take-append-drop size waiting) ∙ ap (λ (l : List ℕ). take size waiting ++ l) (sym is);
+}
 
-taken_more : (t : Dialogue) (stream mid now : Option (List ℕ)) (xs : List t.Item) (i : t.Item) (answer : List ℕ) → Answers t xs i mid now answer → Consumes stream mid (items_bytes t xs) →
-    Consumes stream now (items_bytes t (xs ++ i ∷ []))
-taken_more t stream mid now xs i answer more before = rw (bytes-push t xs i) (Consumes-append stream mid now _ _ before more.taken)
+sent_more : (t : Dialogue) (old mid new a b : Option (List ℕ)) (xs : List t.Item) (Next : List t.Item → Type 0) (p : Option ℕ) (answer : List ℕ) (took : TakesItem t Next (Consumes a b) xs p answer) →
+    Appends old mid (t.sent xs) → Appends mid new answer → Appends old new (t.sent (xs ++ took.item ∷ []))
+sent_more t old mid new a b xs Next p answer took before now = rw took.sends (Appends-append old mid new _ _ before now)
+
+taken_more : (t : Dialogue) (stream mid now : Option (List ℕ)) (xs : List t.Item) (Next : List t.Item → Type 0) (p : Option ℕ) (answer : List ℕ) (took : TakesItem t Next (Consumes mid now) xs p answer) →
+    Consumes stream mid (items_bytes t xs) → Consumes stream now (items_bytes t (xs ++ took.item ∷ []))
+taken_more t stream mid now xs Next p answer took before = rw (bytes-push t xs took.item) (Consumes-append stream mid now _ _ before took.taken)
 
 -- one item more, after which the dialogue goes on
-pub Carries-push : (t : Dialogue) (stream mid now old sent new : Option (List ℕ)) (n m : ℕ) (Stands Next : List t.Item → Type 0) (c : Carries t stream mid old sent n Stands) (i : t.Item) (answer : List ℕ) →
-    Answers t c.items i mid now answer → Appends sent new answer → m ≡ n + 1 → t.ended (c.items ++ i ∷ []) ≡ None → Next (c.items ++ i ∷ []) → Carries t stream now old new m Next
-Carries-push t stream mid now old sent new n m Stands Next c i answer more out count going stands = record {
-  items = c.items ++ i ∷ [];
-  each = All-push t.IsItem c.items i c.each more.formed;
-  counted = omega (arith, length_push c.items i, c.counted, count);
-  before = going-push t c.items i c.before c.going;
-  going = going;
-  taken = taken_more t stream mid now c.items i answer more c.taken;
-  sent = sent_more t old sent new mid now c.items i answer more c.sent out;
-  stands = stands;
+pub Carries-push : (t : Dialogue) (stream mid now old sent new : Option (List ℕ)) (n m : ℕ) (Stands Next : List t.Item → Type 0) (c : Carries t stream mid old sent n Stands) (p : Option ℕ) (answer : List ℕ) →
+    TakesItem t Next (Consumes mid now) c.items p answer → Appends sent new answer → m ≡ n + 1 → p ≡ None → Carries t stream now old new m Next
+Carries-push t stream mid now old sent new n m Stands Next c p answer took out count going = record {
+  items = c.items ++ took.item ∷ [];
+  each = All-push t.IsItem c.items took.item c.each took.formed;
+  counted = omega (arith, length_push c.items took.item, c.counted, count);
+  before = going-push t c.items took.item c.before c.going;
+  going = sym took.ended ∙ going;
+  taken = taken_more t stream mid now c.items Next p answer took c.taken;
+  sent = sent_more t old sent new mid now c.items Next p answer took c.sent out;
+  stands = took.stands;
 }
 
 takes_of : (t : Dialogue) (stream now old new : Option (List ℕ)) (n : ℕ) (Stands : List t.Item → Type 0) (c : Carries t stream now old new n Stands) (bytes rest : List ℕ) → n ≤ item_limit →
@@ -74,16 +91,16 @@ takes_of : (t : Dialogue) (stream now old new : Option (List ℕ)) (n : ℕ) (St
 takes_of t stream now old new n Stands c bytes rest few cut = record { cut = cut; each = c.each; few = omega (arith, c.counted, few); going = c.before }
 
 -- of known bytes what was taken with one item more
-takes_more : (t : Dialogue) (stream mid now old sent : Option (List ℕ)) (n : ℕ) (Stands : List t.Item → Type 0) (c : Carries t stream mid old sent n Stands) (i : t.Item) (answer : List ℕ) →
-    Answers t c.items i mid now answer → n < item_limit → (bytes : List ℕ) → stream ≡ Some bytes → (rest : List ℕ) × Takes t bytes (c.items ++ i ∷ []) rest
-takes_more t stream mid now old sent n Stands c i answer more few bytes known =
-    let left = left_of bytes (items_bytes t (c.items ++ i ∷ [])) now (rw known at (taken_more t stream mid now c.items i answer more c.taken)) in (
+takes_more : (t : Dialogue) (stream mid now old sent : Option (List ℕ)) (n : ℕ) (Stands Next : List t.Item → Type 0) (c : Carries t stream mid old sent n Stands) (p : Option ℕ) (answer : List ℕ)
+    (took : TakesItem t Next (Consumes mid now) c.items p answer) → n < item_limit → (bytes : List ℕ) → stream ≡ Some bytes → (rest : List ℕ) × Takes t bytes (c.items ++ took.item ∷ []) rest
+takes_more t stream mid now old sent n Stands Next c p answer took few bytes known =
+    let left = left_of bytes (items_bytes t (c.items ++ took.item ∷ [])) now (rw known at (taken_more t stream mid now c.items Next p answer took c.taken)) in (
       left.0,
       record {
         cut = left.2;
-        each = All-push t.IsItem c.items i c.each more.formed;
-        few = omega (arith, length_push c.items i, c.counted, few);
-        going = going-push t c.items i c.before c.going;
+        each = All-push t.IsItem c.items took.item c.each took.formed;
+        few = omega (arith, length_push c.items took.item, c.counted, few);
+        going = going-push t c.items took.item c.before c.going;
       },
     )
 
@@ -114,11 +131,12 @@ end_full t stream now old new n Stands c full = end_going t stream now old new n
     let is : length c.items ≡ item_limit = c.counted ∙ full in rw is refl)
 
 -- it ends with the answer to one item more
-pub end_answered : (t : Dialogue) (stream mid now old sent new : Option (List ℕ)) (n : ℕ) (Stands : List t.Item → Type 0) (c : Carries t stream mid old sent n Stands) (i : t.Item) (answer : List ℕ) →
-    Answers t c.items i mid now answer → n < item_limit → Appends sent new answer → (status : ℕ) → t.ended (c.items ++ i ∷ []) ≡ Some status → Ends t status stream old new
-end_answered t stream mid now old sent new n Stands c i answer more few out status is = when_some _ stream (λ bytes known.
-    let took = takes_more t stream mid now old sent n Stands c i answer more few bytes known in
-    (c.items ++ i ∷ [], took.0, took.1, rw is refl, sent_more t old sent new mid now c.items i answer more c.sent out))
+pub end_answered : (t : Dialogue) (stream mid now old sent new : Option (List ℕ)) (n : ℕ) (Stands Next : List t.Item → Type 0) (c : Carries t stream mid old sent n Stands) (p : Option ℕ) (answer : List ℕ) →
+    TakesItem t Next (Consumes mid now) c.items p answer → n < item_limit → Appends sent new answer → (status : ℕ) → p ≡ Some status → Ends t status stream old new
+end_answered t stream mid now old sent new n Stands Next c p answer took few out status is = when_some _ stream (λ bytes known.
+    let more = takes_more t stream mid now old sent n Stands Next c p answer took few bytes known in
+    let ends : t.ended (c.items ++ took.item ∷ []) ≡ Some status = sym took.ended ∙ is in
+    (c.items ++ took.item ∷ [], more.0, more.1, rw ends refl, sent_more t old sent new mid now c.items Next p answer took c.sent out))
 
 -- a read failed
 pub fails : (t : Dialogue) (stream now left old new : Option (List ℕ)) (n : ℕ) (Stands : List t.Item → Type 0) → Carries t stream now old new n Stands → n < item_limit → (begun : List ℕ) → t.IsBegun begun →
@@ -142,12 +160,12 @@ breaks_first t law stream old new front = when_some _ stream (λ bytes known.
     let c = some t law bytes bytes [] (Takes-none t bytes) in
     (c.1, (front.0, front.1 ++ c.3.0, c.3.1 ∙ ap (λ (l : List ℕ). l ++ c.3.0) front.2 ∙ append_assoc front.0 front.1 c.3.0, front.3), (c.0, c.2)))
 
-pub breaks : (t : Dialogue) → IsDialogue t → (stream mid now old sent new : Option (List ℕ)) (n : ℕ) (Stands : List t.Item → Type 0) (c : Carries t stream mid old sent n Stands) (i : t.Item) (answer : List ℕ) →
-    Answers t c.items i mid now answer → n < item_limit → AppendsFront sent new answer → Breaks t stream old new
-breaks t law stream mid now old sent new n Stands c i answer more few front = when_some _ stream (λ bytes known.
-    let took = takes_more t stream mid now old sent n Stands c i answer more few bytes known in
-    let come = some t law bytes took.0 (c.items ++ i ∷ []) took.1 in
-    (come.1, front_more old sent new _ _ come.1 c.sent front (rw more.sends at come.3), (come.0, come.2)))
+pub breaks : (t : Dialogue) → IsDialogue t → (stream mid now old sent new : Option (List ℕ)) (n : ℕ) (Stands Next : List t.Item → Type 0) (c : Carries t stream mid old sent n Stands) (p : Option ℕ) (answer : List ℕ) →
+    TakesItem t Next (Consumes mid now) c.items p answer → n < item_limit → AppendsFront sent new answer → Breaks t stream old new
+breaks t law stream mid now old sent new n Stands Next c p answer took few front = when_some _ stream (λ bytes known.
+    let more = takes_more t stream mid now old sent n Stands Next c p answer took few bytes known in
+    let come = some t law bytes more.0 (c.items ++ took.item ∷ []) more.1 in
+    (come.1, front_more old sent new _ _ come.1 c.sent front (rw took.sends at come.3), (come.0, come.2)))
 
 -- ---- no answer waits
 
@@ -183,11 +201,11 @@ prompt t law stream now left old new xs output each taken_so sent_so began is_sh
 pub prompt_carried : (t : Dialogue) → IsDialogue t → (stream now left old new : Option (List ℕ)) (n : ℕ) (Stands : List t.Item → Type 0) → Carries t stream now old new n Stands → IsShort t now left → StaysPrompt t stream left old new
 prompt_carried t law stream now left old new n Stands c is_short = prompt t law stream now left old new c.items _ c.each c.taken c.sent ([], sym (append-nil _)) is_short
 
-pub prompt_answered : (t : Dialogue) → IsDialogue t → (stream mid now left old sent new : Option (List ℕ)) (n : ℕ) (Stands : List t.Item → Type 0) (c : Carries t stream mid old sent n Stands) (i : t.Item) (answer : List ℕ) →
-    Answers t c.items i mid now answer → Appends sent new answer → IsShort t now left → StaysPrompt t stream left old new
-prompt_answered t law stream mid now left old sent new n Stands c i answer more out is_short =
-    prompt t law stream now left old new (c.items ++ i ∷ []) (t.sent (c.items ++ i ∷ [])) (All-push t.IsItem c.items i c.each more.formed)
-    (taken_more t stream mid now c.items i answer more c.taken) (sent_more t old sent new mid now c.items i answer more c.sent out) ([], sym (append-nil _)) is_short
+pub prompt_answered : (t : Dialogue) → IsDialogue t → (stream mid now left old sent new : Option (List ℕ)) (n : ℕ) (Stands Next : List t.Item → Type 0) (c : Carries t stream mid old sent n Stands) (p : Option ℕ) (answer : List ℕ) →
+    TakesItem t Next (Consumes mid now) c.items p answer → Appends sent new answer → IsShort t now left → StaysPrompt t stream left old new
+prompt_answered t law stream mid now left old sent new n Stands Next c p answer took out is_short =
+    prompt t law stream now left old new (c.items ++ took.item ∷ []) (t.sent (c.items ++ took.item ∷ [])) (All-push t.IsItem c.items took.item c.each took.formed)
+    (taken_more t stream mid now c.items Next p answer took c.taken) (sent_more t old sent new mid now c.items Next p answer took c.sent out) ([], sym (append-nil _)) is_short
 
 pub prompt_broken : (t : Dialogue) → IsDialogue t → (stream mid left old sent new : Option (List ℕ)) (n : ℕ) (Stands : List t.Item → Type 0) (bytes : List ℕ) → Carries t stream mid old sent n Stands →
     AppendsFront sent new bytes → IsShort t mid left → StaysPrompt t stream left old new
@@ -327,3 +345,14 @@ stops_first t waiting (Some xs) few bytes unread ys rest known known_left took o
       ap (λ (l : List ℕ). length l) took.cut,
       ap (λ (l : List ℕ). length l) e,
     )
+
+-- ---- how a dialogue was carried
+
+-- where no item is taken any more
+pub carried : (t : Dialogue) → IsDialogue t → (result : Result ℕ Broken) (stream now left old new : Option (List ℕ)) (n : ℕ) (Stands : List t.Item → Type 0) → Carries t stream now old new n Stands → n < item_limit →
+    IsShort t now left → CarryEnds t result stream left old new → CarryGives t result stream left old new
+carried t law result stream now left old new n Stands c few is_short ends = record {
+  ends = ends;
+  prompt = prompt_carried t law stream now left old new n Stands c is_short;
+  stops = stops_before t law stream now left old new n Stands c few is_short;
+}

@@ -1,11 +1,11 @@
 -- A dialogue with its end frame.
-use Rattle.std.proofs.Common.{Bool, IfSome, List, None, Option, Some, [], ap, append-nil, append_assoc, false, inl, refl, inr, sym, ℕ, ◌++◌, ◌∙◌, ◌≡◌, ◌⊎◌}
+use Rattle.std.proofs.Common.{Bool, IfSome, List, None, Option, Some, [], ap, append-nil, append_assoc, arith, false, inl, refl, inr, sym, ℕ, ◌++◌, ◌∙◌, ◌∷◌, ◌≡◌, ◌≢◌, ◌⊎◌}
 use Rattle.std.specs.Io.KnownBytes.{Appends, Consumes}
 use Rattle.fleet_io.proofs.SentLemmas.{Appends-append}
 use Rattle.fleet_io.specs.Causes.{Rose}
 use Rattle.fleet_io.specs.Taken.{AppendsFront}
 use Rattle.link_frames.specs.Frames.{end_frame}
-use Rattle.link_dialogue.specs.Dialogues.{Dialogue, DialogueFails, DialogueGives, StaysPrompt}
+use Rattle.link_dialogue.specs.Dialogues.{Dialogue, DialogueFails, DialogueGives, IsOwnEnd, IsStatus, StaysPrompt}
 use Rattle.link_dialogue.specs.Steps.{Breaks, Ends, Fails}
 use Rattle.link_dialogue.proofs.ItemLemmas.{BeginsWith-trans, front_more, same_front}
 
@@ -87,3 +87,18 @@ prompt_kept t (Some xs) left (Some b) (Some m) (Some n) more p grew front bytes 
     let mid_is : m ≡ before ++ grew.0 = grew.1 ∙ ap (λ (l : List ℕ). l ++ grew.0) e in
     let sent_is : sent ≡ grew.0 ++ front.0 = same_front before sent (grew.0 ++ front.0) (sym g ∙ front.3 ∙ ap (λ (l : List ℕ). l ++ front.0) mid_is ∙ append_assoc before grew.0 front.0) in
     BeginsWith-trans _ _ _ (p bytes unread before taken grew.0 known_bytes known_left cut known_before (ap (λ (l : List ℕ). Some l) mid_is) ys tail formed cut_so long) (front.0, sent_is)
+
+-- ---- the status
+
+-- a dialogue's own end is neither that of a failed read nor that of a failed write
+pub status_ended : (t : Dialogue) → ((items : List t.Item) (status : ℕ) → t.ended items ≡ Some status → (status ≢ 6) × (status ≢ 7)) → (status : ℕ) → IsOwnEnd t status → (status ≢ 6) × (status ≢ 7)
+status_ended t own status (inl (items, is)) = own items status is
+status_ended t own status (inr (inl e)) = (λ f. omega (arith, e, f), λ f. omega (arith, e, f))
+status_ended t own status (inr (inr (inl e))) = (λ f. omega (arith, e, f), λ f. omega (arith, e, f))
+status_ended t own status (inr (inr (inr e))) = (λ f. omega (arith, e, f), λ f. omega (arith, e, f))
+
+pub status_known : (t : Dialogue) (status result : ℕ) → IsStatus t status → (result ≡ status) ⊎ (result ≡ 7) → IsStatus t result
+status_known t status result known is = elim is [
+  | inl e ↦ rw e known
+  | inr e ↦ inr (inr e)
+]

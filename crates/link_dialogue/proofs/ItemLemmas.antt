@@ -83,6 +83,13 @@ cut_front NoItem (Some xs) (Some ys) bytes taken at_end some none =
     let is : xs ≡ bytes = taken ∙ ap (λ (rest : List ℕ). bytes ++ rest) at_end ∙ append-nil bytes in
     rw is (omega (arith, some), none)
 
+-- no byte was taken before the end
+pub end_front : (a b : Option (List ℕ)) (bytes : List ℕ) → Consumes a b bytes → IsAtEnd b → length bytes ≡ 0 → IsAtEnd a
+end_front None b bytes taken at_end none = tt
+end_front (Some xs) None bytes taken at_end none = absurd taken
+end_front (Some xs) (Some ys) [] taken at_end none = taken ∙ at_end
+end_front (Some xs) (Some ys) (x ∷ bytes) taken at_end none = absurd (omega (arith, none))
+
 -- ---- items that are taken
 
 pub All-later : (t : Dialogue) (xs ys : List t.Item) → All t.IsItem (xs ++ ys) → All t.IsItem ys

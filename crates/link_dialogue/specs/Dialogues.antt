@@ -51,6 +51,15 @@ abbrev pub EndsWith : Dialogue → Option ℕ → Bool → List ℕ → ℕ → 
 EndsWith t None full rest status = EndsGoing t full rest status
 EndsWith t (Some end_status) full rest status = status ≡ end_status
 
+-- A status with which a dialogue ends without a fault of source or sink: that of some items, or one of `EndsGoing`.
+abbrev pub IsOwnEnd : Dialogue → ℕ → Type 0
+IsOwnEnd t status =
+    ((items : List t.Item) × (t.ended items ≡ Some status)) ⊎ ((status ≡ 8) ⊎ ((status ≡ 11) ⊎ (status ≡ 13)))
+
+-- A status with which a dialogue ends: where a read failed 6, and where a write did 7.
+abbrev pub IsStatus : Dialogue → ℕ → Type 0
+IsStatus t status = IsOwnEnd t status ⊎ ((status ≡ 6) ⊎ (status ≡ 7))
+
 -- A dialogue that gets these bytes ends with this status, and sends this in all: what its items lead to, and the end
 -- frame.
 pub record DialogueGives (t : Dialogue) (bytes : List ℕ) (status : ℕ) (output : List ℕ) : Type 0 where
@@ -111,6 +120,9 @@ pub record IsDialogue (t : Dialogue) : Type 0 where
   -- bytes begin with an item, or with none
   pub found : (bytes : List ℕ) →
       ((i : t.Item) × (later : List ℕ) × t.IsItem i × (bytes ≡ t.bytes i ++ later)) ⊎ BeginsNone t bytes
+  -- no byte begins an item, and bytes that begin one begin with no whole one
+  pub none : t.IsBegun []
+  pub begun : (bytes : List ℕ) → t.IsBegun bytes → BeginsNone t bytes
   -- an item that is begun may wait
   pub short : (bytes : List ℕ) → t.IsBegun bytes → length bytes ≤ buffer_bytes
   -- what the first items lead to is sent first

@@ -1,2 +1,3 @@
 pub mod Dialogues
 pub mod Steps
+pub mod Machines

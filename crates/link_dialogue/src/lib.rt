@@ -1,10 +1,10 @@
 //! A dialogue over a link: what an upload and a flight have in common, whatever their items are (docs/RADIO.md, "Link
 //! frames").
 //!
-//! `specs/Dialogues.antt` says which status and which output any bytes lead to (`DialogueGives`), what was sent where a
-//! read or a write failed, and that no answer waits; `proofs/` has the lemmas by which `link_upload` and `flight_link`
-//! prove it of their items. `finish` writes the frame that ends each dialogue. The crate stands on `fleet_io` for bytes
-//! in and out, and on `link_frames` for the end frame.
+//! A [`Machine`] takes items and says what each leads to; `run` carries its dialogue to the end frame, which `finish`
+//! writes. `specs/Dialogues.antt` says which status and which output any bytes lead to (`DialogueGives`), what was sent
+//! where a read or a write failed, and that no answer waits. The crate stands on `fleet_io` for bytes in and out, and on
+//! `link_frames` for the end frame.
 #![tactic(auto)]
 
 ghost use Rattle.std.specs.Prelude.{◌≡◌, ◌≢◌, ◌⊎◌, ◌≤◌};
@@ -13,9 +13,14 @@ ghost use Rattle.fleet_io.specs.Causes.{Rose};
 ghost use Rattle.fleet_io.specs.Taken.{AppendsFront};
 ghost use Rattle.link_frames.specs.Frames.{end_frame};
 
+mod driver;
+mod machine;
+
+pub use driver::run;
 use fleet_io::status::WRITE_FAILED;
 use fleet_io::{Failed, Sink, write_whole};
 use link_frames::END_BYTE;
+pub use machine::{Fed, Machine, Taken};
 
 /// Writes the end frame of a dialogue. Returns its status, or 7 where a write failed.
 pub fn finish<K: Sink>(sink: &mut K, status: u8) -> u8

@@ -1,36 +1,32 @@
 -- The statuses of an upload.
-use Rattle.link_upload.proofs.Prelude.{◌≡◌, ◌≢◌, ◌⊎◌, inl, inr, ℕ, [], ◌∷◌, refl, arith, Contains, All-cons, All-contains, All-nil}
+use Rattle.link_upload.proofs.Prelude.{◌≡◌, ◌≢◌, inl, inr, ℕ, [], ◌∷◌, Option, Some, refl, subst, arith, Contains, Event, Link, events_in, link_of, status_of, upload_of}
+use Rattle.upload_model.specs.declared.events.Progress.{Progress}
+use Rattle.upload_model.specs.declared.events.Progress.TheVariants.{Going, Done, GaveUp, Refused, Differs}
+use Rattle.upload_model.specs.Hosts.{progress}
+use Rattle.upload_model.specs.Sessions.{Upload}
+use Rattle.link_dialogue.specs.Dialogues.{IsStatus}
 
--- the status of an upload's own end is one of those
-abbrev IsOwnEnd : ℕ → Type 0
-IsOwnEnd n = Contains (0 ∷ 8 ∷ 9 ∷ 10 ∷ 11 ∷ 13 ∷ 14 ∷ []) n
+abbrev IsKnown : ℕ → Type 0
+IsKnown status = Contains (0 ∷ 6 ∷ 7 ∷ 8 ∷ 9 ∷ 10 ∷ 11 ∷ 13 ∷ 14 ∷ []) status
 
-pub end_known : (status : ℕ) → Contains (0 ∷ 9 ∷ 10 ∷ 14 ∷ []) status → Contains (0 ∷ 8 ∷ 9 ∷ 10 ∷ 11 ∷ 13 ∷ 14 ∷ []) status
-end_known status among = All-contains IsOwnEnd (0 ∷ 9 ∷ 10 ∷ 14 ∷ []) status
-    (All-cons IsOwnEnd 0 (9 ∷ 10 ∷ 14 ∷ []) (0, omega arith, refl)
-    (All-cons IsOwnEnd 9 (10 ∷ 14 ∷ []) (2, omega arith, refl)
-    (All-cons IsOwnEnd 10 (14 ∷ []) (3, omega arith, refl)
-    (All-cons IsOwnEnd 14 [] (6, omega arith, refl) (All-nil IsOwnEnd)))))
-    among
+same : (a b : ℕ) → Some a ≡ Some b → a ≡ b
+same a b is = cc
 
--- a status at which a source ended or the upload did is neither that of a failed read nor that of a failed write, and
--- is known
-abbrev pub IsEnd : ℕ → Type 0
-IsEnd status = (status ≢ 6) × (status ≢ 7) × Contains (0 ∷ 6 ∷ 7 ∷ 8 ∷ 9 ∷ 10 ∷ 11 ∷ 13 ∷ 14 ∷ []) status
+-- the status of an upload's own end is neither that of a failed read nor that of a failed write, and is known
+abbrev IsOwn : ℕ → Type 0
+IsOwn status = (status ≢ 6) × (status ≢ 7) × IsKnown status
 
-pub is_end : (status : ℕ) → Contains (0 ∷ 8 ∷ 9 ∷ 10 ∷ 11 ∷ 13 ∷ 14 ∷ []) status → IsEnd status
-is_end status among = All-contains IsEnd (0 ∷ 8 ∷ 9 ∷ 10 ∷ 11 ∷ 13 ∷ 14 ∷ []) status
-    (All-cons IsEnd 0 (8 ∷ 9 ∷ 10 ∷ 11 ∷ 13 ∷ 14 ∷ []) (λ e. omega (arith, e), λ e. omega (arith, e), (0, omega arith, refl))
-    (All-cons IsEnd 8 (9 ∷ 10 ∷ 11 ∷ 13 ∷ 14 ∷ []) (λ e. omega (arith, e), λ e. omega (arith, e), (3, omega arith, refl))
-    (All-cons IsEnd 9 (10 ∷ 11 ∷ 13 ∷ 14 ∷ []) (λ e. omega (arith, e), λ e. omega (arith, e), (4, omega arith, refl))
-    (All-cons IsEnd 10 (11 ∷ 13 ∷ 14 ∷ []) (λ e. omega (arith, e), λ e. omega (arith, e), (5, omega arith, refl))
-    (All-cons IsEnd 11 (13 ∷ 14 ∷ []) (λ e. omega (arith, e), λ e. omega (arith, e), (6, omega arith, refl))
-    (All-cons IsEnd 13 (14 ∷ []) (λ e. omega (arith, e), λ e. omega (arith, e), (7, omega arith, refl))
-    (All-cons IsEnd 14 [] (λ e. omega (arith, e), λ e. omega (arith, e), (8, omega arith, refl)) (All-nil IsEnd))))))))
-    among
+pub own : (p : Progress) (status : ℕ) → status_of p ≡ Some status → IsOwn status
+own Going status is = absurd (cc)
+own Done status is = subst IsOwn (same 0 status is) (λ e. omega (arith, e), λ e. omega (arith, e), (0, omega arith, refl))
+own (GaveUp drone packet) status is = subst IsOwn (same 9 status is) (λ e. omega (arith, e), λ e. omega (arith, e), (4, omega arith, refl))
+own (Refused drone packet refusal) status is = subst IsOwn (same 10 status is) (λ e. omega (arith, e), λ e. omega (arith, e), (5, omega arith, refl))
+own (Differs drone address wanted got) status is = subst IsOwn (same 14 status is) (λ e. omega (arith, e), λ e. omega (arith, e), (8, omega arith, refl))
 
-pub known_by : (status result : ℕ) → Contains (0 ∷ 6 ∷ 7 ∷ 8 ∷ 9 ∷ 10 ∷ 11 ∷ 13 ∷ 14 ∷ []) status → (result ≡ status) ⊎ (result ≡ 7) → Contains (0 ∷ 6 ∷ 7 ∷ 8 ∷ 9 ∷ 10 ∷ 11 ∷ 13 ∷ 14 ∷ []) result
-known_by status result among is = elim is [
-  | inl e ↦ rw e among
-  | inr e ↦ rw e (2, omega arith, refl)
-]
+pub known : (s : Upload) (status : ℕ) → IsStatus (upload_of (link_of s)) status → IsKnown status
+known s status (inl (inl (frames, is))) = (own (progress s (events_in (link_of s) frames)) status is).2
+known s status (inl (inr (inl e))) = rw e (3, omega arith, refl)
+known s status (inl (inr (inr (inl e)))) = rw e (6, omega arith, refl)
+known s status (inl (inr (inr (inr e)))) = rw e (7, omega arith, refl)
+known s status (inr (inl e)) = rw e (1, omega arith, refl)
+known s status (inr (inr e)) = rw e (2, omega arith, refl)

@@ -44,6 +44,8 @@ is_dialogue s = record {
   some = frame_some;
   step = λ f g later after is_f is_g is. frame_law.step f g later after is;
   found = found;
+  none = frame_law.none;
+  begun = frame_law.begun;
   short = λ bytes b. (let few = short bytes b in omega (arith, few));
   front = sent-front s;
 }

@@ -1,29 +1,29 @@
 //! An upload between a source and a sink, from the first packets to the end frame.
 
 ghost use Rattle.std.specs.Prelude.{◌≡◌, ◌≢◌, ◌⊎◌, ◌≤◌, ◌++◌, [], ◌∷◌, ℕ, List, length, false, None, IsTrue, All};
-ghost use Rattle.std.specs.Prelude.{Contains, IfOk, IfSome, OnOk, OnErr, Err};
+ghost use Rattle.std.specs.Prelude.{Contains, IfSome};
 ghost use Rattle.std.specs.Io.KnownBytes.{Appends, Consumes};
 ghost use Rattle.fleet_io.specs.Causes.{Rose};
 ghost use Rattle.fleet_io.specs.Held.{buffer_bytes, stream};
 ghost use Rattle.fleet_io.specs.Taken.{AppendsFront};
-ghost use Rattle.fleet_io.specs.Told.{MayGive, Took, Went, to_come};
-ghost use Rattle.link_frames.specs.Frames.{IsBegun, IsFrame, frame_of};
+ghost use Rattle.fleet_io.specs.Told.{MayGive, Went, to_come};
+ghost use Rattle.link_frames.specs.declared.frame.Frame.{Frame};
+ghost use Rattle.link_frames.specs.Frames.{IsFrame, frame_bytes, frame_of};
 ghost use Rattle.upload_core.specs.HostStandsFor.{HostStandsFor};
 ghost use Rattle.upload_core.specs.HostState.{IsPacketOf, view_of};
+ghost use Rattle.link_dialogue.specs.Machines.{TakesItem};
 ghost use Rattle.link_upload.specs.Links.{link_of};
-ghost use Rattle.link_upload.specs.Sends.{answers_after, event_in, packet_frames};
-ghost use Rattle.link_dialogue.specs.Steps.{Breaks, Ends, Fails};
-ghost use Rattle.link_upload.specs.Steps.{StepGives};
+ghost use Rattle.link_upload.specs.Sends.{answers_after, event_in, events_in, packet_frames};
+ghost use Rattle.link_upload.specs.Steps.{Stands};
 ghost use Rattle.link_upload.specs.Uploads.{StaysPrompt, StopsAtEnd, UploadFails, UploadGives, upload_of};
 ghost use Rattle.upload_model.specs.declared.events.Event.{Event};
+ghost use Rattle.upload_model.specs.Sessions.{Upload};
 
 use crate::host::{drone_count, take_packet, take_tick};
-use crate::input::{Next, next_frame};
-use crate::output::{Bytes, send};
-use fleet_io::status::{ENDED, FAULTY, READ_FAILED, TOO_MANY_FRAMES, WRITE_FAILED};
-use fleet_io::{Failed, Parts, Sink, Source};
-use link_dialogue::finish;
-use link_frames::{View, whole_frame};
+use crate::output::{Bytes, put_all};
+use fleet_io::{Parts, Sink, Source};
+use link_dialogue::{Fed, Machine, Taken, run};
+use link_frames::{Frames, View, whole_frame};
 use upload_core::{Host, Out};
 
 // Hands a frame to the host of an upload that is going. A packet of a drone that isn't in the session is no event.
@@ -39,7 +39,6 @@ fn take_frame(host: &mut Host, frame: View<'_>, out: &mut Out) -> Option<u8>
         → packet_frames (link_of host.old.session) out.new.items
         ≡ answers_after (link_of host.old.session) h (event_in (link_of host.old.session) (frame_of frame.entry)) }
     ensures known { All (IsPacketOf host.new.session) out.new.items }
-    ensures statuses { IfSome result (λ status. Contains (0 ∷ 9 ∷ 10 ∷ 14 ∷ []) status) }
 {
     match frame {
         View::Tick => take_tick(host, out),
@@ -53,123 +52,62 @@ fn take_frame(host: &mut Host, frame: View<'_>, out: &mut Out) -> Option<u8>
     }
 }
 
-enum Stepped {
-    Answered { status: Option<u8> },
-    End,
-    Faulty,
+// The host of an upload, the frame that is begun, and what the last event sends.
+#[derive(Drop)]
+struct Linked {
+    host: Host,
+    frames: Frames,
+    out: Out,
+    bytes: Bytes,
 }
 
-// Takes the next frame, and hands it to the host of an upload that is going: as it stands where the source has given
-// all of it, else byte by byte.
-fn step<S: Source>(
-    parts: &mut Parts,
-    source: &mut S,
-    host: &mut Host,
-    out: &mut Out,
-) -> Result<Stepped, Failed>
-    requires sound { IsTrue parts.old.sound }
-    requires at_end { IsTrue parts.old.ended → IsTrue (S.told source.old).ended }
-    requires holds { length parts.old.waiting ≤ buffer_bytes }
-    ensures gives { (all : List ℕ) → MayGive parts.new.ended (S.told source.new) all
-        → IfOk result (λ stepped. StepGives stepped host.old host.new out.new.items
-        (stream parts.old (to_come all (S.told source.old))) (stream parts.new (to_come all (S.told source.new)))) }
-    ensures failed { OnErr result ((parts.old.ended ≡ false) × (parts.new.waiting ≡ [])
-        × ((begun : List ℕ) × IsBegun begun
-        × Took parts.old.waiting [] (S.told source.old) (S.told source.new) begun)) }
-    ensures sound { OnOk result (IsTrue parts.new.sound) }
-    ensures holds { length parts.new.waiting ≤ buffer_bytes }
-    ensures began { parts.new.ended ≡ false → parts.old.ended ≡ false }
-    ensures cause { OnErr result (Rose (S.told source.old).faults (S.told source.new).faults) }
-    ensures went { Went parts.old.ended parts.new.ended (S.told source.old) (S.told source.new) }
-{
-    if let Some(frame) = whole_frame(parts.waiting()) {
-        let size = frame.size();
-        let status = take_frame(host, frame, out);
-        parts.take_waiting(size);
-        return Ok(Stepped::Answered { status });
-    }
-    match next_frame(parts, source)? {
-        Next::Whole { f } => {
-            let status = take_frame(host, f.view(), out);
-            Ok(Stepped::Answered { status })
-        }
-        Next::End => Ok(Stepped::End),
-        Next::Faulty => Ok(Stepped::Faulty),
+impl Linked {
+    // Hands a frame to the host of an upload that is going, with no other one begun.
+    #[inline(always)]
+    fn hear(&mut self, frame: View<'_>) -> Option<u8>
+        requires formed { IsFrame (frame_of frame) }
+        ensures { (s : Upload) (frames : List Frame) → Stands s self.old.host self.old.frames frames []
+            → (link_of s).ended (events_in (link_of s) frames) ≡ None
+            → TakesItem (upload_of (link_of s)) (λ now. Stands s self.new.host self.new.frames now [])
+            (λ whole. whole ≡ frame_bytes (frame_of frame.entry)) frames result self.new.bytes.items }
+    {
+        let status = take_frame(&mut self.host, frame, &mut self.out);
+        put_all(&self.host, self.out.as_slice(), &mut self.bytes);
+        status
     }
 }
 
-// Why frames are carried no further, short of the end of the upload.
-#[derive(Clone, Copy, Debug, PartialEq, Eq)]
-enum Broken {
-    Read,
-    Write,
-}
+impl Machine for Linked {
+    ghost dialogue = { λ m. upload_of (link_of m.host.session) };
 
-const FRAME_LIMIT: u32 = 4_000_000;
+    ghost stands = { λ start now frames begun. Stands start.host.session now.host now.frames frames begun };
 
-// Carries an upload to its end, and returns the status. All that the frames lead to has gone out then, but not the end
-// frame.
-fn carry<S: Source, K: Sink>(
-    parts: &mut Parts,
-    source: &mut S,
-    mut host: Host,
-    sink: &mut K,
-) -> Result<u8, Broken>
-    requires sound { IsTrue parts.old.sound }
-    requires at_end { IsTrue parts.old.ended → IsTrue (S.told source.old).ended }
-    requires holds { length parts.old.waiting ≤ buffer_bytes }
-    requires new { HostStandsFor (view_of host) [] }
-    ensures ends { (all : List ℕ) → MayGive parts.new.ended (S.told source.new) all
-        → IfOk result (λ status. Ends (upload_of (link_of host.session)) status
-        (stream parts.old (to_come all (S.told source.old))) (K.written sink.old) (K.written sink.new)) }
-    ensures read { (all : List ℕ) → MayGive parts.new.ended (S.told source.new) all → result ≡ Err Broken.Read
-        → Rose (S.told source.old).faults (S.told source.new).faults × (parts.old.ended ≡ false)
-        × Fails (upload_of (link_of host.session)) (stream parts.old (to_come all (S.told source.old)))
-        (to_come all (S.told source.new)) (K.written sink.old) (K.written sink.new) }
-    ensures write { (all : List ℕ) → MayGive parts.new.ended (S.told source.new) all → result ≡ Err Broken.Write
-        → Rose (K.faults sink.old) (K.faults sink.new)
-        × Breaks (upload_of (link_of host.session)) (stream parts.old (to_come all (S.told source.old)))
-        (K.written sink.old) (K.written sink.new) }
-    ensures prompt { (all : List ℕ) → MayGive parts.new.ended (S.told source.new) all
-        → StaysPrompt (link_of host.session) (stream parts.old (to_come all (S.told source.old)))
-        (to_come all (S.told source.new)) (K.written sink.old) (K.written sink.new) }
-    ensures stops { (all : List ℕ) → MayGive parts.new.ended (S.told source.new) all
-        → StopsAtEnd (link_of host.session) (stream parts.old (to_come all (S.told source.old)))
-        (to_come all (S.told source.new)) }
-    ensures grown { (sent : List ℕ) × Appends (K.written sink.old) (K.written sink.new) sent }
-    ensures known { IfOk result (λ status. Contains (0 ∷ 8 ∷ 9 ∷ 10 ∷ 11 ∷ 13 ∷ 14 ∷ []) status) }
-    ensures went { Went parts.old.ended parts.new.ended (S.told source.old) (S.told source.new) }
-    ensures sink_later { K.faults sink.old ≤ K.faults sink.new }
-{
-    // There is a drone, so the upload goes on before any frame.
-    let _ = drone_count(&host);
-    let mut out = Out::new();
-    let mut bytes = Bytes::new();
-    host.first(&mut out);
-    match send(&host, out.as_slice(), &mut bytes, sink) {
-        Ok(()) => {}
-        Err(Failed) => return Err(Broken::Write),
-    }
-    'frames: for n in 0..FRAME_LIMIT {
-        let stepped = match step(parts, source, &mut host, &mut out) {
-            Ok(stepped) => stepped,
-            Err(Failed) => return Err(Broken::Read),
-        };
-        let end_status = match stepped {
-            Stepped::Answered { status } => status,
-            Stepped::End => return Ok(ENDED),
-            Stepped::Faulty => return Ok(FAULTY),
-        };
-        match send(&host, out.as_slice(), &mut bytes, sink) {
-            Ok(()) => {}
-            Err(Failed) => return Err(Broken::Write),
-        }
-        match end_status {
-            None => {}
-            Some(status) => return Ok(status),
+    ghost sends = { λ m. m.bytes.items };
+
+    fn feed(&mut self, byte: u8) -> Fed {
+        match self.frames.feed(byte) {
+            link_frames::Fed::More => Fed::More,
+            link_frames::Fed::Frame { f } => Fed::Whole {
+                status: self.hear(f.view()),
+            },
+            link_frames::Fed::Bad { .. } => Fed::Bad,
         }
     }
-    Ok(TOO_MANY_FRAMES)
+
+    fn take(&mut self, bytes: &[u8]) -> Option<Taken> {
+        match whole_frame(bytes) {
+            Some(frame) => {
+                let size = frame.size();
+                let status = self.hear(frame);
+                Some(Taken { size, status })
+            }
+            None => None,
+        }
+    }
+
+    fn answer(&self) -> &[u8] {
+        self.bytes.as_slice()
+    }
 }
 
 /// Carries an upload through link frames (docs/RADIO.md, "Link frames"), of a host to which nothing has happened.
@@ -217,9 +155,15 @@ pub fn upload<S: Source, K: Sink>(parts: &mut Parts, source: &mut S, host: Host,
     ensures went { Went parts.old.ended parts.new.ended (S.told source.old) (S.told source.new) }
     ensures sink_later { K.faults sink.old ≤ K.faults sink.new }
 {
-    match carry(parts, source, host, sink) {
-        Ok(status) => finish(sink, status),
-        Err(Broken::Read) => finish(sink, READ_FAILED),
-        Err(Broken::Write) => WRITE_FAILED,
-    }
+    // There is a drone, so the upload goes on before any frame.
+    let _ = drone_count(&host);
+    let mut machine = Linked {
+        host,
+        frames: Frames::make(),
+        out: Out::new(),
+        bytes: Bytes::new(),
+    };
+    machine.host.first(&mut machine.out);
+    put_all(&machine.host, machine.out.as_slice(), &mut machine.bytes);
+    run(&mut machine, parts, source, sink)
 }

@@ -1,6 +1,6 @@
 //! The host of an upload, as a link sees it.
 
-ghost use Rattle.std.specs.Prelude.{◌≡◌, ◌<◌, ◌≤◌, ◌++◌, ℕ, List, [], ◌∷◌, length, All, Contains, IfSome, None};
+ghost use Rattle.std.specs.Prelude.{◌≡◌, ◌<◌, ◌≤◌, ◌++◌, ℕ, List, [], ◌∷◌, length, All, None};
 ghost use Rattle.fleet_math.specs.Limits.{most_drones};
 ghost use Rattle.upload_model.specs.declared.events.Event.{Event};
 ghost use Rattle.upload_core.specs.HostStandsFor.{HostStandsFor};
@@ -12,8 +12,7 @@ use fleet_io::status::{DIFFERS, DONE, GAVE_UP, REFUSED};
 use upload_core::{Event, Host, Out, Progress, Sent};
 
 fn status(progress: Progress) -> Option<u8>
-    ensures value { result ≡ status_of progress }
-    ensures statuses { IfSome result (λ status. Contains (0 ∷ 9 ∷ 10 ∷ 14 ∷ []) status) }
+    ensures { result ≡ status_of progress }
 {
     match progress {
         Progress::Going => None,
@@ -53,7 +52,6 @@ pub fn take_tick(host: &mut Host, out: &mut Out) -> Option<u8>
     ensures known { All (IsPacketOf host.new.session) out.new.items }
     ensures answer { (h : List Event) → HostStandsFor (view_of host.old) h
         → result ≡ (link_of host.old.session).ended (h ++ Event.Tick ∷ []) }
-    ensures statuses { IfSome result (λ status. Contains (0 ∷ 9 ∷ 10 ∷ 14 ∷ []) status) }
 {
     status(host.event(Event::Tick, out))
 }
@@ -70,7 +68,6 @@ pub fn take_packet(host: &mut Host, drone: u8, packet: &[u8], out: &mut Out) -> 
     ensures known { All (IsPacketOf host.new.session) out.new.items }
     ensures answer { (h : List Event) → HostStandsFor (view_of host.old) h
         → result ≡ (link_of host.old.session).ended (h ++ Event.Up drone packet.now ∷ []) }
-    ensures statuses { IfSome result (λ status. Contains (0 ∷ 9 ∷ 10 ∷ 14 ∷ []) status) }
 {
     status(host.hear(drone, packet, out))
 }

@@ -13,7 +13,6 @@ ghost use Rattle.link_upload.specs.Uploads.{UploadLaw};
 
 mod exchange;
 mod host;
-mod input;
 mod output;
 
 pub use exchange::upload;

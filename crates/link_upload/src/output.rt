@@ -1,16 +1,12 @@
 //! Frames that go out.
 
-ghost use Rattle.std.specs.Prelude.{◌≡◌, ◌+◌, ◌≤◌, ◌++◌, [], ◌∷◌, length, All, OnOk, OnErr};
-ghost use Rattle.std.specs.Io.KnownBytes.{Appends};
-ghost use Rattle.fleet_io.specs.Causes.{HasCause};
-ghost use Rattle.fleet_io.specs.Taken.{AppendsFront};
+ghost use Rattle.std.specs.Prelude.{◌≡◌, ◌+◌, ◌≤◌, ◌++◌, [], ◌∷◌, length, All};
 ghost use Rattle.upload_core.specs.HostState.{IsPacketOf};
 ghost use Rattle.link_upload.specs.Links.{link_of};
 ghost use Rattle.link_upload.specs.Sends.{packet_frames};
 
 use crate::host::packet_of;
 use arrayvec::ArrayVec;
-use fleet_io::{Failed, Sink, write_whole};
 use link_frames::{FRAME_BYTES, put_frame};
 use upload_core::{Host, MOST_SENT, Sent};
 
@@ -30,27 +26,14 @@ fn put(host: &Host, x: Sent, bytes: &mut Bytes)
     put_frame(x.drone + 1, &packet, bytes);
 }
 
-// Sends packets, in their order. What `bytes` held before is lost.
-pub fn send<K: Sink>(
-    host: &Host,
-    sent: &[Sent],
-    bytes: &mut Bytes,
-    sink: &mut K,
-) -> Result<(), Failed>
+// Puts the frames of packets, in their order. What `bytes` held before is lost.
+pub fn put_all(host: &Host, sent: &[Sent], bytes: &mut Bytes)
     requires known { All (IsPacketOf host.now.session) sent.now }
     requires few { length sent.now ≤ MOST_SENT }
-    ensures ok { OnOk result
-        (Appends (K.written sink.old) (K.written sink.new) (packet_frames (link_of host.now.session) sent.now)) }
-    ensures front { OnErr result
-        (AppendsFront (K.written sink.old) (K.written sink.new) (packet_frames (link_of host.now.session) sent.now)) }
-    ensures cause { HasCause (K.faults sink.old) (K.faults sink.new) result }
+    ensures { bytes.new.items ≡ packet_frames (link_of host.now.session) sent.now }
 {
-    if sent.is_empty() {
-        return Ok(());
-    }
     bytes.clear();
     for x in sent {
         put(host, *x, bytes);
     }
-    write_whole(sink, bytes.as_slice())
 }

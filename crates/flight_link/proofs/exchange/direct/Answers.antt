@@ -1,68 +1,45 @@
-use Rattle.flight_link.proofs.Prelude.{refl, sym, stream, to_come, ◌∙◌, arith, dialogue_of, end_frame}
-use Rattle.link_dialogue.proofs.ItemLemmas.{Rose-later, grown_more}
-use Rattle.link_dialogue.proofs.FinishLemmas.{all_sent, cut_broken, cut_ended, cut_failed, failed, grew_ended, grew_failed, prompt_kept}
-use Rattle.flight_link.proofs.StatusLemmas.{is_end, known_by}
+use Rattle.flight_link.proofs.Prelude.{refl, sym, ◌∙◌, drones}
+use Rattle.flight_link.proofs.EventLemmas.{none_begun}
+use Rattle.flight_link.proofs.FlightLemmas.{is_dialogue}
+use Rattle.flight_link.proofs.SendLemmas.{ended-none, sends-nothing}
+use Rattle.flight_link.proofs.StatusLemmas.{known, own}
 use Rattle.flight_link.proofs.exchange.direct.Goals as goal
 
--- ---- the flight came to its end
+pub run-requires-clause-law : goal.run-requires-clause-law
+run-requires-clause-law g c start = is_dialogue c.frame_law.ensures start.director.flight
 
-pub returns-in-Ok-clause-ends : goal.returns-in-Ok-clause-ends
-returns-in-Ok-clause-ends g c all may = λ not_six not_seven.
-    let w = c.finish.ensures.ok not_seven in
-    all_sent (dialogue_of c.args.flight) c.in-Ok.status c.finish.result (stream c.args.parts.now (to_come all (g.S.Source.told c.args.source.now))) (g.K.Sink.written c.args.sink.now) (g.K.Sink.written c.carry.new.sink) _ w.0 (c.in-Ok.ensures.ends all may) w.1
+pub run-requires-clause-new : goal.run-requires-clause-new
+run-requires-clause-new g c = record {
+  flight = refl;
+  counted = rw c.make.ensures.flight c.drone_count-drones.ensures;
+  state = rw c.make.ensures.flight c.make.ensures.state;
+  reads = c.make-2.ensures;
+  begun = none_begun _;
+}
 
-pub returns-in-Ok-clause-six : goal.returns-in-Ok-clause-six
-returns-in-Ok-clause-six g c all may = λ six.
-    absurd ((is_end c.in-Ok.status c.in-Ok.ensures.known).0 (sym (c.finish.ensures.ok (λ seven. omega (arith, six, seven))).0 ∙ six))
+pub run-requires-clause-own : goal.run-requires-clause-own
+run-requires-clause-own g c events status is = let o = own c.args.flight events status (rw c.make.ensures.flight at is) in (o.0, o.1)
 
-pub returns-in-Ok-clause-seven : goal.returns-in-Ok-clause-seven
-returns-in-Ok-clause-seven g c all may = λ seven.
-    let is = is_end c.in-Ok.status c.in-Ok.ensures.known in
-    (Rose-later _ _ _ c.carry.ensures.sink_later (c.finish.ensures.cause seven is.1), cut_ended (dialogue_of c.args.flight) c.in-Ok.status (stream c.args.parts.now (to_come all (g.S.Source.told c.args.source.now))) (to_come all (g.S.Source.told c.carry.new.source)) (g.S.Source.told c.args.source.now).faults (g.S.Source.told c.carry.new.source).faults c.args.parts.now.ended (g.K.Sink.written c.args.sink.now) (g.K.Sink.written c.carry.new.sink) _ (c.in-Ok.ensures.ends all may) c.finish.ensures.front)
+pub run-requires-clause-going : goal.run-requires-clause-going
+run-requires-clause-going g c = ended-none _
 
-pub returns-in-Ok-clause-prompt : goal.returns-in-Ok-clause-prompt
-returns-in-Ok-clause-prompt g c all may =
-    prompt_kept (dialogue_of c.args.flight) (stream c.args.parts.now (to_come all (g.S.Source.told c.args.source.now))) (to_come all (g.S.Source.told c.carry.new.source)) (g.K.Sink.written c.args.sink.now) (g.K.Sink.written c.carry.new.sink) _ (end_frame c.in-Ok.status) (c.carry.ensures.prompt all may) (grew_ended (dialogue_of c.args.flight) c.in-Ok.status (stream c.args.parts.now (to_come all (g.S.Source.told c.args.source.now))) (g.K.Sink.written c.args.sink.now) (g.K.Sink.written c.carry.new.sink) (c.in-Ok.ensures.ends all may)) c.finish.ensures.front
+pub run-requires-clause-first : goal.run-requires-clause-first
+run-requires-clause-first g c = c.new-2.ensures ∙ sym (sends-nothing _)
 
-pub returns-in-Ok-clause-known : goal.returns-in-Ok-clause-known
-returns-in-Ok-clause-known g c = known_by c.in-Ok.status c.finish.result (is_end c.in-Ok.status c.in-Ok.ensures.known).2 c.finish.ensures.known
+pub returns-clause-ends : goal.returns-clause-ends
+returns-clause-ends g c = rw c.make.ensures.flight at c.run.ensures.ends
 
--- ---- a read failed
+pub returns-clause-six : goal.returns-clause-six
+returns-clause-six g c = rw c.make.ensures.flight at c.run.ensures.six
 
-pub returns-in-Err-Read-clause-six : goal.returns-in-Err-Read-clause-six
-returns-in-Err-Read-clause-six g c all may = λ six.
-    let r = (rw c.in-Err-Read.field-0-is at (c.in-Err-Read.ensures.read all may)) refl in
-    (r.0, r.1, failed (dialogue_of c.args.flight) (stream c.args.parts.now (to_come all (g.S.Source.told c.args.source.now))) (to_come all (g.S.Source.told c.carry.new.source)) (g.K.Sink.written c.args.sink.now) (g.K.Sink.written c.carry.new.sink) _ r.2 (c.finish-in-Err-Read.ensures.ok (λ seven. omega (arith, six, seven))).1)
+pub returns-clause-seven : goal.returns-clause-seven
+returns-clause-seven g c = rw c.make.ensures.flight at c.run.ensures.seven
 
-pub returns-in-Err-Read-clause-seven : goal.returns-in-Err-Read-clause-seven
-returns-in-Err-Read-clause-seven g c all may = λ seven.
-    let r = (rw c.in-Err-Read.field-0-is at (c.in-Err-Read.ensures.read all may)) refl in (
-      Rose-later _ _ _ c.carry.ensures.sink_later (c.finish-in-Err-Read.ensures.cause seven (λ e. omega (arith, e))),
-      cut_failed (dialogue_of c.args.flight) (stream c.args.parts.now (to_come all (g.S.Source.told c.args.source.now))) (to_come all (g.S.Source.told c.carry.new.source)) (g.S.Source.told c.args.source.now).faults (g.S.Source.told c.carry.new.source).faults c.args.parts.now.ended (g.K.Sink.written c.args.sink.now) (g.K.Sink.written c.carry.new.sink) _ r.0 r.1 r.2 c.finish-in-Err-Read.ensures.front,
-    )
+pub returns-clause-prompt : goal.returns-clause-prompt
+returns-clause-prompt g c = rw c.make.ensures.flight at c.run.ensures.prompt
 
-pub returns-in-Err-Read-clause-prompt : goal.returns-in-Err-Read-clause-prompt
-returns-in-Err-Read-clause-prompt g c all may =
-    let r = (rw c.in-Err-Read.field-0-is at (c.in-Err-Read.ensures.read all may)) refl in
-    prompt_kept (dialogue_of c.args.flight) (stream c.args.parts.now (to_come all (g.S.Source.told c.args.source.now))) (to_come all (g.S.Source.told c.carry.new.source)) (g.K.Sink.written c.args.sink.now) (g.K.Sink.written c.carry.new.sink) _ (end_frame 6) (c.carry.ensures.prompt all may) (grew_failed (dialogue_of c.args.flight) (stream c.args.parts.now (to_come all (g.S.Source.told c.args.source.now))) (to_come all (g.S.Source.told c.carry.new.source)) (g.K.Sink.written c.args.sink.now) (g.K.Sink.written c.carry.new.sink) r.2) c.finish-in-Err-Read.ensures.front
+pub returns-clause-stops : goal.returns-clause-stops
+returns-clause-stops g c = rw c.make.ensures.flight at c.run.ensures.stops
 
-pub returns-in-Err-Read-clause-known : goal.returns-in-Err-Read-clause-known
-returns-in-Err-Read-clause-known g c = known_by 6 c.finish-in-Err-Read.result (1, omega arith, refl) c.finish-in-Err-Read.ensures.known
-
--- ---- a write failed
-
-pub returns-in-Err-Write-clause-seven : goal.returns-in-Err-Write-clause-seven
-returns-in-Err-Write-clause-seven g c all may = λ seven.
-    let w = (rw c.in-Err-Write.field-0-is at (c.in-Err-Write.ensures.write all may)) refl in
-    (w.0, cut_broken (dialogue_of c.args.flight) (stream c.args.parts.now (to_come all (g.S.Source.told c.args.source.now))) (to_come all (g.S.Source.told c.carry.new.source)) (g.S.Source.told c.args.source.now).faults (g.S.Source.told c.carry.new.source).faults c.args.parts.now.ended (g.K.Sink.written c.args.sink.now) (g.K.Sink.written c.carry.new.sink) w.1)
-
-pub returns-in-Err-Write-clause-known : goal.returns-in-Err-Write-clause-known
-returns-in-Err-Write-clause-known g c = (2, omega arith, refl)
-
--- ---- what was sent only grows
-
-pub returns-in-Ok-clause-grown : goal.returns-in-Ok-clause-grown
-returns-in-Ok-clause-grown g c = grown_more _ _ _ _ _ c.carry.ensures.grown.1 c.finish.ensures.front
-
-pub returns-in-Err-Read-clause-grown : goal.returns-in-Err-Read-clause-grown
-returns-in-Err-Read-clause-grown g c = grown_more _ _ _ _ _ c.carry.ensures.grown.1 c.finish-in-Err-Read.ensures.front
+pub returns-clause-known : goal.returns-clause-known
+returns-clause-known g c = known c.args.flight c.run.result (rw c.make.ensures.flight at c.run.ensures.known)
