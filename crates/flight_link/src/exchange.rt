@@ -1,11 +1,8 @@
 //! A flight between a source and a sink, from the first event to the end frame.
 
-ghost use Rattle.std.specs.Prelude.{◌≡◌, ◌≢◌, ◌⊎◌, ◌≤◌, ◌++◌, [], ◌∷◌, ℕ, List, length, false, None, IsTrue, Contains};
-ghost use Rattle.std.specs.Prelude.{IfSome};
-ghost use Rattle.std.specs.Io.KnownBytes.{Appends, Consumes};
-ghost use Rattle.fleet_io.specs.Causes.{Rose};
+ghost use Rattle.std.specs.Prelude.{◌≡◌, ◌≤◌, ◌++◌, [], ◌∷◌, ℕ, List, length, None, IsTrue, Contains};
+ghost use Rattle.std.specs.Io.KnownBytes.{Appends};
 ghost use Rattle.fleet_io.specs.Held.{buffer_bytes, stream};
-ghost use Rattle.fleet_io.specs.Taken.{AppendsFront};
 ghost use Rattle.fleet_io.specs.Told.{MayGive, Went, to_come};
 ghost use Rattle.flight_model.specs.declared.events.Event.{Event};
 ghost use Rattle.flight_model.specs.declared.flights.Flight.{Flight};
@@ -13,8 +10,9 @@ ghost use Rattle.flight_model.specs.Directors.{drones};
 ghost use Rattle.flight_director.specs.Held.{IsHeld};
 ghost use Rattle.flight_frames.specs.Frames.{IsEvent, event_bytes};
 ghost use Rattle.flight_link.specs.Sends.{end_in, end_of, ended};
+ghost use Rattle.link_dialogue.specs.Dialogues.{RunGives};
 ghost use Rattle.link_dialogue.specs.Machines.{TakesItem};
-ghost use Rattle.flight_link.specs.Flights.{FlightFails, FlightGives, StaysPrompt, StopsAtEnd, dialogue_of};
+ghost use Rattle.flight_link.specs.Flights.{dialogue_of};
 ghost use Rattle.flight_link.specs.Steps.{Stands};
 
 use crate::begun::{Begun, Fed as EventFed};
@@ -129,33 +127,10 @@ pub fn direct<S: Source, K: Sink>(
     requires at_end { IsTrue parts.old.ended → IsTrue (S.told source.old).ended }
     requires holds { length parts.old.waiting ≤ buffer_bytes }
     requires held { IsHeld flight }
-    // Each status but 6 and 7 is that to which the bytes lead, and all that they lead to was sent.
-    ensures ends { (all : List ℕ) → MayGive parts.new.ended (S.told source.new) all → result ≢ 6 → result ≢ 7
-        → IfSome (stream parts.old (to_come all (S.told source.old))) (λ bytes. (output : List ℕ)
-        × FlightGives flight bytes result output × Appends (K.written sink.old) (K.written sink.new) output) }
-    // A read failed: what the events before it lead to was sent, and the end frame of 6.
-    ensures six { (all : List ℕ) → MayGive parts.new.ended (S.told source.new) all → result ≡ 6
-        → Rose (S.told source.old).faults (S.told source.new).faults × (parts.old.ended ≡ false)
-        × IfSome (stream parts.old (to_come all (S.told source.old)))
-        (λ _. (taken output : List ℕ)
-        × Consumes (stream parts.old (to_come all (S.told source.old))) (to_come all (S.told source.new)) taken
-        × FlightFails flight taken output × Appends (K.written sink.old) (K.written sink.new) output) }
-    // A write failed: a prefix was sent of what the bytes lead to, or those before a failed read.
-    ensures seven { (all : List ℕ) → MayGive parts.new.ended (S.told source.new) all → result ≡ 7
-        → Rose (K.faults sink.old) (K.faults sink.new)
-        × IfSome (stream parts.old (to_come all (S.told source.old)))
-        (λ bytes. (output : List ℕ) × AppendsFront (K.written sink.old) (K.written sink.new) output
-        × (((status : ℕ) × FlightGives flight bytes status output)
-        ⊎ (Rose (S.told source.old).faults (S.told source.new).faults × (parts.old.ended ≡ false)
-        × ((taken : List ℕ) × Consumes (stream parts.old (to_come all (S.told source.old)))
-        (to_come all (S.told source.new)) taken × FlightFails flight taken output)))) }
-    // No answer waits for much further input.
-    ensures prompt { (all : List ℕ) → MayGive parts.new.ended (S.told source.new) all
-        → StaysPrompt flight (stream parts.old (to_come all (S.told source.old))) (to_come all (S.told source.new))
-        (K.written sink.old) (K.written sink.new) }
-    // Once the flight is over no more is read: at most 4,096 bytes after its events were taken.
-    ensures stops { (all : List ℕ) → MayGive parts.new.ended (S.told source.new) all
-        → StopsAtEnd flight (stream parts.old (to_come all (S.told source.old))) (to_come all (S.told source.new)) }
+    ensures gives { (all : List ℕ) → MayGive parts.new.ended (S.told source.new) all
+        → RunGives (dialogue_of flight) (stream parts.old (to_come all (S.told source.old)))
+        (to_come all (S.told source.new)) parts.old.ended (S.told source.old).faults (S.told source.new).faults
+        (K.faults sink.old) (K.faults sink.new) (K.written sink.old) (K.written sink.new) result }
     // Whether or not the source tells its bytes: what the sink holds only grows.
     ensures grown { (sent : List ℕ) × Appends (K.written sink.old) (K.written sink.new) sent }
     ensures known { Contains (0 ∷ 6 ∷ 7 ∷ 8 ∷ 11 ∷ 13 ∷ 20 ∷ []) result }

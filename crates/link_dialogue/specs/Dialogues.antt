@@ -1,8 +1,11 @@
 -- A dialogue over a link: which items were taken of the bytes that came, how it ended, and what was sent.
-use Rattle.std.specs.Prelude.{◌≡◌, ◌⊎◌, ℕ, ◌+◌, ◌<◌, ◌≤◌, Bool, true, false, ◌==◌, List, [], ◌∷◌, ◌++◌, length, take}
-use Rattle.std.specs.Prelude.{Option, Some, None}
+use Rattle.std.specs.Prelude.{◌≡◌, ◌≢◌, ◌⊎◌, ℕ, ◌+◌, ◌<◌, ◌≤◌, Bool, true, false, ◌==◌, List, [], ◌∷◌, ◌++◌, length, take}
+use Rattle.std.specs.Prelude.{Option, Some, None, IfSome}
+use Rattle.std.specs.Io.KnownBytes.{Appends, Consumes}
 use Rattle.std.specs.List.{All, flat_map}
+use Rattle.fleet_io.specs.Causes.{Rose}
 use Rattle.fleet_io.specs.Held.{buffer_bytes}
+use Rattle.fleet_io.specs.Taken.{AppendsFront}
 use Rattle.link_frames.specs.Frames.{end_frame}
 
 -- What may come in over a link, and what it leads to: a host with its frames, a director with its events.
@@ -107,6 +110,28 @@ abbrev pub StopsAtEnd : Dialogue → Option (List ℕ) → Option (List ℕ) →
 StopsAtEnd t stream left =
     (bytes unread : List ℕ) (items : List t.Item) (rest : List ℕ) → stream ≡ Some bytes → left ≡ Some unread →
     Takes t bytes items rest → IsOver t items → length rest ≤ length unread + buffer_bytes
+
+-- ---- a dialogue between a source and a sink
+
+-- What a dialogue gives that ends with this status: `stream` was to come before and `left` now, `met` says whether the
+-- end of the source was met before, and the counts are of failed reads and writes, before and now.
+pub record RunGives (t : Dialogue) (stream left : Option (List ℕ)) (met : Bool) (reads reads_now writes writes_now : ℕ)
+    (old new : Option (List ℕ)) (status : ℕ) : Type 0 where
+  -- Each status but 6 and 7 is that to which the bytes lead, and all that they lead to was sent.
+  pub ends : status ≢ 6 → status ≢ 7 →
+      IfSome stream (λ bytes. (output : List ℕ) × DialogueGives t bytes status output × Appends old new output)
+  -- A read failed: what the items before it lead to was sent, and the end frame of 6.
+  pub six : status ≡ 6 → Rose reads reads_now × (met ≡ false) × IfSome stream (λ _. (taken output : List ℕ)
+      × Consumes stream left taken × DialogueFails t taken output × Appends old new output)
+  -- A write failed: a prefix was sent of what the bytes lead to, or those before a failed read.
+  pub seven : status ≡ 7 → Rose writes writes_now × IfSome stream (λ bytes. (output : List ℕ)
+      × AppendsFront old new output × (((st : ℕ) × DialogueGives t bytes st output)
+      ⊎ (Rose reads reads_now × (met ≡ false)
+      × ((taken : List ℕ) × Consumes stream left taken × DialogueFails t taken output))))
+  -- No answer waits for much further input.
+  pub prompt : StaysPrompt t stream left old new
+  -- Once the dialogue is over no more is read: at most 4,096 bytes after its items were taken.
+  pub stops : StopsAtEnd t stream left
 
 -- ---- what makes it one
 

@@ -1,14 +1,12 @@
 //! A dialogue from its first answer to its end frame, whatever its items are.
 
-ghost use Rattle.std.specs.Prelude.{◌≡◌, ◌≢◌, ◌⊎◌, ◌≤◌, ◌++◌, ℕ, List, [], ◌∷◌, length, false, Some, None, Err, IsTrue};
-ghost use Rattle.std.specs.Prelude.{IfOk, IfSome, OnErr, OnOk};
-ghost use Rattle.std.specs.Io.KnownBytes.{Appends, Consumes};
+ghost use Rattle.std.specs.Prelude.{◌≡◌, ◌≢◌, ◌≤◌, ◌++◌, ℕ, List, [], ◌∷◌, length, false, Some, None, Err, IsTrue};
+ghost use Rattle.std.specs.Prelude.{IfOk, OnErr, OnOk};
+ghost use Rattle.std.specs.Io.KnownBytes.{Appends};
 ghost use Rattle.fleet_io.specs.Causes.{Rose};
 ghost use Rattle.fleet_io.specs.Held.{buffer_bytes, stream};
-ghost use Rattle.fleet_io.specs.Taken.{AppendsFront};
 ghost use Rattle.fleet_io.specs.Told.{MayGive, Took, Went, to_come};
-ghost use Rattle.link_dialogue.specs.Dialogues.{DialogueFails, DialogueGives, IsDialogue, IsOwnEnd, IsStatus};
-ghost use Rattle.link_dialogue.specs.Dialogues.{StaysPrompt, StopsAtEnd};
+ghost use Rattle.link_dialogue.specs.Dialogues.{IsDialogue, IsOwnEnd, IsStatus, RunGives};
 ghost use Rattle.link_dialogue.specs.Machines.{CarryGives, IsGoing, StepGives};
 
 use crate::finish;
@@ -156,36 +154,10 @@ pub fn run<M: Machine, S: Source, K: Sink>(
     requires sound { IsTrue parts.old.sound }
     requires at_end { IsTrue parts.old.ended → IsTrue (S.told source.old).ended }
     requires holds { length parts.old.waiting ≤ buffer_bytes }
-    // Each status but 6 and 7 is that to which the bytes lead, and all that they lead to was sent.
-    ensures ends { (all : List ℕ) → MayGive parts.new.ended (S.told source.new) all → result ≢ 6 → result ≢ 7
-        → IfSome (stream parts.old (to_come all (S.told source.old))) (λ bytes. (output : List ℕ)
-        × DialogueGives (M.dialogue machine.old) bytes result output
-        × Appends (K.written sink.old) (K.written sink.new) output) }
-    // A read failed: what the items before it lead to was sent, and the end frame of 6.
-    ensures six { (all : List ℕ) → MayGive parts.new.ended (S.told source.new) all → result ≡ 6
-        → Rose (S.told source.old).faults (S.told source.new).faults × (parts.old.ended ≡ false)
-        × IfSome (stream parts.old (to_come all (S.told source.old)))
-        (λ _. (taken output : List ℕ)
-        × Consumes (stream parts.old (to_come all (S.told source.old))) (to_come all (S.told source.new)) taken
-        × DialogueFails (M.dialogue machine.old) taken output
-        × Appends (K.written sink.old) (K.written sink.new) output) }
-    // A write failed: a prefix was sent of what the bytes lead to, or those before a failed read.
-    ensures seven { (all : List ℕ) → MayGive parts.new.ended (S.told source.new) all → result ≡ 7
-        → Rose (K.faults sink.old) (K.faults sink.new)
-        × IfSome (stream parts.old (to_come all (S.told source.old)))
-        (λ bytes. (output : List ℕ) × AppendsFront (K.written sink.old) (K.written sink.new) output
-        × (((status : ℕ) × DialogueGives (M.dialogue machine.old) bytes status output)
-        ⊎ (Rose (S.told source.old).faults (S.told source.new).faults × (parts.old.ended ≡ false)
-        × ((taken : List ℕ) × Consumes (stream parts.old (to_come all (S.told source.old)))
-        (to_come all (S.told source.new)) taken × DialogueFails (M.dialogue machine.old) taken output)))) }
-    // No answer waits for much further input.
-    ensures prompt { (all : List ℕ) → MayGive parts.new.ended (S.told source.new) all
-        → StaysPrompt (M.dialogue machine.old) (stream parts.old (to_come all (S.told source.old)))
-        (to_come all (S.told source.new)) (K.written sink.old) (K.written sink.new) }
-    // Once the dialogue is over no more is read: at most 4,096 bytes after its items were taken.
-    ensures stops { (all : List ℕ) → MayGive parts.new.ended (S.told source.new) all
-        → StopsAtEnd (M.dialogue machine.old) (stream parts.old (to_come all (S.told source.old)))
-        (to_come all (S.told source.new)) }
+    ensures gives { (all : List ℕ) → MayGive parts.new.ended (S.told source.new) all
+        → RunGives (M.dialogue machine.old) (stream parts.old (to_come all (S.told source.old)))
+        (to_come all (S.told source.new)) parts.old.ended (S.told source.old).faults (S.told source.new).faults
+        (K.faults sink.old) (K.faults sink.new) (K.written sink.old) (K.written sink.new) result }
     // Whether or not the source tells its bytes: what the sink holds only grows.
     ensures grown { (sent : List ℕ) × Appends (K.written sink.old) (K.written sink.new) sent }
     ensures known { IsStatus (M.dialogue machine.old) result }

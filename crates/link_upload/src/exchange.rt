@@ -1,21 +1,20 @@
 //! An upload between a source and a sink, from the first packets to the end frame.
 
-ghost use Rattle.std.specs.Prelude.{◌≡◌, ◌≢◌, ◌⊎◌, ◌≤◌, ◌++◌, [], ◌∷◌, ℕ, List, length, false, None, IsTrue, All};
-ghost use Rattle.std.specs.Prelude.{Contains, IfSome};
-ghost use Rattle.std.specs.Io.KnownBytes.{Appends, Consumes};
-ghost use Rattle.fleet_io.specs.Causes.{Rose};
+ghost use Rattle.std.specs.Prelude.{◌≡◌, ◌≤◌, ◌++◌, [], ◌∷◌, ℕ, List, length, None, IsTrue, All};
+ghost use Rattle.std.specs.Prelude.{Contains};
+ghost use Rattle.std.specs.Io.KnownBytes.{Appends};
 ghost use Rattle.fleet_io.specs.Held.{buffer_bytes, stream};
-ghost use Rattle.fleet_io.specs.Taken.{AppendsFront};
 ghost use Rattle.fleet_io.specs.Told.{MayGive, Went, to_come};
 ghost use Rattle.link_frames.specs.declared.frame.Frame.{Frame};
 ghost use Rattle.link_frames.specs.Frames.{IsFrame, frame_bytes, frame_of};
 ghost use Rattle.upload_core.specs.HostStandsFor.{HostStandsFor};
 ghost use Rattle.upload_core.specs.HostState.{IsPacketOf, view_of};
+ghost use Rattle.link_dialogue.specs.Dialogues.{RunGives};
 ghost use Rattle.link_dialogue.specs.Machines.{TakesItem};
 ghost use Rattle.link_upload.specs.Links.{link_of};
 ghost use Rattle.link_upload.specs.Sends.{answers_after, event_in, events_in, packet_frames};
 ghost use Rattle.link_upload.specs.Steps.{Stands};
-ghost use Rattle.link_upload.specs.Uploads.{StaysPrompt, StopsAtEnd, UploadFails, UploadGives, upload_of};
+ghost use Rattle.link_upload.specs.Uploads.{upload_of};
 ghost use Rattle.upload_model.specs.declared.events.Event.{Event};
 ghost use Rattle.upload_model.specs.Sessions.{Upload};
 
@@ -120,35 +119,10 @@ pub fn upload<S: Source, K: Sink>(parts: &mut Parts, source: &mut S, host: Host,
     requires at_end { IsTrue parts.old.ended → IsTrue (S.told source.old).ended }
     requires holds { length parts.old.waiting ≤ buffer_bytes }
     requires new { HostStandsFor (view_of host) [] }
-    // Each status but 6 and 7 is that to which the bytes lead, and all that they lead to was sent.
-    ensures ends { (all : List ℕ) → MayGive parts.new.ended (S.told source.new) all → result ≢ 6 → result ≢ 7
-        → IfSome (stream parts.old (to_come all (S.told source.old))) (λ bytes. (output : List ℕ)
-        × UploadGives (link_of host.session) bytes result output
-        × Appends (K.written sink.old) (K.written sink.new) output) }
-    // A read failed: what the frames before it lead to was sent, and the end frame of 6.
-    ensures six { (all : List ℕ) → MayGive parts.new.ended (S.told source.new) all → result ≡ 6
-        → Rose (S.told source.old).faults (S.told source.new).faults × (parts.old.ended ≡ false)
-        × IfSome (stream parts.old (to_come all (S.told source.old)))
-        (λ _. (taken output : List ℕ)
-        × Consumes (stream parts.old (to_come all (S.told source.old))) (to_come all (S.told source.new)) taken
-        × UploadFails (link_of host.session) taken output × Appends (K.written sink.old) (K.written sink.new) output) }
-    // A write failed: a prefix was sent of what the bytes lead to, or those before a failed read.
-    ensures seven { (all : List ℕ) → MayGive parts.new.ended (S.told source.new) all → result ≡ 7
-        → Rose (K.faults sink.old) (K.faults sink.new)
-        × IfSome (stream parts.old (to_come all (S.told source.old)))
-        (λ bytes. (output : List ℕ) × AppendsFront (K.written sink.old) (K.written sink.new) output
-        × (((status : ℕ) × UploadGives (link_of host.session) bytes status output)
-        ⊎ (Rose (S.told source.old).faults (S.told source.new).faults × (parts.old.ended ≡ false)
-        × ((taken : List ℕ) × Consumes (stream parts.old (to_come all (S.told source.old)))
-        (to_come all (S.told source.new)) taken × UploadFails (link_of host.session) taken output)))) }
-    // No answer waits for much further input.
-    ensures prompt { (all : List ℕ) → MayGive parts.new.ended (S.told source.new) all
-        → StaysPrompt (link_of host.session) (stream parts.old (to_come all (S.told source.old)))
-        (to_come all (S.told source.new)) (K.written sink.old) (K.written sink.new) }
-    // Once the upload is over no more is read: at most 4,096 bytes after its frames were taken.
-    ensures stops { (all : List ℕ) → MayGive parts.new.ended (S.told source.new) all
-        → StopsAtEnd (link_of host.session) (stream parts.old (to_come all (S.told source.old)))
-        (to_come all (S.told source.new)) }
+    ensures gives { (all : List ℕ) → MayGive parts.new.ended (S.told source.new) all
+        → RunGives (upload_of (link_of host.session)) (stream parts.old (to_come all (S.told source.old)))
+        (to_come all (S.told source.new)) parts.old.ended (S.told source.old).faults (S.told source.new).faults
+        (K.faults sink.old) (K.faults sink.new) (K.written sink.old) (K.written sink.new) result }
     // Whether or not the source tells its bytes: what the sink holds only grows.
     ensures grown { (sent : List ℕ) × Appends (K.written sink.old) (K.written sink.new) sent }
     ensures known { Contains (0 ∷ 6 ∷ 7 ∷ 8 ∷ 9 ∷ 10 ∷ 11 ∷ 13 ∷ 14 ∷ []) result }

@@ -1,9 +1,8 @@
 -- Three shows are flown, or are no flight.
 use Rattle.std.proofs.Common.{◌≡◌, ◌≢◌, ◌⊎◌, inl, inr, ℕ, ◌+◌, ◌≤◌, Bool, false, List, [], ◌∷◌, ◌++◌, Contains, drop, length, length-append, Option, Some, None, Err, refl, sym, subst, arith}
 use Rattle.std.proofs.lemmas.List.Elements.{All-cons, All-contains, All-nil}
-use Rattle.std.specs.Io.KnownBytes.{Appends, Consumes}
+use Rattle.std.specs.Io.KnownBytes.{Appends}
 use Rattle.choreo_show.specs.Plain.{PlainShow}
-use Rattle.fleet_io.specs.Causes.{Rose}
 use Rattle.fleet_io.specs.Held.{buffer_bytes}
 use Rattle.fleet_io.specs.Taken.{AppendsFront}
 use Rattle.flight_model.specs.declared.flights.Flight.{Flight}
@@ -11,7 +10,8 @@ use Rattle.flight_steps.specs.declared.faults.FlightFault.{FlightFault}
 use Rattle.flight_steps.specs.declared.faults.FlightFault.TheVariants as cause
 use Rattle.flight_steps.specs.declared.faults.StepsError.{StepsError}
 use Rattle.flight_steps.specs.declared.faults.StepsError.TheVariants as error
-use Rattle.flight_link.specs.Flights.{FlightFails, FlightGives, StaysPrompt, StopsAtEnd}
+use Rattle.link_dialogue.specs.Dialogues.{RunGives}
+use Rattle.flight_link.specs.Flights.{dialogue_of}
 use Rattle.show_judge.specs.Answers.{Wrote}
 use Rattle.show_judge.specs.Verb.{Span, outcome}
 use Rattle.show_direct.specs.declared.options.Options.{Options}
@@ -39,15 +39,7 @@ among_of status known = All-contains IsAmong (0 ∷ 6 ∷ 7 ∷ 8 ∷ 11 ∷ 13 
 
 -- What a flight through frames says of the bytes that came.
 pub record Flown (f : Flight) (bytes left : List ℕ) (ended : Bool) (m : Span) (status : ℕ) : Type 0 where
-  pub ends : status ≢ 6 → status ≢ 7 → (output : List ℕ) × FlightGives f bytes status output × Appends m.written m.written_after output
-  pub six : status ≡ 6 → Rose m.told.faults m.tells.faults × (ended ≡ false)
-      × ((taken output : List ℕ) × Consumes (Some bytes) (Some left) taken × FlightFails f taken output × Appends m.written m.written_after output)
-  pub seven : status ≡ 7 → Rose m.writes_failed m.writes_failed_after
-      × ((output : List ℕ) × AppendsFront m.written m.written_after output
-      × (((st : ℕ) × FlightGives f bytes st output)
-      ⊎ (Rose m.told.faults m.tells.faults × (ended ≡ false) × ((taken : List ℕ) × Consumes (Some bytes) (Some left) taken × FlightFails f taken output))))
-  pub prompt : StaysPrompt f (Some bytes) (Some left) m.written m.written_after
-  pub stops : StopsAtEnd f (Some bytes) (Some left)
+  pub gives : RunGives (dialogue_of f) (Some bytes) (Some left) ended m.told.faults m.tells.faults m.writes_failed m.writes_failed_after m.written m.written_after status
   pub known : Contains (0 ∷ 6 ∷ 7 ∷ 8 ∷ 11 ∷ 13 ∷ 20 ∷ []) status
   pub reads_later : m.told.faults ≤ m.tells.faults
   pub writes_later : m.writes_failed ≤ m.writes_failed_after
@@ -56,13 +48,13 @@ pub record Flown (f : Flight) (bytes left : List ℕ) (ended : Bool) (m : Span) 
 flown : (o : Options) (up show down : PlainShow) (bytes left : List ℕ) (ended : Bool) (m : Span) (status : ℕ) → fault_of o up show down ≡ None →
     Flown (flight_of o up show down) bytes left ended m status → Carries (exchange_by o up show down None) bytes left ended m status
 flown o up show down bytes left ended m status none f = record {
-  gives = λ j. (let it = f.ends j.1 j.2 in (outcome status it.0, it.1, refl, it.2));
+  gives = λ j. (let it = f.gives.ends j.1 j.2 in (outcome status it.0, it.1, refl, it.2));
   one = λ one. absurd ((among_of status f.known).1 one);
   six = λ six.
-      (let it = f.six six in
+      (let it = f.gives.six six in
       (it.2.1, record { rose = it.0; unmet = it.1; taken = it.2.0; is = it.2.2; stops = it.2.3 }, it.2.4));
   seven = λ seven.
-      (let it = f.seven seven in (
+      (let it = f.gives.seven seven in (
         it.0,
         (
           it.1.0,
@@ -73,8 +65,8 @@ flown o up show down bytes left ended m status none f = record {
           ],
         ),
       ));
-  prompt = λ seven taken sent before split old new. f.prompt bytes left before taken sent refl refl split old new;
-  ends = λ j. f.stops;
+  prompt = λ seven taken sent before split old new. f.gives.prompt bytes left before taken sent refl refl split old new;
+  ends = λ j. f.gives.stops;
   begun = λ began. are_flight o up show down none;
   known = (among_of status f.known).0;
   reads_later = f.reads_later;

@@ -1,5 +1,6 @@
 -- What a run of `upload` is, from what it read and wrote.
-use Rattle.show_uploads.proofs.Prelude.{common_steps, ◌≡◌, ◌≢◌, ◌⊎◌, inl, inr, ℕ, ◌+◌, ◌≤◌, Bool, true, false, List, [], ◌∷◌, ◌++◌, length, Contains, append_assoc, append-nil, length-append, Option, Some, None, IfSome, refl, sym, ap, subst, ◌∙◌, arith, append_cancel_right, All-cons, All-contains, All-nil, part_of, rest_of, PlainShow, has_whole_marker, AppendsFront, TakesFront, end_frame, frames_bytes, IsPrompt, StaysPrompt, StopsAtEnd, UploadFails, UploadGives, Link, Refusal, Fitted, IsFitted, session_for, Settings, Traj, IsAccepted, IsRefusedBy, Wrote, IsOutcomeOf, IsSafe, OutcomeLaw, IsOfInput, IsJudged, Outcome, Run, outcome, run_of, most_text, Cut, cut_of, IsLinkOf, ReadyGives, link_in, session_of, UploadStops, UploadStopsReading, UploadsPromptly, upload_verb, upload_ways, refused_among, refused_judged, runs_failed, some_each, some_map, statuses}
+use Rattle.show_uploads.proofs.Prelude.{common_steps, ◌≡◌, ◌≢◌, ◌⊎◌, inl, inr, ℕ, ◌+◌, ◌≤◌, Bool, true, false, List, [], ◌∷◌, ◌++◌, length, Contains, append_assoc, append-nil, length-append, Option, Some, None, IfSome, refl, sym, ap, subst, ◌∙◌, arith, append_cancel_right, All-cons, All-contains, All-nil, part_of, rest_of, PlainShow, has_whole_marker, AppendsFront, TakesFront, end_frame, frames_bytes, IsPrompt, StaysPrompt, StopsAtEnd, UploadFails, UploadGives, upload_of, Link, Refusal, Fitted, IsFitted, session_for, Settings, Traj, IsAccepted, IsRefusedBy, Wrote, IsOutcomeOf, IsSafe, OutcomeLaw, IsOfInput, IsJudged, Outcome, Run, outcome, run_of, most_text, Cut, cut_of, IsLinkOf, ReadyGives, link_in, session_of, UploadStops, UploadStopsReading, UploadsPromptly, upload_verb, upload_ways, refused_among, refused_judged, runs_failed, some_each, some_map, statuses}
+use Rattle.link_dialogue.specs.Dialogues.{RunGives}
 use Rattle.std.specs.Io.KnownBytes.{Appends, Consumes}
 use Rattle.choreo_reader.specs.Grammar.{StandsFor}
 use Rattle.choreo_reader.specs.Laws.{ShowLaw}
@@ -177,11 +178,7 @@ upload_failed depth start readback r taken status law rose consumes none reads_l
 
 -- What an upload says of the bytes to come, from the marker line on.
 pub record Uploaded (link : Link) (mid after : Option (List ℕ)) (ended : Bool) (reads reads_after : ℕ) (old new : Option (List ℕ)) (writes writes_after status : ℕ) : Type 0 where
-  pub ends : status ≢ 6 → status ≢ 7 → IfSome mid (λ bytes. (output : List ℕ) × UploadGives link bytes status output × Appends old new output)
-  pub six : status ≡ 6 → Rose reads reads_after × (ended ≡ false) × IfSome mid (λ _. (taken output : List ℕ) × Consumes mid after taken × UploadFails link taken output × Appends old new output)
-  pub seven : status ≡ 7 → Rose writes writes_after × IfSome mid (λ bytes. (output : List ℕ) × AppendsFront old new output
-      × (((st : ℕ) × UploadGives link bytes st output) ⊎ (Rose reads reads_after × (ended ≡ false) × ((taken : List ℕ) × Consumes mid after taken × UploadFails link taken output))))
-  pub prompt : StaysPrompt link mid after old new
+  pub gives : RunGives (upload_of link) mid after ended reads reads_after writes writes_after old new status
   pub grown : (sent : List ℕ) × Appends old new sent
   pub known : Contains (0 ∷ 6 ∷ 7 ∷ 8 ∷ 9 ∷ 10 ∷ 11 ∷ 13 ∷ 14 ∷ []) status
   pub reads_later : reads ≤ reads_after
@@ -306,16 +303,16 @@ pub upload_carried : (depth : ℕ) (start readback : Bool) (r : Run) (mid : Opti
     Uploaded link mid r.left_after ended between r.reads_failed_after r.written r.written_after r.writes_failed r.writes_failed_after status → Runs (upload_verb depth start readback) r status
 upload_carried depth start readback r mid ended between link status law marker show ready later taken up = runs_upload depth start readback r status law (record {
   not_one = (among_of status up.known).1;
-  outcome = λ j. after_marker r.left mid _ _ _ ready.is ready.rest (up.ends j.1 j.2)
+  outcome = λ j. after_marker r.left mid _ _ _ ready.is ready.rest (up.gives.ends j.1 j.2)
       (λ all is it. (outcome status it.0, gives_outcome depth start readback all link status it.0 is it.1, refl, it.2));
-  safe = λ zero. after_marker r.left mid _ _ _ ready.is ready.rest (up.ends (λ six. omega (arith, zero, six)) (λ seven. omega (arith, zero, seven)))
+  safe = λ zero. after_marker r.left mid _ _ _ ready.is ready.rest (up.gives.ends (λ six. omega (arith, zero, six)) (λ seven. omega (arith, zero, seven)))
       (λ all is it. (outcome status it.0, gives_safe depth start readback all link status it.0 zero is it.1, it.2));
-  six = λ six. rose_later r.reads_failed between r.reads_failed_after later (up.six six).0;
-  stopped = λ six. let it = up.six six in after_marker r.left mid _ _ _ ready.is ready.rest it.2
+  six = λ six. rose_later r.reads_failed between r.reads_failed_after later (up.gives.six six).0;
+  stopped = λ six. let it = up.gives.six six in after_marker r.left mid _ _ _ ready.is ready.rest it.2
       (λ all is it_is. (it_is.1, stopped_late depth start readback r.left r.left_after mid link it_is.0 it_is.1 marker ready.is ready.rest (ready.fed it.1) it_is.2 it_is.3, it_is.4));
-  seven = λ seven. let it = up.seven seven in
+  seven = λ seven. let it = up.gives.seven seven in
       (it.0, cut_late depth start readback r.left r.left_after mid ended link r.reads_failed between r.reads_failed_after r.written r.written_after r.writes_failed r.writes_failed_after marker ready later up.grown.0 up.grown.1 it.1);
-  prompt = λ _. prompt_late depth start readback r mid link marker show ready.is ready.rest up.prompt;
+  prompt = λ _. prompt_late depth start readback r mid link marker show ready.is ready.rest up.gives.prompt;
   known = (among_of status up.known).0;
   taken = taken;
   reads_later = omega (arith, later, up.reads_later);

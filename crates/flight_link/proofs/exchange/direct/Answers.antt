@@ -26,20 +26,8 @@ run-requires-clause-going g c = ended-none _
 pub run-requires-clause-first : goal.run-requires-clause-first
 run-requires-clause-first g c = c.new-2.ensures ∙ sym (sends-nothing _)
 
-pub returns-clause-ends : goal.returns-clause-ends
-returns-clause-ends g c = rw c.make.ensures.flight at c.run.ensures.ends
-
-pub returns-clause-six : goal.returns-clause-six
-returns-clause-six g c = rw c.make.ensures.flight at c.run.ensures.six
-
-pub returns-clause-seven : goal.returns-clause-seven
-returns-clause-seven g c = rw c.make.ensures.flight at c.run.ensures.seven
-
-pub returns-clause-prompt : goal.returns-clause-prompt
-returns-clause-prompt g c = rw c.make.ensures.flight at c.run.ensures.prompt
-
-pub returns-clause-stops : goal.returns-clause-stops
-returns-clause-stops g c = rw c.make.ensures.flight at c.run.ensures.stops
+pub returns-clause-gives : goal.returns-clause-gives
+returns-clause-gives g c = rw c.make.ensures.flight at c.run.ensures.gives
 
 pub returns-clause-known : goal.returns-clause-known
 returns-clause-known g c = known c.args.flight c.run.result (rw c.make.ensures.flight at c.run.ensures.known)

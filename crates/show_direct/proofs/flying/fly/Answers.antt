@@ -11,11 +11,7 @@ returns-in-Ok-clause-carries g c all o up show down may made =
     carried_flight o up show down c.in-Ok.flight (coming c.args.parts.now all (told c.args.source.now)) (left_of all (told c.direct.new.source)) c.args.parts.now.ended
     (during told g.K.Sink.written g.K.Sink.faults c.args.source.now c.direct.new.source c.args.sink.now c.direct.new.sink) c.direct.result (rw c.in-Ok.is at made)
     (record {
-      ends = d.ends all may;
-      six = d.six all may;
-      seven = d.seven all may;
-      prompt = d.prompt all may;
-      stops = d.stops all may;
+      gives = d.gives all may;
       known = d.known;
       reads_later = d.went.gives.later;
       writes_later = d.sink_later;

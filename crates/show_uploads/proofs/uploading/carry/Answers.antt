@@ -22,7 +22,7 @@ returns-in-Ok-Host-clause-runs g c all input =
     (stream c.read_ready.new.parts (to_come all (g.S.Source.told c.read_ready.new.source))) c.read_ready.new.parts.ended (g.S.Source.told c.read_ready.new.source).faults
     (link_of c.in-Ok-Host.host.session) c.upload.result (outcomes c.show_law.ensures (upload_verb c.args.depth c.args.start c.args.readback) (c.uploading_law.ensures c.args.depth c.args.start c.args.readback)) c.marker_law.ensures c.show_law.ensures
     (record { is = gives; rest = goes_on.1; fed = goes_on.2 }) c.read_ready.ensures.went.gives.later (takes_front _ _ _ all (Gives-trans _ _ _ c.read_ready.ensures.went.gives u.went.gives) input)
-    (record { ends = u.ends all whole; six = u.six all whole; seven = u.seven all whole; prompt = u.prompt all whole; grown = u.grown; known = u.known; reads_later = u.went.gives.later; writes_later = u.sink_later })
+    (record { gives = u.gives all whole; grown = u.grown; known = u.known; reads_later = u.went.gives.later; writes_later = u.sink_later })
 
 pub returns-in-Ok-Refused-clause-runs : goal.returns-in-Ok-Refused-clause-runs
 returns-in-Ok-Refused-clause-runs g c all input =
@@ -51,7 +51,7 @@ returns-in-Ok-Host-clause-stops g c all input = λ judged.
     let may = back _ _ _ _ all c.upload.ensures.went whole in
     let gives = at_new (λ (left : Option (List ℕ)). IfSome left (λ comes. ReadyGives (upload_ways c.args.depth) c.args.start c.args.readback (cut_of comes) (ready.Host c.in-Ok-Host.host))) c.make-parts.result (to_come all (g.S.Source.told c.args.source.now)) (ap (λ (h : Held). h.waiting) c.make-parts.ensures) (rw c.in-Ok-Host.field-0-is at (c.in-Ok-Host.ensures.gives all may)) in
     let goes_on = at_new (λ (left : Option (List ℕ)). GoesOnReady (ready.Host c.in-Ok-Host.host) c.read_ready.new.parts left (stream c.read_ready.new.parts (to_come all (g.S.Source.told c.read_ready.new.source)))) c.make-parts.result (to_come all (g.S.Source.told c.args.source.now)) (ap (λ (h : Held). h.waiting) c.make-parts.ensures) (rw c.in-Ok-Host.field-0-is at (c.in-Ok-Host.ensures.goes_on all may)) in
-    stops_late c.args.depth c.args.start c.args.readback (to_come all (g.S.Source.told c.args.source.now)) (to_come all (g.S.Source.told c.upload.new.source)) (stream c.read_ready.new.parts (to_come all (g.S.Source.told c.read_ready.new.source))) (link_of c.in-Ok-Host.host.session) c.show_law.ensures gives goes_on.1 (c.upload.ensures.stops all whole)
+    stops_late c.args.depth c.args.start c.args.readback (to_come all (g.S.Source.told c.args.source.now)) (to_come all (g.S.Source.told c.upload.new.source)) (stream c.read_ready.new.parts (to_come all (g.S.Source.told c.read_ready.new.source))) (link_of c.in-Ok-Host.host.session) c.show_law.ensures gives goes_on.1 (c.upload.ensures.gives all whole).stops
 
 pub returns-in-Ok-Refused-clause-stops : goal.returns-in-Ok-Refused-clause-stops
 returns-in-Ok-Refused-clause-stops g c all input = λ judged.
