@@ -17,6 +17,6 @@ mod steps;
 mod ways;
 
 pub use faults::{FlightFault, Seam, StepsError, Way};
-pub use law::ways_law;
+pub use law::{sizes_law, ways_law};
 pub use steps::steps_of;
 pub use ways::{Crew, Crews, Ellipsoid, Name, Ways};

@@ -1,5 +1,5 @@
 -- A flight that is made of three shows that fit.
-use Rattle.std.proofs.Common.{◌≡◌, ℕ, ◌*◌, ◌≤◌, ℤ, min, max, not, List, [], ◌∷◌, length, map, Option, Some, None, Result, Ok, Err, refl, sym, ap, subst, ◌∙◌, arith}
+use Rattle.std.proofs.Common.{◌≡◌, ℕ, ◌*◌, ◌≤◌, ℤ, min, max, not, List, [], ◌∷◌, length, map, Option, Some, None, Result, Ok, Err, refl, sym, ap, subst, inl, inr, ◌∙◌, arith}
 use Rattle.std.proofs.lemmas.List.{length-map}
 use Rattle.std.proofs.lemmas.List.Elements.{All-cons, All-head, All-nil, All-tail, All-weaker}
 use Rattle.std.proofs.lemmas.List.Sums.{sum_by-cons}
@@ -15,6 +15,7 @@ use Rattle.traj_codec.specs.Positions.{durations}
 use Rattle.traj_codec.specs.Spelling.{IsSegment, IsTrajectory}
 use Rattle.traj_codec.specs.declared.traj.Segment.{Segment}
 use Rattle.traj_codec.specs.declared.traj.Traj.{Traj}
+use Rattle.flight_model.specs.declared.flights.Condition.{Condition}
 use Rattle.flight_model.specs.declared.flights.Course.{Course}
 use Rattle.flight_model.specs.declared.flights.Flight.{Flight}
 use Rattle.flight_model.specs.declared.flights.Orders.{Orders}
@@ -33,7 +34,7 @@ use Rattle.flight_steps.specs.declared.ways.Ellipsoid.{Ellipsoid}
 use Rattle.flight_steps.specs.declared.ways.Ways.{Ways}
 use Rattle.flight_steps.specs.Faults as faults
 use Rattle.flight_steps.specs.Faults.{StepsGive, first_other, flight_fault, other_drone, route_fault, size_fault}
-use Rattle.flight_steps.specs.Sizes.{AreOrdersOf, IsStepOf}
+use Rattle.flight_steps.specs.Sizes.{AreConditionsOf, AreOrdersOf, IsStepOf}
 use Rattle.flight_steps.specs.Ways.{AreFitted, routes}
 use Rattle.show_plan.specs.declared.fitted.Fitted.{Fitted}
 use Rattle.show_plan.specs.Fitting.{IsFitted, IsValidFitted}
@@ -225,6 +226,10 @@ few_orders : (n : ℕ) (x : Orders) → n ≤ 32 → AreOrdersOf n x → AreFew 
 few_orders n (Each orders) few are = omega (arith, few, are)
 few_orders n (ToEach order) few are = tt
 
+few_conditions : (n : ℕ) (ws : List Condition) → n ≤ 32 → AreConditionsOf n ws → length ws ≤ 32
+few_conditions n ws few (inl e) = let none = ap (λ (xs : List Condition). length xs) e in omega (arith, none)
+few_conditions n ws few (inr e) = omega (arith, few, e)
+
 -- it fits the director
 pub is_held : JoinLaw → (o : Options) (floor : ℤ) (silence : ℕ) (f : Fitted) (steps : List Step) (rise return : Course) → IsValidFitted f → AreUploadable f.settings f.sent → All (IsStepOf (length f.trajs)) steps →
     IsCourse rise → IsCourse return → IsHeld (made_of o floor silence steps f.sent f.duration f.settings rise return)
@@ -235,7 +240,7 @@ is_held law o floor silence f steps rise return valid up sizes rising returning 
       few = up.few;
       short = show.short;
       orders = All-weaker (IsStepOf (length f.trajs)) (λ (step : Step). AreFew step.orders) (λ step is. few_orders (length f.trajs) step.orders few is.orders) steps sizes;
-      conditions = All-weaker (IsStepOf (length f.trajs)) (λ (step : Step). length step.conditions ≤ 32) (λ step is. omega (arith, few, is.conditions)) steps sizes;
+      conditions = All-weaker (IsStepOf (length f.trajs)) (λ (step : Step). length step.conditions ≤ 32) (λ step is. few_conditions (length f.trajs) step.conditions few is.conditions) steps sizes;
       curves = show.curves;
       up = rising;
       down = returning;
