@@ -70,7 +70,7 @@ first_unfit-short silence k [] (t ∷ ts) (suc d) m = refl
 first_unfit-short silence k (w ∷ ws) (t ∷ ts) (suc d) m = first_unfit-short silence k ws ts d (omega arith)
 
 pub map-step : (g : Track → Track) (xs : List Track) (i : ℕ) → i < length xs →
-    set (map g (take i xs) ++ drop i xs) i (g (get_or xs i (record { seen = None; off = None; unsure = None }))) ≡ map g (take (i + 1) xs) ++ drop (i + 1) xs
+    set (map g (take i xs) ++ drop i xs) i (g (get_or xs i (record { seen = None; off = None; unsure = None; outside = false }))) ≡ map g (take (i + 1) xs) ++ drop (i + 1) xs
 map-step g [] i l = absurd (omega arith)
 map-step g (x ∷ xs) zero l = refl
 map-step g (x ∷ xs) (suc i) l =

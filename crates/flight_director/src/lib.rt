@@ -11,6 +11,7 @@ mod distance;
 mod down;
 mod fit;
 mod notes;
+mod room;
 mod state;
 mod tracks;
 

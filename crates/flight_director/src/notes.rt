@@ -58,9 +58,9 @@ pub fn note_silent(out: &mut Notes, silence: u32, ms: u32, tracks: &[Track])
 /// What becomes known of a drone with a sample: its track before and after it.
 pub fn note_sample(out: &mut Notes, d: usize, before: &Track, after: &Track)
     requires known { d < 256 }
-    requires room { length out.old.items + 2 < MOST_NOTES }
+    requires room { length out.old.items + 3 < MOST_NOTES }
     ensures noted { out.new.items ≡ out.old.items ++ sample_notes d before.now after.now }
-    ensures few { length out.new.items ≤ length out.old.items + 3 }
+    ensures few { length out.new.items ≤ length out.old.items + 4 }
 {
     note_if(
         out,
@@ -80,4 +80,5 @@ pub fn note_sample(out: &mut Notes, d: usize, before: &Track, after: &Track)
         d,
         Fault::Unsure,
     );
+    note_if(out, !before.outside && after.outside, d, Fault::Outside);
 }

@@ -20,7 +20,9 @@ ghost use Rattle.flight_model.specs.Directors.{is_land as word_land, is_stop as 
 ghost use Rattle.flight_model.specs.Directors.{is_rise as word_rise, order_in, frames_of_step, frames_from, into};
 ghost use Rattle.flight_model.specs.Directors.{starts_with, unfit_in, is_flying as word_flying, land_order, is_flown};
 ghost use Rattle.flight_model.specs.Directors.{State as StateWord};
-ghost use Rattle.flight_model.specs.Directors.{answered_after, unanswered};
+ghost use Rattle.flight_model.specs.Directors.{answered_after, unanswered, any_risen as word_any_risen};
+ghost use Rattle.flight_model.specs.Directors.{are_aloft as word_aloft, is_airborne as word_airborne};
+ghost use Rattle.flight_model.specs.Directors.{is_outside as word_outside};
 ghost use Rattle.flight_director.specs.Held.{IsHeld, AreFew, with_answered, with_tracks};
 
 use crate::answers::{all_answered, forget, put_answer};
@@ -28,6 +30,7 @@ use crate::curve::{is_in_stretch, is_kept};
 use crate::down::are_down;
 use crate::fit::{all_fit, first_unfit};
 use crate::notes::{MOST_NOTES, Notes, note_if, note_sample, note_silent};
+use crate::room::is_in_room;
 use crate::tracks::{age, all_disarmed, any_silent, later, off_with, renew};
 use arrayvec::ArrayVec;
 use fleet_math::MOST_DRONES;
@@ -148,6 +151,18 @@ fn has_risen(f: &Flight, n: usize, d: usize) -> bool
     let steps = f.steps.as_slice();
     for k in 0..n.min(steps.len()) {
         if is_rise(&steps[k].orders, d) {
+            return true;
+        }
+    }
+    false
+}
+
+// Whether some drone was told to rise in the first n steps.
+fn any_risen(f: &Flight, n: usize) -> bool
+    ensures { result ≡ word_any_risen f.now n }
+{
+    for d in 0..f.curves.as_slice().len() {
+        if has_risen(f, n, d) {
             return true;
         }
     }
@@ -303,6 +318,7 @@ impl State {
                 seen: None,
                 off: None,
                 unsure: None,
+                outside: false,
             });
             answered.push(false);
         }
@@ -350,6 +366,26 @@ impl State {
         self.in_show(f, x) && !x.sure
     }
 
+    fn is_airborne(&self) -> bool
+        ensures { result ≡ word_airborne self.now.phase }
+    {
+        matches!(self.phase, Phase::Steps | Phase::Landing)
+    }
+
+    // Whether drones are in the air.
+    fn are_aloft(&self, f: &Flight) -> bool
+        ensures { result ≡ word_aloft f.now self.now }
+    {
+        self.is_airborne() && any_risen(f, self.next)
+    }
+
+    // Whether a sample has its drone outside of the room while drones are in the air.
+    fn is_outside(&self, f: &Flight, x: &Sample) -> bool
+        ensures { result ≡ word_outside f.now self.now x.now }
+    {
+        !is_in_room(&f.room, x) && self.are_aloft(f)
+    }
+
     fn track_with(&self, f: &Flight, d: usize, t: &Track, x: &Sample) -> Track
         requires { IsHeld f.now }
         ensures { result ≡ word_track f.now self.now d t.now x.now }
@@ -366,6 +402,7 @@ impl State {
             } else {
                 Some(off_with(&t.unsure, &t.seen, x))
             },
+            outside: self.is_outside(f, x),
         }
     }
 
@@ -559,7 +596,9 @@ impl State {
     {
         match fault {
             Fault::Silent => false,
-            Fault::Astray | Fault::Lost | Fault::Unsure => !(self.showing && f.flies_on),
+            Fault::Astray | Fault::Lost | Fault::Unsure | Fault::Outside => {
+                !(self.showing && f.flies_on)
+            }
             Fault::Refused | Fault::Late => true,
         }
     }

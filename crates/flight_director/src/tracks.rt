@@ -57,11 +57,12 @@ fn renewed(t: &Track) -> Track
     Track {
         off: None,
         unsure: None,
+        outside: false,
         ..*t
     }
 }
 
-/// A step begins: what is off or unsure is counted anew.
+/// A step begins: what is off, unsure or outside is counted anew.
 pub fn renew(tracks: &mut [Track])
     ensures { tracks.new ≡ map word_renewed tracks.old }
 {

@@ -12,7 +12,7 @@ use Rattle.flight_model.specs.declared.events.Signal.TheVariants as signal
 use Rattle.flight_model.specs.declared.events.Event.{Event}
 use Rattle.flight_model.specs.declared.events.Event.TheVariants.{Clock, Seen, Answered, Said}
 use Rattle.flight_model.specs.declared.events.Fault.{Fault}
-use Rattle.flight_model.specs.declared.events.Fault.TheVariants.{Silent, Astray, Lost, Refused, Late, Unsure}
+use Rattle.flight_model.specs.declared.events.Fault.TheVariants.{Silent, Astray, Lost, Refused, Late, Unsure, Outside}
 use Rattle.flight_model.specs.declared.events.Frame.{Frame}
 use Rattle.flight_model.specs.declared.events.Frame.TheVariants.{To, ToAll, Noted, Over}
 use Rattle.flight_model.specs.Ours.{flight_group}
@@ -157,6 +157,7 @@ fault_byte Lost = 2
 fault_byte Refused = 3
 fault_byte Late = 4
 fault_byte Unsure = 5
+fault_byte Outside = 6
 
 abbrev pub over_byte : Bool → Bool → ℕ
 over_byte flown kept = bit flown + 2 * bit kept
@@ -207,7 +208,8 @@ fault_in byte =
     else (if byte == 1 then Astray
     else (if byte == 2 then Lost
     else (if byte == 3 then Refused
-    else (if byte == 4 then Late else Unsure))))
+    else (if byte == 4 then Late
+    else (if byte == 5 then Unsure else Outside)))))
 
 -- what the director said, where the numbers fit their bytes
 abbrev pub IsOutput : Frame → Type 0

@@ -119,6 +119,7 @@ fn fault_byte(fault: Fault) -> u8
         Fault::Refused => 3,
         Fault::Late => 4,
         Fault::Unsure => 5,
+        Fault::Outside => 6,
     }
 }
 

@@ -9,12 +9,12 @@ use Rattle.flight_model.specs.declared.events.Signal.TheVariants as signal
 use Rattle.flight_model.specs.declared.events.Event.{Event}
 use Rattle.flight_model.specs.declared.events.Event.TheVariants.{Clock, Seen, Answered, Said}
 use Rattle.flight_model.specs.declared.events.Fault.{Fault}
-use Rattle.flight_model.specs.declared.events.Fault.TheVariants.{Silent, Astray, Lost, Refused, Late, Unsure}
+use Rattle.flight_model.specs.declared.events.Fault.TheVariants.{Silent, Astray, Lost, Refused, Late, Unsure, Outside}
 use Rattle.flight_model.specs.declared.events.Note.{Note}
 use Rattle.flight_model.specs.declared.flights.Step.{Step}
 use Rattle.flight_model.specs.declared.flights.Flight.{Flight}
 unfoldable use Rattle.flight_model.specs.Directors.{heard, notes, is_fault}
-use Rattle.flight_model.specs.Directors.{Track, State, Steps, is_due, next_step, is_off_hold, is_lost, is_astray, is_late_step, is_flying, falls_silent, silent_from, later, off_with, note_if, sample_notes, seen_notes, track_with, noticed, overdue, unfit_in, is_grave}
+use Rattle.flight_model.specs.Directors.{Track, State, Steps, is_due, next_step, is_off_hold, is_outside, is_lost, is_astray, is_late_step, is_flying, falls_silent, silent_from, later, off_with, note_if, sample_notes, seen_notes, track_with, noticed, overdue, unfit_in, is_grave}
 use Rattle.flight_model.specs.Law.{Lands}
 use Rattle.flight_model.specs.Alarms.{note_of, HasLasted, Alarms, IsToLand, AlarmLaw}
 use Rattle.flight_model.proofs.Ending.{fault_law}
@@ -119,8 +119,33 @@ unsure f s d x t at doubt h =
     let has = sampled f s d x t (note_of d Unsure) at
     (Contains-append_right (note_if (not (is_lost t.seen) && is_lost u.seen) d Lost) _ (note_of d Unsure)
     (Contains-append_right (note_if (not (is_astray t.off) && is_astray u.off) d Astray) _ (note_of d Unsure)
-    (noted-if (not (is_astray t.unsure) && is_astray u.unsure) d Unsure (both-true (is_astray t.unsure) (is_astray u.unsure) l.0 now)))) in
+    (Contains-append_left (note_if (not (is_astray t.unsure) && is_astray u.unsure) d Unsure) _ (note_of d Unsure)
+    (noted-if (not (is_astray t.unsure) && is_astray u.unsure) d Unsure (both-true (is_astray t.unsure) (is_astray u.unsure) l.0 now))))) in
     record { noted = has; lands = λ p g. alarm-lands f s (Seen d x) (note_of d Unsure) (λ e. cc) has (to-land f s g) p }
+
+-- a drone that is outside with a sample, and wasn't with the one before, is told of
+outside-noted : (f : Flight) (s : State) (d : ℕ) (x : Sample) (t : Track) → slice_get s.tracks d ≡ Some t → t.outside ≡ false → is_outside f s x ≡ true →
+    Contains (notes f s (Seen d x)) (note_of d Outside)
+outside-noted f s d x t at before now =
+    let u = track_with f s d t x in
+    sampled f s d x t (note_of d Outside) at
+    (Contains-append_right (note_if (not (is_lost t.seen) && is_lost u.seen) d Lost) _ (note_of d Outside)
+    (Contains-append_right (note_if (not (is_astray t.off) && is_astray u.off) d Astray) _ (note_of d Outside)
+    (Contains-append_right (note_if (not (is_astray t.unsure) && is_astray u.unsure) d Unsure) _ (note_of d Outside)
+    (noted-if (not t.outside && is_outside f s x) d Outside (both-true t.outside (is_outside f s x) before now)))))
+
+-- and that is grave
+pub outside-fault : (f : Flight) (s : State) (d : ℕ) (x : Sample) (t : Track) → slice_get s.tracks d ≡ Some t → t.outside ≡ false → is_outside f s x ≡ true →
+    IsToLand f s → is_fault f s (Seen d x) ≡ true
+unfolding is_fault
+outside-fault f s d x t at before now land =
+    any-of (λ (m : Note). is_grave f s m.fault) (notes f s (Seen d x)) (note_of d Outside) (outside-noted f s d x t at before now) (to-land f s land)
+
+outside : (f : Flight) (s : State) (d : ℕ) (x : Sample) (t : Track) → slice_get s.tracks d ≡ Some t → t.outside ≡ false → is_outside f s x ≡ true →
+    Alarms f s (Seen d x) (note_of d Outside) (IsToLand f s)
+outside f s d x t at before now =
+    let has = outside-noted f s d x t at before now in
+    record { noted = has; lands = λ p g. alarm-lands f s (Seen d x) (note_of d Outside) (λ e. cc) has (to-land f s g) p }
 
 -- ---- time
 
@@ -164,4 +189,4 @@ silent f s ms d t x at seen fresh old =
     (ap (λ o. falls_silent f.silence ms o) seen ∙ both-true (ltb f.silence x.age) (ltb f.silence (later x.age ms)) (le-ltb f.silence x.age fresh) (lt-ltb f.silence (later x.age ms) old))))
 
 pub alarm_law : AlarmLaw
-alarm_law = record { refused = refused; lost = lost; astray = astray; unsure = unsure; late = late; silent = silent }
+alarm_law = record { refused = refused; lost = lost; astray = astray; unsure = unsure; outside = outside; late = late; silent = silent }

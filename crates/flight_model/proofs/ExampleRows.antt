@@ -1,5 +1,5 @@
 -- The premises of the laws hold of the small flight.
-use Rattle.std.proofs.Common.{◌≡◌, ◌≢◌, ◌≤◌, ◌+◌, ◌∷◌, ◌||◌, ◌&&◌, [], List, Bool, true, false, not, refl, sym, subst, None, Some, Option, ℕ, zero, suc, inl, inr, leb, eqb, arith}
+use Rattle.std.proofs.Common.{◌≡◌, ◌≢◌, ◌≤◌, ◌+◌, ◌∷◌, ◌||◌, ◌&&◌, ◌∙◌, [], List, Bool, true, false, not, refl, sym, ap, subst, None, Some, Option, ℕ, zero, suc, inl, inr, leb, eqb, arith}
 use Rattle.std.proofs.lemmas.Bool.{and_parts, not-true, eqb-true, le-leb}
 use Rattle.std.proofs.lemmas.List.Elements.{All-nil, All-cons}
 use Rattle.std.specs.Prelude.{ℤ, pos, slice_get, Contains}
@@ -16,7 +16,8 @@ unfoldable use Rattle.flight_model.specs.Legs.{steps_of}
 use Rattle.flight_model.specs.Legs.{IsWay, IsWayUp, IsWayDown, IsFlight, way_begins, way_ends, legs_of, leg, moves, goes_up, goes_down}
 unfoldable use Rattle.flight_model.specs.Samples.{is_fit_by, is_kept, is_on_course}
 unfoldable use Rattle.flight_model.specs.Directors.{tracks_after, heard, is_due, notes, is_fault, choice, done, led, happens, says}
-use Rattle.flight_model.specs.Directors.{start, sent, State, Track, next_step, all_fit, all_answered, is_silent, is_off, is_off_hold}
+use Rattle.flight_model.specs.Directors.{start, sent, State, Track, next_step, all_fit, all_answered, is_silent, is_off, is_off_hold, is_outside, are_aloft}
+use Rattle.flight_model.specs.Rooms.{IsInRoom, is_in_room}
 unfoldable use Rattle.fleet_math.specs.Decoded.{decoded}
 unfoldable use Rattle.fleet_math.specs.Moments.{moment}
 unfoldable use Rattle.fleet_math.specs.Bernstein.{bernstein}
@@ -25,6 +26,7 @@ use Rattle.flight_model.specs.Kept.{HasShow}
 unfoldable use Rattle.flight_model.specs.Example.{flight}
 use Rattle.flight_model.specs.Example.{up_at, show_at, down_at, routes, whole, said, ExampleLaw}
 use Rattle.flight_model.proofs.Beginning.{implied}
+use Rattle.flight_model.proofs.Rooms.{in-room}
 use Rattle.flight_model.proofs.Shows.{has_show}
 use Rattle.flight_model.proofs.Kept.{kept_law}
 
@@ -40,7 +42,7 @@ is_calm (Said signal.Stop) = false
 
 is_good : Flight → State → Event → Bool
 is_good f s (Clock ms) = true
-is_good f s (Seen d x) = (not x.lost && not (is_off f s d x)) && (x.sure && not (is_off_hold f s d x))
+is_good f s (Seen d x) = (not x.lost && not (is_off f s d x)) && (x.sure && (not (is_off_hold f s d x) && not (is_outside f s x)))
 is_good f s (Answered d status) = true
 is_good f s (Said w) = true
 
@@ -70,15 +72,22 @@ unfolding is_calm
 calm-said e h =
     (λ same. let g : false ≡ true = subst (λ a. is_calm a ≡ true) same h in absurd (cc), λ same. let g : false ≡ true = subst (λ a. is_calm a ≡ true) same h in absurd (cc))
 
-good-sample : (f : Flight) (s : State) (e : Event) (d : ℕ) (x : Sample) → is_good f s e ≡ true → e ≡ Seen d x → (x.lost ≡ false) × (is_off f s d x ≡ false) × (x.sure ≡ true) × (is_off_hold f s d x ≡ false)
+good-room : (f : Flight) (s : State) (x : Sample) → are_aloft f s ≡ true → is_outside f s x ≡ false → IsInRoom f.room x
+good-room f s x up calm = in-room f.room x (by_room (is_in_room f.room x) (sym (ap (λ b. b && not (is_in_room f.room x)) up) ∙ calm)) where
+  by_room : (b : Bool) → true && not b ≡ false → b ≡ true
+  by_room true e = refl
+  by_room false e = absurd (cc)
+
+good-sample : (f : Flight) (s : State) (e : Event) (d : ℕ) (x : Sample) → is_good f s e ≡ true → e ≡ Seen d x → (x.lost ≡ false) × (is_off f s d x ≡ false) × (x.sure ≡ true) × (is_off_hold f s d x ≡ false) × (are_aloft f s ≡ true → IsInRoom f.room x)
 unfolding is_good
 good-sample f s e d x h same =
-    let on = not (is_off_hold f s d x) in
+    let on = not (is_off_hold f s d x) && not (is_outside f s x) in
     let g : (not x.lost && not (is_off f s d x)) && (x.sure && on) ≡ true = subst (λ a. is_good f s a ≡ true) same h in
     let q = and_parts (not x.lost && not (is_off f s d x)) (x.sure && on) g in
     let r = and_parts x.sure on q.1 in
     let p = and_parts (not x.lost) (not (is_off f s d x)) q.0 in
-    (not-true x.lost p.0, not-true (is_off f s d x) p.1, r.0, not-true (is_off_hold f s d x) r.1)
+    let w = and_parts (not (is_off_hold f s d x)) (not (is_outside f s x)) r.1 in
+    (not-true x.lost p.0, not-true (is_off f s d x) p.1, r.0, not-true (is_off_hold f s d x) w.0, λ up. good-room f s x up (not-true (is_outside f s x) w.1))
 
 prompt-fit : (f : Flight) (slack : ℕ) (h : State) (o : Option Step) (step : Step) → is_prompt f slack h o ≡ true → o ≡ Some step → step.asked ≡ false →
     step.after + slack ≤ h.waited → (all_fit f.silence step.conditions h.tracks ≡ true) × (step.answered ≡ true → all_answered h.answered ≡ true)

@@ -31,24 +31,24 @@ got [] g d t e = absurd (cc)
 got (u ∷ ts) g zero t e = let same : u ≡ t = cc in ap (λ (v : Track). Some (g v)) same
 got (u ∷ ts) g (suc d) t e = got ts g d t e
 
-got-back : (ts : List Track) (g : Track → Track) (d : ℕ) (v : Track) → slice_get (map g ts) d ≡ Some v → (t : Track) × (slice_get ts d ≡ Some t) × (v ≡ g t)
+pub got-back : (ts : List Track) (g : Track → Track) (d : ℕ) (v : Track) → slice_get (map g ts) d ≡ Some v → (t : Track) × (slice_get ts d ≡ Some t) × (v ≡ g t)
 got-back [] g d v e = absurd (cc)
 got-back (u ∷ ts) g zero v e = let same : v ≡ g u = cc in (u, refl, same)
 got-back (u ∷ ts) g (suc d) v e = got-back ts g d v e
 
-put-here : (ts : List Track) (k : ℕ) (t u : Track) → slice_get ts k ≡ Some u → slice_get (slice_set ts k t) k ≡ Some t
+pub put-here : (ts : List Track) (k : ℕ) (t u : Track) → slice_get ts k ≡ Some u → slice_get (slice_set ts k t) k ≡ Some t
 put-here [] k t u e = absurd (cc)
 put-here (v ∷ ts) zero t u e = refl
 put-here (v ∷ ts) (suc k) t u e = put-here ts k t u e
 
-put-other : (ts : List Track) (k d : ℕ) (t : Track) → (k ≡ d → ⊥) → slice_get (slice_set ts k t) d ≡ slice_get ts d
+pub put-other : (ts : List Track) (k d : ℕ) (t : Track) → (k ≡ d → ⊥) → slice_get (slice_set ts k t) d ≡ slice_get ts d
 put-other [] k d t n = refl
 put-other (v ∷ ts) zero zero t n = absurd (n refl)
 put-other (v ∷ ts) zero (suc d) t n = refl
 put-other (v ∷ ts) (suc k) zero t n = refl
 put-other (v ∷ ts) (suc k) (suc d) t n = put-other ts k d t (λ e. n (ap suc e))
 
-some-track : (ts : List Track) (d : ℕ) → d < length ts → (t : Track) × (slice_get ts d ≡ Some t)
+pub some-track : (ts : List Track) (d : ℕ) → d < length ts → (t : Track) × (slice_get ts d ≡ Some t)
 some-track [] d l = absurd (omega (arith, l))
 some-track (t ∷ ts) zero l = (t, refl)
 some-track (t ∷ ts) (suc d) l = some-track ts d (omega (arith, l))
@@ -101,7 +101,7 @@ off-steps f s d x off =
     let c = not (keeps_hold f d (last_hold f s.next) (s.waited - x.age) x) in
     flying-steps s.phase (and_parts (is_flying s.phase) b (and_parts (is_flying s.phase && b) c off).0).0
 
-left : (f : Flight) (s : State) (e : Event) → s.phase ≢ Steps → (happens f s e).phase ≢ Steps
+pub left : (f : Flight) (s : State) (e : Event) → s.phase ≢ Steps → (happens f s e).phase ≢ Steps
 unfolding happens
 left f s e n = (off-event f s e 0 n).leads
 
@@ -110,7 +110,7 @@ left-all f s [] n = n
 left-all f s (e ∷ es) n = left-all f (happens f s e) es (left f s e n)
 
 -- it goes on from a step to the next one
-data IsOn : Choice → Type 0 where
+pub data IsOn : Choice → Type 0 where
   Rests : IsOn Rest
   Begins : IsOn Begin
 
@@ -123,12 +123,12 @@ led-on f h Cut e = absurd (cc)
 led-on f h Quit e = absurd (cc)
 led-on f h Finish e = absurd (cc)
 
-on-choice : (f : Flight) (s : State) (e : Event) → (happens f s e).phase ≡ Steps → IsOn (choice f s e)
+pub on-choice : (f : Flight) (s : State) (e : Event) → (happens f s e).phase ≡ Steps → IsOn (choice f s e)
 unfolding happens
 on-choice f s e p = led-on f (heard f s e) (choice f s e) p
 
 -- a sample at which nothing is done has no fault
-rest-calm : (f : Flight) (s : State) (e : Event) (k : ℕ) (x : Sample) → s.phase ≡ Steps → (happens f s e).phase ≡ Steps → e ≡ Seen k x → is_fault f s e ≡ false
+pub rest-calm : (f : Flight) (s : State) (e : Event) (k : ℕ) (x : Sample) → s.phase ≡ Steps → (happens f s e).phase ≡ Steps → e ≡ Seen k x → is_fault f s e ≡ false
 rest-calm f s e k x p q is = by_fault (is_fault f s e) refl where
   by_fault : (b : Bool) → is_fault f s e ≡ b → is_fault f s e ≡ false
   by_fault false h = h
@@ -190,10 +190,10 @@ near-all f s (e ∷ es) near = near-all f (happens f s e) es (event-near f s e n
 
 near-start : (f : Flight) → IsNear f (start f)
 near-start f p land = none (drones f) where
-  none : (n : ℕ) → Near (replicate n (record { seen = None; off = None; unsure = None }))
+  none : (n : ℕ) → Near (replicate n (record { seen = None; off = None; unsure = None; outside = false }))
   none zero d t e = absurd (cc)
   none (suc n) zero t e = astray_in e where
-    astray_in : Some (record { seen = None; off = None; unsure = None }) ≡ Some t → is_astray t.off ≡ false
+    astray_in : Some (record { seen = None; off = None; unsure = None; outside = false }) ≡ Some t → is_astray t.off ≡ false
     astray_in e = let same : t.off ≡ None = cc in ap is_astray same
   none (suc n) (suc d) t e = none n d t e
 

@@ -20,4 +20,7 @@ mod RejectedPositions
 mod RejectedShows
 mod WatchedRows
 mod GroupRows
+mod RoomRows
 mod Ours
+mod Rooms
+mod Outside

@@ -16,8 +16,10 @@ use Rattle.flight_model.specs.declared.flights.Orders.TheVariants.{Each, All as 
 use Rattle.flight_model.specs.declared.flights.Step.{Step}
 use Rattle.flight_model.specs.declared.flights.Flight.{Flight}
 unfoldable use Rattle.flight_model.specs.Directors.{tracks_after, heard, is_due, notes, is_fault, choice, done, led, happens, says}
-use Rattle.flight_model.specs.Directors.{Phase, Steps, Landing, Off, Halted, Ended, Track, State, Choice, Rest, Begin, Descend, Cut, Quit, Finish, start, sent, after, chosen, is_go, is_land, is_stop, is_off_hold, is_silent, is_lost, is_astray, older, aged, later, passed, fits, next_step, harms, in_show, noticed, overdue, note_if, silent_from, sample_notes, seen_notes, track_with, off_with, is_flying, is_due_step, is_late_step, unfit_in, all_fit, all_answered, frames_from, frames_of, frames_of_step, landings}
+use Rattle.flight_model.specs.Directors.{Phase, Steps, Landing, Off, Halted, Ended, Track, State, Choice, Rest, Begin, Descend, Cut, Quit, Finish, start, sent, after, chosen, is_go, is_land, is_stop, is_off_hold, are_aloft, is_outside, is_silent, is_lost, is_astray, older, aged, later, passed, fits, next_step, harms, in_show, noticed, overdue, note_if, silent_from, sample_notes, seen_notes, track_with, off_with, is_flying, is_due_step, is_late_step, unfit_in, all_fit, all_answered, frames_from, frames_of, frames_of_step, landings}
 use Rattle.flight_model.specs.Law.{IsQuiet, AllQuiet, is_on_course, noted_by, notes_in, QuietLaw}
+use Rattle.flight_model.specs.Rooms.{IsInRoom, is_in_room}
+use Rattle.flight_model.proofs.Rooms.{is-in-room}
 use Rattle.flight_model.proofs.Ending.{kept-all, none_harms}
 use Rattle.flight_model.proofs.Choices.{steps-has, off-has}
 use Rattle.std.proofs.lemmas.Grind.{flat_map-append}
@@ -40,19 +42,27 @@ module _ (slack : ℕ) (few : slack ≤ 8000) where
   unfolding heard tracks_after
   quiet-clock f s ms q = none_silent f.silence ms 0 s.tracks q.fresh
 
-  sample-quiet : (f : Flight) (s : State) (d : ℕ) (x : Sample) (t : Track) → x.lost ≡ false → is_off_hold f s d x ≡ false → x.sure ≡ true → sample_notes d t (track_with f s d t x) ≡ []
-  sample-quiet f s d x t kept on sure = notes-of d t x (is_off_hold f s d x) x.sure (off_with t.off t.seen x) (off_with t.unsure t.seen x) kept on sure where
-    notes-of : (d : ℕ) (t : Track) (x : Sample) (b c : Bool) (n m : ℕ) → x.lost ≡ false → b ≡ false → c ≡ true →
-        sample_notes d t (record { seen = Some x; off = cond b (Some n) None; unsure = cond c None (Some m) }) ≡ []
-    notes-of d t x true c n m kept on sure = absurd (cc)
-    notes-of d t x false false n m kept on sure = absurd (cc)
-    notes-of d t x false true n m kept on sure = rw (kept, and-false (not (is_lost t.seen)), and-false (not (is_astray t.off)), and-false (not (is_astray t.unsure))) refl
+  sample-quiet : (f : Flight) (s : State) (d : ℕ) (x : Sample) (t : Track) → x.lost ≡ false → is_off_hold f s d x ≡ false → x.sure ≡ true → is_outside f s x ≡ false → sample_notes d t (track_with f s d t x) ≡ []
+  sample-quiet f s d x t kept on sure inside = notes-of d t x (is_off_hold f s d x) x.sure (is_outside f s x) (off_with t.off t.seen x) (off_with t.unsure t.seen x) kept on sure inside where
+    notes-of : (d : ℕ) (t : Track) (x : Sample) (b c o : Bool) (n m : ℕ) → x.lost ≡ false → b ≡ false → c ≡ true → o ≡ false →
+        sample_notes d t (record { seen = Some x; off = cond b (Some n) None; unsure = cond c None (Some m); outside = o }) ≡ []
+    notes-of d t x true c o n m kept on sure inside = absurd (cc)
+    notes-of d t x false false o n m kept on sure inside = absurd (cc)
+    notes-of d t x false true true n m kept on sure inside = absurd (cc)
+    notes-of d t x false true false n m kept on sure inside =
+        rw (kept, and-false (not (is_lost t.seen)), and-false (not (is_astray t.off)), and-false (not (is_astray t.unsure)), and-false (not t.outside)) refl
+
+  inside : (f : Flight) (s : State) (x : Sample) → (are_aloft f s ≡ true → IsInRoom f.room x) → is_outside f s x ≡ false
+  inside f s x room = by_aloft (are_aloft f s) refl where
+    by_aloft : (b : Bool) → are_aloft f s ≡ b → is_outside f s x ≡ false
+    by_aloft true e = ap (λ c. are_aloft f s && not c) (is-in-room f.room x (room e)) ∙ and-false (are_aloft f s)
+    by_aloft false e = ap (λ c. c && not (is_in_room f.room x)) e
 
   quiet-seen : (f : Flight) (s : State) (d : ℕ) (x : Sample) → IsQuiet f slack s (Seen d x) → noticed f s (Seen d x) ≡ []
   quiet-seen f s d x q = by_track (slice_get s.tracks d) where
     by_track : (o : Option Track) → seen_notes f s d x o ≡ []
     by_track None = refl
-    by_track (Some t) = let p = q.sample d x refl in sample-quiet f s d x t p.0 p.3 p.2
+    by_track (Some t) = let p = q.sample d x refl in sample-quiet f s d x t p.0 p.3 p.2 (inside f s x p.4)
 
   quiet-answer : (f : Flight) (s : State) (d status : ℕ) → IsQuiet f slack s (Answered d status) → noticed f s (Answered d status) ≡ []
   quiet-answer f s d status q = let e = q.answer d status refl in rw e refl

@@ -15,7 +15,7 @@ unfoldable use Rattle.flight_model.specs.Samples.{is_fit_by, is_kept, is_on_cour
 use Rattle.flight_model.specs.Samples.{is_fit}
 use Rattle.flight_model.specs.Rejected.{at_origin, standing}
 unfoldable use Rattle.flight_model.specs.Directors.{tracks_after, heard, is_due, notes, is_fault, choice, done, led, happens, says}
-use Rattle.flight_model.specs.Directors.{start, sent, after, State, Track, Steps, Landing}
+use Rattle.flight_model.specs.Directors.{start, sent, after, State, Track, Steps, Landing, Off}
 unfoldable use Rattle.fleet_math.specs.Decoded.{decoded}
 unfoldable use Rattle.fleet_math.specs.Moments.{moment}
 unfoldable use Rattle.fleet_math.specs.Bernstein.{bernstein}
@@ -30,7 +30,7 @@ abbrev ready : List Event
 ready = lift_off ++ (Clock 2000 ∷ second (pos 1000) true false)
 
 abbrev seen_at : ℤ → ℤ → Track
-seen_at x z = record { seen = Some (sample x (pos 0) z true false); off = None; unsure = None }
+seen_at x z = record { seen = Some (sample x (pos 0) z true false); off = None; unsure = None; outside = false }
 
 unfoldable fits : ℤ → ℤ → ℤ → Bool
 fits x y z = is_fit 500 at_origin (Some (standing x y z))
@@ -93,6 +93,10 @@ on_floor d z down flying = Seen d (record (sample (pos 0) (pos 0) z true down) {
 abbrev turning : List Event
 turning = on_floor 0 (pos 0) true true ∷ on_floor 1 (pos 0) true true ∷ []
 
+-- the first drone is heard there
+abbrev at_place : ℤ → ℤ → ℤ → List Event
+at_place x y z = Seen 0 (sample x y z true false) ∷ []
+
 -- a drone hovers, and isn't sure where
 abbrev doubts : List Event
 doubts = Seen 0 (record (sample (pos 0) (pos 0) (pos 1000) true false) { sure = false }) ∷ []
@@ -146,6 +150,21 @@ pub record Rows : Type 0 where
   unsure_waiting : says_all true at_ready (doubts ++ go ++ Clock 300 ∷ doubts) ≡ note 0 fault.Unsure ∷ all_land
   unsure_on : says_all true at_ready (go ++ doubts ++ Clock 300 ∷ doubts) ≡ ToAll order.Start ∷ note 0 fault.Unsure ∷ []
   unsure_unkept : (comes_to at_ready (go ++ doubts)).kept ≡ false
+  -- one that is heard in the room, and one that is heard a millimetre outside: all land at once
+  in_room : says_all true climbing (Clock 20 ∷ at_place (pos 2300) (negsuc 299) (pos 1300)) ≡ []
+  past_right : says_all true climbing (Clock 20 ∷ at_place (pos 2301) (pos 0) (pos 0)) ≡ note 0 fault.Outside ∷ all_land
+  past_near : says_all true climbing (Clock 20 ∷ at_place (pos 0) (negsuc 300) (pos 0)) ≡ note 0 fault.Outside ∷ all_land
+  past_top : says_all true climbing (Clock 20 ∷ at_place (pos 0) (pos 0) (pos 1301)) ≡ note 0 fault.Outside ∷ all_land
+  -- while the operator is asked for the start, and in a show that doesn't fly on
+  past_waiting : says_all true at_ready (at_place (pos 0) (pos 601) (pos 1000)) ≡ note 0 fault.Outside ∷ all_land
+  past_showing : says_all false at_ready (go ++ at_place (negsuc 300) (pos 0) (pos 1000)) ≡ ToAll order.Start ∷ note 0 fault.Outside ∷ all_land
+  -- in one that flies on and in a landing it is told each time that it leaves the room
+  past_flying : says_all true at_ready (go ++ at_place (pos 2301) (pos 0) (pos 1000) ++ at_place (pos 2301) (pos 0) (pos 1000) ++ at_place (pos 2300) (pos 0) (pos 1000) ++ at_place (pos 2301) (pos 0) (pos 1000)) ≡
+      ToAll order.Start ∷ note 0 fault.Outside ∷ note 0 fault.Outside ∷ []
+  past_landing : says_all true at_landing (at_place (pos 2301) (pos 0) (pos 500) ++ at_place (pos 2302) (pos 0) (pos 500)) ≡ note 0 fault.Outside ∷ []
+  -- nobody was told to rise yet, and motors are off
+  past_armed : says_all true (record climbing { next = 2 }) (at_place (pos 2301) (pos 0) (pos 0)) ≡ []
+  past_off : says_all true (record at_landing { phase = Off }) (at_place (pos 2301) (pos 0) (pos 0)) ≡ []
   -- one that refuses an order: all land
   refuses : says_all true at_ready (Answered 1 5 ∷ []) ≡ note 1 fault.Refused ∷ all_land
   -- one that doesn't come to its place
@@ -185,6 +204,16 @@ rows = record {
   unsure_waiting = refl;
   unsure_on = refl;
   unsure_unkept = refl;
+  in_room = refl;
+  past_right = refl;
+  past_near = refl;
+  past_top = refl;
+  past_waiting = refl;
+  past_showing = refl;
+  past_flying = refl;
+  past_landing = refl;
+  past_armed = refl;
+  past_off = refl;
   refuses = refl;
   lates = refl;
   near = refl;

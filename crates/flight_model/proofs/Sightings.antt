@@ -102,9 +102,9 @@ sighting-on events d x y e s l = record {
 abbrev pub AreSighted : List Event → List Track → Type 0
 AreSighted events ts = (d : ℕ) (x : Sample) → seen_of ts d ≡ Some x → Sighting events d x
 
-pub none_sighted : (n : ℕ) → AreSighted [] (replicate n (record { seen = None; off = None; unsure = None }))
+pub none_sighted : (n : ℕ) → AreSighted [] (replicate n (record { seen = None; off = None; unsure = None; outside = false }))
 none_sighted n d x h = absurd (none n d x h) where
-  none : (n d : ℕ) (x : Sample) → seen_of (replicate n (record { seen = None; off = None; unsure = None })) d ≡ Some x → ⊥
+  none : (n d : ℕ) (x : Sample) → seen_of (replicate n (record { seen = None; off = None; unsure = None; outside = false })) d ≡ Some x → ⊥
   none zero d x h = absurd (cc)
   none (suc n) zero x h = absurd (cc)
   none (suc n) (suc d) x h = none n d x h

@@ -17,7 +17,7 @@ use Rattle.flight_model.proofs.OrdersTo.{orders_to-append, orders_to-notes, orde
 use Rattle.flight_model.proofs.Choices.{steps-has, landing-has, off-has, halted-has}
 
 -- the orders of the first n steps and then these three
-abbrev all_orders : Flight → ℕ → ℕ → Bool → Bool → Bool → List Order
+abbrev pub all_orders : Flight → ℕ → ℕ → Bool → Bool → Bool → List Order
 all_orders f d n landed disarmed halted =
     ordered d (take n f.steps) ++ (only_if landed (land_order f) ++ (only_if disarmed order.Disarm ++ only_if halted order.Halt))
 
@@ -216,7 +216,7 @@ only-in f d n os Off t = only-told f d n os true true false t
 only-in f d n os Halted t = only-told f d n os true true true t
 only-in f d n os Ended t = only-told f d n os true true true t
 
-told-none : (f : Flight) (d : ℕ) → Told f d 0 [] false false false
+pub told-none : (f : Flight) (d : ℕ) → Told f d 0 [] false false false
 told-none f d = record {
   landed = false;
   disarmed = false;

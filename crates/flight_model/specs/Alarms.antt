@@ -1,16 +1,17 @@
 -- What is wrong is told, and where that is grave all land in that very event.
-use Rattle.std.specs.Prelude.{◌≡◌, ◌≢◌, ⊤, ℕ, ◌+◌, ◌-◌, ◌<◌, ◌≤◌, Bool, true, false, ◌&&◌, Option, Some, slice_get}
+use Rattle.std.specs.Prelude.{◌≡◌, ◌≢◌, ⊤, ℕ, ◌+◌, ◌-◌, ◌<◌, ◌≤◌, true, false, ◌&&◌, Option, Some, slice_get}
 use Rattle.std.specs.Prelude.{Contains}
 use Rattle.flight_model.specs.declared.events.Sample.{Sample}
 use Rattle.flight_model.specs.declared.events.Signal.TheVariants as signal
 use Rattle.flight_model.specs.declared.events.Event.{Event}
 use Rattle.flight_model.specs.declared.events.Event.TheVariants.{Clock, Seen, Answered, Said}
 use Rattle.flight_model.specs.declared.events.Fault.{Fault}
-use Rattle.flight_model.specs.declared.events.Fault.TheVariants.{Silent, Astray, Lost, Refused, Late, Unsure}
+use Rattle.flight_model.specs.declared.events.Fault.TheVariants.{Silent, Astray, Lost, Refused, Late, Unsure, Outside}
 use Rattle.flight_model.specs.declared.events.Note.{Note}
 use Rattle.flight_model.specs.declared.flights.Step.{Step}
 use Rattle.flight_model.specs.declared.flights.Flight.{Flight}
-use Rattle.flight_model.specs.Directors.{Track, State, Steps, next_step, is_due, is_off_hold, is_lost, later, heard, notes}
+use Rattle.flight_model.specs.Directors.{Track, State, Steps, next_step, is_due, is_off_hold, is_lost, is_outside, later, heard}
+use Rattle.flight_model.specs.Directors.{notes}
 use Rattle.flight_model.specs.Law.{Lands}
 
 abbrev pub note_of : ℕ → Fault → Note
@@ -44,6 +45,8 @@ pub record AlarmLaw : Type 0 where
       is_off_hold f s d x ≡ true → HasLasted t.off t.seen x → Alarms f s (Seen d x) (note_of d Astray) (IsToLand f s)
   pub unsure : (f : Flight) (s : State) (d : ℕ) (x : Sample) (t : Track) → slice_get s.tracks d ≡ Some t →
       x.sure ≡ false → HasLasted t.unsure t.seen x → Alarms f s (Seen d x) (note_of d Unsure) (IsToLand f s)
+  pub outside : (f : Flight) (s : State) (d : ℕ) (x : Sample) (t : Track) → slice_get s.tracks d ≡ Some t →
+      t.outside ≡ false → is_outside f s x ≡ true → Alarms f s (Seen d x) (note_of d Outside) (IsToLand f s)
   -- a step that waits for no go, and doesn't begin in 8 seconds
   pub late : (f : Flight) (s : State) (e : Event) (step : Step) → e ≢ Said signal.Stop → s.phase ≡ Steps →
       next_step f s ≡ Some step → step.asked ≡ false → step.after + step.settle + 8000 ≤ (heard f s e).waited →

@@ -11,7 +11,7 @@ use Rattle.flight_model.specs.declared.events.Signal.TheVariants as signal
 use Rattle.flight_model.specs.declared.events.Event.{Event}
 use Rattle.flight_model.specs.declared.events.Event.TheVariants.{Clock, Seen, Answered, Said}
 use Rattle.flight_model.specs.declared.events.Fault.{Fault}
-use Rattle.flight_model.specs.declared.events.Fault.TheVariants.{Silent, Astray, Lost, Refused, Late, Unsure}
+use Rattle.flight_model.specs.declared.events.Fault.TheVariants.{Silent, Astray, Lost, Refused, Late, Unsure, Outside}
 use Rattle.flight_model.specs.declared.events.Note.{Note}
 use Rattle.flight_model.specs.declared.events.Frame.{Frame}
 use Rattle.flight_model.specs.declared.events.Frame.TheVariants.{To, ToAll, Noted, Over}
@@ -22,6 +22,7 @@ use Rattle.flight_model.specs.declared.flights.Hold.{Hold}
 use Rattle.flight_model.specs.declared.flights.Step.{Step}
 use Rattle.flight_model.specs.declared.flights.Flight.{Flight}
 use Rattle.flight_model.specs.Samples.{is_fit, is_in_stretch, is_kept, stands_at}
+use Rattle.flight_model.specs.Rooms.{is_in_room}
 pub use Rattle.flight_model.specs.declared.states.Phase.{Phase}
 pub use Rattle.flight_model.specs.declared.states.Phase.TheVariants.{Steps, Landing, Off, Halted, Ended}
 pub use Rattle.flight_model.specs.declared.states.Track.{Track}
@@ -63,7 +64,7 @@ start f = record {
   stood = 0;
   showing = false;
   kept = true;
-  tracks = replicate (drones f) (record { seen = None; off = None; unsure = None });
+  tracks = replicate (drones f) (record { seen = None; off = None; unsure = None; outside = false });
   answered = replicate (drones f) false;
 }
 
@@ -74,6 +75,38 @@ most_ms = 1000000000
 -- a time, and more of it
 abbrev pub later : ℕ → ℕ → ℕ
 later ms more = min (ms + more) most_ms
+
+-- ---- who is in the air
+
+-- the order to drone d, if these say anything of it
+abbrev pub order_in : Orders → ℕ → Option (Option Order)
+order_in (Each orders) d = slice_get orders d
+order_in (ToEach o) d = Some (Some o)
+
+abbrev pub is_rise : Option (Option Order) → Bool
+is_rise (Some (Some (order.Rise z ms))) = true
+is_rise o = false
+
+-- drone d was told to rise in the first n steps
+abbrev pub has_risen : Flight → ℕ → ℕ → Bool
+has_risen f n d = list_any (λ (step : Step). is_rise (order_in step.orders d)) (take n f.steps)
+
+-- some drone was
+abbrev pub any_risen : Flight → ℕ → Bool
+any_risen f n = list_any (λ d. has_risen f n d) (range_with_len 0 (drones f))
+
+abbrev pub is_airborne : Phase → Bool
+is_airborne Steps = true
+is_airborne Landing = true
+is_airborne p = false
+
+-- Drones are in the air: on their way or while they land, once one of them was told to rise.
+abbrev pub are_aloft : Flight → State → Bool
+are_aloft f s = is_airborne s.phase && any_risen f s.next
+
+-- the sample comes while drones are in the air, and is outside of the flight's room
+abbrev pub is_outside : Flight → State → Sample → Bool
+is_outside f s x = are_aloft f s && not (is_in_room f.room x)
 
 -- ---- an event is heard
 
@@ -132,6 +165,7 @@ track_with f s d t x = record {
   seen = Some x;
   off = if is_off_hold f s d x then Some (off_with t.off t.seen x) else None;
   unsure = if x.sure then None else Some (off_with t.unsure t.seen x);
+  outside = is_outside f s x;
 }
 
 abbrev pub tracked : Flight → State → ℕ → Sample → Option Track → List Track
@@ -250,12 +284,13 @@ abbrev pub is_astray : Option ℕ → Bool
 is_astray None = false
 is_astray (Some ms) = nat_le 300 ms
 
--- a drone becomes lost, astray or unsure with a sample: its track before and after it
+-- a drone becomes lost, astray or unsure with a sample, or leaves the room: its track before and after it
 abbrev pub sample_notes : ℕ → Track → Track → List Note
 sample_notes d t u =
     note_if (not (is_lost t.seen) && is_lost u.seen) d Lost
     ++ (note_if (not (is_astray t.off) && is_astray u.off) d Astray
-    ++ note_if (not (is_astray t.unsure) && is_astray u.unsure) d Unsure)
+    ++ (note_if (not (is_astray t.unsure) && is_astray u.unsure) d Unsure
+    ++ note_if (not t.outside && u.outside) d Outside))
 
 abbrev pub seen_notes : Flight → State → ℕ → Sample → Option Track → List Note
 seen_notes f s d x None = []
@@ -320,7 +355,7 @@ unfoldable pub notes : Flight → State → Event → List Note
 notes f s e = noticed f s e ++ overdue f (heard f s e) e
 
 -- A grave fault ends the flight. Silence never is one: a silent drone flies its show on, which was proved to be apart
--- from all others. In a show that flies on neither is a drone that is lost, astray or unsure.
+-- from all others. In a show that flies on neither is a drone that is lost, astray, unsure or outside of the room.
 abbrev pub is_grave : Flight → State → Fault → Bool
 is_grave f s Silent = false
 is_grave f s Astray = not (s.showing && f.flies_on)
@@ -328,6 +363,7 @@ is_grave f s Lost = not (s.showing && f.flies_on)
 is_grave f s Refused = true
 is_grave f s Late = true
 is_grave f s Unsure = not (s.showing && f.flies_on)
+is_grave f s Outside = not (s.showing && f.flies_on)
 
 unfoldable pub is_fault : Flight → State → Event → Bool
 is_fault f s e = list_any (λ (n : Note). is_grave f s n.fault) (notes f s e)
@@ -370,19 +406,6 @@ unfoldable pub choice : Flight → State → Event → Choice
 choice f s e = chosen f (heard f s e) e (is_fault f s e) s.phase
 
 -- ---- what is said
-
--- the order to drone d, if these say anything of it
-abbrev pub order_in : Orders → ℕ → Option (Option Order)
-order_in (Each orders) d = slice_get orders d
-order_in (ToEach o) d = Some (Some o)
-
-abbrev pub is_rise : Option (Option Order) → Bool
-is_rise (Some (Some (order.Rise z ms))) = true
-is_rise o = false
-
--- drone d was told to rise in the first n steps
-abbrev pub has_risen : Flight → ℕ → ℕ → Bool
-has_risen f n d = list_any (λ (step : Step). is_rise (order_in step.orders d)) (take n f.steps)
 
 -- orders by drone, from drone d on
 abbrev pub frames_from : ℕ → List (Option Order) → List Frame
@@ -440,9 +463,9 @@ into s p = record s { phase = p; waited = 0; steady = 0; stood = 0; showing = fa
 abbrev pub unanswered : List Bool → List Bool
 unanswered answered = map (λ (b : Bool). false) answered
 
--- from a step on what is off or unsure is counted anew
+-- from a step on what is off, unsure or outside is counted anew
 abbrev pub renewed : Track → Track
-renewed t = record t { off = None; unsure = None }
+renewed t = record t { off = None; unsure = None; outside = false }
 
 unfoldable pub led : Flight → State → Choice → State
 led f s Rest = s

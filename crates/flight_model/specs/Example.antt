@@ -13,6 +13,7 @@ use Rattle.flight_model.specs.declared.events.Frame.{Frame}
 use Rattle.flight_model.specs.declared.events.Frame.TheVariants.{To, ToAll, Over}
 use Rattle.flight_model.specs.declared.flights.Course.{Course}
 use Rattle.flight_model.specs.declared.flights.Flight.{Flight}
+use Rattle.flight_model.specs.declared.flights.Room.{Room}
 use Rattle.flight_model.specs.Legs.{Routes, IsFlight, steps_of}
 use Rattle.flight_model.specs.Directors.{start, sent}
 use Rattle.flight_model.specs.Law.{AllQuiet}
@@ -58,6 +59,15 @@ routes = record { up = two up_at; show = two show_at; down = two down_at; stray 
 abbrev pub course : (ℤ → Traj) → ℕ → Course
 course t ms = record { curves = two t; ms = ms; stray = 100; late = 200 }
 
+-- around the control points of all curves, with 200 mm beside the 100 mm that drones may stray on the ways
+abbrev pub room : Room
+room = record {
+  x = record { low = pos 0; high = pos 2000 };
+  y = record { low = pos 0; high = pos 300 };
+  z = record { low = pos 0; high = pos 1000 };
+  margin = 300;
+}
+
 unfoldable pub flight : Bool → Flight
 unfolding steps_of
 flight flies_on = record {
@@ -68,6 +78,7 @@ flight flies_on = record {
   late = 2;
   up = course up_at 2000;
   down = course down_at 2500;
+  room = room;
   silence = 500;
   flies_on = flies_on;
   floor = pos 0;

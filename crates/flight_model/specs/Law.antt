@@ -18,7 +18,8 @@ use Rattle.flight_model.specs.declared.flights.Step.{Step}
 use Rattle.flight_model.specs.declared.flights.Flight.{Flight}
 use Rattle.flight_model.specs.Samples.{square}
 use Rattle.flight_model.specs.Directors.{Phase, is_off, is_off_hold, next_step, is_silent, all_fit, Steps, Landing, Off, Halted}
-use Rattle.flight_model.specs.Directors.{all_answered}
+use Rattle.flight_model.specs.Directors.{all_answered, are_aloft}
+use Rattle.flight_model.specs.Rooms.{IsInRoom}
 use Rattle.flight_model.specs.Directors.{Ended, Track, State, start, drones, order_in, land_order, landings}
 use Rattle.flight_model.specs.Directors.{frames_from, has_risen, heard, notes, is_fault, happens, says, after, sent}
 
@@ -169,7 +170,8 @@ abbrev pub notes_in : List Frame → List Note
 notes_in frames = flat_map noted_by frames
 
 -- Nothing is wrong at the event e in the state s: an answer is good; the operator says neither land nor stop; a sample
--- is of a drone that isn't lost, is sure, is where it is told to be, and in the show at its curve; no drone is silent;
+-- is of a drone that isn't lost, is sure, is where it is told to be, in the show at its curve, and in the room while
+-- drones are in the air; no drone is silent;
 -- and from `slack` after the end of the step before on, each drone meets its condition for the next one, where that
 -- waits for no go, and has answered, where that waits for answers.
 pub record IsQuiet (f : Flight) (slack : ℕ) (s : State) (e : Event) : Type 0 where
@@ -178,6 +180,7 @@ pub record IsQuiet (f : Flight) (slack : ℕ) (s : State) (e : Event) : Type 0 w
   pub no_stop : e ≢ Said signal.Stop
   pub sample : (d : ℕ) (x : Sample) → e ≡ Seen d x →
       (x.lost ≡ false) × (is_off f s d x ≡ false) × (x.sure ≡ true) × (is_off_hold f s d x ≡ false)
+      × (are_aloft f s ≡ true → IsInRoom f.room x)
   pub fresh : list_any (λ (t : Track). is_silent f.silence t.seen) (heard f s e).tracks ≡ false
   pub in_time : (step : Step) → next_step f s ≡ Some step → step.asked ≡ false →
       step.after + slack ≤ (heard f s e).waited →

@@ -1,5 +1,6 @@
 pub mod Legs
 pub mod Samples
+pub mod Rooms
 pub mod Directors
 pub mod Law
 pub mod Alarms
@@ -13,3 +14,4 @@ pub mod Rejected
 pub mod Holds
 pub mod Watched
 pub mod Ours
+pub mod Outside

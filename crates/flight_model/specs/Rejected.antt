@@ -139,6 +139,12 @@ brief = record {
   late = 2;
   up = no_course;
   down = no_course;
+  room = record {
+    x = record { low = pos 0; high = pos 0 };
+    y = record { low = pos 0; high = pos 300 };
+    z = record { low = pos 1000; high = pos 1000 };
+    margin = 230;
+  };
   silence = 500;
   flies_on = true;
   floor = pos 0;

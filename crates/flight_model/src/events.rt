@@ -97,6 +97,8 @@ pub enum Fault {
     Late,
     /// For 300 ms its samples have been unsure of where it is.
     Unsure,
+    /// While drones are in the air, it is outside of the flight's room.
+    Outside,
 }
 
 /// A fault of a drone, as people are told of it.

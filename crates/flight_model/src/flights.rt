@@ -69,6 +69,22 @@ pub struct Course {
     pub late: u16,
 }
 
+/// From one value on an axis to another, both included, in millimetres.
+#[derive(Clone, Copy, Debug, PartialEq, Eq)]
+pub struct Span {
+    pub low: i16,
+    pub high: i16,
+}
+
+/// A box in space, and how far outside of it on each axis drones may be, in millimetres.
+#[derive(Clone, Copy, Debug, PartialEq, Eq)]
+pub struct Room {
+    pub x: Span,
+    pub y: Span,
+    pub z: Span,
+    pub margin: u32,
+}
+
 /// A step of a flight: when it begins, the condition of each drone for that, and its orders. Times in milliseconds.
 #[derive(Debug, Drop)]
 pub struct Step {
@@ -100,6 +116,8 @@ pub struct Flight {
     /// The ways up and down.
     pub up: Course,
     pub down: Course,
+    /// Where drones in the air have to be.
+    pub room: Room,
     /// A drone whose last sample is older is silent.
     pub silence: u32,
     /// The show goes on where a drone is lost or astray.

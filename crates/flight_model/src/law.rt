@@ -13,6 +13,8 @@ ghost use Rattle.flight_model.specs.Example.{ExampleLaw};
 ghost use Rattle.flight_model.specs.Rejected.{RejectedLaw};
 ghost use Rattle.flight_model.specs.Watched.{WatchedRows};
 ghost use Rattle.flight_model.specs.Ours.{GroupRows, OursLaw};
+ghost use Rattle.flight_model.specs.Rooms.{RoomOfLaw};
+ghost use Rattle.flight_model.specs.Outside.{OutsideLaw, RoomRows};
 
 /// The steps of three ways order of each drone: leg by leg up, the start, leg by leg down, and disarm. A drone that
 /// obeys the order of a leg from where the leg begins flies along the leg.
@@ -31,6 +33,7 @@ pub fn director_law()
     ensures fault { FaultLaw }
     ensures alarm { AlarmLaw }
     ensures hold { HoldLaw }
+    ensures outside { OutsideLaw }
     ensures ours { OursLaw }
     ensures halt { HaltLaw }
     ensures over { OverLaw }
@@ -51,6 +54,13 @@ pub fn rejected_law()
 /// Whom `is_off_hold` finds off where drones are told to be, each beside a neighbour that it doesn't.
 pub fn watched_law()
     ensures { WatchedRows }
+{}
+
+/// The room of a flight holds the control points of its curves, with a margin, and is no larger; and who is outside of
+/// a room, each beside a neighbour that isn't.
+pub fn room_law()
+    ensures room { RoomOfLaw }
+    ensures rows { RoomRows }
 {}
 
 /// Whom packets for a group reach, and when drones are armed: each value beside one that differs.

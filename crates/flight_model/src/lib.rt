@@ -12,6 +12,10 @@ mod law;
 mod states;
 
 pub use events::{Event, Fault, Frame, Note, Order, Sample, Signal};
-pub use flights::{Condition, Course, Flight, Hold, Leg, Orders, Position, Step, Stretch};
-pub use law::{director_law, example_law, group_law, plan_law, rejected_law, watched_law};
+pub use flights::{
+    Condition, Course, Flight, Hold, Leg, Orders, Position, Room, Span, Step, Stretch,
+};
+pub use law::{
+    director_law, example_law, group_law, plan_law, rejected_law, room_law, watched_law,
+};
 pub use states::{Choice, Phase, Track};

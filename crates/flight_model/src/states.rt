@@ -18,12 +18,14 @@ pub enum Phase {
 }
 
 /// A drone's last sample, with its age by now; for how long its samples have been off where it is told to be, if they
-/// are; and for how long they have been unsure. Both are counted from the last step on.
+/// are; for how long they have been unsure; and whether the last one was outside of the room. All three count from the
+/// last step on.
 #[derive(Clone, Copy, Debug, Default, PartialEq, Eq)]
 pub struct Track {
     pub seen: Option<Sample>,
     pub off: Option<u32>,
     pub unsure: Option<u32>,
+    pub outside: bool,
 }
 
 /// What the director does at an event.

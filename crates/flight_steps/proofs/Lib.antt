@@ -2,3 +2,4 @@ pub mod Walks
 pub mod Judged
 pub mod Counted
 pub mod Rejections
+mod Spans

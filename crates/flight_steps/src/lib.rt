@@ -2,7 +2,8 @@
 //!
 //! [`steps_of`] gives the steps that the flight director flies, or the first reason why the three are no flight, in the
 //! order of `flight_fault` (specs/Faults.antt). What a flight is and what its steps are is defined by `flight_model`
-//! (`IsFlight`, `steps_of`). It stands on `flight_model`, and on `traj_codec` for trajectories.
+//! (`IsFlight`, `steps_of`). [`room_of`] gives the room of its curves. It stands on `flight_model`, and on `traj_codec`
+//! for trajectories.
 #![tactic(auto)]
 
 mod conditions;
@@ -13,10 +14,12 @@ mod legs;
 mod lists;
 mod moves;
 mod orders;
+mod room;
 mod steps;
 mod ways;
 
 pub use faults::{FlightFault, Seam, StepsError, Way};
 pub use law::{sizes_law, ways_law};
+pub use room::room_of;
 pub use steps::steps_of;
 pub use ways::{Crew, Crews, Ellipsoid, Name, Ways};

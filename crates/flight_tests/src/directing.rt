@@ -381,3 +381,49 @@ fn watches_the_way_up(rt: HostRuntime) -> Result<(), Fail> {
     }
     Ok(())
 }
+
+// What goes out where the first drone is heard there, 20 ms after both were told to rise.
+fn said_at(alloc: Global, x: i16, y: i16, z: i16) -> Result<Vec<Frame>, AllocError> {
+    let mut d = Director::make(flight(alloc)?);
+    let mut all = Vec::new(alloc);
+    join(&mut d, &mut all)?;
+    say(&mut d, Signal::Go, &mut all)?;
+    hear_both(&mut d, 0, 0, true, true, &mut all)?;
+    all.clear();
+    hear(&mut d, Event::Clock { ms: 20 }, &mut all)?;
+    let there = Event::Seen {
+        drone: 0,
+        sample: sample(x, y, z, true, false),
+    };
+    hear(&mut d, there, &mut all)?;
+    Ok(all)
+}
+
+const OUTSIDE: Frame = Frame::Noted {
+    note: Note {
+        drone: 0,
+        fault: Fault::Outside,
+    },
+};
+
+// In the room nothing goes out. A millimetre outside a note does, and both land, in that event.
+#[test]
+fn lands_who_is_outside(rt: HostRuntime) -> Result<(), Fail> {
+    for (x, y, z) in [(2300, 0, 0), (0, -300, 1300), (-300, 600, -300)] {
+        let said = said_at(rt.alloc(), x, y, z)?;
+        assert!(rt; said.is_empty(), "{x} {y} {z}");
+    }
+    for (x, y, z) in [
+        (2301, 0, 0),
+        (-301, 0, 0),
+        (0, -301, 0),
+        (0, 601, 0),
+        (0, 0, 1301),
+        (0, 0, -301),
+    ] {
+        let said = said_at(rt.alloc(), x, y, z)?;
+        assert_eq!(rt; said.len(), 3, "{x} {y} {z}");
+        assert!(rt; said.as_slice().first() == Some(&OUTSIDE), "{x} {y} {z}");
+    }
+    Ok(())
+}

@@ -6,7 +6,9 @@ ghost use Rattle.integer_player.specs.Played.{IsPlayable, duration_of};
 ghost use Rattle.flight_model.specs.declared.flights.Step.{Step as StepWord};
 ghost use Rattle.flight_director.specs.Held.{AreFew, IsCourse, IsHeld};
 
-use flight_model::{Condition, Course, Flight, Hold, Order, Orders, Position, Step, Stretch};
+use flight_model::{
+    Condition, Course, Flight, Hold, Order, Orders, Position, Room, Span, Step, Stretch,
+};
 use listed::Listed;
 use std::alloc::{AllocError, Global};
 use traj_codec::{Element, Segment, Traj};
@@ -195,6 +197,16 @@ fn curves(alloc: Global) -> Result<Listed<Traj>, AllocError>
     Ok(Listed::from_vec(Vec::from_array(alloc, [first, second])?))
 }
 
+// Around the control points of all curves; 100 mm is the largest stray.
+fn room() -> Room {
+    Room {
+        x: Span { low: 0, high: 2000 },
+        y: Span { low: 0, high: 300 },
+        z: Span { low: 0, high: TOP },
+        margin: 300,
+    }
+}
+
 pub fn flight(alloc: Global) -> Result<Flight, AllocError>
     ensures { IfOk result (λ f. IsHeld f) }
 {
@@ -210,6 +222,7 @@ pub fn flight(alloc: Global) -> Result<Flight, AllocError>
         late: 2,
         up,
         down,
+        room: room(),
         silence: 500,
         flies_on: true,
         floor: 0,

@@ -129,7 +129,7 @@ macro_rules! over {
     };
 }
 
-const WRITTEN: [(Frame, &[u8]); 17] = [
+const WRITTEN: [(Frame, &[u8]); 18] = [
     (to_one!(3, RISE), &[1, 3, 1, 0xE8, 0x03, 0xD0, 0x07, 0, 0]),
     (
         to_one!(31, GO),
@@ -149,6 +149,7 @@ const WRITTEN: [(Frame, &[u8]); 17] = [
     (noted!(Fault::Refused), &[3, 7, 3]),
     (noted!(Fault::Late), &[3, 7, 4]),
     (noted!(Fault::Unsure), &[3, 7, 5]),
+    (noted!(Fault::Outside), &[3, 7, 6]),
     (over!(false, false), &[4, 0]),
     (over!(true, false), &[4, 1]),
     (over!(true, true), &[4, 3]),

@@ -6,8 +6,10 @@ ghost use Rattle.traj_codec.specs.Positions.{durations};
 ghost use Rattle.flight_model.specs.Legs.{lasts};
 
 use arrayvec::ArrayVec;
-use flight_model::{Condition, Order, Orders, Position, Step};
-use flight_steps::{Crew, Crews, Ellipsoid, FlightFault, Name, StepsError, Way, Ways, steps_of};
+use flight_model::{Condition, Order, Orders, Position, Room, Span, Step};
+use flight_steps::{
+    Crew, Crews, Ellipsoid, FlightFault, Name, StepsError, Way, Ways, room_of, steps_of,
+};
 use listed::Listed;
 use std::alloc::{AllocError, Global};
 use std::test::Fail;
@@ -348,5 +350,38 @@ fn steps_of_two_drones(rt: HostRuntime) -> Result<(), Fail> {
     for (s, wanted) in steps.as_slice().iter().skip(1).zip(STEPS.iter()) {
         assert!(rt; is_step(s, wanted));
     }
+    Ok(())
+}
+
+// Each way alone makes the room larger: the one up by its low end, the show by x, and the one down by its high end.
+#[test]
+fn room_of_three_ways(rt: HostRuntime) -> Result<(), Fail> {
+    let alloc = rt.alloc();
+    let up = [way(alloc, &[(0, -40, 1000)])?];
+    let show = [
+        way(alloc, &[(-700, 1000, 1000)])?,
+        way(alloc, &[(500, 1000, 1100)])?,
+    ];
+    let down = [way(alloc, &[(0, 1000, 2000), (0, 2000, 0)])?];
+    let wanted = Room {
+        x: Span {
+            low: -700,
+            high: 500,
+        },
+        y: Span { low: 0, high: 0 },
+        z: Span {
+            low: -40,
+            high: 2000,
+        },
+        margin: 280,
+    };
+    assert!(rt; room_of(280, &up, &show, &down) == wanted);
+    assert!(rt;
+        room_of(280, &[], &show, &[]).z
+            == Span {
+                low: 1000,
+                high: 1100
+            }
+    );
     Ok(())
 }

@@ -1,5 +1,5 @@
 -- A flight that is made of three shows that fit.
-use Rattle.std.proofs.Common.{◌≡◌, ℕ, ◌*◌, ◌≤◌, ℤ, min, max, not, List, [], ◌∷◌, length, map, Option, Some, None, Result, Ok, Err, refl, sym, ap, subst, inl, inr, ◌∙◌, arith}
+use Rattle.std.proofs.Common.{◌≡◌, ℕ, ◌*◌, ◌≤◌, ℤ, min, max, not, List, [], ◌∷◌, ◌++◌, ◌+◌, length, map, Option, Some, None, Result, Ok, Err, refl, sym, ap, subst, inl, inr, ◌∙◌, arith}
 use Rattle.std.proofs.lemmas.List.{length-map}
 use Rattle.std.proofs.lemmas.List.Elements.{All-cons, All-head, All-nil, All-tail, All-weaker}
 use Rattle.std.proofs.lemmas.List.Sums.{sum_by-cons}
@@ -18,10 +18,12 @@ use Rattle.traj_codec.specs.declared.traj.Traj.{Traj}
 use Rattle.flight_model.specs.declared.flights.Condition.{Condition}
 use Rattle.flight_model.specs.declared.flights.Course.{Course}
 use Rattle.flight_model.specs.declared.flights.Flight.{Flight}
+use Rattle.flight_model.specs.declared.flights.Room.{Room}
 use Rattle.flight_model.specs.declared.flights.Orders.{Orders}
 use Rattle.flight_model.specs.declared.flights.Orders.TheVariants.{Each, All as ToEach}
 use Rattle.flight_model.specs.declared.flights.Step.{Step}
 use Rattle.flight_model.specs.Legs.{Routes, lasts, steps_of}
+use Rattle.flight_model.specs.Rooms.{room_of}
 use Rattle.flight_director.specs.Held.{AreFew, IsCourse, IsHeld}
 use Rattle.flight_steps.proofs.Judged.{fault-of}
 use Rattle.flight_steps.specs.declared.faults.FlightFault.{FlightFault}
@@ -41,7 +43,7 @@ use Rattle.show_plan.specs.Fitting.{IsFitted, IsValidFitted}
 use Rattle.show_plan.specs.Landing.{AreUploadable}
 use Rattle.show_judge.specs.Shows.{names_of, sent_of, trajectories_of}
 use Rattle.show_direct.specs.declared.options.Options.{Options}
-use Rattle.show_direct.specs.Flights.{course_of, ellipsoid_in, ellipsoid_of, fault_of, flight_of, most_silence, order_ms, routes_of}
+use Rattle.show_direct.specs.Flights.{course_of, ellipsoid_in, ellipsoid_of, fault_of, flight_of, most_silence, order_ms, room_in, room_mm, routes_of}
 use Rattle.show_direct.specs.Steps.{FlightMade, StepsMade}
 
 -- ---- steps
@@ -187,8 +189,8 @@ course_held law f late valid up =
     }
 
 -- the flight of these steps and this show
-abbrev pub made_of : Options → ℤ → ℕ → List Step → List Traj → ℕ → Settings → Course → Course → Flight
-made_of o floor silence steps curves ms e up down = record {
+abbrev pub made_of : Options → ℤ → ℕ → List Step → List Traj → ℕ → Settings → Course → Course → Room → Flight
+made_of o floor silence steps curves ms e up down room = record {
   steps = steps;
   curves = curves;
   show_ms = ms;
@@ -196,31 +198,33 @@ made_of o floor silence steps curves ms e up down = record {
   late = e.late;
   up = up;
   down = down;
+  room = room;
   silence = silence;
   flies_on = not o.then_land;
   floor = floor;
   descent = o.descent;
 }
 
-flight_is : (o : Options) (floor : ℤ) (silence : ℕ) (u s d : PlainShow) (f : Fitted) (steps : List Step) (up down : Course) → floor ≡ o.floor → silence ≡ min o.silence most_silence → IsValidFitted f → IsFitted f s →
-    steps ≡ steps_of (routes_of o u s d) → up ≡ course_of u → down ≡ course_of d → made_of o floor silence steps f.sent f.duration f.settings up down ≡ flight_of o u s d
-flight_is o floor silence u s d f steps up down low quiet valid is same rises returns =
+flight_is : (o : Options) (floor : ℤ) (silence : ℕ) (u s d : PlainShow) (f : Fitted) (steps : List Step) (up down : Course) (room : Room) → floor ≡ o.floor → silence ≡ min o.silence most_silence → IsValidFitted f → IsFitted f s →
+    steps ≡ steps_of (routes_of o u s d) → up ≡ course_of u → down ≡ course_of d → room ≡ room_in u s d → made_of o floor silence steps f.sent f.duration f.settings up down room ≡ flight_of o u s d
+flight_is o floor silence u s d f steps up down room low quiet valid is same rises returns around =
     let ms : f.duration ≡ lasts (trajectories_of s) = sym (fitted_lasts f valid) ∙ ap lasts is.trajs in
     let most = min o.silence most_silence in
     let ready = steps_of (routes_of o u s d) in
-    ap (λ (z : ℤ). made_of o z silence steps f.sent f.duration f.settings up down) low
-    ∙ ap (λ (n : ℕ). made_of o o.floor n steps f.sent f.duration f.settings up down) quiet
-    ∙ ap (λ (xs : List Step). made_of o o.floor most xs f.sent f.duration f.settings up down) same
-    ∙ ap (λ (ts : List Traj). made_of o o.floor most ready ts f.duration f.settings up down) is.sent
-    ∙ ap (λ (n : ℕ). made_of o o.floor most ready (sent_of s) n f.settings up down) ms
-    ∙ ap (λ (e : Settings). made_of o o.floor most ready (sent_of s) (lasts (trajectories_of s)) e up down) is.settings
-    ∙ ap (λ (c : Course). made_of o o.floor most ready (sent_of s) (lasts (trajectories_of s)) s.settings c down) rises
-    ∙ ap (λ (c : Course). made_of o o.floor most ready (sent_of s) (lasts (trajectories_of s)) s.settings (course_of u) c) returns
+    ap (λ (z : ℤ). made_of o z silence steps f.sent f.duration f.settings up down room) low
+    ∙ ap (λ (n : ℕ). made_of o o.floor n steps f.sent f.duration f.settings up down room) quiet
+    ∙ ap (λ (xs : List Step). made_of o o.floor most xs f.sent f.duration f.settings up down room) same
+    ∙ ap (λ (ts : List Traj). made_of o o.floor most ready ts f.duration f.settings up down room) is.sent
+    ∙ ap (λ (n : ℕ). made_of o o.floor most ready (sent_of s) n f.settings up down room) ms
+    ∙ ap (λ (e : Settings). made_of o o.floor most ready (sent_of s) (lasts (trajectories_of s)) e up down room) is.settings
+    ∙ ap (λ (c : Course). made_of o o.floor most ready (sent_of s) (lasts (trajectories_of s)) s.settings c down room) rises
+    ∙ ap (λ (c : Course). made_of o o.floor most ready (sent_of s) (lasts (trajectories_of s)) s.settings (course_of u) c room) returns
+    ∙ ap (λ (r : Room). made_of o o.floor most ready (sent_of s) (lasts (trajectories_of s)) s.settings (course_of u) (course_of d) r) around
 
-pub flight_made : (o : Options) (floor : ℤ) (silence : ℕ) (u s d : PlainShow) (f : Fitted) (steps : List Step) (up down : Course) → floor ≡ o.floor → silence ≡ min o.silence most_silence → IsValidFitted f →
-    IsFitted f s → StepsMade o u s d (Ok steps) → up ≡ course_of u → down ≡ course_of d → FlightMade o u s d (Ok (made_of o floor silence steps f.sent f.duration f.settings up down))
-flight_made o floor silence u s d f steps up down low quiet valid is made rises returns =
-    (flight_is o floor silence u s d f steps up down low quiet valid is made.0 rises returns, made.1)
+pub flight_made : (o : Options) (floor : ℤ) (silence : ℕ) (u s d : PlainShow) (f : Fitted) (steps : List Step) (up down : Course) (room : Room) → floor ≡ o.floor → silence ≡ min o.silence most_silence → IsValidFitted f →
+    IsFitted f s → StepsMade o u s d (Ok steps) → up ≡ course_of u → down ≡ course_of d → room ≡ room_in u s d → FlightMade o u s d (Ok (made_of o floor silence steps f.sent f.duration f.settings up down room))
+flight_made o floor silence u s d f steps up down room low quiet valid is made rises returns around =
+    (flight_is o floor silence u s d f steps up down room low quiet valid is made.0 rises returns around, made.1)
 
 few_orders : (n : ℕ) (x : Orders) → n ≤ 32 → AreOrdersOf n x → AreFew x
 few_orders n (Each orders) few are = omega (arith, few, are)
@@ -231,9 +235,9 @@ few_conditions n ws few (inl e) = let none = ap (λ (xs : List Condition). lengt
 few_conditions n ws few (inr e) = omega (arith, few, e)
 
 -- it fits the director
-pub is_held : JoinLaw → (o : Options) (floor : ℤ) (silence : ℕ) (f : Fitted) (steps : List Step) (rise return : Course) → IsValidFitted f → AreUploadable f.settings f.sent → All (IsStepOf (length f.trajs)) steps →
-    IsCourse rise → IsCourse return → IsHeld (made_of o floor silence steps f.sent f.duration f.settings rise return)
-is_held law o floor silence f steps rise return valid up sizes rising returning =
+pub is_held : JoinLaw → (o : Options) (floor : ℤ) (silence : ℕ) (f : Fitted) (steps : List Step) (rise return : Course) (room : Room) → IsValidFitted f → AreUploadable f.settings f.sent → All (IsStepOf (length f.trajs)) steps →
+    IsCourse rise → IsCourse return → IsHeld (made_of o floor silence steps f.sent f.duration f.settings rise return room)
+is_held law o floor silence f steps rise return room valid up sizes rising returning =
     let few : length f.trajs ≤ 32 = omega (arith, valid.few_drones, valid.trajs_counted) in
     let show = course_held law f f.settings.late valid up in
     record {
@@ -245,3 +249,28 @@ is_held law o floor silence f steps rise return valid up sizes rising returning 
       up = rising;
       down = returning;
     }
+
+-- ---- the room
+
+-- the room of curves, with the largest of these strays
+abbrev pub room_by : ℕ → ℕ → ℕ → List Traj → List Traj → List Traj → Room
+room_by a b c ups shows downs = room_of (max (max a b) c + room_mm) (ups ++ (shows ++ downs))
+
+pub room_from : (margin a b c : ℕ) (us vs ws ups shows downs : List Traj) → margin ≡ max (max a b) c + room_mm → us ≡ ups → vs ≡ shows → ws ≡ downs →
+    room_of margin (us ++ (vs ++ ws)) ≡ room_by a b c ups shows downs
+room_from margin a b c us vs ws ups shows downs wide rises flown returns =
+    ap (λ (n : ℕ). room_of n (us ++ (vs ++ ws))) wide
+    ∙ ap (λ (ts : List Traj). room_by a b c ts vs ws) rises
+    ∙ ap (λ (ts : List Traj). room_by a b c ups ts ws) flown
+    ∙ ap (λ (ts : List Traj). room_by a b c ups shows ts) returns
+
+-- that of fitted shows is the shows'
+pub room_is : (up show down : Fitted) (u s d : PlainShow) → IsFitted up u → IsFitted show s → IsFitted down d →
+    room_by up.settings.stray show.settings.stray down.settings.stray up.sent show.sent down.sent ≡ room_in u s d
+room_is up show down u s d is_up is_show is_down =
+    ap (λ (e : Settings). room_by e.stray show.settings.stray down.settings.stray up.sent show.sent down.sent) is_up.settings
+    ∙ ap (λ (e : Settings). room_by u.settings.stray e.stray down.settings.stray up.sent show.sent down.sent) is_show.settings
+    ∙ ap (λ (e : Settings). room_by u.settings.stray s.settings.stray e.stray up.sent show.sent down.sent) is_down.settings
+    ∙ ap (λ (ts : List Traj). room_by u.settings.stray s.settings.stray d.settings.stray ts show.sent down.sent) is_up.sent
+    ∙ ap (λ (ts : List Traj). room_by u.settings.stray s.settings.stray d.settings.stray (sent_of u) ts down.sent) is_show.sent
+    ∙ ap (λ (ts : List Traj). room_by u.settings.stray s.settings.stray d.settings.stray (sent_of u) (sent_of s) ts) is_down.sent

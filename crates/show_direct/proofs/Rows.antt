@@ -9,6 +9,8 @@ use Rattle.choreo_show.specs.Plain.{PlainShow}
 use Rattle.choreo_show.specs.declared.show.ActLine.TheVariants as on
 unfoldable use Rattle.figure_expand.specs.Expanded.{expanded}
 unfoldable use Rattle.figure_expand.specs.Written.{end_of}
+unfoldable use Rattle.flight_model.specs.Rooms.{room_of}
+unfoldable use Rattle.traj_codec.specs.Joined.{joined_from}
 use Rattle.flight_steps.specs.declared.faults.FlightFault.TheVariants as fault
 use Rattle.flight_steps.specs.declared.faults.Seam.TheVariants as seam
 use Rattle.flight_steps.specs.declared.faults.Way.TheVariants as way
@@ -18,7 +20,7 @@ unfoldable use Rattle.flight_link.specs.Sends.{ended, sent_over}
 use Rattle.show_judge.specs.Verb.{outcome}
 use Rattle.show_direct.specs.declared.options.Options.{Options}
 use Rattle.show_direct.specs.Direct.{flight_exchange}
-use Rattle.show_direct.specs.Flights.{course_of, fault_of, flight_of}
+use Rattle.show_direct.specs.Flights.{course_of, fault_of, flight_of, room_in}
 use Rattle.show_direct.specs.Frames.{fault_frame, fault_in}
 
 -- so near to the pads
@@ -111,6 +113,25 @@ record LateRows : Type 0 where
 
 late_rows : LateRows
 late_rows = record { none = refl; less = refl; more = refl }
+
+-- a show that allows its drones to stray so far
+abbrev strayed : ℕ → PlainShow → PlainShow
+strayed mm s = record s { settings = record (s.settings) { stray = mm } }
+
+abbrev aside : PlainShow
+aside = there_and_back (codes "a")
+
+-- the room of a metre up, a metre along x and back, and down, and how far outside of it the texts allow drones to be
+record RoomRows : Type 0 where
+  around : room_in up aside down ≡ record { x = record { low = pos 0; high = pos 1000 }; y = record { low = pos 0; high = pos 0 }; z = record { low = pos 0; high = pos 1000 }; margin = 300 }
+  by_up : (room_in (strayed 101 up) aside down).margin ≡ 301
+  by_show : (room_in up (strayed 101 aside) down).margin ≡ 301
+  by_down : (room_in up aside (strayed 101 down)).margin ≡ 301
+  least : (room_in (strayed 0 up) (strayed 0 aside) (strayed 0 down)).margin ≡ 200
+
+room_rows : RoomRows
+unfolding room_of joined_from expanded end_of
+room_rows = record { around = refl; by_up = refl; by_show = refl; by_down = refl; least = refl }
 
 early : FlightGives (flight_of (within 100) up (there_and_back (codes "a")) down) [] 8 (0x45 ∷ 8 ∷ [])
 unfolding ended sent_over expanded end_of

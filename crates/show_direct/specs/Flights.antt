@@ -1,11 +1,13 @@
 -- What three shows are as a flight: their routes, the first cause why they are none, and the flight.
-use Rattle.std.specs.Prelude.{◌≡◌, ℕ, min, max, not, Option}
+use Rattle.std.specs.Prelude.{◌≡◌, ℕ, ◌+◌, ◌++◌, min, max, not, Option}
 use Rattle.std.specs.Option.{option_or}
 use Rattle.choreo_show.specs.Plain.{PlainShow}
 use Rattle.choreo_show.specs.declared.show.Settings.{Settings}
 use Rattle.flight_model.specs.declared.flights.Course.{Course}
 use Rattle.flight_model.specs.declared.flights.Flight.{Flight}
+use Rattle.flight_model.specs.declared.flights.Room.{Room}
 use Rattle.flight_model.specs.Legs.{IsFlight, Routes, lasts, steps_of}
+use Rattle.flight_model.specs.Rooms.{room_of}
 use Rattle.flight_steps.specs.declared.faults.FlightFault.{FlightFault}
 use Rattle.flight_steps.specs.declared.faults.Way.TheVariants as way
 use Rattle.flight_steps.specs.declared.ways.Ellipsoid.{Ellipsoid}
@@ -67,6 +69,16 @@ course_of s = record {
   late = max s.settings.late order_ms;
 }
 
+-- how far outside of the control points of its curves a drone in the air may be, beside what its text has it stray
+abbrev pub room_mm : ℕ
+room_mm = 200
+
+-- The room: around what the drones would be sent for all three, with the largest of their strays and 200 mm.
+abbrev pub room_in : PlainShow → PlainShow → PlainShow → Room
+room_in up show down =
+    room_of (max (max up.settings.stray show.settings.stray) down.settings.stray + room_mm)
+    (sent_of up ++ (sent_of show ++ sent_of down))
+
 -- The flight. Its curves are what the drones were sent for the show, and how far drones may be from them is what the
 -- show's settings say; so it is of the ways.
 abbrev pub flight_of : Options → PlainShow → PlainShow → PlainShow → Flight
@@ -78,6 +90,7 @@ flight_of o up show down = record {
   late = show.settings.late;
   up = course_of up;
   down = course_of down;
+  room = room_in up show down;
   silence = min o.silence most_silence;
   flies_on = not o.then_land;
   floor = o.floor;

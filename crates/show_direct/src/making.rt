@@ -1,17 +1,18 @@
 //! A flight is made of three shows.
 
 ghost use Rattle.std.specs.Int.{w16};
-ghost use Rattle.std.specs.Prelude.{◌≡◌, length, max, min, All, FitsSigned, IfOk};
+ghost use Rattle.std.specs.Prelude.{◌≡◌, ◌+◌, length, max, min, All, FitsSigned, IfOk};
 ghost use Rattle.choreo_show.specs.Plain.{PlainShow};
 ghost use Rattle.flight_director.specs.Held.{IsCourse, IsHeld};
 ghost use Rattle.flight_steps.specs.Sizes.{IsStepOf};
 ghost use Rattle.show_plan.specs.Fitting.{IsFitted, IsValidFitted};
 ghost use Rattle.show_direct.specs.Flights.{course_of as word_course, ellipsoid_in, most_silence, order_ms};
+ghost use Rattle.show_direct.specs.Flights.{room_in as word_room, room_mm};
 ghost use Rattle.show_direct.specs.Steps.{FlightMade, StepsMade};
 
 use crate::options::Options;
-use flight_model::{Course, Flight, Step};
-use flight_steps::{Crew, Crews, Ellipsoid, StepsError, Ways, steps_of};
+use flight_model::{Course, Flight, Room, Step};
+use flight_steps::{Crew, Crews, Ellipsoid, StepsError, Ways, room_of, steps_of};
 use listed::Listed;
 use show_plan::{Fitted, uploadable_law};
 use std::alloc::Global;
@@ -112,6 +113,30 @@ fn course_of(way: Fitted) -> Course
     }
 }
 
+// How far outside of the control points of its curves a drone in the air may be, beside what its text has it stray, in
+// millimetres.
+const ROOM_MM: u32 = 200;
+
+fn margin_of(up: u16, show: u16, down: u16) -> u32
+    ensures { result ≡ max (max up show) down + room_mm }
+{
+    up.max(show).max(down) as u32 + ROOM_MM
+}
+
+// The room of a flight.
+fn room_in(up: &Fitted, show: &Fitted, down: &Fitted) -> Room
+    ensures { (rise middle return : PlainShow) → IsFitted up.now rise → IsFitted show.now middle
+        → IsFitted down.now return → result ≡ word_room rise middle return }
+{
+    let margin = margin_of(up.settings.stray, show.settings.stray, down.settings.stray);
+    room_of(
+        margin,
+        up.sent.as_slice(),
+        show.sent.as_slice(),
+        down.sent.as_slice(),
+    )
+}
+
 /// The flight of a way up, a show and a way down, or the first cause why they are none.
 pub fn make_flight(
     alloc: Global,
@@ -129,6 +154,7 @@ pub fn make_flight(
     join_law();
     uploadable_law(&shows.show);
     let steps = make_steps(alloc, options, &shows.up, &shows.show, &down)?;
+    let room = room_in(&shows.up, &shows.show, &down);
     let up = course_of(shows.up);
     let down = course_of(down);
     let show = shows.show;
@@ -140,6 +166,7 @@ pub fn make_flight(
         late: show.settings.late,
         up,
         down,
+        room,
         silence: silence_of(options),
         flies_on: !options.then_land,
         floor: floor_of(options),

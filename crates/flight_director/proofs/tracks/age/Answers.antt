@@ -1,4 +1,4 @@
-use Rattle.std.proofs.Common.{◌≡◌, ◌∙◌, None, ap, arith, set, get_or}
+use Rattle.std.proofs.Common.{◌≡◌, ◌∙◌, None, ap, arith, set, get_or, false}
 use Rattle.std.proofs.lemmas.Grind.{common_steps}
 use Rattle.std.proofs.lemmas.List.{get_or-set_other}
 use Rattle.flight_model.specs.declared.states.Track.{Track}
@@ -9,7 +9,7 @@ use Rattle.flight_director.proofs.tracks.age.Goals as goal
 pub loop-d-preserved : goal.loop-d-preserved
 loop-d-preserved c =
     let d = c.loop-d.d in
-    let none : Track = record { seen = None; off = None; unsure = None } in
+    let none : Track = record { seen = None; off = None; unsure = None; outside = false } in
     let one : c.aged_by.result ≡ aged c.args.ms (get_or c.args.tracks.now d none) =
     c.aged_by.ensures ∙ ap (λ (t : Track). aged c.args.ms t) (c.loop-d.invariant.rest d (omega arith)) in
     record {

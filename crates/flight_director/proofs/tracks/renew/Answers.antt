@@ -1,4 +1,4 @@
-use Rattle.std.proofs.Common.{◌≡◌, ◌∙◌, None, ap, arith, set, get_or}
+use Rattle.std.proofs.Common.{◌≡◌, ◌∙◌, None, ap, arith, set, get_or, false}
 use Rattle.std.proofs.lemmas.List.{get_or-set_other}
 use Rattle.flight_model.specs.declared.states.Track.{Track}
 use Rattle.flight_model.specs.Directors.{renewed}
@@ -8,7 +8,7 @@ use Rattle.flight_director.proofs.tracks.renew.Goals as goal
 pub loop-d-preserved : goal.loop-d-preserved
 loop-d-preserved c =
     let d = c.loop-d.d in
-    let none : Track = record { seen = None; off = None; unsure = None } in
+    let none : Track = record { seen = None; off = None; unsure = None; outside = false } in
     let one : c.renewed.result ≡ renewed (get_or c.args.tracks.now d none) =
     c.renewed.ensures ∙ ap (λ (t : Track). renewed t) (c.loop-d.invariant.rest d (omega arith)) in
     record {

@@ -5,6 +5,7 @@ use Rattle.flight_model.proofs.Turns as turns
 use Rattle.flight_model.proofs.Ending as ending
 use Rattle.flight_model.proofs.Alarms as alarms
 use Rattle.flight_model.proofs.Holds as holds
+use Rattle.flight_model.proofs.Outside as outside
 use Rattle.flight_model.proofs.Ours as ours
 use Rattle.flight_model.proofs.Flown as flown
 use Rattle.flight_model.proofs.Kept as kept
@@ -34,6 +35,9 @@ returns-clause-alarm c = alarms.alarm_law
 
 pub returns-clause-hold : goal.returns-clause-hold
 returns-clause-hold c = holds.hold_law
+
+pub returns-clause-outside : goal.returns-clause-outside
+returns-clause-outside c = outside.outside_law
 
 pub returns-clause-ours : goal.returns-clause-ours
 returns-clause-ours c = ours.ours_law

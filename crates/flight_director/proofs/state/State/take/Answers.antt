@@ -1,4 +1,4 @@
-use Rattle.std.proofs.Common.{◌≡◌, ◌<◌, ◌∙◌, List, Some, sym, ap, arith, set, get_or, length, None}
+use Rattle.std.proofs.Common.{◌≡◌, ◌<◌, ◌∙◌, List, Some, sym, ap, arith, set, get_or, length, None, false}
 use Rattle.std.proofs.lemmas.List.{length-set}
 use Rattle.std.proofs.lemmas.Option.{slice_get-get_or}
 use Rattle.std.specs.Prelude.{slice_get}
@@ -29,8 +29,8 @@ returns-then-d-len c =
     let long : length c.put_track.new.tracks ≡ length c.self.inside.tracks.items =
     ap (λ (ts : List Track). length ts) put ∙ length-set c.self.inside.tracks.items d c.track_with-track.result in
     let inside : d < length c.self.inside.tracks.items = omega (arith, c.len.ensures.value, c.if-d-len.true) in
-    let t : Track = get_or c.args.self.now.tracks d (record { seen = None; off = None; unsure = None }) in
-    let at : slice_get c.args.self.now.tracks d ≡ Some t = slice_get-get_or c.args.self.now.tracks d (record { seen = None; off = None; unsure = None }) (omega (arith, ap (λ (ts : List Track). length ts) tracks, inside)) in
+    let t : Track = get_or c.args.self.now.tracks d (record { seen = None; off = None; unsure = None; outside = false }) in
+    let at : slice_get c.args.self.now.tracks d ≡ Some t = slice_get-get_or c.args.self.now.tracks d (record { seen = None; off = None; unsure = None; outside = false }) (omega (arith, ap (λ (ts : List Track). length ts) tracks, inside)) in
     ap (λ ts. with_tracks v ts) (refill-same c.self.inside.tracks.items c.put_track.new.tracks long)
     ∙ (ap (λ s. with_tracks s c.put_track.new.tracks) same
     ∙ take-by c.args.f.now c.args.self.now c.args.e.now d c.in-Seen.sample t c.put_track.new.tracks c.in-Seen.is at
@@ -38,4 +38,4 @@ returns-then-d-len c =
     ∙ (ap (λ ts. set ts d c.track_with-track.result) tracks
     ∙ ap (λ (u : Track). set c.args.self.now.tracks d u)
     (c.track_with-track.ensures
-    ∙ ap (λ (ts : List Track). track_with c.args.f.now c.args.self.now d (get_or ts d (record { seen = None; off = None; unsure = None })) c.in-Seen.sample) (c.as_slice.ensures.value ∙ tracks)))))
+    ∙ ap (λ (ts : List Track). track_with c.args.f.now c.args.self.now d (get_or ts d (record { seen = None; off = None; unsure = None; outside = false })) c.in-Seen.sample) (c.as_slice.ensures.value ∙ tracks)))))

@@ -1,0 +1,13 @@
+use Rattle.std.proofs.Common.{◌∙◌, refl, ap}
+use Rattle.traj_codec.specs.Positions.{element_on}
+use Rattle.traj_codec.specs.Spelling.{stored}
+use Rattle.traj_codec.specs.declared.traj.Element.{Element}
+use Rattle.traj_codec.specs.declared.traj.Segment.{Segment}
+use Rattle.flight_model.specs.Rooms.{with_values}
+use Rattle.flight_steps.proofs.Spans.{step-in}
+use Rattle.flight_steps.proofs.room.with_segments.Goals as goal
+
+pub loop-g-preserved : goal.loop-g-preserved
+loop-g-preserved c =
+    step-in (λ (g : Segment). stored (element_on g c.args.axis)) c.loop-g.all c.with_element-all.result _ c.args.segments.now c.loop-g.g-index _ _ c.loop-g-test.true refl
+    (c.with_element-all.ensures ∙ ap (λ (e : Element). with_values c.loop-g.all (stored e)) c.element_on.ensures) c.loop-g.invariant
