@@ -47,7 +47,7 @@ class Worked(unittest.TestCase):
                                          for other in others]
 
     def test_there_are_all(self):
-        self.assertEqual([len(rows) for rows, _ in self.lists], [24, 11, 12, 13, 12, 11, 13, 12])
+        self.assertEqual([len(rows) for rows, _ in self.lists], [24, 11, 12, 13, 12, 11, 12, 13, 12])
         self.assertEqual([status for _, status in self.lists].count(NOT_FLOWN), 2)
 
     def test_slow_reading(self):
