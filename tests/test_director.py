@@ -10,6 +10,7 @@ import unittest
 import common
 import flights
 from hemtoghai.flying import bridge, clock, director, watched, ways
+from hemtoghai.flying.crazyradio import Trouble
 from hemtoghai.flying.director import Cause, Ended, Noted, Order, Over, To
 from test_fly import HIGH, WORDS, last_heights
 from test_fly_hard import ASIDE, STACK
@@ -77,6 +78,7 @@ SAID = [
     ("01 02 07 01", To(2, Order(director.GROUP, group=1))),
     ("02 05", To(None, Order(director.HALT))),
     ("03 01 04", Noted(1, director.LATE)),
+    ("03 02 06", Noted(2, director.OUTSIDE)),
     ("04 03", Over(True, True)),
     ("04 01", Over(True, False)),
     ("04 00", Over(False, False)),
@@ -112,6 +114,19 @@ class Distances(unittest.TestCase):
             it.at = lambda k: [aside, aside, 1000 + aside]
             self.assertEqual(watched.Watched.far_from(it, it.aims, 50), far)
             self.assertEqual(bridge.Bridge.unfit(it, 0, 0), words)
+
+
+class Notes(unittest.TestCase):
+    def test_who_is_outside(self):
+        # Of a drone outside of the room the crew is told where it is, and all land, in the show too.
+        state = types.SimpleNamespace(where=lambda: (2.301, -0.004, 1.0))
+        for in_show in (False, True):
+            it = types.SimpleNamespace(names=["a", "b"], in_show=in_show,
+                                       fleet=types.SimpleNamespace(states=[None, state]))
+            with self.assertRaises(Trouble) as raised:
+                bridge.Bridge.note(it, 1, director.OUTSIDE)
+            self.assertEqual(str(raised.exception),
+                             "b is at (2.30, -0.00, 1.00) m, outside of the room of show and ways")
 
 
 class Frames(unittest.TestCase):

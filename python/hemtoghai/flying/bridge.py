@@ -160,6 +160,9 @@ class Bridge(Home):
             raise Trouble(self.wrong_with(k) or "%s is lost" % name)
         if fault == director.UNSURE:
             raise Trouble(self.wrong_with(k) or "%s isn't sure of its place any more" % name)
+        if fault == director.OUTSIDE:
+            x, y, z = self.fleet.states[k].where()
+            raise Trouble(f"{name} is at ({x:.2f}, {y:.2f}, {z:.2f}) m, outside of the room of show and ways")
         if fault == director.ASTRAY and not self.in_show:
             raise Trouble(self.wrong_with(k) or self.far_words(k))
         if fault == director.ASTRAY and self.ways.rules.show_stray:

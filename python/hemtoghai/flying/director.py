@@ -22,7 +22,7 @@ ARM, RISE, GO_TO, SINK, START, HALT, DISARM, GROUP = range(8)  # orders
 # What follows the first byte of a frame, and of an order, in the forms of `struct`.
 FRAMES = {TO_ONE: "B", TO_ALL: "", NOTE: "BB", OVER: "B", CAUSE: "BBBH", END: "B"}
 ORDERS = {ARM: "", RISE: "hI", GO_TO: "hhhhI", SINK: "hI", START: "B", HALT: "", DISARM: "", GROUP: "B"}
-SILENT, ASTRAY, WRONG, REFUSED, LATE, UNSURE = range(6)  # faults; the director calls WRONG `lost`
+SILENT, ASTRAY, WRONG, REFUSED, LATE, UNSURE, OUTSIDE = range(7)  # faults; the director calls WRONG `lost`
 NOT_FLOWN = 8  # the status of a flight to whose director nothing happened
 MOST_MS, MOST_AGE, MOST_MM = 65535, 65535, 32767
 HANGS = 5.0  # seconds for which the process may read nothing of what waits for it

@@ -153,9 +153,6 @@ class Watched(Descent):
             return f"{name} isn't sure of its place any more: variance {state.variance:.3g} m^2"
         if state.is_empty(self.options.sag):
             return "%s has %.2f V left" % (name, state.volts or 0.0)
-        if self.is_away(k):
-            x, y, z = state.where()
-            return f"{name} is at ({x:.2f}, {y:.2f}, {z:.2f}) m, outside of the room of show and ways"
         if clock.now() - self.far_since.get(k, math.inf) > FAR_FOR and not self.is_led():
             return self.far_words(k)
         return None
