@@ -34,6 +34,10 @@ pub mod RunRows
 pub mod OptionRows
 pub mod SmallRows
 pub mod LegRows
+pub mod HostRows
+pub mod StepRows
+pub mod DialogueRows
+pub mod ValueRows
 pub mod RadiusCoefficients
 pub mod RadiusHalves
 pub mod Radii

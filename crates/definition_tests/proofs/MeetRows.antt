@@ -4,11 +4,12 @@ use Rattle.fleet_math.specs.Bernstein.{bernstein}
 use Rattle.fleet_math.specs.Decoded.{decoded}
 use Rattle.fleet_math.specs.Moments.{moment}
 use Rattle.traj_codec.specs.declared.traj.Traj.{Traj}
+use Rattle.touch_witness.specs.declared.site.Touch.{Touch}
 use Rattle.traj_codec.specs.Positions.{durations}
-use Rattle.touch_witness.specs.Sites.{AreDisjoint, DisjointAt, IsBefore, IsClosest, IsFirstTouch, IsListed, LeftAbove, LeftFrom, SharePoint, instant_of, left_of, listed}
+use Rattle.touch_witness.specs.Sites.{AreDisjoint, DisjointAt, IsBefore, IsClosest, IsClosestIn, IsFirstTouch, IsListed, LeftAbove, LeftFrom, SharePoint, instant_of, left_of, listed}
 use Rattle.definition_tests.specs.Apart.{behind}
 use Rattle.definition_tests.specs.Flights.{flight}
-use Rattle.definition_tests.specs.Meetings.{MeetRows, close, level_at, meeting, site}
+use Rattle.definition_tests.specs.Meetings.{MeetRows, close, level_at, meeting, only_slot, site, two_apart}
 
 -- ---- sites
 -- what holds of two trajectories holds of those that stand at their places
@@ -99,15 +100,69 @@ is_at_end : (t u : Traj) → Some (flight (pos 0) (pos 10)) ≡ Some t → Some 
 unfolding bernstein decoded
 is_at_end t u first second = at_pair (λ (t u : Traj). pos 1 ≡ left_of t u 1 1 (listed 0 0 1)) (flight (pos 0) (pos 10)) (flight (pos 20) (pos 11)) t u first second refl
 
+least_is : (u : Touch) → IsListed meeting 0 u → LeftFrom meeting 1 1 0 u (pos 1)
+least_is u is = each_site (λ (cue at a b : ℕ). LeftFrom meeting 1 1 0 (record { cue = cue; at = at; a = a; b = b }) (pos 1))
+    u.cue u.at u.a u.b is.cue is.at is.pair is.drone left_at_start left_at_end
+
+first_is : (u : Touch) → IsListed meeting 0 u → IsBefore u (site 1 0 1) → LeftAbove meeting 1 1 0 u (pos 1)
+first_is u is before = each_site (λ (cue at a b : ℕ). IsBefore (record { cue = cue; at = at; a = a; b = b }) (site 1 0 1) → LeftAbove meeting 1 1 0 (record { cue = cue; at = at; a = a; b = b }) (pos 1))
+    u.cue u.at u.a u.b is.cue is.at is.pair is.drone (λ before. above_at_start) (λ before. absurd (not_before before)) before
+
 closest_is : IsClosest meeting 1 1 0 (level_at 1 250)
 closest_is = record {
   left = pos 1;
   among = record { cue = omega arith; at = omega arith; pair = omega arith; drone = omega arith };
   is = is_at_end;
-  least = λ u is. each_site (λ (cue at a b : ℕ). LeftFrom meeting 1 1 0 (record { cue = cue; at = at; a = a; b = b }) (pos 1))
-      u.cue u.at u.a u.b is.cue is.at is.pair is.drone left_at_start left_at_end;
-  first = λ u is before. each_site (λ (cue at a b : ℕ). IsBefore (record { cue = cue; at = at; a = a; b = b }) (site 1 0 1) → LeftAbove meeting 1 1 0 (record { cue = cue; at = at; a = a; b = b }) (pos 1))
-      u.cue u.at u.a u.b is.cue is.at is.pair is.drone (λ before. above_at_start) (λ before. absurd (not_before before)) before;
+  least = least_is;
+  first = first_is;
+  level = omega arith;
+  next_level = omega arith;
+}
+
+-- the same of the one pair in the one cue
+in_cue_is : IsClosestIn meeting 1 1 0 only_slot (level_at 1 250)
+in_cue_is = record {
+  left = pos 1;
+  among = record { cue = omega arith; at = omega arith; pair = omega arith; drone = omega arith };
+  of_slot = record { a = refl; b = refl; cue = refl };
+  is = is_at_end;
+  least = λ u is of. least_is u is;
+  first = λ u is of before. first_is u is before;
+  level = omega arith;
+  next_level = omega arith;
+}
+
+-- two that stay are closest at the first instant, before which there is none
+abbrev left_apart : (at : ℕ) → Traj → Traj → Type 0
+left_apart at t u = pos 4 ≤ℤ left_of t u 1 1 (listed 0 0 at)
+
+apart_at_start : LeftFrom two_apart 1 1 0 (site 0 0 1) (pos 4)
+unfolding bernstein decoded
+apart_at_start = λ t u first second. at_pair (left_apart 0) (flight (pos 0) (pos 0)) (flight (pos 2) (pos 2)) t u first second (omega arith)
+
+apart_at_end : LeftFrom two_apart 1 1 0 (site 1 0 1) (pos 4)
+unfolding bernstein decoded
+apart_at_end = λ t u first second. at_pair (left_apart 1) (flight (pos 0) (pos 0)) (flight (pos 2) (pos 2)) t u first second (omega arith)
+
+is_apart : (t u : Traj) → Some (flight (pos 0) (pos 0)) ≡ Some t → Some (flight (pos 2) (pos 2)) ≡ Some u → pos 4 ≡ left_of t u 1 1 (listed 0 0 0)
+unfolding bernstein decoded
+is_apart t u first second = at_pair (λ (t u : Traj). pos 4 ≡ left_of t u 1 1 (listed 0 0 0)) (flight (pos 0) (pos 0)) (flight (pos 2) (pos 2)) t u first second refl
+
+none_before_start : (at : ℕ) → IsBefore (site at 0 1) (site 0 0 1) → ⊥
+none_before_start at (inl low) = omega (arith, low)
+none_before_start at (inr (same, inl low)) = omega (arith, low)
+none_before_start at (inr (same, inr (also, inl low))) = omega (arith, low)
+none_before_start at (inr (same, inr (also, inr (again, low)))) = omega (arith, low)
+
+apart_is : IsClosest two_apart 1 1 0 (level_at 0 1000)
+apart_is = record {
+  left = pos 4;
+  among = record { cue = omega arith; at = omega arith; pair = omega arith; drone = omega arith };
+  is = is_apart;
+  least = λ u is. each_site (λ (cue at a b : ℕ). LeftFrom two_apart 1 1 0 (record { cue = cue; at = at; a = a; b = b }) (pos 4))
+      u.cue u.at u.a u.b is.cue is.at is.pair is.drone apart_at_start apart_at_end;
+  first = λ u is before. each_site (λ (cue at a b : ℕ). IsBefore (record { cue = cue; at = at; a = a; b = b }) (site 0 0 1) → LeftAbove two_apart 1 1 0 (record { cue = cue; at = at; a = a; b = b }) (pos 4))
+      u.cue u.at u.a u.b is.cue is.at is.pair is.drone (λ before. absurd (none_before_start 0 before)) (λ before. absurd (none_before_start 1 before)) before;
   level = omega arith;
   next_level = omega arith;
 }
@@ -142,4 +197,19 @@ meets = record {
   not_the_first_closest = λ is.
       let same : is.left ≡ pos 1 = is.is (flight (pos 0) (pos 0)) (flight (pos 1) (pos 1)) refl refl in
       let low = rw same at (is.first (site 0 0 1) (close_show 0 (omega arith)) start_before (flight (pos 0) (pos 0)) (flight (pos 1) (pos 1)) refl refl) in absurd (omega (arith, low));
+  just_touching = apart_is;
+  above = λ is.
+      let same : is.left ≡ pos 4 = is.is (flight (pos 0) (pos 0)) (flight (pos 2) (pos 2)) refl refl in
+      let high = rw same at is.level in absurd (omega (arith, high));
+  below = λ is.
+      let same : is.left ≡ pos 4 = is.is (flight (pos 0) (pos 0)) (flight (pos 2) (pos 2)) refl refl in
+      let low = rw same at is.next_level in absurd (omega (arith, low));
+  in_cue = in_cue_is;
+  in_cue_lower = λ is.
+      let same : is.left ≡ pos 1 = is.is (flight (pos 0) (pos 10)) (flight (pos 20) (pos 11)) refl refl in
+      let low = rw same at is.next_level in absurd (omega (arith, low));
+  in_cue_higher = λ is.
+      let same : is.left ≡ pos 1 = is.is (flight (pos 0) (pos 10)) (flight (pos 20) (pos 11)) refl refl in
+      let high = rw same at is.level in absurd (omega (arith, high));
+  other_cue = λ is. let e : 0 ≡ 1 = is.of_slot.cue in absurd (omega (arith, e));
 }

@@ -31,4 +31,8 @@ pub mod Runs
 pub mod Options
 pub mod Small
 pub mod Legs
+pub mod Hosts
+pub mod Steps
+pub mod Dialogues
+pub mod Values
 pub mod Radius

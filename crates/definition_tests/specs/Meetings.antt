@@ -1,9 +1,10 @@
 -- What the definitions of touches, and of what explains a show, say of small flights.
 use Rattle.std.specs.Prelude.{◌≡◌, ℕ, pos, Bool, false, List, [], ◌∷◌, ◌++◌, codes, Option, None, Some}
 use Rattle.traj_codec.specs.declared.traj.Traj.{Traj}
+use Rattle.sep_parts.specs.declared.slot.Slot.{Slot}
 use Rattle.touch_witness.specs.declared.site.Closest.{Closest}
 use Rattle.touch_witness.specs.declared.site.Touch.{Touch}
-use Rattle.touch_witness.specs.Sites.{IsClosest, IsFirstTouch, NoTouch}
+use Rattle.touch_witness.specs.Sites.{IsClosest, IsClosestIn, IsFirstTouch, NoTouch}
 use Rattle.choreo_show.specs.Plain.{PlainShow}
 use Rattle.choreo_reader.specs.Grammar.{StandsFor}
 use Rattle.show_plan.specs.Separation.{FlyApart}
@@ -30,9 +31,18 @@ meeting = flight (pos 0) (pos 10) ∷ flight (pos 20) (pos 11) ∷ []
 abbrev pub close : List Traj
 close = flight (pos 0) (pos 0) ∷ flight (pos 1) (pos 1) ∷ []
 
+-- and two that stay, 2 mm apart
+abbrev pub two_apart : List Traj
+two_apart = flight (pos 0) (pos 0) ∷ flight (pos 2) (pos 2) ∷ []
+
+-- the first two drones in the first cue
+abbrev pub only_slot : Slot
+only_slot = record { a = 0; b = 1; cue = 0 }
+
 -- Half axes of 1 mm, and the two ends of a cue. Two drones that meet touch in the end, and not at the start; there the
 -- left side is a quarter of the right one. Two that stay close touch at the start already. Two that are 7 mm apart
--- never touch.
+-- never touch. Two that stay 2 mm apart just touch: their left side is the right one. What is closest of all is so of
+-- its pair in its cue, and of no other.
 pub record MeetRows : Type 0 where
   pub first : IsFirstTouch meeting 1 1 0 (site 1 0 1)
   pub at_the_start : IsFirstTouch meeting 1 1 0 (site 0 0 1) → ⊥
@@ -46,6 +56,13 @@ pub record MeetRows : Type 0 where
   pub higher : IsClosest meeting 1 1 0 (level_at 1 251) → ⊥
   pub farther : IsClosest meeting 1 1 0 (level_at 0 100000) → ⊥
   pub not_the_first_closest : IsClosest close 1 1 0 (level_at 1 250) → ⊥
+  pub just_touching : IsClosest two_apart 1 1 0 (level_at 0 1000)
+  pub above : IsClosest two_apart 1 1 0 (level_at 0 1001) → ⊥
+  pub below : IsClosest two_apart 1 1 0 (level_at 0 999) → ⊥
+  pub in_cue : IsClosestIn meeting 1 1 0 only_slot (level_at 1 250)
+  pub in_cue_lower : IsClosestIn meeting 1 1 0 only_slot (level_at 1 249) → ⊥
+  pub in_cue_higher : IsClosestIn meeting 1 1 0 only_slot (level_at 1 251) → ⊥
+  pub other_cue : IsClosestIn meeting 1 1 0 (record { a = 0; b = 1; cue = 1 }) (level_at 1 250) → ⊥
 
 -- one drone, and no cue
 abbrev pub solo_text : List ℕ

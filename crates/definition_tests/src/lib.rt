@@ -12,10 +12,12 @@ ghost use Rattle.definition_tests.specs.Called.{CalledRows};
 ghost use Rattle.definition_tests.specs.Carried.{CarriesRows};
 ghost use Rattle.definition_tests.specs.Certified.{ValidRows};
 ghost use Rattle.definition_tests.specs.Depths.{DepthRows, SearchRows};
+ghost use Rattle.definition_tests.specs.Dialogues.{DialogueRows};
 ghost use Rattle.definition_tests.specs.Ends.{EndsLaw};
 ghost use Rattle.definition_tests.specs.Forms.{FormRows};
 ghost use Rattle.definition_tests.specs.Grids.{CountRows, NamingRows};
 ghost use Rattle.definition_tests.specs.Headlines.{HeadlineRows, WrittenRows};
+ghost use Rattle.definition_tests.specs.Hosts.{HostRows, ReplyRows};
 ghost use Rattle.definition_tests.specs.Items.{ItemRows, SingleRows};
 ghost use Rattle.definition_tests.specs.Joined.{JoinedRows};
 ghost use Rattle.definition_tests.specs.Legs.{LegRows};
@@ -34,8 +36,10 @@ ghost use Rattle.definition_tests.specs.Shapes.{FigureRows, FilledRows, NestingR
 ghost use Rattle.definition_tests.specs.Shows.{CueRows, PlanRows, WholeRows};
 ghost use Rattle.definition_tests.specs.Small.{SmallRows};
 ghost use Rattle.definition_tests.specs.Stands.{StandsRows};
+ghost use Rattle.definition_tests.specs.Steps.{EventRows, StepRows};
 ghost use Rattle.definition_tests.specs.Stored.{LandedRows, UploadRows};
 ghost use Rattle.definition_tests.specs.Texts.{BlockRows, LimitRows, TwiceRows};
+ghost use Rattle.definition_tests.specs.Values.{PacketRows, PlaceRows, WordRows};
 ghost use Rattle.definition_tests.specs.Wholes.{FlyAsOneRows};
 
 use choreo_reader::show_law;
@@ -467,6 +471,54 @@ pub fn leg_rows()
 #[tactic(auto, using(crate::proofs::SmallRows::small))]
 pub fn small_rows()
     ensures { SmallRows }
+{}
+
+/// A law. The host of an upload to two drones: what is in flight, what ends it, and what is sent.
+#[tactic(auto, using(crate::proofs::HostRows::hosts))]
+pub fn host_rows()
+    ensures { HostRows }
+{}
+
+/// A law. What an answer is, and what it says of the packet that it answers.
+#[tactic(auto, using(crate::proofs::HostRows::replies))]
+pub fn reply_rows()
+    ensures { ReplyRows }
+{}
+
+/// A law. The steps of a flight of one drone: when each begins, its orders, and where the drone has to be.
+#[tactic(auto, using(crate::proofs::StepRows::steps))]
+pub fn step_rows()
+    ensures { StepRows }
+{}
+
+/// A law. The bytes of what a flight hears, and its first end.
+#[tactic(auto, using(crate::proofs::StepRows::events))]
+pub fn event_rows()
+    ensures { EventRows }
+{}
+
+/// A law. What a dialogue takes of what comes, how it ends, and what it sends.
+#[tactic(auto, using(crate::proofs::DialogueRows::dialogues))]
+pub fn dialogue_rows()
+    ensures { DialogueRows }
+{}
+
+/// A law. Places of drones, and how near they are to one another.
+#[tactic(auto, using(crate::proofs::ValueRows::places))]
+pub fn place_rows()
+    ensures { PlaceRows }
+{}
+
+/// A law. Lines that are read and written.
+#[tactic(auto, using(crate::proofs::ValueRows::words))]
+pub fn word_rows()
+    ensures { WordRows }
+{}
+
+/// A law. Packets of an upload, and kinds of commands.
+#[tactic(auto, using(crate::proofs::ValueRows::packets))]
+pub fn packet_rows()
+    ensures { PacketRows }
 {}
 
 /// A law. At every instant `arc` is 1 to 1.00028 radii away from its centre, `swing` 0.99906 to 1.00094, and `arc_in`
