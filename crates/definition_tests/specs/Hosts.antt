@@ -12,9 +12,9 @@ use Rattle.upload_model.specs.declared.events.Progress.{Progress}
 use Rattle.upload_model.specs.declared.events.Progress.TheVariants.{Going, Done, GaveUp, Refused, Differs}
 use Rattle.upload_model.specs.declared.events.Reply.TheVariants.{Silent, Good, Ends}
 use Rattle.upload_model.specs.declared.events.Sent.{Sent}
-use Rattle.upload_model.specs.Hosts.{Packets, acknowledges, all_packets, all_settled, allowed, counts, ending, ends_for}
-use Rattle.upload_model.specs.Hosts.{flight_after, flight_in, gave_up, if_going, includes, is_tick, joined, or_else, out}
-use Rattle.upload_model.specs.Hosts.{phase_of, ticks}
+use Rattle.upload_model.specs.Hosts.{Packets, acknowledges, all_packets, all_settled, allowed, counts, ending}
+use Rattle.upload_model.specs.Hosts.{ends_for, flight_after, flight_in, gave_up, if_going, includes, is_tick, joined}
+use Rattle.upload_model.specs.Hosts.{or_else, out, phase_of, ticks}
 use Rattle.upload_model.specs.Replies.{compared, end_of, is_end, is_good, read_in, read_reply, reply_to, status_in}
 use Rattle.upload_model.specs.Replies.{status_reply}
 use Rattle.upload_model.specs.Sessions.{Upload, count_of, first_of, load_count}
@@ -52,7 +52,8 @@ pub record HostRows : Type 0 where
       ∷ [] ≡ 0 ∷ 2 ∷ 3 ∷ []
   pub many : count_of both_reading Loading 0 ∷ count_of both_reading Reading 0 ∷ count_of both_reading Starting 0
       ∷ [] ≡ 2 ∷ 1 ∷ 1 ∷ []
-  pub no_start : count_of (record session { start = false }) Starting 0 ≡ 0
+  pub no_start : count_of both_reading Starting 0 ∷ count_of (record session { start = false }) Starting 0 ∷ []
+      ≡ 1 ∷ 0 ∷ []
   -- a phase is over once nothing of it lacks, of neither drone
   pub settled : all_settled both_reading Loading (acked_to 2 2) ≡ true
   pub first_lacks : all_settled both_reading Loading (acked_to 1 2) ≡ false
@@ -92,13 +93,15 @@ pub record HostRows : Type 0 where
   pub last_event : ending both_reading (event.Tick ∷ to_write 1 5 ∷ []) ≡ Refused 1 0 5
   pub not_the_last : ending both_reading (to_write 1 5 ∷ event.Tick ∷ []) ≡ Going
   pub gives_up : map gave_up (Some (packet 1 2) ∷ None ∷ []) ≡ GaveUp 1 2 ∷ Going ∷ []
-  pub first_end : map (λ (p : Progress). or_else p (Refused 1 2 5)) (Going ∷ Done ∷ GaveUp 0 1 ∷ Refused 0 1 2 ∷ Differs 0 1 2 3 ∷ [])
+  pub first_end : map (λ (p : Progress). or_else p (Refused 1 2 5))
+      (Going ∷ Done ∷ GaveUp 0 1 ∷ Refused 0 1 2 ∷ Differs 0 1 2 3 ∷ [])
       ≡ Refused 1 2 5 ∷ Done ∷ GaveUp 0 1 ∷ Refused 0 1 2 ∷ Differs 0 1 2 3 ∷ []
   -- a tick sends what is in flight, an answer what is so now and wasn't before, and after the end nothing is sent
   pub on_tick : out both_reading [] event.Tick ≡ packet 0 0 ∷ packet 1 0 ∷ []
   pub on_answer : out both_reading [] (to_write 1 0) ≡ packet 1 1 ∷ []
   pub on_end : out both_reading [] (to_write 1 5) ≡ []
-  pub none_sent : map (λ (p : Progress). if_going p (packet 0 0 ∷ [])) (Going ∷ Done ∷ GaveUp 0 1 ∷ Refused 0 1 2 ∷ Differs 0 1 2 3 ∷ [])
+  pub none_sent : map (λ (p : Progress). if_going p (packet 0 0 ∷ []))
+      (Going ∷ Done ∷ GaveUp 0 1 ∷ Refused 0 1 2 ∷ Differs 0 1 2 3 ∷ [])
       ≡ (packet 0 0 ∷ []) ∷ [] ∷ [] ∷ [] ∷ [] ∷ []
 
 -- one drone whose load begins at place 10 of memory 2
@@ -113,7 +116,8 @@ pub record ReplyRows : Type 0 where
   pub found : up_of (0x4D ∷ 1 ∷ 2 ∷ 3 ∷ 4 ∷ 0 ∷ 5 ∷ 8 ∷ 9 ∷ [])
       ≡ Ok (ReadAnswer 1 262914 5 (record { items = 8 ∷ 9 ∷ [] }))
   pub commanded : up_of (0x8C ∷ 5 ∷ 6 ∷ 7 ∷ 8 ∷ 9 ∷ []) ≡ Ok (CommandAnswer (5 ∷ 6 ∷ 7 ∷ []) 8)
-  pub short : map up_of ((0x4E ∷ 1 ∷ 2 ∷ 3 ∷ 4 ∷ 0 ∷ []) ∷ (0x4D ∷ 1 ∷ 2 ∷ 3 ∷ 4 ∷ 0 ∷ []) ∷ (0x8C ∷ 5 ∷ 6 ∷ 7 ∷ []) ∷ [] ∷ [])
+  pub short : map up_of ((0x4E ∷ 1 ∷ 2 ∷ 3 ∷ 4 ∷ 0 ∷ [])
+      ∷ (0x4D ∷ 1 ∷ 2 ∷ 3 ∷ 4 ∷ 0 ∷ []) ∷ (0x8C ∷ 5 ∷ 6 ∷ 7 ∷ []) ∷ [] ∷ [])
       ≡ Err Short ∷ Err Short ∷ Err Short ∷ Err Empty ∷ []
   -- an answer to a write has its memory and its address, and one to a command the first three bytes of that
   pub its_write : status_in far 0 0 (Ok (WriteAnswer 2 10 5)) ≡ Some 5

@@ -1,6 +1,6 @@
 -- Definitions of places, of lines and of packets, each at the value beside which a weaker one answers otherwise.
-use Rattle.std.specs.Prelude.{◌≡◌, ℕ, ℤ, pos, negsuc, List, [], ◌∷◌, ◌++◌, map, take, codes, true, false, Option, Some, None}
-use Rattle.std.specs.Prelude.{Ok, replicate}
+use Rattle.std.specs.Prelude.{◌≡◌, ℕ, ℤ, pos, negsuc, List, [], ◌∷◌, ◌++◌, map, take, codes, true, false}
+use Rattle.std.specs.Prelude.{Some, None, Ok, replicate}
 use Rattle.fleet_math.specs.Bernstein.{at}
 use Rattle.fleet_math.specs.Moments.{Moment}
 use Rattle.text_lines.specs.Marker.{rest_of}
@@ -112,7 +112,8 @@ pub record WordRows : Type 0 where
   pub more : more_blocked_line ≡ line_of (codes "blocked more than 200")
   pub comment : visible FromHash (codes "a # b") ≡ codes "a "
   pub rest : rest_of (line_of (codes "%%") ++ line_of (codes "a") ++ codes "b") ≡ line_of (codes "a") ++ codes "b"
-  pub letters : map begins_lower ((96 ∷ []) ∷ (97 ∷ []) ∷ (122 ∷ []) ∷ (123 ∷ []) ∷ []) ≡ false ∷ true ∷ true ∷ false ∷ []
+  pub letters : map begins_lower ((96 ∷ []) ∷ (97 ∷ []) ∷ (122 ∷ []) ∷ (123 ∷ []) ∷ [])
+      ≡ false ∷ true ∷ true ∷ false ∷ []
   pub digits : map is_digit (47 ∷ 48 ∷ 57 ∷ 58 ∷ []) ≡ false ∷ true ∷ true ∷ false ∷ []
   -- a text without lines lacks its header, in line 1
   pub nothing : fault_of_lines [] ≡ Some (fault_at 1 kind.Header)
@@ -145,7 +146,8 @@ pub record PacketRows : Type 0 where
       ≡ Some (0x4D ∷ 0 ∷ 0 ∷ 0 ∷ 0 ∷ 0 ∷ 5 ∷ []) ∷ Some (0x4D ∷ 0 ∷ 0 ∷ 0 ∷ 0 ∷ 0 ∷ 0 ∷ 255 ∷ [])
       ∷ Some (0x4D ∷ 0 ∷ 0 ∷ 0 ∷ 0 ∷ 0 ∷ 5 ∷ []) ∷ []
   -- a load is read by twenty bytes
-  pub parts : map (λ (n : ℕ). part_count (record session { loads = record { bytes = replicate n 7; pieces = 1 } ∷ [] }) 0)
+  pub parts : map
+      (λ (n : ℕ). part_count (record session { loads = record { bytes = replicate n 7; pieces = 1 } ∷ [] }) 0)
       (0 ∷ 1 ∷ 20 ∷ 21 ∷ []) ≡ 0 ∷ 1 ∷ 1 ∷ 2 ∷ []
   -- a byte was given that still is to come
   pub not_gone : Gives (record (ended [] 0) { left = Some (1 ∷ 2 ∷ []) })
