@@ -145,7 +145,7 @@ class Units(unittest.TestCase):
             (b"a move +1m 0 0 0", "is +1m", "a `+`", "write 1m"),
             (b"a move m2 0 0 0", "with its unit in front", "", "write 2m"), (b"a move s2 0 0 0", "is no number", "", "m, cm"),
             (b"a move 1e3m 0 0 0", "an exponent", "", "write 1000m"), (b"a turn 1e1", "an exponent", "", "with its unit"),
-            (b"a move 1m, 0, 0, 0", "is 1m,", "separated by commas", "write 1m"),
+            (b"a move 1m, 0, 0, 0", "is 1m,", "commas between words", "write 1m"),
             (b"cue 1.5.2s", "two points", "", "one point"),
             (b"a move l 0 0 0", "is l", "a letter in place of a digit", "the digit"),
             (b"perform f none 0 0 0 a b", "is a, which has no digits", "a number is missing before it", "DX DY DZ"),
@@ -176,7 +176,7 @@ class Units(unittest.TestCase):
             (b"a move 1.5e3 0 0 0", "is 1.5e3", "", "write 1500"),
             (b"a move 1e-3 0 0 0", "exponent", "", "write the number out"),
             (b"a move 1,000 0 0 0", "is 1,000", "a comma between thousands", "write 1000"),
-            (b"a move 5, 0, 0, 0", "is 5,", "separated by commas", "write 5"),
+            (b"a move 5, 0, 0, 0", "is 5,", "commas between words", "write 5"),
             (b"a move +5 0 0 0", "is +5", "a `+`", "write 5"), (b"a move 5- 0 0 0", "no whole number", "", "digits alone"),
             (b"a turn O", "is O", "a letter in place of a digit", "the digit"),
             (b"cue x", "is x, which is no whole number", "", "here of milliseconds"))

@@ -155,7 +155,7 @@ def odd_row(name: str, word: str, number: str) -> Row | None:
     unit in front, with an exponent, with two points, or a letter in place of a digit; None where it is none of these."""
     bare = word.strip(",;+")
     if bare != word and re.fullmatch(f"-?(?:{number})", bare):
-        cause = "a `+`" if word[0] == "+" else "words that are separated by commas: a blank is enough"
+        cause = "a `+`" if word[0] == "+" else "commas between words, where a blank is enough"
         return [f"{name} is {word}", cause, f"write {bare}"]
     found = re.fullmatch("([a-z]+)(-?[0-9.]+)", word)
     if found and re.fullmatch(f"-?(?:{number})", found[2] + found[1]):
