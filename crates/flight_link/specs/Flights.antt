@@ -1,7 +1,7 @@
 -- A flight through frames as a dialogue over a link: how it ends, and what it sends.
 use Rattle.std.specs.Prelude.{◌≡◌, ◌↔◌, ℕ, List, Option, None}
 use Rattle.link_dialogue.specs.Dialogues.{BeginsWith, Dialogue, DialogueFails, DialogueGives}
-use Rattle.link_dialogue.specs.Dialogues.{IsPrompt as IsPromptDialogue, StaysPrompt as StaysPromptDialogue}
+use Rattle.link_dialogue.specs.Dialogues.{IsPrompt as IsPromptDialogue}
 use Rattle.link_dialogue.specs.Dialogues.{StopsAtEnd as DialogueStops, Takes as DialogueTakes}
 use Rattle.flight_model.specs.declared.events.Event.{Event}
 use Rattle.flight_model.specs.declared.flights.Flight.{Flight}
@@ -37,9 +37,6 @@ FlightFails f taken output = DialogueFails (dialogue_of f) taken output
 -- no answer of a flight waits for much further input
 abbrev pub IsPrompt : Flight → List ℕ → List ℕ → Type 0
 IsPrompt f taken sent = IsPromptDialogue (dialogue_of f) taken sent
-
-abbrev pub StaysPrompt : Flight → Option (List ℕ) → Option (List ℕ) → Option (List ℕ) → Option (List ℕ) → Type 0
-StaysPrompt f stream left old new = StaysPromptDialogue (dialogue_of f) stream left old new
 
 -- no more is read once a flight is over
 abbrev pub StopsAtEnd : Flight → Option (List ℕ) → Option (List ℕ) → Type 0
