@@ -1,6 +1,6 @@
 -- The steps of a flight and the bytes of its events, computed.
 use Rattle.std.proofs.Common.{refl}
-use Rattle.definition_tests.specs.Steps.{EventRows, StepRows}
+use Rattle.definition_tests.specs.Steps.{DirectorRows, EventRows, StepRows}
 
 pub steps : StepRows
 steps = record {
@@ -41,4 +41,14 @@ events = record {
   signals = refl;
   flags = refl;
   first_end = refl;
+}
+
+pub directors : DirectorRows
+directors = record {
+  silent = refl;
+  seen = refl;
+  in_it = λ f s. refl;
+  after_it = λ f s. refl;
+  the_end = λ f. refl;
+  numbered = refl;
 }

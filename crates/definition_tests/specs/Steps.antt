@@ -11,6 +11,10 @@ use Rattle.flight_model.specs.declared.flights.Leg.{Leg}
 use Rattle.flight_model.specs.declared.flights.Orders.TheVariants.{Each, All as ToEach}
 use Rattle.flight_model.specs.declared.flights.Position.{Position}
 use Rattle.flight_model.specs.declared.flights.Stretch.TheVariants as stretch
+use Rattle.flight_model.specs.declared.events.Frame.TheVariants.{To}
+use Rattle.flight_model.specs.declared.flights.Flight.{Flight}
+use Rattle.flight_model.specs.declared.states.Track.{Track}
+use Rattle.flight_model.specs.Directors.{State, all_seen, end_step, falls_silent, frames_from, in_show, is_disarmed}
 use Rattle.flight_model.specs.Legs.{Routes, arm_condition, arm_order, arm_step, down_bound, down_condition, down_order}
 use Rattle.flight_model.specs.Legs.{down_step, group_step, has_moved, hold_in, last_condition, last_step, lasts}
 use Rattle.flight_model.specs.Legs.{ms_before, ms_until, position_of, start_condition, start_step, steps_between}
@@ -183,3 +187,27 @@ pub record EventRows : Type 0 where
       ≡ map (λ (b : ℕ). sampled ++ b ∷ []) (0 ∷ 1 ∷ 2 ∷ 4 ∷ 8 ∷ 16 ∷ 32 ∷ [])
   -- the first end counts
   pub first_end : first_of_two (Some 0) (Some 20) ∷ first_of_two None (Some 20) ∷ [] ≡ Some 0 ∷ Some 20 ∷ []
+
+-- a disarmed drone, seen so long ago
+abbrev pub seen_before : ℕ → Sample
+seen_before age = record (flagged true false false true false true) { age = age }
+
+abbrev pub track_before : ℕ → Track
+track_before age = record { seen = Some (seen_before age); off = None; unsure = None }
+
+-- Of any flight with these steps, or with a show of 100 ms, in any state.
+pub record DirectorRows : Type 0 where
+  -- a drone falls silent once, where its sample becomes older than 500 ms
+  pub silent : map (λ (age : ℕ). falls_silent 500 1 (Some (seen_before age))) (499 ∷ 500 ∷ 501 ∷ [])
+      ≡ false ∷ true ∷ false ∷ []
+  -- who is silent isn't seen
+  pub seen : map (λ (age : ℕ). all_seen 500 is_disarmed (track_before age ∷ [])) (500 ∷ 501 ∷ []) ≡ true ∷ false ∷ []
+  -- a sample of the show's last millisecond is in it, and one after it isn't
+  pub in_it : (f : Flight) (s : State) → in_show (record f { show_ms = 100 })
+      (record s { showing = true; waited = 110 }) (seen_before 10) ≡ true
+  pub after_it : (f : Flight) (s : State) → in_show (record f { show_ms = 100 })
+      (record s { showing = true; waited = 110 }) (seen_before 9) ≡ false
+  pub the_end : (f : Flight) →
+      end_step (record f { steps = group_step [] ∷ last_step routes [] ∷ [] }) ≡ Some (last_step routes [])
+  -- drones are counted also where one has no order
+  pub numbered : frames_from 0 (None ∷ Some order.Arm ∷ []) ≡ To 1 order.Arm ∷ []

@@ -36,7 +36,7 @@ ghost use Rattle.definition_tests.specs.Shapes.{FigureRows, FilledRows, NestingR
 ghost use Rattle.definition_tests.specs.Shows.{CueRows, PlanRows, WholeRows};
 ghost use Rattle.definition_tests.specs.Small.{SmallRows};
 ghost use Rattle.definition_tests.specs.Stands.{StandsRows};
-ghost use Rattle.definition_tests.specs.Steps.{EventRows, StepRows};
+ghost use Rattle.definition_tests.specs.Steps.{DirectorRows, EventRows, StepRows};
 ghost use Rattle.definition_tests.specs.Stored.{LandedRows, UploadRows};
 ghost use Rattle.definition_tests.specs.Texts.{BlockRows, LimitRows, TwiceRows};
 ghost use Rattle.definition_tests.specs.Values.{PacketRows, PlaceRows, WordRows};
@@ -495,6 +495,12 @@ pub fn step_rows()
 #[tactic(auto, using(crate::proofs::StepRows::events))]
 pub fn event_rows()
     ensures { EventRows }
+{}
+
+/// A law. When the director of a flight holds a drone to be silent, and a sample to be of the show.
+#[tactic(auto, using(crate::proofs::StepRows::directors))]
+pub fn director_rows()
+    ensures { DirectorRows }
 {}
 
 /// A law. What a dialogue takes of what comes, how it ends, and what it sends.
