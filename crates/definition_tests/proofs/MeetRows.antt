@@ -173,6 +173,13 @@ in_show at small = record { cue = omega arith; at = omega (arith, small); pair =
 close_show : (at : ℕ) → at ≤ 1 → IsListed close 0 (site at 0 1)
 close_show at small = record { cue = omega arith; at = omega (arith, small); pair = omega arith; drone = omega arith }
 
+-- a level above theirs is too high
+not_above : IsClosest two_apart 1 1 0 (level_at 0 1001) → ⊥
+unfolding bernstein decoded
+not_above is =
+    let same : is.left ≡ pos 4 = is.is (flight (pos 0) (pos 0)) (flight (pos 2) (pos 2)) refl refl in
+    let high = rw same at is.level in omega (arith, high)
+
 pub meets : MeetRows
 unfolding bernstein decoded moment
 meets = record {
@@ -184,7 +191,7 @@ meets = record {
   turned = λ is. let high = is.listed.pair in absurd (omega (arith, high));
   some = λ none. let high = (none (site 1 0 1) (in_show 1 (omega arith)) (flight (pos 0) (pos 10)) (flight (pos 20) (pos 11)) refl refl).above in absurd (omega (arith, high));
   none = λ u is. each_site (Disjoint behind) u.cue u.at u.a u.b is.cue is.at is.pair is.drone behind_first behind_last;
-  closest = closest_is;
+  closest = (closest_is, not_above);
   lower = λ is.
       let same : is.left ≡ pos 1 = is.is (flight (pos 0) (pos 10)) (flight (pos 20) (pos 11)) refl refl in
       let low = rw same at is.next_level in absurd (omega (arith, low));
@@ -198,9 +205,6 @@ meets = record {
       let same : is.left ≡ pos 1 = is.is (flight (pos 0) (pos 0)) (flight (pos 1) (pos 1)) refl refl in
       let low = rw same at (is.first (site 0 0 1) (close_show 0 (omega arith)) start_before (flight (pos 0) (pos 0)) (flight (pos 1) (pos 1)) refl refl) in absurd (omega (arith, low));
   just_touching = apart_is;
-  above = λ is.
-      let same : is.left ≡ pos 4 = is.is (flight (pos 0) (pos 0)) (flight (pos 2) (pos 2)) refl refl in
-      let high = rw same at is.level in absurd (omega (arith, high));
   below = λ is.
       let same : is.left ≡ pos 4 = is.is (flight (pos 0) (pos 0)) (flight (pos 2) (pos 2)) refl refl in
       let low = rw same at is.next_level in absurd (omega (arith, low));

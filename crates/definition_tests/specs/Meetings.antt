@@ -51,13 +51,12 @@ pub record MeetRows : Type 0 where
   pub turned : IsFirstTouch meeting 1 1 0 (site 1 1 0) → ⊥
   pub some : NoTouch meeting 1 1 0 → ⊥
   pub none : NoTouch behind 1 1 0
-  pub closest : IsClosest meeting 1 1 0 (level_at 1 250)
+  pub closest : IsClosest meeting 1 1 0 (level_at 1 250) × (IsClosest two_apart 1 1 0 (level_at 0 1001) → ⊥)
   pub lower : IsClosest meeting 1 1 0 (level_at 1 249) → ⊥
   pub higher : IsClosest meeting 1 1 0 (level_at 1 251) → ⊥
   pub farther : IsClosest meeting 1 1 0 (level_at 0 100000) → ⊥
   pub not_the_first_closest : IsClosest close 1 1 0 (level_at 1 250) → ⊥
   pub just_touching : IsClosest two_apart 1 1 0 (level_at 0 1000)
-  pub above : IsClosest two_apart 1 1 0 (level_at 0 1001) → ⊥
   pub below : IsClosest two_apart 1 1 0 (level_at 0 999) → ⊥
   pub in_cue : IsClosestIn meeting 1 1 0 only_slot (level_at 1 250)
   pub in_cue_lower : IsClosestIn meeting 1 1 0 only_slot (level_at 1 249) → ⊥
