@@ -332,18 +332,23 @@ class Proof(Case):
 
         def stop(*_):
             raise Stop
+
+        def pipes():  # a temporary file of Python's own may be lost in the instant in which it is made
+            found = (os.path.join("/proc/self/fd", name) for name in os.listdir("/proc/self/fd"))
+            return sum(os.path.lexists(path) and os.readlink(path).startswith("pipe:") for path in found)
         self.answers("#!/bin/sh\nexec sleep 20\n")
-        before = signal.signal(signal.SIGALRM, stop)
+        open_before, before = pipes(), signal.signal(signal.SIGALRM, stop)
         try:
-            for k in range(30):
+            for k in range(60):
                 with self.assertRaises(Stop):
-                    signal.setitimer(signal.ITIMER_REAL, 0.0005 * (k + 1))
+                    signal.setitimer(signal.ITIMER_REAL, 0.0002 * (k + 1))
                     hemtoghai.check("")
         finally:
             signal.setitimer(signal.ITIMER_REAL, 0)
             signal.signal(signal.SIGALRM, before)
         with self.assertRaises(ChildProcessError):  # there is no child, neither running nor ended
             os.waitpid(-1, os.WNOHANG)
+        self.assertEqual(pipes(), open_before)
 
     def test_closed_streams(self):
         # The numbers of standard streams go to other files, those of the question among them.

@@ -131,10 +131,27 @@ class Streams(unittest.TestCase):
                 self.assertEqual((done.returncode, b"\x1b" in done.stdout + done.stderr), (status, False), (words, done.stderr))
                 self.assertIn(said, done.stdout.decode(), words)
 
+    @wants_program
+    def test_a_link_that_leaves(self):
+        # The file of --link is its user's own code; a status of 0 is of an upload that was done, and of nothing else.
+        with tempfile.TemporaryDirectory() as room:
+            path = os.path.join(room, "link.py")
+            for body, said in (("__init__(self, *_): raise SystemExit(0)", "ended the upload"),
+                               ("send(self, *_): raise SystemExit", "ended the upload"),
+                               ("__init__(self, *_): raise KeyError", "no link: KeyError"),
+                               ("__init__(self, *_): raise SystemExit('words')", "words")):
+                with open(path, "w") as file:
+                    file.write("from hemtoghai.flying import links\nclass Link(links.Link):\n    def %s\n" % body)
+                done = subprocess.run([*common.AS_BUILT, "bridge", "--link", path, "examples/crossing_cured.choreo"],
+                                      cwd=TOP, stdout=subprocess.PIPE, stderr=subprocess.PIPE, timeout=300)
+                self.assertEqual((done.returncode, done.stdout), (70, b""), (body, done.stderr))
+                self.assertIn(said, done.stderr.decode())
+
     def test_beside_a_module_of_the_same_name(self):
         # `python3 -m hemtoghai` takes Python's own modules, and not what lies in the folder in which it is typed.
         with tempfile.TemporaryDirectory() as room:
-            for name in ("argparse", "json", "tempfile", "struct", "re"):
+            # `python3 -m` itself takes `re` from there in 3.9, before anything of the package runs.
+            for name in ("argparse", "json", "tempfile", "struct", *["re"] * (sys.version_info >= (3, 10))):
                 with open(os.path.join(room, name + ".py"), "w") as file:
                     file.write("import os\nos._exit(66)\n")
             done = subprocess.run([sys.executable, "-B", "-m", "hemtoghai", "summary", os.path.join(TOP, SHOW)], cwd=room,

@@ -248,23 +248,30 @@ def end(process: int) -> None:
         pass
 
 
+def close_but(left: int, numbers: list[int]) -> None:
+    """Closes open files and takes them from the list, the last ones first, until so many are left."""
+    from collections import deque
+    from itertools import repeat
+    deque(map(os.close, map(numbers.pop, repeat(-1, len(numbers) - left))), 0)
+
+
 def carried_out(file: str, words: list[str], text: int) -> tuple[int, bytes]:
     """The status and output of a program over an open file. It is ended where this call is, as by a handler of signals
     that raises."""
     import fcntl
     import functools
+    from itertools import chain, repeat, starmap
     numbers: list[int] = []
     started: list[int] = []
     try:
-        numbers += os.pipe()
+        # By `map` files and processes are in their lists before a signal that came meanwhile is handled.
+        numbers += chain.from_iterable(starmap(os.pipe, [()]))
         # The number of a standard stream that this process closed would be taken by another stream of the program.
-        numbers += [fcntl.fcntl(number, fcntl.F_DUPFD_CLOEXEC, 3) for number in (text, numbers[1])]
+        numbers += map(fcntl.fcntl, (text, numbers[1]), repeat(fcntl.F_DUPFD_CLOEXEC), repeat(3))
         actions = [(os.POSIX_SPAWN_DUP2, numbers[2], 0), (os.POSIX_SPAWN_DUP2, numbers[3], 1),
                    (os.POSIX_SPAWN_OPEN, 2, os.devnull, os.O_WRONLY, 0)]
-        # By `map` the process is in the list before a signal that came meanwhile is handled.
         started += map(functools.partial(os.posix_spawn, file, [file, *words], file_actions=actions), [os.environ])
-        while len(numbers) > 1:
-            os.close(numbers.pop())
+        close_but(1, numbers)
         output = b"".join(iter(lambda: os.read(numbers[0], 1 << 16), b""))
         status = status_in(started[0])
         started.clear()
@@ -272,8 +279,7 @@ def carried_out(file: str, words: list[str], text: int) -> tuple[int, bytes]:
     finally:
         for process in started:
             end(process)
-        while numbers:
-            os.close(numbers.pop())
+        close_but(0, numbers)
 
 
 def ask(words: list[str], text: bytes, path: str | None = None) -> tuple[int, bytes]:

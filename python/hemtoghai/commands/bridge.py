@@ -140,7 +140,7 @@ def link_of(path: str, names: Sequence[str], heard: links.Heard) -> links.Link:
         link: links.Link = module.Link(names, heard)
         return link
     except Exception as error:
-        return stop("%s: no link: %s" % (path, error or type(error).__name__))
+        return stop("%s: no link: %s" % (path, str(error) or type(error).__name__))
 
 
 def radio_of(options: Namespace, flown: Flown, heard: links.Heard) -> links.Link:
@@ -159,7 +159,7 @@ def radio_of(options: Namespace, flown: Flown, heard: links.Heard) -> links.Link
             radio.close()
         if not isinstance(error, Exception):
             raise
-        return stop("%s: no link: %s" % (options.radio, error or type(error).__name__))
+        return stop("%s: no link: %s" % (options.radio, str(error) or type(error).__name__))
 
 
 def print_end(options: Namespace, done: Carrying, ended: int) -> int:
@@ -206,7 +206,12 @@ def main(words: list[str]) -> int:
         return link_of(options.link, flown.names, heard) if options.link else links.SimulatedLink(
             flown.names, heard, drones, options)
     traffic = Traffic(flown.names, wanted_packets(flown, options.start, options.readback))
-    done, ended = uploaded(command, text, link, traffic, options.tick, lambda line: print(line, file=sys.stderr))
+    try:
+        done, ended = uploaded(command, text, link, traffic, options.tick, lambda line: print(line, file=sys.stderr))
+    except SystemExit as left:
+        if not left.code:  # the file of --link left the process: no upload was done, and 0 would say so
+            stop(f"{options.link} ended the upload")
+        raise
     status = print_end(options, done, ended)
     if status in (3, 4, 5):
         return status  # no packet was sent
