@@ -22,7 +22,7 @@ from hemtoghai.flying import stages
 PACKAGE = os.path.join(PYTHON, "hemtoghai")
 WORDS = re.compile(r"\b(valid|KEPT|APART|PROVED|proved|accepted|accepts|apart|separated|ok|kept|landed|disarmed|stored|"
                    r"land now|judged as|judged stage|as a whole|stage by stage|as the show has them|has its trajectory|"
-                   r"has what it is to fly|[Nn]othing is blocked|nothing is refused)\b")
+                   r"has what it is to fly|come home by themselves|[Nn]othing is blocked|nothing is refused)\b")
 STATUSES = re.compile("commands/|exchange/export|launching/|__main__|streams|geometry/separation|"
                       "flying/(bridge|descent)|seeing/studio_work")  # modules that end with one
 TRUTHS = re.compile("judging|program")  # modules whose yes may be a value that is true
@@ -151,7 +151,8 @@ YESES = {
     "flying/routes.py Planner.words": ("apart apart apart", NO),
     "flying/stages.py judge_stages": ("apart", NO),
     "flying/uploads.py -": ("has what it is to fly", "the words of status 0: " + UPLOAD),
-    "flying/ways.py Ways.tell": ("as a whole stage by stage", WAY),
+    "flying/ways.py Ways.tell": ("as a whole come home by themselves stage by stage", WAY + "; of show, pause and way home as "
+                                 "one text, too, and of each drone's way home alone"),
     "geometry/separation.py judged": ("0 ok", "taken for a refusal alone, but where words say that nothing is proved"),
     "geometry/separation.py most_borne": ("handed", NUMBER),
     "judging.py Verdict.__bool__": ("true", PROGRAM + ": it is `ok`"),
