@@ -182,6 +182,7 @@ class Streams(unittest.TestCase):
         with open(os.path.join(TOP, "show"), encoding="utf-8") as file:
             text = file.read()
         ast.parse(text, feature_version=(3, 4))  # an older one reads it
+        self.assertLess(text.index("sys.version_info"), text.index("import _signal"))  # which Python 2 hasn't
         code = "import sys\nsys.version_info = (3, 7, 16)\n" + text
         done = subprocess.run([sys.executable, "-c", code], stdout=subprocess.PIPE, stderr=subprocess.PIPE, timeout=60)
         self.assertEqual((done.returncode, done.stdout, done.stderr),
