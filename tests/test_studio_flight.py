@@ -100,7 +100,7 @@ class Keys(Flight):
         goes into a line of another cue."""
         self.open(TWO)
         self.says("2 cues")
-        self.browser.run("document.getElementById('follow').checked = true")
+        self.browser.run("document.getElementById('follow').checked = true; document.getElementById('speed').value = '0.1'")
         self.put_cursor("a move")
         self.browser.type(CONTROL + ENTER)
         self.browser.run("move(2500)")  # in the cue after that of the cursor

@@ -216,7 +216,7 @@ class Film(Timeline):
 
     def test_stopped_at_once(self):
         """The same where it is stopped before it began: within the frame in which the button was clicked."""
-        self.start()
+        self.start(SHOW.replace("cue 5s", "cue 60s"))
         self.browser.click("#film")
         for work in self.STOPS:
             self.is_stopped()

@@ -3,6 +3,7 @@ clipboard, undo, finding and jumps are of the whole text, and no letter is lost.
 import os
 import random
 import sys
+import time
 import unittest
 
 sys.dont_write_bytecode = True
@@ -166,15 +167,21 @@ class Window(page.Led):
         self.assertEqual(last - begin, 1500)
 
     def test_composition(self):
-        """Letters that are put together from several keys are one step, also over a selection beyond the window."""
+        """Letters that are put together from several keys are one step, however long that takes; what follows isn't."""
         self.begin()
         compose = lambda name, **more: self.browser.ask("POST", "/goog/cdp/execute", {"cmd": "Input." + name,
                                                                                       "params": more})
         self.put_cursor("# note 1600 of")
         for part in ("k", "か", "かn", "かな"):
             compose("imeSetComposition", text=part, selectionStart=len(part), selectionEnd=len(part))
+            time.sleep(1.1 if part == "か" else 0)  # keys that come later are a step of their own else
         compose("insertText", text="かな")
-        self.assertEqual(self.text(), TEXT.replace("# note 1600 of", "# note 1600 ofかな"))
+        composed = TEXT.replace("# note 1600 of", "# note 1600 ofかな")
+        self.assertEqual(self.text(), composed)
+        time.sleep(1.1)
+        self.browser.type("x")
+        self.keys(CONTROL + "z")
+        self.assertEqual(self.text(), composed)
         self.keys(CONTROL + "z")
         self.assertEqual(self.text(), TEXT)
 

@@ -19,7 +19,7 @@ const WHOLE = 300, AROUND = 90, MARGIN = 30;
 export const field = byId("text"), scroller = byId("scroller"), sheet = byId("sheet");
 let heldText = "";
 let placed = [0, 0];  // both as they were put into the field
-let composing = false;
+let composing = false, isComposed = false;  // letters are put together from several keys, and there are some of them
 let drag = 0;  // 0, 1 while the mouse is pressed in the field, 2 once the selection has changed since
 export const within = (offset, low, high) => Math.max(low, Math.min(high, offset));
 
@@ -149,10 +149,10 @@ export function showLines(first, last) {
 // ---- changes
 
 // Changes the text, notes how to undo it, and puts the cursor after what was written.
-export function edit(from, to, words, isTyped) {
+export function edit(from, to, words, isTyped, isJoined = false) {
   const gone = textBetween(from, to);
   const selection = [state.anchor, state.head];
-  if (gone !== words) noteStep({from, gone, put: words, selection, at: performance.now()}, isTyped);
+  if (gone !== words) noteStep({from, gone, put: words, selection, at: performance.now()}, isTyped, isJoined);
   const more = change(from, to, words);
   set({anchor: from + words.length, head: from + words.length});
   return more;
@@ -165,7 +165,9 @@ function onInput() {
   while (from < most && words[from] === heldText[from]) from += 1;
   while (end < most - from && words[words.length - 1 - end] === heldText[heldText.length - 1 - end]) end += 1;
   const begin = heldFrom() + from;
-  state.held[1] += edit(begin, begin + heldText.length - end - from, words.slice(from, words.length - end), true);
+  const put = words.slice(from, words.length - end);
+  state.held[1] += edit(begin, begin + heldText.length - end - from, put, true, isComposed);
+  isComposed = composing;
   heldText = words;
   placed = [-1, -1];
   readSelection();
@@ -302,8 +304,12 @@ export function bindField() {
     readSelection();
     if (!isSelectionHeld()) writeOver("");
     composing = true;
+    isComposed = false;
   });
-  field.addEventListener("compositionend", () => { composing = false; holdView(); });
+  field.addEventListener("compositionend", () => {
+    composing = isComposed = false;
+    holdView();
+  });
   field.addEventListener("pointerdown", () => { drag = 1; });
   for (const kind of ["pointerup", "pointercancel"]) addEventListener(kind, () => { readSelection(); drag = 0; });
   // The sheet scrolls, and never the field in it.

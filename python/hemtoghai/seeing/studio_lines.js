@@ -120,10 +120,11 @@ let keptLetters = 0;
 const TOGETHER = 1000, MOST_STEPS = 5000, MOST_LETTERS = 1 << 25;  // milliseconds; of all steps
 const lettersOf = step => step.gone.length + step.put.length + 64;
 // Notes a change for undo. What is typed without a pause at one place is one step.
-export function noteStep(step, typedNow) {
+export function noteStep(step, typedNow, isJoined = false) {
   set({stepsBack: []});
   const last = state.steps[state.steps.length - 1];
-  if (typedNow && last && last.typed && step.at - last.at < TOGETHER && joinStep(last, step)) return;
+  const isSoon = last && (isJoined || step.at - last.at < TOGETHER);
+  if (typedNow && isSoon && last.typed && joinStep(last, step)) return;
   state.steps.push({...step, typed: typedNow});
   keptLetters += lettersOf(step);
   while (state.steps.length > MOST_STEPS || keptLetters > MOST_LETTERS && state.steps.length > 1) {
