@@ -220,6 +220,7 @@ class Flown(unittest.TestCase):
         def judged(*given):
             status, _, out = self.judged(self.whole(*given), "--stray", "5", "--late", "5")
             found = re.search("not home at the end of the log: (.*)\n", out)
+            self.assertEqual(out.count("\nthat is of the show: of the ways"), not status)
             return status, re.search("(?m)^([A-Z ]+): 724 of 724 samples", out)[1], found and found[1].split("; ")
         self.assertEqual(judged({"a": (180, -240, 120), "b": (300, 0, -120), "c": (0, 300, 0)}, {"c": 2500, "d": 2999}),
                          (0, "KEPT", None))

@@ -73,7 +73,8 @@ YESES = {
     "commands/export.py main": ("2 handed", PASSED + "; 2 is of wrong words"),
     "commands/flown.py judge_all.outside": ("handed", NUMBER),
     "commands/flown.py main": ("0 apart", OWN + ": of samples"),
-    "commands/flown.py print_verdict": ("KEPT KEPT KEPT", OWN + ": of samples"),
+    "commands/flown.py print_verdict": ("KEPT KEPT KEPT KEPT", OWN + ": of samples of the show, and of who is home at the "
+                                        "end; a line says that nothing else of the ways was looked at"),
     "commands/fly.py -": ("apart apart", WHAT),
     "commands/fly.py emergency": ("handed", DRONES),
     "commands/fly.py fly": ("0 handed", DIRECTOR + "; --only look: the preflight alone; --only upload: " + UPLOAD),

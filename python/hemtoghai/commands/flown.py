@@ -328,6 +328,8 @@ def print_verdict(judged: Dict[str, Judged], options: argparse.Namespace) -> boo
             f"{name} at {many(count, 'sample')}" for name, count in bare.items()))
     if away:
         print("not home at the end of the log: %s" % "; ".join("%s is %s" % it for it in away.items()))
+    if word == "KEPT":
+        print("that is of the show: of the ways up and down it was only looked at who is home at the end of the log")
     return word == "KEPT"
 
 
