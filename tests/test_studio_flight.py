@@ -546,7 +546,8 @@ class Drag(Flight):
             self.turn(ms, view)
             self.carry(k, right, up)
             self.is_text(pair)
-            self.assertEqual((self.selected(), self.browser.run("return ghosts.size")), ("", 1))
+            # Until its flight is there the drone is a ghost.
+            self.assertEqual((self.selected(), self.browser.run("return ghosts.size || flightVersion === version && 1")), ("", 1))
             self.browser.keys("z", CONTROL)
             self.assertEqual(self.text(), PLACED)
             self.assertEqual(self.browser.run("return ghosts.size"), 0)
