@@ -248,6 +248,18 @@ class Flown(unittest.TestCase):
         status, out, _ = common.run("flown", "-", path, text=text)
         self.assertEqual((status, "KEPT: 16 of 16 samples" in out), (0, True), out)
 
+    def test_how_fly_ended(self):
+        # A last line of `fly` by which the flight wasn't kept leaves no KEPT; other lines that begin so say nothing.
+        for end, wanted in (("", (0, "KEPT")), ("# fly: kept\n", (0, "KEPT")), ("# by hand\n#\n", (0, "KEPT")),
+                            ("# fly: not kept\n", (1, "NOT KEPT")), ("# fly: not kept", (1, "NOT KEPT")),
+                            ("# fly: not kept\r\n", (1, "NOT KEPT"))):
+            path = self.whole({})
+            with open(path, "a", newline="") as file:
+                file.write(end)
+            status, _, out = self.judged(path, "--stray", "5", "--late", "5")
+            word = next(line for line in out.split("\n") if "KEPT: " in line).split(":")[0]
+            self.assertEqual((status, word, "`fly` ended this flight with a fault" in out), (*wanted, wanted[0] == 1), end)
+
     def test_home_comes_last(self):
         # what a sample says of the show comes first, and who isn't home is named all the same
         status, _, out = self.judged(self.whole({"a": (3000, 0, 0)}), "--stray", "0", "--late", "0")

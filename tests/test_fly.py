@@ -145,7 +145,7 @@ begun, forget, setUpModule = RUNS.begun, RUNS.forget, RUNS.set_up
 
 def last_heights(rows):
     """By drone the last height in a log, in metres."""
-    return {row.split(",")[1]: float(row.split(",")[4]) for row in rows.split("\n")[1:] if row}
+    return {row.split(",")[1]: float(row.split(",")[4]) for row in rows.split("\n")[1:] if "," in row}
 
 
 @common.wants_program
@@ -155,6 +155,8 @@ class Flights(unittest.TestCase):
         end: by name the end of the line that says so."""
         came, out, rows = begun(name).result()
         self.assertEqual(came, status, name + ":\n" + out)
+        if "taking off" in out:
+            self.assertEqual(rows.rsplit("\n", 2)[1:], ["# fly: kept" if status == 0 else "# fly: not kept", ""], name)
         for line in lines:
             self.assertRegex(out, line, name)
         for line in without:
@@ -246,7 +248,7 @@ class Flights(unittest.TestCase):
         for fault, said, starts, end in (
                 ("refuses", "FAULT: b refuses the start with status 16; landing all\nlanded", 1, "disarmed, 0 starts"),
                 ("deafens", "FAULT: b didn't take the start; landing all\nlanded", 1, "disarmed, 0 starts"),
-                ("wanders:2", "FAULT: b is [0-9]+ mm from its curve; landing all", 1, "1 start"),
+                ("wanders:2", "FAULT: b is (at .* m, outside of the room of show and ways|[0-9]+ mm from its curve); landing all", 1, "1 start"),
                 ("falls:4", "FAULT: b has tumbled; landing all", 1, "cut, 1 start"),
                 ("drains:2", "FAULT: b has 3.00 V left; landing all", 1, "disarmed, 1 start")):
             self.flown(fault, 1, said, without=["flown:"], ends={"a": r", 0.0[0-9]\) m, disarmed, %d start" % starts, "b": end})
@@ -283,7 +285,7 @@ class Flights(unittest.TestCase):
         status, told, rows = begun("terminal").result()
         self.assertEqual((status, told), (1, ""))
         self.assertTrue(all(height < 0.15 for height in last_heights(rows).values()), rows[-200:])
-        self.assertLess(float(rows.split("\n")[-2].split(",")[0]), 50)
+        self.assertLess(float(rows.split("\n")[-3].split(",")[0]), 50)
 
     def test_refused(self):
         status, out, error = common.run("fly", "--simulate", "examples/crossing.choreo")

@@ -25,8 +25,10 @@ stop more than 300 ms before the end. For any other log it is `NOT KEPT` or `NOT
 option. Of a sample without a variance nobody knows, so a log that lacks some isn't kept either.
 
 Of the ways up and down only the log's begin and end are looked at. It is `NOT HOME` where a drone that stood below its
-first place isn't back there at the end of the log, or is missing then. A log with a place or a time that isn't finite
-is refused, and so is one of more than 500,000 lines. Status 0: kept. 1: not kept, not known or not home. 70: no answer.
+first place isn't back there at the end of the log, or is missing then. A log of `fly` ends with a line that begins
+with `#`, and says whether the flight was kept, ways and all: where it wasn't, the verdict is `NOT KEPT`. A log with a
+place or a time that isn't finite is refused, and so is one of more than 500,000 lines. Status 0: kept. 1: not kept,
+not known or not home. 70: no answer.
 """
 import argparse
 import csv
@@ -37,7 +39,7 @@ from functools import lru_cache
 from itertools import chain
 from math import dist, inf
 from operator import itemgetter
-from typing import Dict, Iterable, Iterator, List, Optional, Sequence, Tuple
+from typing import Dict, Iterable, Iterator, List, Optional, Sequence, Set, Tuple
 
 from hemtoghai import texts
 from hemtoghai.companion import flown_of, many, parser, stop
@@ -65,8 +67,9 @@ Row = Tuple[float, Place, Optional[float], Optional[float]]
 Sample = Tuple[float, Place, float, Optional[float]]
 
 
-def lines_of(path: str) -> Iterator[str]:
-    """The lines of a log, one after the other; `-` is standard input. A log that is too long ends the tool."""
+def lines_of(path: str, marks: Set[str]) -> Iterator[str]:
+    """The lines of a log, one after the other, but for those that begin with `#`: of these, the mark of a flight that
+    wasn't kept is added to the marks. `-` is standard input. A log that is too long ends the tool."""
     left, number = texts.LOG, 0
     try:
         with ExitStack() as stack:
@@ -79,22 +82,26 @@ def lines_of(path: str) -> Iterator[str]:
                     stop(f"{path}: more than {texts.LOG} bytes")
                 if number > MOST_LINES:
                     stop(f"{path}: more than {MOST_LINES} lines: judge a shorter part, or every second sample")
-                yield line.decode(errors="replace").removesuffix("\n")
+                words = line.decode(errors="replace").removesuffix("\n")
+                if not words.startswith("#"):
+                    yield words
+                elif words.strip() == finite.FAULT:
+                    marks.add(finite.FAULT)
     except (OSError, ValueError) as error:
         stop("%s: %s" % (path, getattr(error, "strerror", None) or error))
 
 
-def rows_of(path: str) -> Iterator[List[str]]:
+def rows_of(path: str, marks: Set[str]) -> Iterator[List[str]]:
     """The rows of a log that have cells."""
     try:
-        yield from filter(None, csv.reader(lines_of(path)))
+        yield from filter(None, csv.reader(lines_of(path, marks)))
     except csv.Error as error:
         stop("%s: this is no CSV file: %s" % (path, error))
 
 
-def read_log(path: str) -> Dict[str, List[Row]]:
-    """The samples by drone."""
-    names, rows, out = ["time", "drone", "x", "y", "z"], rows_of(path), dict[str, List[Row]]()
+def read_log(path: str, marks: Set[str]) -> Dict[str, List[Row]]:
+    """The samples by drone; the mark of a flight that wasn't kept is added to the marks."""
+    names, rows, out = ["time", "drone", "x", "y", "z"], rows_of(path, marks), dict[str, List[Row]]()
     first: List[str] = next(rows, [])
     if set(names) <= {cell.strip() for cell in first}:
         names = [cell.strip() for cell in first]
@@ -303,7 +310,7 @@ def away_at_the_end(judged: Dict[str, Judged], longest: float) -> Dict[str, str]
     return {name: words for name, words in found.items() if words}
 
 
-def print_verdict(judged: Dict[str, Judged], options: argparse.Namespace) -> bool:
+def print_verdict(judged: Dict[str, Judged], options: argparse.Namespace, marks: Set[str]) -> bool:
     """Prints what the log says, and whether that is enough; whether all was kept."""
     count, outside = sum(len(it.samples) for it in judged.values()), sum(len(it.outside) for it in judged.values())
     lacking = {name: it.lacks(options.gap) for name, it in judged.items() if it.lacks(options.gap)}
@@ -312,7 +319,8 @@ def print_verdict(judged: Dict[str, Judged], options: argparse.Namespace) -> boo
     bare = {name: sum(row[3] is None for row in it.samples) for name, it in judged.items()}
     bare = {name: count for name, count in bare.items() if count}
     away = away_at_the_end(judged, options.gap)
-    word = "NOT KEPT" if outside else "NOT KNOWN" if lacking or unsure or bare else "NOT HOME" if away else "KEPT"
+    word = "NOT KEPT" if outside or marks else "NOT KNOWN" if lacking or unsure or bare else \
+        "NOT HOME" if away else "KEPT"
     print("%s: %d of %s within %g mm of the curve at an instant within %g ms of the others'; the farthest is %s, "
           "%.1f mm at %.2f s"
           % (word, count - outside, many(count, "sample"), options.stray, options.late,
@@ -326,6 +334,8 @@ def print_verdict(judged: Dict[str, Judged], options: argparse.Namespace) -> boo
     if bare:
         print("no variance says how sure they were of their places: %s" % "; ".join(
             f"{name} at {many(count, 'sample')}" for name, count in bare.items()))
+    if marks:
+        print("by the log's last line `fly` ended this flight with a fault")
     if away:
         print("not home at the end of the log: %s" % "; ".join("%s is %s" % it for it in away.items()))
     if word == "KEPT":
@@ -354,7 +364,8 @@ def main(words: list[str]) -> int:
     for name in ("stray", "late"):
         if getattr(options, name) is None:
             setattr(options, name, float(flown.show.settings[name][0]))
-    log, curves, judged = read_log(options.log), curves_of(flown), {}
+    marks: Set[str] = set()
+    log, curves, judged = read_log(options.log, marks), curves_of(flown), {}
     strangers = sorted(set(log) - set(flown.names))
     if strangers:
         print("not of the show, and left out: %s" % shown(", ".join(strangers)))
@@ -376,4 +387,4 @@ def main(words: list[str]) -> int:
           "; greatest gap between samples %.0f ms" % (
               min(offsets), max(offsets), max(offsets) - min(offsets), far, judged[far].own[0],
               judged[far].own[1] / 1000, max(it.gap for it in judged.values())))
-    return 0 if print_verdict(judged, options) else 1
+    return 0 if print_verdict(judged, options, marks) else 1

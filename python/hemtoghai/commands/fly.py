@@ -187,7 +187,7 @@ def upload(radio: crazyradio.Radio, flown: Flown, text: bytes) -> None:
 def fly(radio: crazyradio.Radio, flown: Flown, text: bytes, pads: Sequence[Place], hall: Dict[str, str],
         options: argparse.Namespace, log: Log, watch: Watch) -> int:
     """All steps with drones that answer; the status."""
-    fleet, ways, bridge = Fleet(radio, log), None, None
+    fleet, ways, bridge, status = Fleet(radio, log), None, None, EARLY
     try:
         ways = Ways(flown, text, preflight(fleet, flown, pads, hall, options), options)
         ways.tell()
@@ -197,12 +197,14 @@ def fly(radio: crazyradio.Radio, flown: Flown, text: bytes, pads: Sequence[Place
             watch.confirm("Upload?")
             upload(radio, ways.uploaded, ways.text)
         if options.only:
-            return 0
+            status = 0
+            return status
         bridge = Bridge(fleet, ways, watch)
         ways.wait(watch.look)
         look_for_others(fleet, hall, options)  # who was switched on meanwhile
         watch.confirm("Take off?")
-        return bridge.run()
+        status = bridge.run()
+        return status
     finally:
         watch.over = True  # what is left is to close all
         if bridge:
@@ -210,7 +212,7 @@ def fly(radio: crazyradio.Radio, flown: Flown, text: bytes, pads: Sequence[Place
         if ways:
             ways.over = True
         fleet.end_logs()
-        log.close()
+        log.close(status == 0)
         if options.log and log.fault is None:
             say("places are in %s: %s flown %s %s judges them" % (
                 options.log, program.COMMAND, options.show, options.log))

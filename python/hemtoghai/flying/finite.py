@@ -10,6 +10,7 @@ from hemtoghai import texts
 Value = TypeVar("Value")
 UNSURE = 0.004  # square metres of variance above which an estimate in flight is none: 63 mm
 FAR = 100.0  # metres from the origin beyond which a place is none: the language ends at 33
+KEPT, FAULT = "# fly: kept", "# fly: not kept"  # the last line of a log: whether its flight was, ways and all
 
 
 def number(word: str, least: float = -1e9, most: float = 1e9) -> float:

@@ -127,7 +127,8 @@ class State:
 
 class Log:
     """The file to which places go, as ./show flown reads it; before the start, at `zero`, rows wait. A thread writes,
-    so that a slow disk holds up nobody: what can't be written is said once, and lost. Opening it raises OSError."""
+    so that a slow disk holds up nobody: what can't be written is said once, and lost. Opening it raises OSError. The
+    last line says whether the flight was kept, ways and all."""
 
     def __init__(self, path: Optional[str], tell: Callable[[str], None]) -> None:
         self.path, self.tell, self.lock, self.over = path, tell, threading.Lock(), clock.Event()
@@ -135,6 +136,7 @@ class Log:
         self.fault: object = None
         self.zero: Optional[float] = None
         self.task: Optional[clock.Task] = None
+        self.last = finite.FAULT
         if path:
             file = open(path, "w", newline="", encoding="utf-8")
             self.put_rows(file, [["time", "drone", "x", "y", "z", "stamp", "variance"]])
@@ -157,6 +159,7 @@ class Log:
             while not self.over.wait(0.2):
                 self.write(file)
             self.write(file)
+            file.write(self.last + "\n")
             file.close()
         except (OSError, ValueError) as error:
             self.fault = error
@@ -173,10 +176,12 @@ class Log:
                               "" if variance is None else f"{variance:.3g}"]
                              for at, name, place, stamp, variance in rows])
 
-    def close(self) -> None:
-        """Has all written that waits, by the time of its last sample where nothing was started, but not for long."""
+    def close(self, is_kept: bool = False) -> None:
+        """Has all written that waits, by the time of its last sample where nothing was started, but not for long. Last
+        comes whether the flight was kept."""
         if self.zero is None and self.waiting:
             self.zero = self.waiting[-1][0]
+        self.last = finite.KEPT if is_kept else finite.FAULT
         self.over.set()
         if self.task:
             self.task.join(2.0)
