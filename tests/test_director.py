@@ -225,7 +225,9 @@ class Process(unittest.TestCase):
                 ("leaps for less", [clock(20), at(101, armed), clock(299), at(150, armed)], []),
                 ("seen late", [clock(20), at(101, armed), clock(400), at(150, armed, 101)], []),
                 ("seen later", [clock(20), at(101, armed), clock(400), at(150, armed, 100)], lands),
-                ("seen before", [clock(20), at(5000, armed, 21), clock(300), at(150, armed)], []),
+                ("seen before", [clock(20), at(1200, armed, 21), clock(300), at(150, armed)], []),
+                ("out of the room", [clock(20), at(5000, armed, 21), at(150, armed)],
+                 [Noted(0, director.OUTSIDE), *lands[1:]]),
                 ("hovers", [*high, at(1100, armed), clock(300), at(900, armed)], []),
                 ("is late", [*high, at(888, armed), clock(300), at(888, armed)], []),
                 ("sinks", [*high, at(887, armed), clock(300), at(887, armed)], lands)):
