@@ -178,8 +178,9 @@ def quantity_row(name: str, slot: Number, counts: Counts, word: str) -> Row:
     if row := odd_row(name, word, "0+|[0-9]+([.][0-9]+)?(%s)" % "|".join(units)):
         return row
     (sign, whole, point, fraction, unit), = re.findall(r"\A([+-]?)([0-9]*)([.,]?)([0-9]*)(.*)\Z", word, re.S)
-    if not whole + fraction:
-        return [f"{name} is {word}, which {'is no number' if re.search('[0-9]', word) else 'has no digits'}", "",
+    if not whole + fraction or re.search("[-0-9/*+.,]", unit):
+        return [f"{name} is {word}, which {'is no number' if re.search('[0-9]', word) else 'has no digits'}",
+                "a fraction with a `/`: a number has a point" if "/" in unit else "",
                 f"write a number with its unit: {listed(units)}"]
     if not unit:
         return bare_row(name, slot, counts, word, point == "")
