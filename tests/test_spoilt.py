@@ -45,6 +45,7 @@ FIRST_LINE = (
     ({1: "Choreo 2"}, 1, "header", "`Choreo 2`", "write `choreo 2`"), ({1: "choreo2"}, 1, "header", "`choreo2`"),
     ({1: "choreo 2 my show"}, 1, "header", "more words in the first line", "write `choreo 2` alone"),
     ({1: "2 choreo"}, 1, "header", "the first line is `2 choreo`", "write `choreo 2` where"),
+    ({2: "choreo 2"}, 2, "bad-word", "the first line of the text says already in which form it is", "remove this line"),
     ({1: GONE}, 1, "header", "the line is missing", "begin the text with `choreo 2`"))
 NAMES = (
     ({4: "drone Alpha 0 0 1m 0"}, 4, "bad-name", "`Alpha` is no name: it has a capital letter", "write `alpha`"),
@@ -139,6 +140,9 @@ NUMBERS = (
     ({4: "drone alpha 0 0 1 0"}, 4, "bad-number", "a coordinate is 1, without a unit", "write 1m, 1cm, 1mm or 1um"),
     ({4: "drone alpha 0 0 1,5m 0"}, 4, "bad-number", "a comma in place of the point", "write 1.5m"),
     ({4: "drone alpha 0 0 1m 2rad"}, 4, "bad-number", "rad is no unit here", "deg"),
+    ({4: "drone alpha 0: 0 1m 0"}, 4, "bad-number", "a `:` between words, where a blank is enough", "write 0"),
+    ({17: "cue -3s"}, 17, "range", "may be 1ms to 65.535s", "a `-` before it", "write 3s"),
+    ({21: "repeat -2"}, 21, "range", "the count of a `repeat` is -2", "a `-` before it", "write 2"),
     ({4: "drone alpha 0 0 101m 0"}, 4, "range", "a coordinate is 101m", "may be -100m to 100m"),
     ({17: "cue 3"}, 17, "bad-number", "the length of a cue is 3, without a unit", "write 3s or 3ms"),
     ({17: "cue 70s"}, 17, "range", "may be 1ms to 65.535s", "split a longer cue"),

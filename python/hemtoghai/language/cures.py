@@ -95,6 +95,11 @@ def range_row(line: bytes, form: int = 1) -> Row | None:
         value = number_of(slot, word, form)
         if value is None or slot.has(value):
             continue
+        if value < 0 <= slot.least:
+            cause, cure = "a `-` before it", f"write {word[1:]}" if slot.has(-value) else cure
+            limits = f"{slot.least} to {slot.most} ({unit})" if form == 1 or slot.counts is None else \
+                f"{written(slot.counts, slot.least)} to {written(slot.counts, slot.most)}"
+            return [f"{name} is {short(word)}, and may be {limits}", cause, cure]
         if form == 1 or slot.counts is None:
             return ["%s is %s, and may be %d to %d (%s)" % (name, short(word), *slot[:2], unit), cause, cure]
         read = "" if value == 0 or abs(value) == FAR else f" ({value} {unit})"
@@ -153,9 +158,10 @@ def whole_row(name: str, slot: Number, counts: Counts, word: str) -> Row | None:
 def odd_row(name: str, word: str, number: str) -> Row | None:
     """The row of a word that is nearly a number, by the form of one without its sign: with a comma or a `+`, with its
     unit in front, with an exponent, with two points, or a letter in place of a digit; None where it is none of these."""
-    bare = word.strip(",;+")
+    bare = word.strip(",;:+")
     if bare != word and re.fullmatch(f"-?(?:{number})", bare):
-        cause = "a `+`" if word[0] == "+" else "commas between words, where a blank is enough"
+        cause = "a `+`" if word[0] == "+" else \
+            f"{'a `:`' if ':' in word else 'commas'} between words, where a blank is enough"
         return [f"{name} is {word}", cause, f"write {bare}"]
     found = re.fullmatch("([a-z]+)(-?[0-9.]+)", word)
     if found and re.fullmatch(f"-?(?:{number})", found[2] + found[1]):

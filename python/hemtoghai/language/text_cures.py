@@ -163,6 +163,8 @@ def place_row(at: Around) -> Row | None:
     if first == "end":
         return ["`end` closes a block, and none is open here", "one `end` too many" + last_closed(at),
                 "remove this line, or look for a block above that was closed too early"]
+    if first == "choreo":
+        return ["the first line of the text says already in which form it is", "", "remove this line"]
     if len(at.words) > 1 and at.words[1] in ACTS and is_name(first):
         before = at.blocks[-1].body[-1:]
         is_cut = before and before[0].kind == "cue" and not before[0].body
