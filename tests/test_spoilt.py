@@ -45,6 +45,7 @@ FIRST_LINE = (
     ({1: "Choreo 2"}, 1, "header", "`Choreo 2`", "write `choreo 2`"), ({1: "choreo2"}, 1, "header", "`choreo2`"),
     ({1: "choreo 2 my show"}, 1, "header", "more words in the first line", "write `choreo 2` alone"),
     ({1: "2 choreo"}, 1, "header", "the first line is `2 choreo`", "write `choreo 2` where"),
+    ({1: "choroo 2"}, 1, "header", "the first line is `choroo 2`", "write `choreo 2` where"),
     ({2: "choreo 2"}, 2, "bad-word", "the first line of the text says already in which form it is", "remove this line"),
     ({1: GONE}, 1, "header", "the line is missing", "begin the text with `choreo 2`"))
 NAMES = (

@@ -108,7 +108,7 @@ def around(text: bytes, number: int) -> Around | None:
 def header_row(line: bytes) -> Row | None:
     """The row of a first line that begins nearly as a header does; None where it doesn't."""
     words, forms = words_of(line), "write `choreo 2` where numbers have units, and `choreo 1` where they are whole"
-    if not any(word.lower().startswith("choreo") for word in words[:2]):
+    if not any(word.lower().startswith("choreo") or nearest(word, ["choreo"]) for word in words[:2]):
         return None
     what = f"the first line is `{short_word(' '.join(words))}`"
     if words[0] == "choreo" and words[1:2] and words[1].isdigit() and words[1].strip("0") not in ("1", "2"):
