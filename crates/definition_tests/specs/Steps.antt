@@ -193,7 +193,7 @@ abbrev pub seen_before : ℕ → Sample
 seen_before age = record (flagged true false false true false true) { age = age }
 
 abbrev pub track_before : ℕ → Track
-track_before age = record { seen = Some (seen_before age); off = None; unsure = None }
+track_before age = record { seen = Some (seen_before age); off = None; unsure = None; outside = false }
 
 -- Of any flight with these steps, or with a show of 100 ms, in any state.
 pub record DirectorRows : Type 0 where
