@@ -199,13 +199,13 @@ class Logs(common.Folder, unittest.TestCase):
         for lines in (rows, names + rows, names + ["", *rows, "", ""]):
             with tempfile.TemporaryDirectory() as self.place, mock.patch.object(flown, "MOST_LINES", len(lines)):
                 self.write("log", "\n".join(lines) + "\n")
-                found = flown.read_log(self.path("log"))
+                found = flown.read_log(self.path("log"), set())
                 self.assertEqual({name: len(it) for name, it in found.items()}, {"a": 8, "b": 8})
                 self.assertEqual(found["b"][7], (7.0, (1000.0, 0.0, 1000.0), None, None))
                 for more in ("8,a,0,0,1", "\n"):
                     self.write("log", "\n".join([*lines, more]))
                     with self.assertRaises(SystemExit) as ended, contextlib.redirect_stderr(io.StringIO()) as told:
-                        flown.read_log(self.path("log"))
+                        flown.read_log(self.path("log"), set())
                     self.assertEqual(ended.exception.code, 70)
                     self.assertIn("more than %d lines" % len(lines), told.getvalue())
 
@@ -215,7 +215,7 @@ class Logs(common.Folder, unittest.TestCase):
                 self.write("log", "1,a,0,0,1\n" * count + "\n" * 10)
                 with contextlib.redirect_stderr(io.StringIO()) as told:
                     try:
-                        self.assertEqual(len(flown.read_log(self.path("log"))["a"]), 5)
+                        self.assertEqual(len(flown.read_log(self.path("log"), set())["a"]), 5)
                     except SystemExit:
                         self.assertIn(wanted or "?", told.getvalue())
                     else:

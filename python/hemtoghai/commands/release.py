@@ -133,7 +133,8 @@ def archive(name: str, contents: Contents, links: Links, when: int) -> bytes:
             entry = tarfile.TarInfo("%s/%s" % (name, path))
             entry.type, entry.linkname, entry.mode, entry.mtime = tarfile.SYMTYPE, target, 0o777, when
             tar.addfile(entry)
-    return gzip.compress(whole.getvalue(), mtime=0)
+    packed = gzip.compress(whole.getvalue(), mtime=0)
+    return packed[:9] + b"\xff" + packed[10:]  # the system on which it was packed: Pythons name it differently
 
 
 def print_made(path: str, count: int, data: bytes) -> None:
