@@ -182,6 +182,17 @@ def print_end(options: Namespace, done: Carrying, ended: int) -> int:
     return status
 
 
+@contextlib.contextmanager
+def no_yes_of_a_link(path: str) -> Iterator[None]:
+    """The file of --link may leave the process with 0: no upload was done then, and 0 would say so."""
+    try:
+        yield
+    except SystemExit as left:
+        if not left.code:
+            stop(f"{path} ended the upload")
+        raise
+
+
 def main(words: list[str]) -> int:
     options = options_of(words)
     text, flown = flown_of(options.show)
@@ -206,12 +217,8 @@ def main(words: list[str]) -> int:
         return link_of(options.link, flown.names, heard) if options.link else links.SimulatedLink(
             flown.names, heard, drones, options)
     traffic = Traffic(flown.names, wanted_packets(flown, options.start, options.readback))
-    try:
+    with no_yes_of_a_link(options.link or ""):
         done, ended = uploaded(command, text, link, traffic, options.tick, lambda line: print(line, file=sys.stderr))
-    except SystemExit as left:
-        if not left.code:  # the file of --link left the process: no upload was done, and 0 would say so
-            stop(f"{options.link} ended the upload")
-        raise
     status = print_end(options, done, ended)
     if status in (3, 4, 5):
         return status  # no packet was sent
