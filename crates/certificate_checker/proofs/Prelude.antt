@@ -16,7 +16,6 @@ pub use Rattle.sep_certificate.specs.declared.certificate.CertFault.{CertFault}
 pub use Rattle.sep_certificate.specs.declared.certificate.CertFault.TheVariants.{Extra, Missing}
 pub use Rattle.sep_certificate.specs.declared.certificate.Certificate.{Certificate}
 pub use Rattle.sep_parts.proofs.Orders.{IsAhead, first_ahead, next_ahead}
-pub use Rattle.sep_parts.proofs.Stacks.{first_stack}
 pub use Rattle.sep_parts.proofs.Table.{small_table, table_small}
 pub use Rattle.sep_parts.specs.Slots.{following, slot_at, slots}
 pub use Rattle.sep_parts.specs.Trees.{IsKnown, IsTree, Tree, preorder}

@@ -1,10 +1,8 @@
 -- The values of an act are what its words are, one by one.
-use Rattle.choreo_lines.proofs.Prelude.{◌≡◌, Bool, List, [], ◌∷◌, length, refl, arith, Result, Ok, Err, ℤ, ◌>>=◌, Word, act_with, ccw_in, values_in, LineKind, Form, Value}
-use Rattle.choreo_lines.specs.Steps.{act_read, coordinate_in, yaw_in, triple_by, point_by, quarter_by, line_in, move_in, turn_in, arc_in, eased_in, curve_in}
+use Rattle.choreo_lines.proofs.Prelude.{◌≡◌, Bool, List, [], ◌∷◌, length, refl, arith, Result, Ok, Err, ℤ, ◌>>=◌, Word, act_with, ccw_in, values_in, LineKind, Form, Value, act_read, coordinate_in, yaw_in, triple_by, point_by, quarter_by, line_in, move_in, turn_in, arc_in, eased_in, curve_in, Ccw, Number}
 use Rattle.choreo_show.specs.declared.parts.Act.TheVariants as made
 use Rattle.choreo_show.specs.declared.parts.Ease.{Ease}
 use Rattle.choreo_lines.specs.declared.table.ActWord.TheVariants as act
-use Rattle.choreo_lines.specs.declared.table.Value.TheVariants.{Ccw, Number}
 
 -- one more number in front of values
 abbrev then : Result ℤ LineKind → Result (List Value) LineKind → Result (List Value) LineKind

@@ -1,6 +1,5 @@
 -- Words that are read from the left, one by one.
-use Rattle.choreo_lines.proofs.Prelude.{◌≡◌, ℕ, suc, ◌+◌, ◌<◌, ◌≤◌, List, [], ◌∷◌, ◌++◌, length, get_or, drop, refl, sym, ap, ◌∙◌, append_assoc, add-one, drop-cons, Result, Ok, Err, drop_all, append-nil, words_in, word_in, ◌>>=◌, name_in, names_in, value_in, values_in, LineKind, Form, Want, Value, Name}
-use Rattle.text_lines.specs.declared.token.Token.{Token}
+use Rattle.choreo_lines.proofs.Prelude.{◌≡◌, ℕ, suc, ◌+◌, ◌<◌, ◌≤◌, List, [], ◌∷◌, ◌++◌, length, get_or, drop, refl, sym, ap, ◌∙◌, append_assoc, add-one, drop-cons, Result, Ok, Err, drop_all, append-nil, words_in, word_in, ◌>>=◌, name_in, names_in, value_in, values_in, LineKind, Form, Want, Value, Name, Token}
 
 -- what is read after what was read so far
 abbrev pub with_front : {A : Type 0} → List A → Result (List A) LineKind → Result (List A) LineKind

@@ -1,5 +1,6 @@
 -- How a line is read, step by step: what each step gave, and by which first word.
-use Rattle.choreo_lines.proofs.Prelude.{common_steps, ◌≡◌, Bool, true, false, List, drop, Result, Ok, Err, refl, sym, ap, subst, ◌∙◌, cond, arith, not, length, and_parts, Name, is_name, Word, word, row_of, has_count, may_stand, as_read, keyword_in, entry_with, ◌>>=◌, name_in, values_in, names_in, act_in, act_line, row_line, line_in, line_at, entry_of, may_say, LineKind, Keyword, Form, Place, Entry, Act, Value}
+use Rattle.choreo_lines.proofs.Prelude.{common_steps, ◌≡◌, Bool, true, false, List, drop, Result, Ok, Err, refl, sym, ap, subst, ◌∙◌, cond, arith, not, length, and_parts, Name, is_name, Word, word, row_of, has_count, may_stand, as_read, keyword_in, entry_with, ◌>>=◌, name_in, values_in, names_in, act_in, act_line, row_line, line_at, entry_of, may_say, LineKind, Keyword, Form, Place, Entry, Act, Value}
+use Rattle.choreo_lines.specs.Fields.{line_in}
 use Rattle.choreo_lines.specs.FirstWord.{keyword_of}
 use Rattle.choreo_lines.specs.declared.line.LineKind.TheVariants as kind
 use Rattle.choreo_lines.specs.declared.line.Keyword.TheVariants as first

@@ -1,5 +1,5 @@
 -- A show that a text stands for is valid.
-use Rattle.choreo_reader.proofs.Prelude.{common_steps, ◌≡◌, ℕ, ◌+◌, ◌<◌, ◌≤◌, Bool, true, false, cond, eqb-true, ne_eqb, List, [], ◌∷◌, ◌++◌, map, Option, Some, None, refl, sym, ap, subst, ◌∙◌, arith, append_assoc, recursion_from_All, ◌==◌, slice_index_or, IfSome, IsTrue, append-nil, FromHash, visible, Line, line_with, numbered, words_of, lines_of, Body, PlainFigure, PlainShow, has_block, ◌⨾◌, Word, row_of, act_places, has_count, act_fields, keyword_in, fields_of, SaysAct, Says, held_fit, held_length, holds_fits, SaidLine, act_said, body_said, Item, Memory, Trajectory, Ellipsoid, Stray, Late, Drone, Formed, Figured, Blocks, item_said, show_of, IsItem, StandsFor, parts_of, is_filled, depth, IsName, FitsAct, FitActLines, FitsBody, FitDroneLines, FitFormations, FitFigures, FitsSettings, act_lines, body_lines, drone_lines, formation_lines, figure_lines, AllAbove, times, all_lines, IsValid, Entry, ActLine, DroneLine, Formation, Form}
+use Rattle.choreo_reader.proofs.Prelude.{common_steps, ◌≡◌, ℕ, ◌+◌, ◌<◌, ◌≤◌, Bool, true, false, cond, eqb-true, ne_eqb, List, [], ◌∷◌, ◌++◌, map, Option, Some, None, refl, sym, ap, subst, ◌∙◌, arith, append_assoc, recursion_from_All, ◌==◌, slice_index_or, IfSome, IsTrue, append-nil, FromHash, visible, Line, line_with, numbered, words_of, lines_of, Body, PlainFigure, PlainShow, has_block, ◌⨾◌, Word, row_of, act_places, has_count, act_fields, keyword_in, fields_of, SaysAct, Says, held_fit, held_length, holds_fits, SaidLine, act_said, body_said, Item, Memory, Trajectory, Ellipsoid, Stray, Late, Drone, Formed, Figured, Blocks, item_said, show_of, IsItem, StandsFor, parts_of, is_filled, depth, IsName, FitsAct, FitActLines, FitsBody, FitDroneLines, FitFormations, FitFigures, FitsSettings, act_lines, body_lines, drone_lines, formation_lines, figure_lines, AllAbove, times, all_lines, IsValid, Entry, ActLine, DroneLine, Formation, Form, and_parts, leb-true, length-map, ◌&&◌, nat_le, length, point, AllFit, point_fields, Name, AreNames, FitsFigure, FitsPerform, FitsPoint}
 use Rattle.std.proofs.lemmas.Int.{ints}
 use Rattle.choreo_show.specs.Plain as plain
 use Rattle.choreo_lines.specs.declared.table.Want.TheVariants as want
@@ -7,13 +7,6 @@ use Rattle.choreo_lines.specs.declared.table.Value.TheVariants.{Name as Named}
 use Rattle.choreo_reader.proofs.Items.{closing, place_said, items_said, drones, formations, figures, body, AreItems, AreSaid}
 use Rattle.choreo_reader.proofs.Sound.{filled_then, depth_then}
 use Rattle.choreo_lines.specs.declared.line.Entry.TheVariants as entry
-use Rattle.std.proofs.lemmas.Bool.{and_parts, leb-true}
-use Rattle.std.proofs.lemmas.List.{length-map}
-use Rattle.std.specs.Prelude.{◌&&◌, nat_le, length}
-use Rattle.choreo_lines.specs.Table.{point}
-use Rattle.choreo_lines.specs.Values.{AllFit, point_fields}
-use Rattle.choreo_show.specs.Name.{Name}
-use Rattle.choreo_show.specs.Valid.{AreNames, FitsFigure, FitsPerform, FitsPoint}
 use Rattle.choreo_show.specs.declared.parts.Act.{Act}
 use Rattle.choreo_show.specs.declared.parts.Act.TheVariants as act
 use Rattle.choreo_show.specs.declared.parts.Frame.{Frame}

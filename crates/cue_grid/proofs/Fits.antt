@@ -1,12 +1,10 @@
 -- The grid of a valid show without a fault is valid.
-use Rattle.cue_grid.proofs.Prelude.{common_steps, ◌≡◌, ℕ, zero, suc, ◌+◌, ◌*◌, ◌≤◌, Bool, true, false, cond, List, [], ◌∷◌, ◌++◌, map, length, drop, Option, Some, None, refl, sym, ap, subst, ◌∙◌, arith, IfSome, ◌&&◌, nat_lt, ◌==◌, IsTrue, neg_ℤ, pos, ◌≤ℤ◌, All, length-append, length-map, nat_tests, Name, Body, PlainFigure, PlainShow, has_block, IsName, FitsCoordinate, FitsPoint, FitsAct, FitsFrame, FitsActLine, FitActLines, FitsBody, FitDroneLines, FitFormations, FitFigures, IsValid, ActLine, Act, DroneLine, Formation, Frame, Point, same_name, formation_named, figure_named, place_named, places_in, names_of, no_frame, Playing, player, job_of, times_over, cues_in, cues_of_figure, cues_of, grid_of, as_written, way_if, act_if, act_by, act_line_number, job_or, nothing_performed, performed_cues, most_cues, most_drones, count_in, none_performed, figure_count, count_of_figure, perform_count, body_count, line_if_over, over_at, line_of, perform_faults, body_faults, drones_faults, formations_faults, figures_faults, show_faults, name_faults, earlier_of, earliest, no_drone, too_many, many_drones, no_cue, many_cues, or_else, grid_fault, GridFault, NoDrone, Job, Cue}
+use Rattle.cue_grid.proofs.Prelude.{common_steps, ◌≡◌, ℕ, zero, suc, ◌+◌, ◌*◌, ◌≤◌, Bool, true, false, cond, List, [], ◌∷◌, ◌++◌, map, length, drop, Option, Some, None, refl, sym, ap, subst, ◌∙◌, arith, IfSome, ◌&&◌, nat_lt, ◌==◌, IsTrue, neg_ℤ, pos, ◌≤ℤ◌, All, length-append, length-map, nat_tests, Name, Body, PlainFigure, PlainShow, has_block, IsName, FitsCoordinate, FitsPoint, FitsAct, FitsFrame, FitsActLine, FitActLines, FitsBody, FitDroneLines, FitFormations, FitFigures, IsValid, ActLine, Act, DroneLine, Formation, Frame, Point, same_name, formation_named, figure_named, place_named, places_in, names_of, no_frame, Playing, player, job_of, times_over, cues_in, cues_of_figure, cues_of, grid_of, as_written, way_if, act_if, act_by, act_line_number, job_or, nothing_performed, performed_cues, most_cues, most_drones, count_in, none_performed, figure_count, count_of_figure, perform_count, body_count, line_if_over, over_at, line_of, perform_faults, body_faults, drones_faults, formations_faults, figures_faults, show_faults, name_faults, earlier_of, earliest, no_drone, too_many, many_drones, no_cue, many_cues, or_else, grid_fault, GridFault, NoDrone, Job, Cue, FitsJob, FitJobs, FitCues, IsGrid, Grid}
 use Rattle.std.proofs.lemmas.List.Elements.{All-nil, All-cons}
 use Rattle.choreo_show.specs.Plain as plain
 use Rattle.choreo_show.specs.Shape.{is_filled, fits_figure}
 use Rattle.choreo_show.specs.declared.show.ActLine.TheVariants as on
 use Rattle.cue_grid.proofs.Placing.{job_first}
-use Rattle.cue_grid.specs.Grids.{FitsJob, FitJobs, FitCues, IsGrid}
-use Rattle.cue_grid.specs.declared.grid.Grid.{Grid}
 
 -- What no fault says.
 

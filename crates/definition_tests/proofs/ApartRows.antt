@@ -1,11 +1,5 @@
 -- Small flights, computed.
-use Rattle.std.proofs.Common.{pos, arith, refl}
-use Rattle.fleet_math.specs.Bernstein.{bernstein}
-use Rattle.fleet_math.specs.Decoded.{decoded}
-use Rattle.fleet_math.specs.Moments.{moment}
-use Rattle.definition_tests.specs.Apart.{LateRows, MarginRows, StrayRows, TouchRows}
-use Rattle.definition_tests.specs.Flights.{flight}
-use Rattle.definition_tests.specs.Places.{place}
+use Rattle.definition_tests.proofs.Prelude.{pos, arith, refl, bernstein, decoded, moment, LateRows, MarginRows, StrayRows, TouchRows, flight, place}
 
 pub late : LateRows
 unfolding bernstein decoded moment

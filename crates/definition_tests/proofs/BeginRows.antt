@@ -1,17 +1,6 @@
 -- Small uploads, computed.
-use Rattle.std.proofs.Common.{◌≡◌, ℕ, suc, zero, ◌+◌, ◌<◌, List, false, true, Option, None, Some, [], ◌∷◌, ap, get_or, take, arith, refl, sym, ◌∙◌, slice_get}
-use Rattle.upload_model.specs.declared.events.WorldEvent.{WorldEvent}
-use Rattle.upload_model.specs.declared.events.WorldEvent.TheVariants.{Take, Hear}
+use Rattle.definition_tests.proofs.Prelude.{◌≡◌, ℕ, suc, zero, ◌+◌, ◌<◌, List, false, true, Option, None, Some, [], ◌∷◌, ap, get_or, take, arith, refl, sym, ◌∙◌, slice_get, WorldEvent, Take, Hear, WasRight, is_right, All-cons, All-head, All-nil, AcceptsLoad, IsAccepted, TakesStart, DroneState, handled, acked, acked_from, acknowledges, all_packets, all_settled, ending, flight_at, flight_in, out, phase_of, progress, progress_within, ticks, reply_in, reply_to, packet_at, packet_count, part_count, read_count, write_count, happens, host_event, start_world, world}
 use Rattle.crtp_packets.specs.Commands.{start_of}
-use Rattle.upload_model.specs.Readback.{WasRight, is_right}
-use Rattle.std.proofs.lemmas.List.Elements.{All-cons, All-head, All-nil}
-use Rattle.upload_model.specs.Taking.{AcceptsLoad, IsAccepted}
-use Rattle.upload_model.specs.Theorem.{TakesStart}
-use Rattle.upload_model.specs.Drones.{DroneState, handled}
-use Rattle.upload_model.specs.Hosts.{acked, acked_from, acknowledges, all_packets, all_settled, ending, flight_at, flight_in, out, phase_of, progress, progress_within, ticks}
-use Rattle.upload_model.specs.Replies.{reply_in, reply_to}
-use Rattle.upload_model.specs.Sessions.{packet_at, packet_count, part_count, read_count, write_count}
-use Rattle.upload_model.specs.Worlds.{happens, host_event, start_world, world}
 use Rattle.definition_tests.specs.Begins.{BeginRows, OrderRows, ReadRows, SafeRows, blank, byte_after, loaded, reading, session, started}
 
 -- the number of the packet that is taken

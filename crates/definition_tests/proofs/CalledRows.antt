@@ -1,6 +1,5 @@
 -- Words, compared.
-use Rattle.std.proofs.Common.{◌≡◌, ◌<◌, ◌≤◌, ℕ, List, [], ◌∷◌, Some, Contains, ap, get_or, length, slice_index_or, arith, refl, sym, ◌∙◌}
-use Rattle.std.specs.Prelude.{codes, string_bytes, String}
+use Rattle.definition_tests.proofs.Prelude.{◌≡◌, ◌<◌, ◌≤◌, ℕ, List, [], ◌∷◌, Some, Contains, ap, get_or, length, slice_index_or, arith, refl, sym, ◌∙◌, codes, string_bytes, String}
 use Rattle.std.specs.declared.alloc.Global.{Global}
 use Rattle.std.proofs.lemmas.Option.{none-some}
 use Rattle.show_run.specs.Verbs.{IsCalled, judges_apart}

@@ -1,12 +1,5 @@
 -- Small memories, computed.
-use Rattle.std.proofs.lemmas.Grind.{common_steps}
-use Rattle.std.proofs.Common.{◌≡◌, ℕ, pos, ◌++◌, List, [], ◌∷◌, All, None, Some, ap, ◌∙◌, subst, drop, arith, refl, slice_get}
-use Rattle.std.proofs.lemmas.List.Elements.{All-cons, All-nil}
-use Rattle.traj_codec.specs.Spelling.{HasDuration, IsTrajectory, spelling}
-use Rattle.upload_model.specs.declared.loads.Def.{Def}
-use Rattle.firmware_memory.specs.Decoded.{Carries, DecodesTo}
-use Rattle.definition_tests.specs.Carried.{CarriesRows, loaded_with}
-use Rattle.definition_tests.specs.Flights.{flight}
+use Rattle.definition_tests.proofs.Prelude.{common_steps, ◌≡◌, ℕ, pos, ◌++◌, List, [], ◌∷◌, All, None, Some, ap, ◌∙◌, subst, drop, arith, refl, slice_get, All-cons, All-nil, HasDuration, IsTrajectory, spelling, Def, Carries, DecodesTo, CarriesRows, loaded_with, flight}
 
 small : IsTrajectory (flight (pos 0) (pos 1))
 small = grind (arith, common_steps, All-cons, All-nil)

@@ -1,5 +1,5 @@
 -- What holds of each number up to a small one.
-use Rattle.std.proofs.Common.{◌≤◌, ℕ, zero, suc, arith}
+use Rattle.definition_tests.proofs.Prelude.{◌≤◌, ℕ, zero, suc, arith}
 
 -- what holds of each number up to seven
 pub to_seven : (P : ℕ → Type 0) → P 0 → P 1 → P 2 → P 3 → P 4 → P 5 → P 6 → P 7 → (k : ℕ) → k ≤ 7 → P k

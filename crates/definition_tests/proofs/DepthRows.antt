@@ -1,13 +1,5 @@
 -- Parts of one cue, computed.
-use Rattle.std.proofs.Common.{◌<◌, ℕ, zero, suc, arith, refl}
-use Rattle.bezier_core.specs.Raised.{raised_value}
-use Rattle.fleet_math.specs.Bernstein.{bernstein}
-use Rattle.halving.specs.Part.{polar}
-use Rattle.fleet_curves.specs.Raised.{difference, raised_of}
-use Rattle.sep_parts.specs.Directions.{direction_of, root_above}
-use Rattle.sep_parts.specs.Levels.{left_half, right_half, root}
-use Rattle.sep_parts.specs.Separates.{Separates}
-use Rattle.pair_search.specs.Search.{IsClear, blocked_place}
+use Rattle.definition_tests.proofs.Prelude.{◌<◌, ℕ, zero, suc, arith, refl, raised_value, bernstein, polar, difference, raised_of, direction_of, root_above, left_half, right_half, root, Separates, IsClear, blocked_place}
 use Rattle.definition_tests.specs.Depths.{DepthRows, SearchRows, near, slants, turning}
 use Rattle.definition_tests.proofs.Counting.{to_seven}
 

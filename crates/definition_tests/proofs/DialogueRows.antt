@@ -1,13 +1,9 @@
 -- Dialogues over a link, computed.
-use Rattle.std.proofs.Common.{◌≡◌, ℕ, zero, suc, ◌<◌, ◌≤◌, ◌++◌, List, [], ◌∷◌, None, Some, ap, append-nil, arith, length, refl, take}
-use Rattle.std.proofs.lemmas.List.Elements.{All-cons, All-head, All-nil}
-use Rattle.std.specs.List.{All}
+use Rattle.definition_tests.proofs.Prelude.{◌≡◌, ℕ, zero, suc, ◌<◌, ◌≤◌, ◌++◌, List, [], ◌∷◌, None, Some, ap, append-nil, arith, length, refl, take, All-cons, All-head, All-nil, All, BeginsNone, DialogueGives, Takes, items_bytes, over}
 use Rattle.flight_model.specs.declared.events.Event.{Event}
 use Rattle.flight_model.specs.declared.events.Event.TheVariants.{Clock, Seen, Answered, Said}
 use Rattle.flight_link.specs.Sends.{IsBegun}
-use Rattle.link_dialogue.specs.Dialogues.{BeginsNone, DialogueGives, Takes, items_bytes}
 use Rattle.definition_tests.specs.Dialogues.{DialogueRows, endless, two}
-use Rattle.definition_tests.specs.Small.{over}
 
 -- the dialogue goes on before the first item and before the second
 going : (n : ℕ) → n < 2 → two.ended (take n (1 ∷ 2 ∷ [])) ≡ None

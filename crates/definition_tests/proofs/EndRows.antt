@@ -1,26 +1,11 @@
 -- Instants that are held back to the show, and the two ends of a curve.
-use Rattle.std.proofs.Common.{◌≡◌, ℕ, zero, suc, ◌+◌, ◌-◌, ◌*◌, ◌≤◌, min, nat_le, true, ℤ, pos, ◌*ℤ◌, List, [], ◌∷◌, All, length, map, fold, sum, arith, refl, sym, ◌∙◌, ap, subst, get_or}
+use Rattle.definition_tests.proofs.Prelude.{◌≡◌, ℕ, zero, suc, ◌+◌, ◌-◌, ◌*◌, ◌≤◌, min, nat_le, true, ℤ, pos, ◌*ℤ◌, List, [], ◌∷◌, All, length, map, fold, sum, arith, refl, sym, ◌∙◌, ap, subst, get_or, length-map, All-cons, All-head, All-nil, All-tail, power, at, Moment, moment, moment_from, time_before, IsPiece, Segment, Traj, HasDuration, durations, element_on, piece_on, pieces_on, value_after, own, AreTogether, last_value, IsMoving, formed_of, pieces_formed}
 use Rattle.std.proofs.lemmas.Bool.Decides.{nat_tests}
 use Rattle.std.proofs.lemmas.Nat.{mul-le}
-use Rattle.std.proofs.lemmas.List.{length-map}
 use Rattle.std.proofs.lemmas.List.Sums.{sum_by-cons}
-use Rattle.std.proofs.lemmas.List.Elements.{All-cons, All-head, All-nil, All-tail}
-use Rattle.fleet_math.specs.Sums.{power}
-use Rattle.fleet_math.specs.Bernstein.{at}
-use Rattle.fleet_math.specs.Moments.{Moment, moment, moment_from, time_before}
 use Rattle.fleet_math.specs.Decoded as plain
-use Rattle.fleet_math.specs.Decoded.{IsPiece}
 use Rattle.fleet_math.proofs.EdgeLemmas.{decoded-at_end, decoded-at_start, moment_from-edge}
-use Rattle.traj_codec.specs.declared.traj.Segment.{Segment}
-use Rattle.traj_codec.specs.declared.traj.Traj.{Traj}
-use Rattle.traj_codec.specs.Spelling.{HasDuration}
-use Rattle.traj_codec.specs.Positions.{decoded, durations, element_on, piece_on, pieces_on, value_after}
-use Rattle.traj_codec.specs.Joined.{own}
-use Rattle.sep_parts.specs.Apart.{AreTogether}
-use Rattle.firmware_memory.specs.Decoded.{last_value}
-use Rattle.speed_bound.specs.Reach.{IsMoving}
-use Rattle.speed_bound.proofs.Reaches.{formed_of}
-use Rattle.speed_bound.proofs.Rests.{pieces_formed}
+use Rattle.traj_codec.specs.Positions.{decoded}
 use Rattle.definition_tests.specs.Ends.{EndsLaw, held_at}
 
 -- ---- instants

@@ -1,27 +1,7 @@
 -- A show of one drone, explained.
-use Rattle.std.proofs.Common.{◌≡◌, ℕ, zero, suc, pos, false, List, [], ◌∷◌, Option, None, Some, codes, ap, get_or, length, arith, refl, subst, ◌∙◌, slice_get}
-use Rattle.std.specs.Prelude.{MatchOption}
-use Rattle.std.proofs.lemmas.List.Elements.{All-cons, All-nil}
-use Rattle.fleet_curves.specs.Raised.{raised_of}
-use Rattle.figure_expand.specs.Expanded.{expanded}
+use Rattle.definition_tests.proofs.Prelude.{◌≡◌, ℕ, zero, suc, pos, false, List, [], ◌∷◌, Option, None, Some, codes, ap, get_or, length, arith, refl, subst, ◌∙◌, slice_get, MatchOption, All-cons, All-nil, raised_of, expanded, slots, Traj, IsClosest, NoTouch, PlainShow, DroneLine, Whole, IsItem, StandsFor, Drone, ShowLaw, trajectories_of, FlyApart, sent_of, Explains, TellsTouches, blocked_of, ExplainRows, solo, solo_text, spot, line_of, nobody}
 use Rattle.sep_parts.specs.Apart as exact
-use Rattle.sep_parts.specs.Slots.{slots}
-use Rattle.traj_codec.specs.declared.traj.Traj.{Traj}
 use Rattle.touch_witness.specs.declared.site.Closest.{Closest}
-use Rattle.touch_witness.specs.Sites.{IsClosest, NoTouch}
-use Rattle.choreo_show.specs.Plain.{PlainShow}
-use Rattle.choreo_show.specs.declared.show.DroneLine.{DroneLine}
-use Rattle.choreo_lines.specs.declared.table.Form.TheVariants.{Whole}
-use Rattle.choreo_reader.specs.Grammar.{IsItem, StandsFor}
-use Rattle.choreo_reader.specs.Grammar.Item.{Drone}
-use Rattle.choreo_reader.specs.Laws.{ShowLaw}
-use Rattle.show_judge.specs.Shows.{trajectories_of}
-use Rattle.show_plan.specs.Separation.{FlyApart}
-use Rattle.show_judge.specs.Shows.{sent_of}
-use Rattle.show_studies.specs.Explained.{Explains, TellsTouches, blocked_of}
-use Rattle.definition_tests.specs.Meetings.{ExplainRows, solo, solo_text}
-use Rattle.definition_tests.specs.Near.{spot}
-use Rattle.definition_tests.specs.Stands.{line_of, nobody}
 use Rattle.definition_tests.proofs.StandsRows.{begins_so}
 
 -- the only drone

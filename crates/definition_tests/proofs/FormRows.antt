@@ -1,22 +1,12 @@
 -- Texts of both forms, read.
-use Rattle.std.proofs.Common.{◌≡◌, inl, inr, ℕ, ◌*◌, ◌^◌, ◌<◌, ℤ, ◌≤ℤ◌, neg_ℤ, false, pos, List, [], ◌∷◌, ◌++◌, length, None, Some, codes, arith, refl}
-use Rattle.std.proofs.lemmas.List.Elements.{All-cons, All-nil}
+use Rattle.definition_tests.proofs.Prelude.{◌≡◌, inl, inr, ℕ, ◌*◌, ◌^◌, ◌<◌, ℤ, ◌≤ℤ◌, neg_ℤ, false, pos, List, [], ◌∷◌, ◌++◌, length, None, Some, codes, arith, refl, All-cons, All-nil, values_in, row_line, Whole, Units, PlainShow, fault, IsItem, Item, StandsFor, Blocks, Drone, ShowLaw, Fault, fault_at, line_of}
 use Rattle.text_lines.specs.Numbers.{natural_of}
 use Rattle.quantities.specs.Quantities.{IsQuantityIn}
 use Rattle.quantities.specs.Units.{Measure, measure_of}
 use Rattle.quantities.specs.declared.unit.Counts.{Counts}
 use Rattle.quantities.specs.declared.unit.Counts.TheVariants.{Micrometres, Milliseconds, TenthsOfADegree}
-use Rattle.choreo_lines.specs.Fields.{values_in, row_line}
 use Rattle.choreo_lines.specs.declared.line.LineKind.TheVariants as kind
-use Rattle.choreo_lines.specs.declared.table.Form.TheVariants.{Whole, Units}
-use Rattle.choreo_show.specs.Plain.{PlainShow}
-use Rattle.choreo_reader.specs.Context.{fault}
-use Rattle.choreo_reader.specs.Grammar.{IsItem, Item, StandsFor}
-use Rattle.choreo_reader.specs.Grammar.Item.{Blocks, Drone}
-use Rattle.choreo_reader.specs.Laws.{ShowLaw}
-use Rattle.choreo_reader.specs.Text.{Fault, fault_at}
 use Rattle.definition_tests.specs.Forms.{FormRows, at_height, moved, the_drone, unit_text, whole_text}
-use Rattle.definition_tests.specs.Stands.{line_of}
 
 abbrev items : List Item
 items = Drone the_drone ∷ Blocks moved.body ∷ []

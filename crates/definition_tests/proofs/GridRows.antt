@@ -1,5 +1,5 @@
 -- Small shows with and without faults, computed.
-use Rattle.std.proofs.Common.{refl}
+use Rattle.definition_tests.proofs.Prelude.{refl}
 use Rattle.definition_tests.specs.Grids.{CountRows, NamingRows}
 
 pub counts : CountRows

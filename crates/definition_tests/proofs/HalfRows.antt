@@ -1,5 +1,5 @@
 -- Half a millimetre, computed.
-use Rattle.std.proofs.Common.{arith}
+use Rattle.definition_tests.proofs.Prelude.{arith}
 use Rattle.definition_tests.specs.Halves.{HalfRows}
 
 pub half : HalfRows

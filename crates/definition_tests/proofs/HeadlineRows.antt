@@ -1,36 +1,7 @@
 -- A show of one drone that stays, and its plan.
-use Rattle.std.proofs.lemmas.Grind.{common_steps}
-use Rattle.std.proofs.Common.{◌≡◌, ℕ, zero, suc, ◌-◌, ◌≤◌, length, pos, List, [], ◌∷◌, All, None, Some, codes, ap, get_or, arith, refl, slice_get}
-use Rattle.std.proofs.lemmas.List.Elements.{All-cons, All-nil}
-use Rattle.std.specs.Fmt.{digits}
-use Rattle.fleet_math.specs.Bernstein.{bernstein}
-use Rattle.fleet_math.specs.Decoded.{decoded}
-use Rattle.fleet_math.specs.Moments.{moment}
-use Rattle.traj_codec.specs.declared.traj.Traj.{Traj}
-use Rattle.traj_codec.specs.Joined.{hold, joined_from}
-use Rattle.traj_codec.specs.Spelling.{HasDuration, IsTrajectory}
-use Rattle.choreo_show.specs.Plain.{PlainShow}
-use Rattle.choreo_show.specs.Valid.{FitsPoint}
-use Rattle.choreo_show.specs.declared.show.DroneLine.{DroneLine}
-use Rattle.choreo_lines.specs.declared.table.Form.TheVariants.{Whole}
-use Rattle.choreo_reader.specs.Grammar.{IsItem, StandsFor}
-use Rattle.choreo_reader.specs.Grammar.Item.{Blocks, Drone}
-use Rattle.cue_grid.specs.Cues.{grid_of}
-use Rattle.cue_grid.specs.Grids.{IsGrid}
-use Rattle.figure_expand.specs.Expanded.{expanded}
-use Rattle.upload_model.specs.Sessions.{packet_at, packet_count, part_count, read_count, write_count}
-use Rattle.show_plan.specs.Fitting.{IsSendable, size}
+use Rattle.definition_tests.proofs.Prelude.{common_steps, ◌≡◌, ℕ, zero, suc, ◌-◌, ◌≤◌, length, pos, List, [], ◌∷◌, All, None, Some, codes, ap, get_or, arith, refl, slice_get, All-cons, All-nil, digits, bernstein, decoded, moment, Traj, hold, joined_from, HasDuration, IsTrajectory, PlainShow, FitsPoint, DroneLine, Whole, IsItem, StandsFor, Blocks, Drone, grid_of, IsGrid, expanded, packet_at, packet_count, part_count, read_count, write_count, IsSendable, size, AreUploadable, FlyApart, plan_text, Uploads, UploadsLaw, keeps_near_show, Headline, HeadlineRows, stay, stay_plan, stay_text, staying, spot, line_of}
 use Rattle.show_plan.specs.Flight.{KeepsNearShow}
-use Rattle.show_plan.specs.Landing.{AreUploadable}
-use Rattle.show_plan.specs.Separation.{FlyApart}
-use Rattle.show_plan.specs.Texts.{plan_text}
 use Rattle.show_plan.specs.Trajectories.{sent}
-use Rattle.show_plan.specs.Uploading.{Uploads, UploadsLaw}
-use Rattle.show_plan.proofs.Flight.{keeps_near_show}
-use Rattle.show_looks.specs.Compile.{Headline}
-use Rattle.definition_tests.specs.Headlines.{HeadlineRows, stay, stay_plan, stay_text, staying}
-use Rattle.definition_tests.specs.Near.{spot}
-use Rattle.definition_tests.specs.Stands.{line_of}
 use Rattle.definition_tests.proofs.LandedRows.{touch}
 use Rattle.definition_tests.proofs.StandsRows.{begins_so}
 

@@ -1,8 +1,5 @@
 -- The host of an upload, computed.
-use Rattle.std.proofs.Common.{refl}
-use Rattle.upload_model.specs.Hosts.{acked, acked_from, acknowledges, all_packets, all_settled, ending, flight_at, flight_in, out, phase_of, progress, progress_within, ticks}
-use Rattle.upload_model.specs.Replies.{reply_in, reply_to}
-use Rattle.upload_model.specs.Sessions.{packet_at, packet_count, part_count, read_count, write_count}
+use Rattle.definition_tests.proofs.Prelude.{refl, acked, acked_from, acknowledges, all_packets, all_settled, ending, flight_at, flight_in, out, phase_of, progress, progress_within, ticks, reply_in, reply_to, packet_at, packet_count, part_count, read_count, write_count}
 use Rattle.definition_tests.specs.Hosts.{HostRows, ReplyRows}
 
 pub hosts : HostRows

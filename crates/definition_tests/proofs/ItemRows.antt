@@ -1,5 +1,5 @@
 -- Items of the grammar, computed.
-use Rattle.std.proofs.Common.{◌≡◌, ◌≤◌, false, true, arith, refl}
+use Rattle.definition_tests.proofs.Prelude.{◌≡◌, ◌≤◌, false, true, arith, refl}
 use Rattle.definition_tests.specs.Items.{ItemRows, SingleRows}
 
 pub single : SingleRows

@@ -1,12 +1,6 @@
 -- Short holds, grouped.
-use Rattle.std.proofs.lemmas.Grind.{common_steps}
-use Rattle.std.proofs.Common.{◌≡◌, ℕ, ◌+◌, ◌<◌, ◌≤◌, true, List, [], ◌∷◌, ◌++◌, All, length, length-append, ap, sym, ◌∙◌, arith, refl, inl, inr, sum, map, append-nil}
-use Rattle.std.proofs.lemmas.List.{length-map}
-use Rattle.std.proofs.lemmas.List.Elements.{All-cons, All-head, All-nil, All-tail}
+use Rattle.definition_tests.proofs.Prelude.{common_steps, ◌≡◌, ℕ, ◌+◌, ◌<◌, ◌≤◌, true, List, [], ◌∷◌, ◌++◌, All, length, length-append, ap, sym, ◌∙◌, arith, refl, inl, inr, sum, map, append-nil, length-map, All-cons, All-head, All-nil, All-tail, Segment, FromTheLeft, IsGroup, hold, is_hold, joined_from, GroupLaw, one_of, durations}
 use Rattle.std.specs.List.{flat_map}
-use Rattle.traj_codec.specs.declared.traj.Segment.{Segment}
-use Rattle.traj_codec.specs.Joined.{FromTheLeft, IsGroup, hold, is_hold, joined_from, GroupLaw, one_of}
-use Rattle.traj_codec.specs.Positions.{durations}
 use Rattle.definition_tests.specs.Joined.{JoinedRows}
 
 -- a group has some segment

@@ -1,32 +1,16 @@
 -- Two drones 7 mm apart, by a certificate of one leaf: the direction of x.
-use Rattle.std.proofs.lemmas.Grind.{common_steps}
-use Rattle.std.proofs.Common.{◌≡◌, ℕ, suc, pos, ◌≤◌, List, [], ◌∷◌, ◌++◌, All, ap, get_or, length, length-append, subst, arith, refl}
-use Rattle.std.proofs.lemmas.List.Elements.{All-cons, All-nil}
-use Rattle.fleet_math.specs.Bernstein.{bernstein}
-use Rattle.bezier_core.specs.Raised.{raised_value}
-use Rattle.halving.specs.Part.{polar}
-use Rattle.traj_codec.specs.declared.traj.Traj.{Traj}
-use Rattle.traj_codec.specs.Positions.{durations}
-use Rattle.fleet_curves.specs.Raised.{AreOneShow, CurvesStandFor, difference, raised_of}
+use Rattle.definition_tests.proofs.Prelude.{common_steps, ◌≡◌, ℕ, suc, pos, ◌≤◌, List, [], ◌∷◌, ◌++◌, All, ap, get_or, length, length-append, subst, arith, refl, All-cons, All-nil, bernstein, raised_value, polar, Traj, durations, AreOneShow, CurvesStandFor, difference, raised_of, KeepReach, MovesWithin, AreSmall, root_above, slots, root, IsMoving, ReachLaw, reach, reach_of, segment_speed, speed, speed_of, widest_step, formed_of, ApartRows, behind, beside, flight}
 use Rattle.fleet_curves.specs.Steps.{IsFormed}
 use Rattle.fleet_curves.proofs.Standing.{stands}
-use Rattle.sep_parts.specs.Apart.{FlyApart, KeepReach, MovesWithin}
-use Rattle.sep_parts.specs.Directions.{AreSmall, root_above}
-use Rattle.sep_parts.specs.Slots.{slots}
+use Rattle.sep_parts.specs.Apart.{FlyApart}
 use Rattle.sep_parts.specs.Trees.Tree.{leaf, split}
 use Rattle.sep_parts.specs.declared.node.Node.{Node}
 use Rattle.sep_parts.specs.declared.node.Node.TheVariants.{Leaf, Split}
-use Rattle.sep_parts.specs.Levels.{root}
 use Rattle.sep_parts.specs.Trees.{IsValidTree, Tree, preorder}
 use Rattle.sep_certificate.specs.declared.certificate.Certificate.{Certificate}
 use Rattle.sep_certificate.specs.Certificates.{IsValid, rules_of}
 use Rattle.sep_certificate.specs.Laws.{CertificateLaw}
-use Rattle.speed_bound.specs.Reach.{IsMoving, ReachLaw, reach, reach_of}
-use Rattle.speed_bound.specs.Speed.{segment_speed, speed, speed_of, widest_step}
-use Rattle.speed_bound.proofs.Reaches.{formed_of}
-use Rattle.definition_tests.specs.Apart.{ApartRows, behind, beside}
 use Rattle.definition_tests.specs.Certified.{ValidRows, along_x, kept, with_trees}
-use Rattle.definition_tests.specs.Flights.{flight}
 use Rattle.definition_tests.proofs.Counting.{to_seven, to_two}
 
 -- ---- the trajectories

@@ -1,15 +1,5 @@
 -- What is not stored, computed.
-use Rattle.std.proofs.Common.{◌≡◌, ℕ, pos, List, [], ◌∷◌, None, Some, ap, get_or, arith, refl}
-use Rattle.fleet_math.specs.Bernstein.{bernstein}
-use Rattle.fleet_math.specs.Decoded.{decoded}
-use Rattle.fleet_math.specs.Moments.{moment}
-use Rattle.traj_codec.specs.Spelling.{spelling}
-use Rattle.traj_codec.specs.declared.traj.Traj.{Traj}
-use Rattle.choreo_show.specs.declared.show.Settings.{Settings}
-use Rattle.show_plan.specs.Separation.{FlyApart}
-use Rattle.definition_tests.specs.Flights.{flight}
-use Rattle.definition_tests.specs.Places.{place}
-use Rattle.definition_tests.specs.Stored.{LandedRows, settings}
+use Rattle.definition_tests.proofs.Prelude.{◌≡◌, ℕ, pos, List, [], ◌∷◌, None, Some, ap, get_or, arith, refl, bernstein, decoded, moment, spelling, Traj, Settings, FlyApart, flight, place, LandedRows, settings}
 use Rattle.definition_tests.proofs.NearRows.{show}
 use Rattle.definition_tests.proofs.CarriedRows.{third}
 

@@ -1,9 +1,8 @@
 -- The legs and the end of a flight, computed.
-use Rattle.std.proofs.Common.{◌≡◌, [], ◌∷◌, ap, arith, refl}
+use Rattle.definition_tests.proofs.Prelude.{◌≡◌, [], ◌∷◌, ap, arith, refl, stay}
 use Rattle.flight_steps.specs.declared.ways.Ellipsoid.{Ellipsoid}
 use Rattle.show_direct.specs.Flights.{AreFlight}
 use Rattle.show_direct.specs.declared.options.Options.{Options}
-use Rattle.definition_tests.specs.Headlines.{stay}
 use Rattle.definition_tests.specs.Legs.{LegRows, wide}
 
 other_up : (o : Options) → AreFlight o wide stay stay → ⊥

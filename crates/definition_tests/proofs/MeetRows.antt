@@ -1,15 +1,6 @@
 -- Drones that meet, computed.
-use Rattle.std.proofs.Common.{◌≡◌, ℕ, zero, suc, ◌≤◌, ◌<◌, pos, ◌≤ℤ◌, ◌<ℤ◌, List, Some, inl, inr, arith, refl, subst}
-use Rattle.fleet_math.specs.Bernstein.{bernstein}
-use Rattle.fleet_math.specs.Decoded.{decoded}
-use Rattle.fleet_math.specs.Moments.{moment}
-use Rattle.traj_codec.specs.declared.traj.Traj.{Traj}
+use Rattle.definition_tests.proofs.Prelude.{◌≡◌, ℕ, zero, suc, ◌≤◌, ◌<◌, pos, ◌≤ℤ◌, ◌<ℤ◌, List, Some, inl, inr, arith, refl, subst, bernstein, decoded, moment, Traj, durations, AreDisjoint, DisjointAt, IsBefore, IsClosest, IsClosestIn, IsFirstTouch, IsListed, LeftAbove, LeftFrom, SharePoint, instant_of, left_of, listed, behind, flight, MeetRows, close, level_at, meeting, only_slot, site, two_apart}
 use Rattle.touch_witness.specs.declared.site.Touch.{Touch}
-use Rattle.traj_codec.specs.Positions.{durations}
-use Rattle.touch_witness.specs.Sites.{AreDisjoint, DisjointAt, IsBefore, IsClosest, IsClosestIn, IsFirstTouch, IsListed, LeftAbove, LeftFrom, SharePoint, instant_of, left_of, listed}
-use Rattle.definition_tests.specs.Apart.{behind}
-use Rattle.definition_tests.specs.Flights.{flight}
-use Rattle.definition_tests.specs.Meetings.{MeetRows, close, level_at, meeting, only_slot, site, two_apart}
 
 -- ---- sites
 -- what holds of two trajectories holds of those that stand at their places

@@ -1,26 +1,10 @@
 -- Small motions: what the bounds that are computed promise, and what is refuted at one instant.
-use Rattle.std.proofs.lemmas.Grind.{common_steps}
-use Rattle.std.proofs.Common.{◌≡◌, ℕ, zero, suc, ◌≤◌, ◌<◌, pos, List, [], ◌∷◌, All, None, Some, arith, refl}
-use Rattle.std.proofs.lemmas.List.Elements.{All-cons, All-head, All-nil}
-use Rattle.fleet_math.specs.Bernstein.{bernstein}
-use Rattle.fleet_math.specs.Decoded.{IsPiece, decoded}
-use Rattle.fleet_math.specs.Moments.{moment}
-use Rattle.bezier_core.specs.Raised.{raised_value}
-use Rattle.halving.specs.Part.{polar}
-use Rattle.traj_codec.specs.declared.traj.Traj.{Traj}
-use Rattle.traj_codec.specs.Positions.{pieces_on}
-use Rattle.speed_bound.specs.Speed.{segment_speed, speed, speed_of, widest_step}
-use Rattle.speed_bound.specs.Reach.{IsMoving, reach}
-use Rattle.speed_bound.proofs.Reaches.{formed_of, moves_reach}
-use Rattle.speed_bound.proofs.Rests.{keeps_speed, pieces_formed}
-use Rattle.dynamics_bound.specs.Accelerations.{acceleration, acceleration_of, segment_acceleration, widest_bend, widest_bend_part}
-use Rattle.dynamics_bound.specs.Edges.{jump, jump_between}
+use Rattle.definition_tests.proofs.Prelude.{common_steps, ◌≡◌, ℕ, zero, suc, ◌≤◌, ◌<◌, pos, List, [], ◌∷◌, All, None, Some, arith, refl, All-cons, All-head, All-nil, bernstein, IsPiece, decoded, moment, raised_value, polar, Traj, pieces_on, segment_speed, speed, speed_of, widest_step, IsMoving, reach, formed_of, moves_reach, keeps_speed, pieces_formed, acceleration, acceleration_of, segment_acceleration, widest_bend, widest_bend_part, jump, jump_between, flight}
 use Rattle.dynamics_bound.specs.Excesses.{IsWithinLimits}
 use Rattle.dynamics_bound.specs.Motions.{KeepsMotion}
 use Rattle.dynamics_bound.proofs.Ends.{has_velocities}
 use Rattle.dynamics_bound.proofs.Segments.{keeps_acceleration}
 use Rattle.show_studies.specs.Dynamics.{limits_of}
-use Rattle.definition_tests.specs.Flights.{flight}
 use Rattle.definition_tests.specs.Motion.{AccelerationRows, GreatestRows, JumpRows, SpeedRows, WithinRows, parabola}
 use Rattle.definition_tests.proofs.KeptRows.{moving}
 

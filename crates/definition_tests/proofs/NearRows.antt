@@ -1,15 +1,6 @@
 -- Near and far, computed.
-use Rattle.std.proofs.Common.{◌≡◌, pos, negsuc, [], arith, refl}
-use Rattle.fleet_math.specs.Bernstein.{bernstein}
-use Rattle.fleet_math.specs.Decoded.{decoded}
-use Rattle.fleet_math.specs.Moments.{moment}
+use Rattle.definition_tests.proofs.Prelude.{◌≡◌, pos, negsuc, [], arith, refl, bernstein, decoded, moment, All-cons, All-nil, FitsPoint, DroneLine, IsGrid, keeps_near_show, ShowRows, begins_at, half_off, spot}
 use Rattle.figure_expand.specs.Written.{end_of}
-use Rattle.std.proofs.lemmas.List.Elements.{All-cons, All-nil}
-use Rattle.choreo_show.specs.Valid.{FitsPoint}
-use Rattle.choreo_show.specs.declared.show.DroneLine.{DroneLine}
-use Rattle.cue_grid.specs.Grids.{IsGrid}
-use Rattle.show_plan.proofs.Flight.{keeps_near_show}
-use Rattle.definition_tests.specs.Near.{ShowRows, begins_at, half_off, spot}
 
 is_grid : IsGrid half_off
 is_grid = record {

@@ -1,5 +1,5 @@
 -- Options, read.
-use Rattle.std.proofs.Common.{refl}
+use Rattle.definition_tests.proofs.Prelude.{refl}
 use Rattle.command_words.specs.Commands.{value_of}
 use Rattle.definition_tests.specs.Options.{OptionRows}
 

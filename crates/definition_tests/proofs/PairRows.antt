@@ -1,19 +1,5 @@
 -- Two drones, computed.
-use Rattle.std.proofs.Common.{◌≡◌, ℕ, zero, suc, ◌<◌, ◌++◌, false, true, List, [], ◌∷◌, All, None, Some, ap, ◌∙◌, arith, drop, refl, subst, slice_index, take}
-use Rattle.std.proofs.lemmas.List.Elements.{All-cons, All-nil}
-use Rattle.traj_codec.specs.Spelling.{spelling}
-use Rattle.upload_model.specs.declared.events.WorldEvent.{WorldEvent}
-use Rattle.upload_model.specs.declared.events.WorldEvent.TheVariants.{Take, Hear, Alter}
-use Rattle.upload_model.specs.Drones.{DroneState, handled}
-use Rattle.upload_model.specs.Hosts.{acked, acked_from, acknowledges, all_packets, all_settled, ending, flight_at, flight_in, out, phase_of, progress, progress_within, ticks}
-use Rattle.upload_model.specs.Readback.{WasRight}
-use Rattle.upload_model.specs.Replies.{reply_in, reply_to}
-use Rattle.upload_model.specs.Sessions.{is_read, packet_at, packet_count, part_count, read_count, write_count}
-use Rattle.upload_model.specs.Taking.{AcceptsLoad, IsAccepted}
-use Rattle.upload_model.specs.Theorem.{IsUnaltered}
-use Rattle.upload_model.specs.Worlds.{happens, host_event, start_world, world}
-use Rattle.firmware_memory.specs.Decoded.{DecodesTo}
-use Rattle.definition_tests.specs.Carried.{loaded_with}
+use Rattle.definition_tests.proofs.Prelude.{◌≡◌, ℕ, zero, suc, ◌<◌, ◌++◌, false, true, List, [], ◌∷◌, All, None, Some, ap, ◌∙◌, arith, drop, refl, subst, slice_index, take, All-cons, All-nil, spelling, WorldEvent, Take, Hear, Alter, DroneState, handled, acked, acked_from, acknowledges, all_packets, all_settled, ending, flight_at, flight_in, out, phase_of, progress, progress_within, ticks, WasRight, reply_in, reply_to, is_read, packet_at, packet_count, part_count, read_count, write_count, AcceptsLoad, IsAccepted, IsUnaltered, happens, host_event, start_world, world, DecodesTo, loaded_with}
 use Rattle.definition_tests.specs.Pairs.{BothReadRows, PairRows, UploadsRows, both_loaded, both_reading, byte_of_other, one, other, read_back}
 use Rattle.definition_tests.proofs.CarriedRows.{alone, entry_is}
 use Rattle.definition_tests.proofs.UploadRows.{blank, is_drone, no_hold}

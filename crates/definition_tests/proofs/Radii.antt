@@ -1,7 +1,5 @@
 -- From coefficients to distances: what two tests on a table of control points say of the distance from the centre.
-use Rattle.definition_tests.proofs.Prelude.{◌≡◌, ℕ, zero, suc, ◌+◌, ◌-◌, ◌≤◌, ℤ, pos, negsuc, neg_ℤ, ◌+ℤ◌, ◌-ℤ◌, ◌*ℤ◌, ◌≤ℤ◌, Bool, true, false, List, [], ◌∷◌, length, map, arith, refl, sym, ap, ◌∙◌, ints, power, at, bern, bernstein, bernstein-same, bernstein-mix, linear, ring, le_mul_ℤ, mul_comm_ℤ, mul_zero_ℤ}
-use Rattle.std.proofs.lemmas.List.{length-map}
-use Rattle.definition_tests.specs.Radius.{exact_point, exact_points, square, circle, square_distance, KeepsRadius}
+use Rattle.definition_tests.proofs.Prelude.{◌≡◌, ℕ, zero, suc, ◌+◌, ◌-◌, ◌≤◌, ℤ, pos, negsuc, neg_ℤ, ◌+ℤ◌, ◌-ℤ◌, ◌*ℤ◌, ◌≤ℤ◌, Bool, true, false, List, [], ◌∷◌, length, map, arith, refl, sym, ap, ◌∙◌, ints, power, at, bern, bernstein, bernstein-same, bernstein-mix, linear, ring, le_mul_ℤ, mul_comm_ℤ, mul_zero_ℤ, length-map, exact_point, exact_points, square, circle, square_distance, KeepsRadius}
 use Rattle.definition_tests.proofs.RadiusCoefficients.{value, plus, length-plus, value-plus, times, length-times, value-times, product, length-product, value-product, binomial, length-binomial, value-binomial, coefficients, length-coefficients, value-coefficients}
 use Rattle.definition_tests.proofs.RadiusHalves.{is_never_negative, value-never_negative}
 

@@ -1,10 +1,8 @@
 -- The control points that are flown are the exact ones, rounded.
-use Rattle.std.proofs.lemmas.List.{length-map}
-use Rattle.definition_tests.proofs.Prelude.{refl, ◌<◌, length, map, at, ℕ, zero, suc, ℤ, pos, neg_ℤ, ◌+ℤ◌, ◌-ℤ◌, ◌*ℤ◌, ◌≤ℤ◌, ◌<ℤ◌, List, [], ◌∷◌, arith, linear, mul_comm_ℤ, IsIn}
+use Rattle.definition_tests.proofs.Prelude.{length-map, refl, ◌<◌, length, map, at, ℕ, zero, suc, ℤ, pos, neg_ℤ, ◌+ℤ◌, ◌-ℤ◌, ◌*ℤ◌, ◌≤ℤ◌, ◌<ℤ◌, List, [], ◌∷◌, arith, linear, mul_comm_ℤ, arc_points, eased_point, eased_points, handle, millionths, shares, arc_shares, exact_points, RoundsTable}
+use Rattle.fleet_math.specs.Numbers.{IsIn}
 use Rattle.choreo_show.specs.declared.parts.Ease.{Ease}
-use Rattle.figure_expand.specs.Acts.{arc_points, eased_point, eased_points, handle, millionths, shares}
 use Rattle.figure_expand.proofs.Eased.{floor_of_million}
-use Rattle.definition_tests.specs.Radius.{arc_shares, exact_points, RoundsTable}
 
 -- the floor of a millionth and a half differs by half of one
 near_by_floor : (z q : ℤ) → (q *ℤ pos 1000000) ≤ℤ (z +ℤ pos 500000) → (z +ℤ pos 500000) <ℤ ((q *ℤ pos 1000000) +ℤ pos 1000000) →

@@ -1,8 +1,6 @@
 -- Distances from the centre that were worked out apart from the program, by the tables of docs/TRAJECTORY.md.
-use Rattle.definition_tests.proofs.Prelude.{◌≡◌, pos, neg_ℤ, true, false, refl, bernstein}
+use Rattle.definition_tests.proofs.Prelude.{◌≡◌, pos, neg_ℤ, true, false, refl, bernstein, shares, arc_shares, circle, square_distance}
 use Rattle.choreo_show.specs.declared.parts.Ease.TheVariants as ease
-use Rattle.figure_expand.specs.Acts.{shares}
-use Rattle.definition_tests.specs.Radius.{arc_shares, circle, square_distance}
 
 -- `arc` is outside by 0.13 millionths in the middle, and by 271.3 at a fifth
 arc_middle : square_distance arc_shares true (pos 1) (pos 0) 1 2 ≡ pos 64000016982050

@@ -1,6 +1,5 @@
 -- Names and numbers at the ends of their ranges, computed.
-use Rattle.std.proofs.Common.{◌≡◌, ◌≤◌, ℕ, zero, suc, false, true, [], map, arith, refl}
-use Rattle.choreo_show.specs.Valid.{AreNames}
+use Rattle.definition_tests.proofs.Prelude.{◌≡◌, ◌≤◌, ℕ, zero, suc, false, true, [], map, arith, refl, AreNames}
 use Rattle.definition_tests.specs.Ranges.{NameRows, NumberRows, SettingRows, roles}
 
 pub names : NameRows

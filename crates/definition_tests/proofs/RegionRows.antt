@@ -1,19 +1,8 @@
 -- Regions, computed.
-use Rattle.std.proofs.Common.{◌≡◌, ℕ, zero, suc, ◌<◌, pos, negsuc, [], ◌∷◌, All, Some, inl, inr, arith, refl, subst, slice_get}
-use Rattle.std.proofs.lemmas.List.Elements.{All-head, All-tail}
-use Rattle.fleet_math.specs.Bernstein.{bernstein}
-use Rattle.fleet_math.specs.Decoded.{decoded}
-use Rattle.fleet_math.specs.Moments.{moment}
-use Rattle.bezier_core.specs.Raised.{raised_value}
-use Rattle.halving.specs.Part.{polar}
-use Rattle.traj_codec.specs.declared.traj.Traj.{Traj}
-use Rattle.traj_codec.specs.Joined.{own}
-use Rattle.fleet_curves.specs.Raised.{curves_at, raised_of}
+use Rattle.definition_tests.proofs.Prelude.{◌≡◌, ℕ, zero, suc, ◌<◌, pos, negsuc, [], ◌∷◌, All, Some, inl, inr, arith, refl, subst, slice_get, All-head, All-tail, bernstein, decoded, moment, raised_value, polar, Traj, own, curves_at, raised_of, behind, flight}
 use Rattle.keepout_boxes.specs.declared.region.Region.{Region}
 use Rattle.keepout_boxes.specs.Kept.{IsKept, KeepClear, KeepsTo, part_of}
 use Rattle.keepout_boxes.proofs.Instants.{stays_clear}
-use Rattle.definition_tests.specs.Apart.{behind}
-use Rattle.definition_tests.specs.Flights.{flight}
 use Rattle.definition_tests.specs.Regions.{RegionRows, box, layer, volume}
 use Rattle.definition_tests.proofs.Counting.{to_seven, to_two}
 use Rattle.definition_tests.proofs.KeptRows.{stand}

@@ -1,6 +1,5 @@
 -- Uploads that go right, with any events.
-use Rattle.std.proofs.Common.{◌≡◌, None, Some, arith, refl}
-use Rattle.upload_model.specs.Sessions.{packet_count, part_count, read_count, write_count}
+use Rattle.definition_tests.proofs.Prelude.{◌≡◌, None, Some, arith, refl, packet_count, part_count, read_count, write_count}
 use Rattle.definition_tests.specs.Rights.{RightRows}
 use Rattle.definition_tests.proofs.BeginRows.{found}
 

@@ -1,32 +1,15 @@
 -- Small runs, computed.
-use Rattle.std.proofs.Common.{◌≡◌, ◌⊎◌, ℕ, ◌<◌, ◌≤◌, ◌++◌, pos, List, [], ◌∷◌, All, None, Some, Contains, ap, get_or, inl, inr, length, arith, refl, sym, ◌∙◌}
-use Rattle.std.proofs.lemmas.Grind.{common_steps}
-use Rattle.std.proofs.lemmas.List.Elements.{All-head}
-use Rattle.std.specs.Prelude.{Option}
-use Rattle.fleet_math.specs.Bernstein.{bernstein}
-use Rattle.bezier_core.specs.Raised.{raised_value}
-use Rattle.halving.specs.Part.{polar}
-use Rattle.speed_bound.specs.Speed.{segment_speed, speed, speed_of, widest_part, widest_step}
-use Rattle.text_lines.specs.Marker.{part_of, rest_of}
-use Rattle.traj_codec.specs.declared.traj.Traj.{Traj}
-use Rattle.choreo_show.specs.Plain.{PlainShow}
-use Rattle.choreo_show.specs.declared.show.Settings.{Settings}
+use Rattle.definition_tests.proofs.Prelude.{◌≡◌, ◌⊎◌, ℕ, ◌<◌, ◌≤◌, ◌++◌, pos, List, [], ◌∷◌, All, None, Some, Contains, ap, get_or, inl, inr, length, arith, refl, sym, ◌∙◌, common_steps, All-head, Option, bernstein, raised_value, polar, segment_speed, speed, speed_of, widest_part, widest_step, part_of, rest_of, Traj, PlainShow, Settings, FlyTheirOwn, Cut, cut_of, flight, stay, no_time, settings, no_text}
 use Rattle.fleet_io.specs.Causes.{Rose}
 use Rattle.fleet_io.specs.Taken.{AppendsFront}
-use Rattle.show_plan.specs.Uploading.{FlyTheirOwn}
 use Rattle.refusals.specs.declared.refusal.Refusal.{Refusal}
 use Rattle.refusals.specs.Lines.{read_line}
 use Rattle.show_judge.specs.Outcome.{IsOutcomeOf, IsSound, ShowGives}
 use Rattle.show_judge.specs.Refused.{show_refusal}
 use Rattle.show_judge.specs.Runs.{IsOutput}
-use Rattle.show_judge.specs.Shows.{Cut, cut_of}
 use Rattle.show_judge.specs.Verb.{Judges, Outcome, nothing, outcome, own_text, run_of, the_input}
 use Rattle.show_studies.specs.Speeds.{KeepsBounds}
-use Rattle.definition_tests.specs.Flights.{flight}
-use Rattle.definition_tests.specs.Headlines.{stay}
 use Rattle.definition_tests.specs.Runs.{BegunRows, BehavesRows, OutcomeRows, RunsRows, SaysRows, TakenRows, VerbRows, loose, says}
-use Rattle.definition_tests.specs.Stored.{no_time, settings}
-use Rattle.definition_tests.specs.Wholes.{no_text}
 use Rattle.definition_tests.proofs.LandedRows.{touch}
 use Rattle.definition_tests.proofs.UploadRows.{uploads}
 use Rattle.definition_tests.proofs.WholeRows.{no_show}

@@ -1,6 +1,5 @@
 -- Small bodies, computed.
-use Rattle.std.proofs.Common.{◌≡◌, ◌≤◌, ◌+◌, ℕ, zero, suc, false, true, arith, refl}
-use Rattle.choreo_show.specs.Valid.{FitsBody, FitsDuration, FitsFigure, FitsTimes}
+use Rattle.definition_tests.proofs.Prelude.{◌≡◌, ◌≤◌, ◌+◌, ℕ, zero, suc, false, true, arith, refl, FitsBody, FitsDuration, FitsFigure, FitsTimes}
 use Rattle.definition_tests.specs.Shapes.{FigureRows, FilledRows, NestingRows, figure_of, nested, one_cue}
 
 -- the line of figure `g` fits, as do those of its cue and of its repeats

@@ -1,17 +1,7 @@
 -- A text of each line of the language, line by line; its cues and its plan.
-use Rattle.std.proofs.Common.{pos, negsuc, List, [], ◌∷◌, codes, arith, refl}
-use Rattle.std.proofs.lemmas.List.Elements.{All-cons, All-nil}
-use Rattle.std.specs.Fmt.{digits}
-use Rattle.text_lines.specs.Words.{Line}
-use Rattle.choreo_show.specs.declared.show.DroneLine.{DroneLine}
-use Rattle.choreo_lines.specs.declared.table.Form.TheVariants.{Whole}
-use Rattle.choreo_reader.specs.Grammar.{IsItem, Item, StandsFor}
-use Rattle.choreo_reader.specs.Grammar.Item.{Memory, Trajectory, Ellipsoid, Stray, Late, Drone, Formed, Figured, Blocks}
-use Rattle.choreo_reader.specs.Laws.{ShowLaw}
-use Rattle.upload_model.specs.Sessions.{packet_at, packet_count, part_count, read_count, write_count}
-use Rattle.show_plan.specs.Texts.{plan_text}
+use Rattle.definition_tests.proofs.Prelude.{pos, negsuc, List, [], ◌∷◌, codes, arith, refl, All-cons, All-nil, digits, Line, DroneLine, Whole, IsItem, Item, StandsFor, Memory, Trajectory, Stray, Late, Drone, Formed, Figured, Blocks, ShowLaw, packet_at, packet_count, part_count, read_count, write_count, plan_text, spot}
+use Rattle.choreo_reader.specs.Grammar.Item.{Ellipsoid}
 use Rattle.definition_tests.specs.Shows.{CueRows, PlanRows, WholeRows, named, the_figure, the_formation, whole, whole_text}
-use Rattle.definition_tests.specs.Near.{spot}
 
 -- the lines that have words
 abbrev lines : List Line

@@ -1,18 +1,5 @@
 -- Small definitions, computed.
-use Rattle.std.proofs.Common.{◌≡◌, ℕ, ◌≤◌, List, [], ◌++◌, length, length-append, Some, inl, ap, arith, refl}
-use Rattle.std.proofs.lemmas.List.Elements.{All-nil}
-use Rattle.std.specs.Fmt.{digits}
-use Rattle.traj_codec.specs.Joined.{joined_from}
-use Rattle.fleet_curves.specs.Raised.{difference}
-use Rattle.figure_expand.specs.Expanded.{expanded}
-use Rattle.sep_parts.specs.Directions.{root_above}
-use Rattle.speed_bound.specs.Speed.{speed_of}
-use Rattle.dynamics_bound.specs.Edges.{jump, jump_between}
-use Rattle.pair_search.specs.Search.{blocked_place}
-use Rattle.upload_model.specs.Worlds.{happens, start_world}
-use Rattle.upload_model.specs.declared.events.WorldEvent.TheVariants.{Take, Tick}
-use Rattle.link_dialogue.specs.Dialogues.{StopsAtEnd, Takes, items_bytes}
-use Rattle.definition_tests.specs.Small.{SmallRows, over}
+use Rattle.definition_tests.proofs.Prelude.{◌≡◌, ℕ, ◌≤◌, List, [], ◌++◌, length, length-append, Some, inl, ap, arith, refl, All-nil, digits, joined_from, difference, expanded, root_above, speed_of, jump, jump_between, blocked_place, happens, start_world, Take, Tick, StopsAtEnd, Takes, items_bytes, SmallRows, over}
 
 buffered : (bytes : List ℕ) → length bytes ≡ 4096 → StopsAtEnd over (Some bytes) (Some [])
 buffered bytes many stream unread items rest known left took ends =

@@ -1,15 +1,6 @@
 -- Short texts, read.
-use Rattle.std.proofs.Common.{◌≡◌, ℕ, false, true, List, [], ◌∷◌, ◌++◌, ap, codes, get_or, ◌≤◌, arith, refl, ◌∙◌}
-use Rattle.std.proofs.lemmas.List.Elements.{All-cons, All-nil}
-use Rattle.text_lines.specs.Words.{Line}
-use Rattle.choreo_show.specs.Plain.{PlainShow}
+use Rattle.definition_tests.proofs.Prelude.{◌≡◌, ℕ, false, true, List, [], ◌∷◌, ◌++◌, ap, codes, get_or, ◌≤◌, arith, refl, ◌∙◌, All-cons, All-nil, Line, PlainShow, Whole, Units, IsItem, StandsFor, header_of, Late, ShowLaw, show_lines, StandsRows, line_of, nobody}
 use Rattle.choreo_lines.specs.declared.table.Form.{Form}
-use Rattle.choreo_lines.specs.declared.table.Form.TheVariants.{Whole, Units}
-use Rattle.choreo_reader.specs.Grammar.{IsItem, StandsFor, header_of}
-use Rattle.choreo_reader.specs.Grammar.Item.{Late}
-use Rattle.choreo_reader.specs.Laws.{ShowLaw}
-use Rattle.choreo_reader.specs.Text.{show_lines}
-use Rattle.definition_tests.specs.Stands.{StandsRows, line_of, nobody}
 
 late : StandsFor (line_of (codes "choreo 1") ++ line_of (codes "late 3")) (nobody 3)
 late = record {

@@ -1,5 +1,5 @@
 -- The steps of a flight and the bytes of its events, computed.
-use Rattle.std.proofs.Common.{refl}
+use Rattle.definition_tests.proofs.Prelude.{refl}
 use Rattle.definition_tests.specs.Steps.{DirectorRows, EventRows, StepRows}
 
 pub steps : StepRows

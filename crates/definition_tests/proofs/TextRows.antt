@@ -1,11 +1,7 @@
 -- Texts that are a show by a hair, or aren't, read.
-use Rattle.std.proofs.Common.{◌≡◌, ℕ, List, [], ◌∷◌, None, Some, codes, refl}
-use Rattle.choreo_lines.specs.Fields.{act_in, act_line, names_in, row_line, values_in}
+use Rattle.definition_tests.proofs.Prelude.{◌≡◌, ℕ, List, [], ◌∷◌, None, Some, codes, refl, act_in, act_line, names_in, row_line, values_in, fault, ShowLaw, fault_at}
 use Rattle.choreo_lines.specs.declared.line.LineKind.{LineKind}
 use Rattle.choreo_lines.specs.declared.line.LineKind.TheVariants as kind
-use Rattle.choreo_reader.specs.Context.{fault}
-use Rattle.choreo_reader.specs.Laws.{ShowLaw}
-use Rattle.choreo_reader.specs.Text.{fault_at}
 use Rattle.definition_tests.specs.Texts.{BlockRows, IsNoShow, IsShow, LimitRows, TwiceRows, in_repeats, text_of}
 
 -- a text without a fault is that of a show

@@ -1,24 +1,5 @@
 -- Uploads that are done, orders in which all is accepted, and a start that is sent.
-use Rattle.std.proofs.Common.{◌≡◌, ℕ, zero, suc, pos, ◌<◌, ◌++◌, false, true, List, [], ◌∷◌, All, Option, None, Some, arith, refl, replicate}
-use Rattle.std.proofs.lemmas.List.{length-replicate}
-use Rattle.std.proofs.lemmas.List.Elements.{All-cons, All-head, All-nil}
-use Rattle.traj_codec.specs.declared.traj.Traj.{Traj}
-use Rattle.traj_codec.specs.Joined.{hold}
-use Rattle.traj_codec.specs.Spelling.{HasDuration}
-use Rattle.upload_model.specs.declared.events.WorldEvent.{WorldEvent}
-use Rattle.upload_model.specs.declared.events.WorldEvent.TheVariants.{Take, Hear, Alter}
-use Rattle.upload_model.specs.declared.loads.Def.{Def}
-use Rattle.upload_model.specs.Drones.{DroneState, handled}
-use Rattle.upload_model.specs.Hosts.{acked, acked_from, acknowledges, all_packets, all_settled, ending, flight_at, flight_in, out, phase_of, progress, progress_within, ticks}
-use Rattle.upload_model.specs.Memories.{IsDrone}
-use Rattle.upload_model.specs.Replies.{reply_in, reply_to}
-use Rattle.upload_model.specs.Sessions.{packet_at, packet_count, part_count, read_count, write_count}
-use Rattle.upload_model.specs.Taking.{IsAccepted}
-use Rattle.upload_model.specs.Theorem.{IsUnaltered}
-use Rattle.upload_model.specs.Worlds.{happens, host_event, start_world}
-use Rattle.show_plan.specs.Landing.{session_for}
-use Rattle.definition_tests.specs.Flights.{flight}
-use Rattle.definition_tests.specs.Stored.{UploadRows, no_time, settings}
+use Rattle.definition_tests.proofs.Prelude.{◌≡◌, ℕ, zero, suc, pos, ◌<◌, ◌++◌, false, true, List, [], ◌∷◌, All, Option, None, Some, arith, refl, replicate, length-replicate, All-cons, All-head, All-nil, Traj, hold, HasDuration, WorldEvent, Take, Hear, Alter, Def, DroneState, handled, acked, acked_from, acknowledges, all_packets, all_settled, ending, flight_at, flight_in, out, phase_of, progress, progress_within, ticks, IsDrone, reply_in, reply_to, packet_at, packet_count, part_count, read_count, write_count, IsAccepted, IsUnaltered, happens, host_event, start_world, session_for, flight, UploadRows, no_time, settings}
 use Rattle.definition_tests.proofs.NearRows.{show}
 
 abbrev pub blank : ℕ → DroneState

@@ -1,14 +1,5 @@
 -- Places, lines and packets, computed.
-use Rattle.std.proofs.Common.{◌≡◌, ℕ, ◌++◌, List, [], ◌∷◌, ap, arith, refl, take}
-use Rattle.std.specs.Fmt.{digits}
-use Rattle.fleet_math.specs.Bernstein.{bernstein}
-use Rattle.fleet_math.specs.Decoded.{decoded}
-use Rattle.fleet_math.specs.Moments.{moment}
-use Rattle.text_lines.specs.Marker.{rest_of}
-use Rattle.halving.specs.Part.{polar}
-use Rattle.dynamics_bound.specs.Accelerations.{widest_bend, widest_bend_part}
-use Rattle.show_studies.specs.Explained.{BlockedLines}
-use Rattle.upload_model.specs.Sessions.{part_count}
+use Rattle.definition_tests.proofs.Prelude.{◌≡◌, ℕ, ◌++◌, List, [], ◌∷◌, ap, arith, refl, take, digits, bernstein, decoded, moment, rest_of, polar, widest_bend, widest_bend_part, BlockedLines, part_count}
 use Rattle.definition_tests.specs.Values.{PacketRows, PlaceRows, WordRows, first_part}
 
 pub places : PlaceRows

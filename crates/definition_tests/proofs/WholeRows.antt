@@ -1,9 +1,5 @@
 -- Three texts, computed.
-use Rattle.std.proofs.Common.{◌≡◌, ℕ, arith}
-use Rattle.text_lines.specs.Marker.{part_of, rest_of}
-use Rattle.choreo_show.specs.Plain.{PlainShow}
-use Rattle.choreo_reader.specs.Grammar.{StandsFor}
-use Rattle.definition_tests.specs.Wholes.{FlyAsOneRows, no_text}
+use Rattle.definition_tests.proofs.Prelude.{◌≡◌, ℕ, arith, part_of, rest_of, PlainShow, StandsFor, FlyAsOneRows, no_text}
 use Rattle.definition_tests.proofs.LandedRows.{touch}
 use Rattle.definition_tests.proofs.StandsRows.{begins_so}
 

@@ -1,31 +1,7 @@
 -- Plans that are and aren't the show's.
-use Rattle.std.proofs.lemmas.Grind.{common_steps}
-use Rattle.std.proofs.Common.{◌≡◌, ℕ, ℤ, ◌-◌, ◌≤◌, length, pos, false, true, List, [], ◌∷◌, All, Option, None, Some, codes, ap, get_or, replicate, arith, refl, sym, ◌∙◌}
-use Rattle.std.proofs.lemmas.List.{length-replicate}
-use Rattle.std.proofs.lemmas.List.Elements.{All-cons, All-nil}
-use Rattle.std.specs.Fmt.{digits}
+use Rattle.definition_tests.proofs.Prelude.{common_steps, ◌≡◌, ℕ, ℤ, ◌-◌, ◌≤◌, length, pos, false, true, List, [], ◌∷◌, All, Option, None, Some, codes, ap, get_or, replicate, arith, refl, sym, ◌∙◌, length-replicate, All-cons, All-nil, digits, Traj, HasDuration, IsTrajectory, PlainShow, FitsSettings, Settings, ShowLaw, grid_of, Def, DroneState, handled, acked, acked_from, acknowledges, all_packets, all_settled, ending, flight_at, flight_in, out, phase_of, progress, progress_within, ticks, IsDrone, reply_in, reply_to, packet_at, packet_count, part_count, read_count, write_count, happens, host_event, start_world, IsSendable, size, IsPlan, PlanLaw, plan_text, Uploads, UploadsLaw, names_of, Headline, WrittenRows, aside_plan, second_byte, second_entry, stay, stay_text, staying}
 use Rattle.crtp_packets.specs.declared.chunks.TheConstants.{MEMORY_BYTES}
-use Rattle.traj_codec.specs.declared.traj.Traj.{Traj}
-use Rattle.traj_codec.specs.Spelling.{HasDuration, IsTrajectory}
 use Rattle.choreo_show.specs.Name.{Name, is_name}
-use Rattle.choreo_show.specs.Plain.{PlainShow}
-use Rattle.choreo_show.specs.Valid.{FitsSettings}
-use Rattle.choreo_show.specs.declared.show.Settings.{Settings}
-use Rattle.choreo_reader.specs.Laws.{ShowLaw}
-use Rattle.cue_grid.specs.Cues.{grid_of}
-use Rattle.upload_model.specs.declared.loads.Def.{Def}
-use Rattle.upload_model.specs.Drones.{DroneState, handled}
-use Rattle.upload_model.specs.Hosts.{acked, acked_from, acknowledges, all_packets, all_settled, ending, flight_at, flight_in, out, phase_of, progress, progress_within, ticks}
-use Rattle.upload_model.specs.Memories.{IsDrone}
-use Rattle.upload_model.specs.Replies.{reply_in, reply_to}
-use Rattle.upload_model.specs.Sessions.{packet_at, packet_count, part_count, read_count, write_count}
-use Rattle.upload_model.specs.Worlds.{happens, host_event, start_world}
-use Rattle.show_plan.specs.Fitting.{IsSendable, size}
-use Rattle.show_plan.specs.Texts.{IsPlan, PlanLaw, plan_text}
-use Rattle.show_plan.specs.Uploading.{Uploads, UploadsLaw}
-use Rattle.show_judge.specs.Shows.{names_of}
-use Rattle.show_looks.specs.Compile.{Headline}
-use Rattle.definition_tests.specs.Headlines.{WrittenRows, aside_plan, second_byte, second_entry, stay, stay_text, staying}
 use Rattle.definition_tests.proofs.HeadlineRows.{far, holds, stay_stands}
 use Rattle.definition_tests.proofs.UploadRows.{events, unaltered}
 

@@ -1,6 +1,5 @@
 -- The value of a refusal is on one of four axes.
-use Rattle.figure_expand.proofs.Prelude.{◌≡◌, ℕ, ◌+◌, ◌≤◌, ℤ, Bool, true, false, cond, All, List, [], ◌∷◌, length, Option, Some, None, sym, subst, arith, All-nil, All-cons, All-head, All-tail, All-append, All-from_recursion, Point, DroneLine, Cue, Grid, Job, controls, Axis, AxisValue, act_of, axes_of, cue_values, first_unfit, fits, point_values, points_after, range_fault, start_points, start_values, values, values_from, values_of, values_on}
-use Rattle.std.specs.Prelude.{IfSome}
+use Rattle.figure_expand.proofs.Prelude.{◌≡◌, ℕ, ◌+◌, ◌≤◌, ℤ, Bool, true, false, cond, All, List, [], ◌∷◌, length, Option, Some, None, sym, subst, arith, All-nil, All-cons, All-head, All-tail, All-append, All-from_recursion, Point, DroneLine, Cue, Grid, Job, controls, Axis, AxisValue, act_of, axes_of, cue_values, first_unfit, fits, point_values, points_after, range_fault, start_points, start_values, values, values_from, values_of, values_on, IfSome}
 
 -- the value stands on x, y, z or yaw
 abbrev IsOnAxis : AxisValue → Type 0

@@ -1,12 +1,8 @@
 -- The pieces of a grid are where the text says.
-use Rattle.figure_expand.proofs.Prelude.{common_steps, ◌≡◌, ℕ, zero, suc, ◌+◌, ◌<◌, ℤ, pos, ◌+ℤ◌, ◌-ℤ◌, ◌*ℤ◌, List, [], ◌∷◌, map, take, length, get_or, Bool, ints, arith, refl, sym, ap, ◌∙◌, All, All-from_recursion, power, at, mul_comm_ℤ, one_mul_ℤ, bernstein-zero, bernstein-suc, cong_add, Point, Act, DroneLine, Job, Cue, Grid, controls, axis_on, first_control, Axis, One, MicroPiece, act_of, on_axis, from_rest, written_points, ClosedForms, end_of, point_after, axes_of, piece_of, job_in, no_job, pieces_from, expanded_from, expanded, start_of, jobs_in, job_at, point_before, FliesAsWritten}
+use Rattle.figure_expand.proofs.Prelude.{common_steps, ◌≡◌, ℕ, zero, suc, ◌+◌, ◌<◌, ℤ, pos, ◌+ℤ◌, ◌-ℤ◌, ◌*ℤ◌, List, [], ◌∷◌, map, take, length, get_or, Bool, ints, arith, refl, sym, ap, ◌∙◌, All, All-from_recursion, power, at, mul_comm_ℤ, one_mul_ℤ, bernstein-zero, bernstein-suc, cong_add, Point, Act, DroneLine, Job, Cue, Grid, controls, axis_on, first_control, Axis, One, MicroPiece, act_of, on_axis, from_rest, written_points, ClosedForms, end_of, point_after, axes_of, piece_of, job_in, no_job, pieces_from, expanded_from, expanded, start_of, jobs_in, job_at, point_before, FliesAsWritten, Ease, eased_points, axis_with, eased_yaw}
 use Rattle.choreo_show.specs.declared.parts.Act.TheVariants as act
 use Rattle.mm_rounding.specs.Near.{position, IsAxis, IsPiece, last_control}
-use Rattle.choreo_show.specs.declared.parts.Ease.{Ease}
 use Rattle.choreo_show.specs.declared.parts.Ease.TheVariants as ease
-use Rattle.figure_expand.specs.Acts.{eased_points}
-use Rattle.figure_expand.specs.Controls.{axis_with}
-use Rattle.figure_expand.specs.Written.{eased_yaw}
 use Rattle.figure_expand.proofs.Eased.{controls_with, first_point, first_yaw}
 use Rattle.figure_expand.proofs.Curves.{closed_rest, bern-steps, from_rest-share}
 

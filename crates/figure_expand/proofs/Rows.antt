@@ -1,11 +1,7 @@
 -- Eased arcs whose control points were worked out apart from the program, by docs/TRAJECTORY.md, "The eased quarter circles".
-use Rattle.figure_expand.proofs.Prelude.{◌≡◌, ℕ, ℤ, List, [], ◌∷◌, map, pos, true, false, refl, written_points}
-use Rattle.std.specs.Prelude.{neg_ℤ, reverse}
-use Rattle.choreo_show.specs.declared.parts.Act.{Act}
+use Rattle.figure_expand.proofs.Prelude.{◌≡◌, ℕ, ℤ, List, [], ◌∷◌, map, pos, true, false, refl, written_points, neg_ℤ, reverse, Act, shares, squares, squares_left}
 use Rattle.choreo_show.specs.declared.parts.Act.TheVariants as act
 use Rattle.choreo_show.specs.declared.parts.Ease.TheVariants as ease
-use Rattle.figure_expand.specs.Acts.{shares}
-use Rattle.figure_expand.specs.Written.{squares, squares_left}
 
 -- the control points on x, y and yaw from this x, y and yaw
 abbrev pub from : ℤ → ℤ → ℤ → Act → List (List ℤ)

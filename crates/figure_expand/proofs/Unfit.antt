@@ -1,6 +1,5 @@
 -- The first value that does not fit, step by step.
-use Rattle.figure_expand.proofs.Prelude.{common_steps, ◌≡◌, ℕ, zero, suc, ◌+◌, ◌<◌, ◌≤◌, Bool, true, false, cond, Some, None, List, [], ◌∷◌, ◌++◌, length, get_or, set, drop, arith, refl, sym, ap, ◌∙◌, Point, Job, AxisValue, Grid, act_of, end_of, DroneLine, Cue, controls, Axis, axes_of, fits, values_on, values_of, point_values, start_values, cue_values, values_from, start_points, first_unfit, points_after, range_fault}
-use Rattle.std.proofs.lemmas.List.{drop_more}
+use Rattle.figure_expand.proofs.Prelude.{common_steps, ◌≡◌, ℕ, zero, suc, ◌+◌, ◌<◌, ◌≤◌, Bool, true, false, cond, Some, None, List, [], ◌∷◌, ◌++◌, length, get_or, set, drop, arith, refl, sym, ap, ◌∙◌, Point, Job, AxisValue, Grid, act_of, end_of, DroneLine, Cue, controls, Axis, axes_of, fits, values_on, values_of, point_values, start_values, cue_values, values_from, start_points, first_unfit, points_after, range_fault, drop_more}
 
 -- values that fit are passed over
 pub none_before : (xs ys : List AxisValue) → first_unfit xs ≡ None → first_unfit (xs ++ ys) ≡ first_unfit ys

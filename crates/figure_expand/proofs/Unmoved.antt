@@ -1,8 +1,7 @@
 -- The frame that changes nothing leaves each act.
-use Rattle.figure_expand.proofs.Prelude.{◌≡◌, ℤ, List, [], ◌∷◌, refl, ap, ◌∙◌, arith, Act, FitsAct, FitsTriple, no_frame, FitsJob, Job, act_in, act_of}
+use Rattle.figure_expand.proofs.Prelude.{◌≡◌, ℤ, List, [], ◌∷◌, refl, ap, ◌∙◌, arith, Act, FitsAct, FitsTriple, no_frame, FitsJob, Job, act_in, act_of, control_in}
 use Rattle.std.proofs.Math.IntN.{+ℤ_idr}
 use Rattle.choreo_show.specs.declared.parts.Act.TheVariants as act
-use Rattle.figure_expand.specs.Acts.{control_in}
 
 triple_stays : (v : List ℤ) → FitsTriple v → control_in no_frame v ≡ v
 triple_stays (x ∷ y ∷ z ∷ []) fits = simp +ℤ_idr

@@ -1,5 +1,5 @@
 -- What the proofs of this crate cite from elsewhere, passed on from one place. Declares nothing.
-pub use Rattle.std.proofs.Common.{All, FitsSigned, List, Some, set, [], ap, append-nil, append_assoc, arith, below_more, drop, get_or, get_or-set_other, get_or-set_same, inl, inr, length, length-append, lit<, map, neg_ℤ, of_z, pos, refl, rules, slice_get, slice_set, subst, suc, sym, take, to_z, zero, ℕ, ℤ, ◌*ℤ◌, ◌*◌, ◌++◌, ◌+◌, ◌-ℤ◌, ◌-◌, ◌/◌, ◌<◌, ◌^◌, ◌∙◌, ◌∷◌, ◌≡◌, ◌≢◌, ◌≤ℤ◌, ◌≤◌}
+pub use Rattle.std.proofs.Common.{All, FitsSigned, List, Some, [], ap, append-nil, append_assoc, arith, below_more, drop, get_or, get_or-set_other, get_or-set_same, inl, inr, length, length-append, lit<, map, neg_ℤ, of_z, pos, refl, rules, set, slice_get, slice_set, subst, suc, sym, take, to_z, zero, ℕ, ℤ, ◌*ℤ◌, ◌*◌, ◌++◌, ◌+◌, ◌-ℤ◌, ◌-◌, ◌/◌, ◌<◌, ◌^◌, ◌∙◌, ◌∷◌, ◌≡◌, ◌≢◌, ◌≤ℤ◌, ◌≤◌}
 pub use Rattle.std.proofs.lemmas.Grind.{common_steps, flat_map-append}
 pub use Rattle.std.proofs.lemmas.Int.{ints, to_z-of_z}
 pub use Rattle.std.proofs.lemmas.List.{get_or-append-add, length-map, map-append, take_all, take_more}
@@ -12,7 +12,6 @@ unfoldable pub use Rattle.bezier_core.specs.Raised.{raised_value}
 pub use Rattle.bezier_core.specs.Raised.{eight, raised}
 pub use Rattle.bezier_core.specs.declared.Bez.{Bez}
 pub use Rattle.fleet_math.specs.Bernstein.{at, choose}
-pub use Rattle.fleet_math.specs.Decoded.{points_from}
 pub use Rattle.fleet_math.specs.Numbers.{IsBelow}
 pub use Rattle.traj_codec.specs.Positions.{durations, element_on, piece_on, points, value_after}
 pub use Rattle.traj_codec.specs.Spelling.{stored}

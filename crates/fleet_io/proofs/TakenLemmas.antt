@@ -1,6 +1,5 @@
 -- What was taken adds up.
-use Rattle.fleet_io.specs.Taken.{TakesFront}
-use Rattle.fleet_io.proofs.Prelude.{List, [], ◌++◌, ℕ, Option, Some, None, refl, sym, ap, ◌∙◌, append_assoc, Consumes}
+use Rattle.fleet_io.proofs.Prelude.{TakesFront, List, [], ◌++◌, ℕ, Option, Some, None, refl, sym, ap, ◌∙◌, append_assoc, Consumes}
 
 -- what two reads took was taken in their order
 pub Consumes-append : (a b c : Option (List ℕ)) (xs ys : List ℕ) → Consumes a b xs → Consumes b c ys → Consumes a c (xs ++ ys)

@@ -1,6 +1,5 @@
 -- What a source gave, and what it may still give.
-use Rattle.fleet_io.proofs.Prelude.{◌≡◌, ℕ, Bool, true, false, List, [], ◌∷◌, ◌++◌, append_assoc, append-nil, length, length-append, drop, Option, Some, None, refl, sym, ap, ◌∙◌, subst, ◌+◌, ◌≤◌, arith, IsTrue, Consumes, Keeps, IsAtEnd, prepend_known, Gives, IsInput, Told, Went, MayGive, to_come, Took, Runs}
-use Rattle.fleet_io.specs.Taken.{TakesAtMost, TakesFront}
+use Rattle.fleet_io.proofs.Prelude.{◌≡◌, ℕ, Bool, true, false, List, [], ◌∷◌, ◌++◌, append_assoc, append-nil, length, length-append, drop, Option, Some, None, refl, sym, ap, ◌∙◌, subst, ◌+◌, ◌≤◌, arith, IsTrue, Consumes, Keeps, IsAtEnd, prepend_known, Gives, IsInput, Told, Went, MayGive, to_come, Took, Runs, TakesAtMost, TakesFront}
 use Rattle.fleet_io.proofs.TakenLemmas.{Consumes-append, Consumes-nil}
 
 -- ---- what was read

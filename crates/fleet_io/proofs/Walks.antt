@@ -1,11 +1,5 @@
 -- A step that the walks of `src/log.rt` share.
-use Rattle.std.proofs.Common.{List, [], ◌∷◌, refl}
-use seplogic.Ra.Ura.{Ura}
-use mir.Val.{Val, vstruct, vnil}
-use types.Logic.{Logic}
-use types.Kit.{Goal, Step, step, Item, ‵, ◌$◌, fjoin, fpack, feq_i}
-use denote.RattleType.{RattleType, Valss}
-use denote.Steps.{nothing}
+use Rattle.fleet_io.proofs.Prelude.{List, [], ◌∷◌, refl, Ura, Val, vstruct, vnil, Logic, Goal, Step, step, Item, ‵, ◌$◌, fjoin, fpack, feq_i, RattleType, Valss, nothing}
 use denote.Struct.Struct.{Struct, within}
 
 abbrev pub none : Val

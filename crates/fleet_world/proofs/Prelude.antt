@@ -22,7 +22,7 @@ pub use Rattle.upload_model.specs.declared.events.Sent.{Sent}
 pub use Rattle.upload_model.specs.declared.events.WorldEvent.{WorldEvent}
 pub use Rattle.upload_model.specs.declared.events.WorldEvent.TheVariants.{Alter, Hear, Take, Tick}
 pub use Rattle.fleet_world.specs.Schedules.{ScheduleLaw, counted_from_0, event_of, event_with, events_by, events_of, number_of, place_from, put_event, schedule_of}
-pub use Rattle.fleet_world.specs.Steps.{AreEnds, begin_of, prepended, cut}
+pub use Rattle.fleet_world.specs.Steps.{AreEnds, begin_of, cut, prepended}
 pub use Rattle.fleet_world.specs.Traffics.{AreNumbersOf, HasRoom, given_of, numbers_for, packets_at, row_of, sent_of}
 pub use Rattle.fleet_world.specs.WorldState.{WorldStandsAt, WorldState, state_at, state_of}
 pub use Rattle.fleet_world.specs.declared.traffic.Traffic.{Traffic}

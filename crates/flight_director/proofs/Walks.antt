@@ -1,28 +1,16 @@
 -- Walks over what is left of a list.
-use Rattle.std.proofs.Common.{◌≡◌, ◌<◌, ◌≤◌, ◌+◌, ◌-◌, ◌∷◌, ◌++◌, ◌∙◌, [], List, Bool, false, cond, true, ◌&&◌, ◌||◌, refl, sym, ap, subst, None, Some, Option, ℕ, zero, suc, take, drop, set, length, get_or, arith}
+use Rattle.flight_director.proofs.Prelude.{◌≡◌, ◌<◌, ◌≤◌, ◌+◌, ◌-◌, ◌∷◌, ◌++◌, ◌∙◌, [], List, Bool, false, cond, true, ◌&&◌, ◌||◌, refl, sym, ap, subst, None, Some, Option, ℕ, zero, suc, take, drop, set, length, get_or, arith, with_tracks, take_all, append_assoc, append-nil, map, slice_get, slice_set, tracked, track_with, range_with_len, list_any, Note, is_fit, noticed, overdue, is_grave, chosen, State, Order, To, Noted, Track, unanswered, all_fit, all_down, is_down, first_unfit, frames_from, has_risen, land_order}
 use Rattle.std.proofs.Math.ListN.{drop_of_length-le}
-use Rattle.flight_director.specs.Held.{with_tracks}
-use Rattle.std.proofs.lemmas.List.{take_all, append_assoc, append-nil}
 use Rattle.std.proofs.lemmas.List.FromFn.{map-range_with_len_more, length-map-range_with_len}
-use Rattle.std.specs.Prelude.{map, slice_get, slice_set}
 use Rattle.flight_model.specs.declared.events.Event.TheVariants.{Seen}
 use Rattle.flight_model.specs.declared.events.Sample.{Sample}
 unfoldable use Rattle.flight_model.specs.Directors.{tracks_after}
-use Rattle.flight_model.specs.Directors.{tracked, track_with}
-use Rattle.std.specs.List.{range_with_len, list_any}
 use Rattle.flight_model.specs.declared.events.Event.{Event}
-use Rattle.flight_model.specs.declared.events.Note.{Note}
-use Rattle.flight_model.specs.Samples.{is_fit}
 unfoldable use Rattle.flight_model.specs.Directors.{heard, notes, is_fault, choice, done, led, happens, says}
-use Rattle.flight_model.specs.Directors.{noticed, overdue, is_grave, chosen, State}
 use Rattle.flight_model.specs.declared.states.Choice.{Choice}
-use Rattle.flight_model.specs.declared.events.Order.{Order}
 use Rattle.flight_model.specs.declared.events.Frame.{Frame}
-use Rattle.flight_model.specs.declared.events.Frame.TheVariants.{To, Noted}
 use Rattle.flight_model.specs.declared.flights.Condition.{Condition}
 use Rattle.flight_model.specs.declared.flights.Flight.{Flight}
-use Rattle.flight_model.specs.declared.states.Track.{Track}
-use Rattle.flight_model.specs.Directors.{unanswered, all_fit, all_down, is_down, first_unfit, frames_from, has_risen, land_order}
 
 -- conditions with no track left
 all_fit-none : (silence : ℕ) (ws : List Condition) (d : ℕ) → d < length ws → all_fit silence (drop d ws) [] ≡ false

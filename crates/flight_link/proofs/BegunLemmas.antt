@@ -1,14 +1,9 @@
 -- Bytes begin an event exactly where they are one with zeros after them.
-use Rattle.flight_link.proofs.Prelude.{◌≡◌, ℕ, zero, suc, ◌+◌, ◌-◌, ◌<◌, ◌≤◌, Bool, true, false, cond, List, [], ◌∷◌, ◌++◌, length, take, replicate, slice_index, length-append, length-replicate, append_assoc, append-nil, Some, None, Result, Ok, Err, refl, sym, ap, ◌∙◌, arith, ◌==◌, nat_le, nat_lt, Event, Clock, Seen, Answered, Said, FrameFault, FrameLaw, IsEvent, event_bytes, event_in, length_of, BeginsNoEvent, IsBegun}
-use Rattle.std.proofs.lemmas.Bool.{leb-false, ltb-false, lt-leb, eqb-true}
+use Rattle.flight_link.proofs.Prelude.{◌≡◌, ℕ, zero, suc, ◌+◌, ◌-◌, ◌<◌, ◌≤◌, Bool, true, false, cond, List, [], ◌∷◌, ◌++◌, length, take, replicate, slice_index, length-append, length-replicate, append_assoc, append-nil, Some, None, Result, Ok, Err, refl, sym, ap, ◌∙◌, arith, ◌==◌, nat_le, nat_lt, Event, Clock, Seen, Answered, Said, FrameFault, FrameLaw, IsEvent, event_bytes, event_in, length_of, BeginsNoEvent, IsBegun, leb-false, ltb-false, lt-leb, eqb-true, length-take, length-take-le, take-replicate, take_more, take_more_set, get_or, slice_set, little_number, answer_in, clock_in, sample_in, said_in, seen_of, signal_in}
 use Rattle.std.proofs.lemmas.Bool.Decides.{nat_tests}
-use Rattle.std.proofs.lemmas.List.{length-take, length-take-le, take-replicate, take_more, take_more_set}
-use Rattle.std.specs.Prelude.{get_or, slice_set}
 use Rattle.std.proofs.Math.Seq.{set-append_seam, take-append-add}
-use Rattle.byteorder.specs.Endian.{little_number}
 use Rattle.flight_model.specs.declared.events.Signal.TheVariants as signal
 use Rattle.flight_frames.specs.declared.events.FrameFault.TheVariants as fault
-use Rattle.flight_frames.specs.Frames.{answer_in, clock_in, sample_in, said_in, seen_of, signal_in}
 use Rattle.flight_link.proofs.EventLemmas.{by_cond, longer, same_size}
 
 -- ---- smaller bytes are read too

@@ -1,10 +1,9 @@
 -- What goes out is what the director says, and a flight that ends with 0 was told to each drone.
-use Rattle.flight_link.proofs.Prelude.{◌≡◌, ◌⊎◌, inl, inr, ℕ, suc, ◌≤◌, true, false, List, [], ◌∷◌, ◌++◌, length, Some, refl, sym, ◌∙◌, arith, ◌==◌, Contains, Event, Frame, Flight, sent, start, ended, end_in, sent_over, end_frame, BeginsWith, FlightFails, FlightGives, dialogue_of, item_limit}
-use Rattle.flight_model.specs.declared.events.Frame.TheVariants.{To, ToAll, Noted, Over}
+use Rattle.flight_link.proofs.Prelude.{◌≡◌, ◌⊎◌, inl, inr, ℕ, suc, ◌≤◌, true, false, List, [], ◌∷◌, ◌++◌, length, Some, refl, sym, ◌∙◌, arith, ◌==◌, Contains, Event, Frame, Flight, sent, start, ended, end_in, sent_over, BeginsWith, FlightFails, FlightGives, dialogue_of, item_limit, To, ToAll, Noted, Over, ends_zero}
+use Rattle.link_frames.specs.Frames.{end_frame}
 use Rattle.flight_model.specs.Law.{OverLaw}
 use Rattle.flight_link.specs.Orders.{OrdersLaw, Says, SaysWhole}
 use Rattle.flight_link.proofs.EventLemmas.{longer}
-use Rattle.link_dialogue.proofs.EndLemmas.{ends_zero}
 use Rattle.link_dialogue.proofs.ItemLemmas.{less_or_not}
 use Rattle.flight_link.proofs.StatusLemmas.{same_status}
 

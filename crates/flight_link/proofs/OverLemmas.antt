@@ -1,7 +1,5 @@
 -- The end is said exactly where the flight is over.
-use Rattle.flight_link.proofs.Prelude.{◌≡◌, ◌≢◌, ◌⊎◌, inl, inr, ℕ, suc, Bool, true, false, cond, List, [], ◌∷◌, Option, Some, None, refl, sym, ap, ◌∙◌, ◌==◌, ◌↔◌, length, Event, Flight, State, after, happens, says, sent, start, ended, end_in, first_of_two}
-use Rattle.std.specs.Prelude.{map}
-use Rattle.flight_model.specs.declared.events.Frame.TheVariants.{Noted}
+use Rattle.flight_link.proofs.Prelude.{◌≡◌, ◌≢◌, ◌⊎◌, inl, inr, ℕ, suc, Bool, true, false, cond, List, [], ◌∷◌, Option, Some, None, refl, sym, ap, ◌∙◌, ◌==◌, ◌↔◌, length, Event, Flight, State, after, happens, says, sent, start, ended, end_in, first_of_two, map, Noted, frames_from, frames_of, frames_of_step, landings, next_step, notes}
 use Rattle.flight_model.specs.declared.events.Note.{Note}
 use Rattle.flight_model.specs.declared.events.Order.{Order}
 use Rattle.flight_model.specs.declared.flights.Orders.{Orders}
@@ -12,7 +10,6 @@ use Rattle.flight_model.specs.declared.states.Choice.{Choice}
 use Rattle.flight_model.specs.declared.states.Choice.TheVariants.{Begin, Cut, Descend, Finish, Quit, Rest}
 use Rattle.flight_model.specs.declared.states.Phase.{Phase}
 use Rattle.flight_model.specs.declared.states.Phase.TheVariants.{Ended, Off, Steps}
-use Rattle.flight_model.specs.Directors.{frames_from, frames_of, frames_of_step, landings, next_step, notes}
 use Rattle.flight_link.proofs.SendLemmas.{end-append}
 
 -- ---- what says no end

@@ -1,11 +1,11 @@
 -- What a flight sends and how it ends: small flights, written out by hand from docs/PROMISES.md, "Its frames".
-use Rattle.flight_link.proofs.Prelude.{◌≡◌, ◌<◌, ℕ, true, zero, suc, [], ◌∷◌, List, None, take, refl, arith, All-cons, All-nil, Clock, Event, FrameLaw, IsEvent, Said, drones, ended, sent_over, FlightGives, dialogue_of}
+use Rattle.flight_link.proofs.Prelude.{◌≡◌, ◌<◌, ℕ, true, zero, suc, [], ◌∷◌, List, None, take, refl, arith, Clock, Event, FrameLaw, IsEvent, Said, drones, ended, sent_over, FlightGives, dialogue_of, one}
+use Rattle.std.proofs.lemmas.List.Elements.{All-cons, All-nil}
 use Rattle.flight_model.specs.declared.events.Signal.TheVariants as signal
 unfoldable use Rattle.flight_model.specs.Legs.{steps_of}
 unfoldable use Rattle.flight_model.specs.Samples.{is_fit_by, is_kept}
 unfoldable use Rattle.flight_model.specs.Directors.{tracks_after, heard, is_due, notes, is_fault, choice, done, led, happens, says}
 unfoldable use Rattle.flight_model.specs.Example.{flight}
-use Rattle.link_dialogue.proofs.EndLemmas.{one}
 use Rattle.flight_link.proofs.FlightLemmas.{is_dialogue}
 
 -- no byte: the flight goes on, and nothing was said

@@ -1,5 +1,6 @@
 -- What is sent over events that come one after the other.
-use Rattle.flight_link.proofs.Prelude.{◌≡◌, List, [], ◌∷◌, ◌++◌, append_assoc, append-nil, refl, sym, ap, ◌∙◌, ℕ, flat_map-append, Option, Some, None, Event, Frame, Flight, State, after, happens, says, sent, start, output_bytes, ended, end_in, end_of, first_of_two, frames_bytes, sent_over, BeginsWith}
+use Rattle.flight_link.proofs.Prelude.{◌≡◌, List, [], ◌∷◌, ◌++◌, append_assoc, append-nil, refl, sym, ap, ◌∙◌, ℕ, Option, Some, None, Event, Frame, Flight, State, after, happens, says, sent, start, output_bytes, ended, end_in, end_of, first_of_two, frames_bytes, sent_over, BeginsWith}
+use Rattle.std.proofs.lemmas.List.Concat.{flat_map-append}
 
 -- what is said at an event that comes after others
 abbrev pub said_at : Flight → List Event → Event → List Frame

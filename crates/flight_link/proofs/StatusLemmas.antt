@@ -1,7 +1,5 @@
 -- The statuses of a flight.
-use Rattle.flight_link.proofs.Prelude.{◌≡◌, ◌≢◌, inl, inr, ℕ, true, false, List, [], ◌∷◌, Some, refl, subst, arith, Contains, Event, Frame, Flight, end_in, ended, sent, start, dialogue_of}
-use Rattle.flight_model.specs.declared.events.Frame.TheVariants.{To, ToAll, Noted, Over}
-use Rattle.link_dialogue.specs.Dialogues.{IsStatus}
+use Rattle.flight_link.proofs.Prelude.{◌≡◌, ◌≢◌, inl, inr, ℕ, true, false, List, [], ◌∷◌, Some, refl, subst, arith, Contains, Event, Frame, Flight, end_in, ended, sent, start, dialogue_of, To, ToAll, Noted, Over, IsStatus}
 
 abbrev IsKnown : ℕ → Type 0
 IsKnown status = Contains (0 ∷ 6 ∷ 7 ∷ 8 ∷ 11 ∷ 13 ∷ 20 ∷ []) status

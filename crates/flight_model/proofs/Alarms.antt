@@ -1,22 +1,7 @@
 -- What is wrong is told, and lands all.
-use Rattle.std.proofs.Common.{◌≡◌, ◌≢◌, ◌<◌, ◌≤◌, ◌+◌, ◌-◌, ◌∷◌, ◌∙◌, ◌||◌, ◌&&◌, [], List, Bool, true, false, cond, not, refl, sym, ap, subst, None, Some, Option, ℕ, zero, suc, leb, ltb, eqb, arith}
-use Rattle.std.proofs.lemmas.Bool.{le-leb, lt-leb, le-ltb, lt-ltb, ne_eqb}
-use Rattle.std.proofs.lemmas.List.Elements.{All-nil, All-cons, All-contains, Contains-append_left, Contains-append_right}
-use Rattle.std.specs.Prelude.{All, Contains, slice_get}
-use Rattle.std.specs.List.{list_any}
-use Rattle.flight_model.specs.declared.events.Sample.{Sample}
+use Rattle.flight_model.proofs.Prelude.{◌≡◌, ◌≢◌, ◌<◌, ◌≤◌, ◌+◌, ◌-◌, ◌∷◌, ◌∙◌, ◌||◌, ◌&&◌, [], List, Bool, true, false, cond, not, refl, sym, ap, subst, None, Some, Option, ℕ, zero, suc, leb, ltb, eqb, arith, le-leb, lt-leb, le-ltb, lt-ltb, ne_eqb, All-nil, All-cons, All-contains, Contains-append_left, Contains-append_right, All, Contains, slice_get, list_any, Sample, Event, Clock, Seen, Answered, Said, Fault, Silent, Astray, Lost, Refused, Late, Unsure, Outside, Note, Step, Flight, Track, State, Steps, is_due, next_step, is_off_hold, is_outside, is_lost, is_astray, is_late_step, is_flying, falls_silent, silent_from, later, off_with, note_if, sample_notes, seen_notes, track_with, noticed, overdue, unfit_in, is_grave, Lands, note_of, HasLasted, Alarms, IsToLand, AlarmLaw}
 use Rattle.flight_model.specs.declared.events.Signal.TheVariants as signal
-use Rattle.flight_model.specs.declared.events.Event.{Event}
-use Rattle.flight_model.specs.declared.events.Event.TheVariants.{Clock, Seen, Answered, Said}
-use Rattle.flight_model.specs.declared.events.Fault.{Fault}
-use Rattle.flight_model.specs.declared.events.Fault.TheVariants.{Silent, Astray, Lost, Refused, Late, Unsure, Outside}
-use Rattle.flight_model.specs.declared.events.Note.{Note}
-use Rattle.flight_model.specs.declared.flights.Step.{Step}
-use Rattle.flight_model.specs.declared.flights.Flight.{Flight}
 unfoldable use Rattle.flight_model.specs.Directors.{heard, notes, is_fault}
-use Rattle.flight_model.specs.Directors.{Track, State, Steps, is_due, next_step, is_off_hold, is_outside, is_lost, is_astray, is_late_step, is_flying, falls_silent, silent_from, later, off_with, note_if, sample_notes, seen_notes, track_with, noticed, overdue, unfit_in, is_grave}
-use Rattle.flight_model.specs.Law.{Lands}
-use Rattle.flight_model.specs.Alarms.{note_of, HasLasted, Alarms, IsToLand, AlarmLaw}
 use Rattle.flight_model.proofs.Ending.{fault_law}
 
 -- ---- a note that is grave

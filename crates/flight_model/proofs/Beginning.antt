@@ -1,22 +1,9 @@
 -- When a step begins, and what it may order.
-use Rattle.std.proofs.Common.{◌≡◌, ◌∙◌, ◌⊎◌, ◌<◌, ◌∷◌, ◌||◌, ◌&&◌, [], List, Bool, true, false, not, refl, sym, subst, None, Some, Option, ℕ, zero, suc, inl, inr, leb, ltb, arith}
-use Rattle.std.specs.Prelude.{ℤ, pos, int_le, slice_get, Contains, ◌≤ℤ◌, ◌+ℤ◌, ◌-ℤ◌}
-use Rattle.std.proofs.lemmas.Bool.{and_parts, not-true, leb-true, ltb-true, ltb-false}
-use Rattle.std.proofs.lemmas.Int.{ints}
-use Rattle.flight_model.specs.declared.events.Order.{Order}
+use Rattle.flight_model.proofs.Prelude.{◌≡◌, ◌∙◌, ◌⊎◌, ◌<◌, ◌∷◌, ◌||◌, ◌&&◌, [], List, Bool, true, false, not, refl, sym, subst, None, Some, Option, ℕ, zero, suc, inl, inr, leb, ltb, arith, ℤ, pos, int_le, slice_get, Contains, ◌≤ℤ◌, ◌+ℤ◌, ◌-ℤ◌, and_parts, not-true, leb-true, ltb-true, ltb-false, ints, Order, Sample, Event, Clock, Seen, Answered, Said, Condition, Step, Flight, square, is_short, is_fit, is_at, stands_at, Phase, Steps, Landing, Off, Halted, Ended, Track, State, Choice, Rest, Begin, Descend, Cut, Quit, Finish, chosen, is_fault, is_go, land_order, has_risen, drones, next_step, is_due_step, all_fit, all_answered, orders_to, only_if, IsFit, StandsAt, MayBegin, IsOnward, DueLaw}
 use Rattle.flight_model.specs.declared.events.Order.TheVariants as order
-use Rattle.flight_model.specs.declared.events.Sample.{Sample}
 use Rattle.flight_model.specs.declared.events.Signal.TheVariants as signal
-use Rattle.flight_model.specs.declared.events.Event.{Event}
-use Rattle.flight_model.specs.declared.events.Event.TheVariants.{Clock, Seen, Answered, Said}
-use Rattle.flight_model.specs.declared.flights.Condition.{Condition}
-use Rattle.flight_model.specs.declared.flights.Step.{Step}
-use Rattle.flight_model.specs.declared.flights.Flight.{Flight}
 unfoldable use Rattle.flight_model.specs.Samples.{is_fit_by}
-use Rattle.flight_model.specs.Samples.{square, is_short, is_fit, is_at, stands_at}
 unfoldable use Rattle.flight_model.specs.Directors.{heard, is_due, choice, done, led, happens, says}
-use Rattle.flight_model.specs.Directors.{Phase, Steps, Landing, Off, Halted, Ended, Track, State, Choice, Rest, Begin, Descend, Cut, Quit, Finish, chosen, is_fault, is_go, land_order, has_risen, drones, next_step, is_due_step, all_fit, all_answered}
-use Rattle.flight_model.specs.Law.{orders_to, only_if, IsFit, StandsAt, MayBegin, IsOnward, DueLaw}
 use Rattle.flight_model.proofs.OrdersTo.{orders_to-landing, orders_to-no_landing}
 use Rattle.flight_model.proofs.Choices.{steps-has, landing-has, off-has, halted-has}
 use Rattle.flight_model.proofs.Telling.{orders_to-says}

@@ -1,8 +1,5 @@
 -- What the director chooses, phase by phase.
-use Rattle.std.proofs.Common.{◌≡◌, ◌||◌, Bool, true, false, cond, refl}
-use Rattle.flight_model.specs.declared.events.Event.{Event}
-use Rattle.flight_model.specs.declared.flights.Flight.{Flight}
-use Rattle.flight_model.specs.Directors.{Steps, Landing, Off, Halted, State, Choice, Rest, Begin, Descend, Cut, Quit, Finish, chosen, is_stop, is_land, is_due, is_over, has_landed}
+use Rattle.flight_model.proofs.Prelude.{◌≡◌, ◌||◌, Bool, true, false, cond, refl, Event, Flight, Steps, Landing, Off, Halted, State, Choice, Rest, Begin, Descend, Cut, Quit, Finish, chosen, is_stop, is_land, is_due, is_over, has_landed}
 
 -- what holds of each choice that may be made
 cond-has : (P : Choice → Type 0) (b : Bool) (x y : Choice) → (b ≡ true → P x) → (b ≡ false → P y) → P (cond b x y)

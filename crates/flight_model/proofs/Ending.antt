@@ -1,17 +1,8 @@
 -- Land, fault and stop; and what is said of the show.
-use Rattle.std.proofs.Common.{◌≡◌, ◌≢◌, ◌⊎◌, ◌<◌, ◌∷◌, ◌∙◌, ◌||◌, ◌&&◌, [], List, Bool, true, false, not, refl, sym, ap, subst, ℕ, inl, inr}
-use Rattle.std.proofs.lemmas.List.Elements.{All-append, All-nil, All-cons}
-use Rattle.std.proofs.Math.Bool.{and_assoc}
-use Rattle.std.specs.Prelude.{All}
-use Rattle.flight_model.specs.declared.events.Order.{Order}
+use Rattle.flight_model.proofs.Prelude.{◌≡◌, ◌≢◌, ◌⊎◌, ◌<◌, ◌∷◌, ◌∙◌, ◌||◌, ◌&&◌, [], List, Bool, true, false, not, refl, sym, ap, subst, ℕ, inl, inr, All-append, All-nil, All-cons, and_assoc, All, Order, Event, Clock, Seen, Answered, Said, Flight, Phase, Steps, Landing, Off, Halted, Ended, State, Choice, Rest, Begin, Descend, Cut, Quit, Finish, sent, after, chosen, is_fault, is_stop, is_land, harms, frames_from, landings, land_order, has_risen, drones, orders_to, only_if, Lands, IsLast, LandLaw, FaultLaw, HaltLaw}
 use Rattle.flight_model.specs.declared.events.Order.TheVariants as order
 use Rattle.flight_model.specs.declared.events.Signal.TheVariants as signal
-use Rattle.flight_model.specs.declared.events.Event.{Event}
-use Rattle.flight_model.specs.declared.events.Event.TheVariants.{Clock, Seen, Answered, Said}
-use Rattle.flight_model.specs.declared.flights.Flight.{Flight}
 unfoldable use Rattle.flight_model.specs.Directors.{heard, is_due, choice, done, led, happens, says}
-use Rattle.flight_model.specs.Directors.{Phase, Steps, Landing, Off, Halted, Ended, State, Choice, Rest, Begin, Descend, Cut, Quit, Finish, sent, after, chosen, is_fault, is_stop, is_land, harms, frames_from, landings, land_order, has_risen, drones}
-use Rattle.flight_model.specs.Law.{orders_to, only_if, Lands, IsLast, LandLaw, FaultLaw, HaltLaw}
 use Rattle.flight_model.proofs.OrdersTo.{orders_to-append, orders_to-landing}
 use Rattle.flight_model.proofs.Choices.{landing-has, off-has, halted-has}
 use Rattle.flight_model.proofs.Telling.{orders_to-says}

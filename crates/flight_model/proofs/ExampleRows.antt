@@ -1,30 +1,13 @@
 -- The premises of the laws hold of the small flight.
-use Rattle.std.proofs.Common.{◌≡◌, ◌≢◌, ◌≤◌, ◌+◌, ◌∷◌, ◌||◌, ◌&&◌, ◌∙◌, [], List, Bool, true, false, not, refl, sym, ap, subst, None, Some, Option, ℕ, zero, suc, inl, inr, leb, eqb, arith}
-use Rattle.std.proofs.lemmas.Bool.{and_parts, not-true, eqb-true, le-leb}
-use Rattle.std.proofs.lemmas.List.Elements.{All-nil, All-cons}
-use Rattle.std.specs.Prelude.{ℤ, pos, slice_get, Contains}
-use Rattle.std.specs.List.{list_any}
-use Rattle.traj_codec.specs.declared.traj.Traj.{Traj}
-use Rattle.flight_model.specs.declared.events.Sample.{Sample}
+use Rattle.flight_model.proofs.Prelude.{◌≡◌, ◌≢◌, ◌≤◌, ◌+◌, ◌∷◌, ◌||◌, ◌&&◌, ◌∙◌, [], List, Bool, true, false, not, refl, sym, ap, subst, None, Some, Option, ℕ, zero, suc, inl, inr, leb, eqb, arith, and_parts, not-true, eqb-true, le-leb, All-nil, All-cons, ℤ, pos, slice_get, Contains, list_any, Traj, Sample, Event, Clock, Seen, Answered, Said, Over, Step, Flight, IsWay, IsWayUp, IsWayDown, IsFlight, way_begins, way_ends, legs_of, leg, moves, goes_up, goes_down, start, sent, State, Track, next_step, all_fit, all_answered, is_silent, is_off, is_off_hold, is_outside, are_aloft, IsInRoom, is_in_room, IsQuiet, AllQuiet, HasShow, up_at, show_at, down_at, routes, whole, said, ExampleLaw}
 use Rattle.flight_model.specs.declared.events.Signal.TheVariants as signal
-use Rattle.flight_model.specs.declared.events.Event.{Event}
-use Rattle.flight_model.specs.declared.events.Event.TheVariants.{Clock, Seen, Answered, Said}
-use Rattle.flight_model.specs.declared.events.Frame.TheVariants.{Over}
-use Rattle.flight_model.specs.declared.flights.Step.{Step}
-use Rattle.flight_model.specs.declared.flights.Flight.{Flight}
 unfoldable use Rattle.flight_model.specs.Legs.{steps_of}
-use Rattle.flight_model.specs.Legs.{IsWay, IsWayUp, IsWayDown, IsFlight, way_begins, way_ends, legs_of, leg, moves, goes_up, goes_down}
 unfoldable use Rattle.flight_model.specs.Samples.{is_fit_by, is_kept, is_on_course}
 unfoldable use Rattle.flight_model.specs.Directors.{tracks_after, heard, is_due, notes, is_fault, choice, done, led, happens, says}
-use Rattle.flight_model.specs.Directors.{start, sent, State, Track, next_step, all_fit, all_answered, is_silent, is_off, is_off_hold, is_outside, are_aloft}
-use Rattle.flight_model.specs.Rooms.{IsInRoom, is_in_room}
 unfoldable use Rattle.fleet_math.specs.Decoded.{decoded}
 unfoldable use Rattle.fleet_math.specs.Moments.{moment}
 unfoldable use Rattle.fleet_math.specs.Bernstein.{bernstein}
-use Rattle.flight_model.specs.Law.{IsQuiet, AllQuiet}
-use Rattle.flight_model.specs.Kept.{HasShow}
 unfoldable use Rattle.flight_model.specs.Example.{flight}
-use Rattle.flight_model.specs.Example.{up_at, show_at, down_at, routes, whole, said, ExampleLaw}
 use Rattle.flight_model.proofs.Beginning.{implied}
 use Rattle.flight_model.proofs.Rooms.{in-room}
 use Rattle.flight_model.proofs.Shows.{has_show}

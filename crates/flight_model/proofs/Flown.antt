@@ -1,23 +1,8 @@
 -- A flight that is said to be flown was flown.
-use Rattle.std.proofs.Common.{◌≡◌, ◌⊎◌, ◌<◌, ◌&&◌, ◌∷◌, ◌++◌, ◌∙◌, [], List, Bool, true, false, cond, refl, sym, ap, subst, None, Some, Option, ℕ, suc, inl, inr, take, length, eqb, arith}
-use Rattle.std.proofs.lemmas.Bool.{eqb-true, eqb-false, and_parts}
-use Rattle.std.proofs.lemmas.List.{append-nil, append_assoc, take_all}
-use Rattle.std.proofs.lemmas.List.Elements.{All-nil, All-cons, All-contains, Contains-append_cases}
-use Rattle.std.proofs.lemmas.Option.{slice_get_within}
-use Rattle.std.specs.Prelude.{map, slice_get, All, Contains}
-use Rattle.flight_model.specs.declared.events.Order.{Order}
+use Rattle.flight_model.proofs.Prelude.{◌≡◌, ◌⊎◌, ◌<◌, ◌&&◌, ◌∷◌, ◌++◌, ◌∙◌, [], List, Bool, true, false, cond, refl, sym, ap, subst, None, Some, Option, ℕ, suc, inl, inr, take, length, eqb, arith, eqb-true, eqb-false, and_parts, append-nil, append_assoc, take_all, All-nil, All-cons, All-contains, Contains-append_cases, slice_get_within, map, slice_get, All, Contains, Order, Note, Event, Frame, To, ToAll, Noted, Over, Orders, Each, Step, Flight, Phase, Steps, Landing, Off, Halted, Ended, State, Choice, Rest, Begin, Descend, Cut, Quit, Finish, start, sent, chosen, is_fault, notes, order_in, frames_from, frames_of, frames_of_step, landings, next_step, is_due_step, is_flown, is_off_phase, orders_to, in_step, ordered, OverLaw}
 use Rattle.flight_model.specs.declared.events.Order.TheVariants as order
-use Rattle.flight_model.specs.declared.events.Note.{Note}
-use Rattle.flight_model.specs.declared.events.Event.{Event}
-use Rattle.flight_model.specs.declared.events.Frame.{Frame}
-use Rattle.flight_model.specs.declared.events.Frame.TheVariants.{To, ToAll, Noted, Over}
-use Rattle.flight_model.specs.declared.flights.Orders.{Orders}
-use Rattle.flight_model.specs.declared.flights.Orders.TheVariants.{Each, All as ToEach}
-use Rattle.flight_model.specs.declared.flights.Step.{Step}
-use Rattle.flight_model.specs.declared.flights.Flight.{Flight}
+use Rattle.flight_model.specs.declared.flights.Orders.TheVariants.{All as ToEach}
 unfoldable use Rattle.flight_model.specs.Directors.{heard, is_due, choice, done, led, happens, says}
-use Rattle.flight_model.specs.Directors.{Phase, Steps, Landing, Off, Halted, Ended, State, Choice, Rest, Begin, Descend, Cut, Quit, Finish, start, sent, chosen, is_fault, notes, order_in, frames_from, frames_of, frames_of_step, landings, next_step, is_due_step, is_flown, is_off_phase}
-use Rattle.flight_model.specs.Law.{orders_to, in_step, ordered, OverLaw}
 use Rattle.flight_model.proofs.OrdersTo.{orders_to-append, orders_to-of_step, ordered-next}
 use Rattle.flight_model.proofs.Choices.{steps-has, landing-has, off-has, halted-has}
 use Rattle.flight_model.proofs.Telling.{orders_to-says, as_phase}

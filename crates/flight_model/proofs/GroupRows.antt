@@ -1,5 +1,5 @@
 -- Whom packets for a group reach, and when drones are armed.
-use Rattle.std.proofs.Common.{refl}
+use Rattle.flight_model.proofs.Prelude.{refl, GroupRows}
 unfoldable use Rattle.flight_model.specs.Legs.{steps_of}
 unfoldable use Rattle.flight_model.specs.Samples.{is_fit_by, is_kept, is_on_course}
 unfoldable use Rattle.flight_model.specs.Directors.{tracks_after, heard, is_due, notes, is_fault, choice, done, led, happens, says}
@@ -8,7 +8,6 @@ unfoldable use Rattle.fleet_math.specs.Moments.{moment}
 unfoldable use Rattle.fleet_math.specs.Bernstein.{bernstein}
 unfoldable use Rattle.flight_model.specs.Example.{flight}
 unfoldable use Rattle.flight_model.specs.Ours.{said_at}
-use Rattle.flight_model.specs.Ours.{GroupRows}
 
 pub group_rows : GroupRows
 unfolding steps_of is_fit_by is_kept is_on_course tracks_after heard is_due notes is_fault choice done led happens says flight said_at decoded moment bernstein

@@ -1,26 +1,12 @@
 -- Who is off where it is told to be for 300 ms has all land.
-use Rattle.std.proofs.Common.{◌≡◌, ◌≢◌, ◌<◌, ◌≤◌, ◌+◌, ◌-◌, ◌∷◌, ◌++◌, ◌∙◌, ◌&&◌, [], List, Bool, true, false, cond, not, min, refl, sym, ap, subst, None, Some, Option, ℕ, zero, suc, length, leb, eqb, arith}
-use Rattle.std.proofs.lemmas.Bool.{and_parts, eqb-true, eqb-false, leb-false}
-use Rattle.std.specs.Prelude.{map, replicate, slice_get, slice_set}
-use Rattle.std.specs.List.{flat_map, range_with_len}
-use Rattle.flight_model.specs.declared.events.Sample.{Sample}
+use Rattle.flight_model.proofs.Prelude.{◌≡◌, ◌≢◌, ◌<◌, ◌≤◌, ◌+◌, ◌-◌, ◌∷◌, ◌++◌, ◌∙◌, ◌&&◌, [], List, Bool, true, false, cond, not, min, refl, sym, ap, subst, None, Some, Option, ℕ, zero, suc, length, leb, eqb, arith, and_parts, eqb-true, eqb-false, leb-false, map, replicate, slice_get, slice_set, flat_map, range_with_len, Sample, Event, Clock, Seen, Answered, Said, Step, Flight, Routes, legs_of, leg_count, leg_ms, ms_until, hold_in, lasts, arm_step, up_step, start_step, down_step, Phase, Steps, Landing, Off, Halted, Ended, Track, State, Choice, Rest, Begin, Descend, Cut, Quit, Finish, start, after, drones, most_ms, passed, older, aged, renewed, tracked, track_with, off_with, is_astray, is_flying, is_fault, is_off_hold, keeps_hold, held_by, last_hold, later, Lands, IsToLand, HasLasted, time, twice}
 use Rattle.flight_model.specs.declared.events.Signal.TheVariants as signal
-use Rattle.flight_model.specs.declared.events.Event.{Event}
-use Rattle.flight_model.specs.declared.events.Event.TheVariants.{Clock, Seen, Answered, Said}
 use Rattle.flight_model.specs.declared.flights.Stretch.TheVariants as stretch
-use Rattle.flight_model.specs.declared.flights.Step.{Step}
-use Rattle.flight_model.specs.declared.flights.Flight.{Flight}
 unfoldable use Rattle.flight_model.specs.Legs.{steps_of}
-use Rattle.flight_model.specs.Legs.{Routes, legs_of, leg_count, leg_ms, ms_until, hold_in, lasts, arm_step, up_step, start_step, down_step}
 unfoldable use Rattle.flight_model.specs.Directors.{tracks_after, heard, choice, led, happens}
-use Rattle.flight_model.specs.Directors.{Phase, Steps, Landing, Off, Halted, Ended, Track, State, Choice, Rest, Begin, Descend, Cut, Quit, Finish, start, after, drones, most_ms, passed, older, aged, renewed, tracked, track_with, off_with, is_astray, is_flying, is_fault, is_off_hold, keeps_hold, held_by, last_hold, later}
-use Rattle.flight_model.specs.Law.{Lands}
-use Rattle.flight_model.specs.Alarms.{IsToLand, HasLasted}
-use Rattle.flight_model.specs.Kept.{time}
 use Rattle.flight_model.specs.Holds.{StaysOff, IsOffFor, HoldLaw}
 use Rattle.flight_model.proofs.Alarms.{astray-fault, alarm_law}
 use Rattle.flight_model.proofs.Ending.{fault_law, off-event}
-use Rattle.flight_model.specs.Turns.{twice}
 use Rattle.flight_model.proofs.Turns.{pair-at, pair-past, down-step}
 use Rattle.flight_model.proofs.Kept.{after-append, rest-heard, happens-next}
 

@@ -1,27 +1,10 @@
 -- Where the end says that the show was kept, it was.
-use Rattle.std.proofs.Common.{◌≡◌, ◌⊎◌, ◌<◌, ◌≤◌, ◌+◌, ◌-◌, ◌∷◌, ◌++◌, ◌∙◌, ◌||◌, ◌&&◌, [], List, Bool, true, false, not, min, refl, sym, ap, subst, Some, ℕ, zero, suc, inl, inr, length, leb, ltb, eqb, arith}
-use Rattle.std.proofs.lemmas.Bool.{and_parts, not-true, leb-true, leb-false, le-leb, ltb-true, ltb-false, lt-ltb, eqb-true, ne_eqb}
-use Rattle.std.proofs.lemmas.List.{append-nil, append_assoc}
-use Rattle.std.proofs.lemmas.List.Elements.{All-nil, All-cons, All-contains, Contains-append_cases}
-use Rattle.std.proofs.lemmas.Option.{slice_get_within}
-use Rattle.std.specs.Prelude.{map, slice_get, Contains}
-use Rattle.std.specs.List.{list_any}
+use Rattle.flight_model.proofs.Prelude.{◌≡◌, ◌⊎◌, ◌<◌, ◌≤◌, ◌+◌, ◌-◌, ◌∷◌, ◌++◌, ◌∙◌, ◌||◌, ◌&&◌, [], List, Bool, true, false, not, min, refl, sym, ap, subst, Some, ℕ, zero, suc, inl, inr, length, leb, ltb, eqb, arith, and_parts, not-true, leb-true, leb-false, le-leb, ltb-true, ltb-false, lt-ltb, eqb-true, ne_eqb, append-nil, append_assoc, All-nil, All-cons, All-contains, Contains-append_cases, slice_get_within, map, slice_get, Contains, list_any, Sample, Event, Clock, Seen, Answered, Said, Frame, ToAll, Noted, Over, Condition, Step, Flight, Phase, Steps, Landing, Off, Halted, Ended, Track, State, Choice, Rest, Begin, Descend, Cut, Quit, Finish, start, sent, after, chosen, is_fault, notes, drones, most_ms, later, passed, older, is_silent, harms, tracks_after, renewed, next_step, starts, starts_with, frames_of_step, frames_from, landings, is_flown, is_off_phase, orders_to, MayBegin, time, IsHeard, IsKeptShow, HasShow, KeptLaw}
 use Rattle.flight_model.specs.declared.events.Order.TheVariants as order
-use Rattle.flight_model.specs.declared.events.Sample.{Sample}
 use Rattle.flight_model.specs.declared.events.Signal.TheVariants as signal
-use Rattle.flight_model.specs.declared.events.Event.{Event}
-use Rattle.flight_model.specs.declared.events.Event.TheVariants.{Clock, Seen, Answered, Said}
-use Rattle.flight_model.specs.declared.events.Frame.{Frame}
-use Rattle.flight_model.specs.declared.events.Frame.TheVariants.{ToAll, Noted, Over}
 use Rattle.flight_model.specs.declared.flights.Orders.TheVariants.{All as ToEach}
-use Rattle.flight_model.specs.declared.flights.Condition.{Condition}
-use Rattle.flight_model.specs.declared.flights.Step.{Step}
-use Rattle.flight_model.specs.declared.flights.Flight.{Flight}
 unfoldable use Rattle.flight_model.specs.Samples.{is_kept}
 unfoldable use Rattle.flight_model.specs.Directors.{heard, is_due, choice, done, led, happens, says}
-use Rattle.flight_model.specs.Directors.{Phase, Steps, Landing, Off, Halted, Ended, Track, State, Choice, Rest, Begin, Descend, Cut, Quit, Finish, start, sent, after, chosen, is_fault, notes, drones, most_ms, later, passed, older, is_silent, harms, tracks_after, renewed, next_step, starts, starts_with, frames_of_step, frames_from, landings, is_flown, is_off_phase}
-use Rattle.flight_model.specs.Law.{orders_to, MayBegin}
-use Rattle.flight_model.specs.Kept.{time, IsHeard, IsKeptShow, HasShow, KeptLaw}
 use Rattle.flight_model.proofs.OrdersTo.{orders_to-append}
 use Rattle.flight_model.proofs.Choices.{steps-has, landing-has, off-has, halted-has}
 use Rattle.flight_model.proofs.Telling.{orders_to-says, as_phase}

@@ -1,3 +1,4 @@
+mod Prelude
 mod Rows
 mod ExampleRows
 mod OrdersTo

@@ -1,20 +1,6 @@
 -- What frames tell one drone.
-use Rattle.std.proofs.Common.{◌≡◌, ◌<◌, ◌≤◌, ◌+◌, ◌∷◌, ◌++◌, ◌∙◌, [], List, Bool, true, false, cond, refl, sym, ap, subst, None, Some, Option, ℕ, zero, suc, take, eqb, arith}
-use Rattle.std.proofs.lemmas.Bool.{ne_eqb, eq-eqb}
-use Rattle.std.proofs.lemmas.Grind.{flat_map-append}
-use Rattle.std.proofs.lemmas.List.{append-nil, append_assoc}
-use Rattle.std.specs.Prelude.{map, slice_get}
-use Rattle.std.specs.List.{range_with_len}
-use Rattle.flight_model.specs.declared.events.Order.{Order}
-use Rattle.flight_model.specs.declared.events.Note.{Note}
-use Rattle.flight_model.specs.declared.events.Frame.{Frame}
-use Rattle.flight_model.specs.declared.events.Frame.TheVariants.{Noted}
-use Rattle.flight_model.specs.declared.flights.Orders.{Orders}
-use Rattle.flight_model.specs.declared.flights.Orders.TheVariants.{Each, All as ToEach}
-use Rattle.flight_model.specs.declared.flights.Step.{Step}
-use Rattle.flight_model.specs.declared.flights.Flight.{Flight}
-use Rattle.flight_model.specs.Directors.{order_in, frames_from, frames_of, landings, land_order, has_risen, drones}
-use Rattle.flight_model.specs.Law.{told_by, orders_to, in_step, ordered, only_if}
+use Rattle.flight_model.proofs.Prelude.{◌≡◌, ◌<◌, ◌≤◌, ◌+◌, ◌∷◌, ◌++◌, ◌∙◌, [], List, Bool, true, false, cond, refl, sym, ap, subst, None, Some, Option, ℕ, zero, suc, take, eqb, arith, ne_eqb, eq-eqb, flat_map-append, append-nil, append_assoc, map, slice_get, range_with_len, Order, Note, Frame, Noted, Orders, Each, Step, Flight, order_in, frames_from, frames_of, landings, land_order, has_risen, drones, told_by, orders_to, in_step, ordered, only_if}
+use Rattle.flight_model.specs.declared.flights.Orders.TheVariants.{All as ToEach}
 
 pub orders_to-append : (d : ℕ) (xs ys : List Frame) → orders_to d (xs ++ ys) ≡ orders_to d xs ++ orders_to d ys
 orders_to-append d xs ys = flat_map-append (told_by d) xs ys

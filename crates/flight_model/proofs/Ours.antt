@@ -1,26 +1,8 @@
 -- Whom the orders of a flight reach, and that each of its drones is in the group before anybody is armed.
-use Rattle.std.proofs.Common.{◌≡◌, ◌⊎◌, ◌<◌, ◌≤◌, ◌∷◌, ◌++◌, ◌∙◌, [], List, Bool, true, false, cond, refl, sym, ap, subst, None, Some, Option, ℕ, zero, suc, inl, inr, take, drop, length, eqb, arith}
-use Rattle.std.proofs.lemmas.Bool.{eqb-true, eqb-false}
-use Rattle.std.proofs.lemmas.List.{append_assoc, length-set, length-map}
-use Rattle.std.proofs.lemmas.List.Elements.{All-head, Contains-append_cases, Contains-append_left, Contains-append_right, Contains-push}
-use Rattle.std.proofs.lemmas.Option.{slice_get_within}
-use Rattle.std.specs.Prelude.{map, replicate, slice_get, slice_set, Contains}
-use Rattle.std.specs.List.{flat_map, range_with_len}
-use Rattle.traj_codec.specs.declared.traj.Traj.{Traj}
-use Rattle.flight_model.specs.declared.events.Order.{Order}
+use Rattle.flight_model.proofs.Prelude.{◌≡◌, ◌⊎◌, ◌<◌, ◌≤◌, ◌∷◌, ◌++◌, ◌∙◌, [], List, Bool, true, false, cond, refl, sym, ap, subst, None, Some, Option, ℕ, zero, suc, inl, inr, take, drop, length, eqb, arith, eqb-true, eqb-false, append_assoc, length-set, length-map, All-head, Contains-append_cases, Contains-append_left, Contains-append_right, Contains-push, slice_get_within, map, replicate, slice_get, slice_set, Contains, flat_map, range_with_len, Traj, Order, Event, Clock, Seen, Answered, Said, Frame, To, ToAll, Noted, Over, Step, Flight, Routes, IsFlight, IsWayUp, Leg, legs_of, leg_count, first_move, group_step, arm_step, State, Choice, Rest, Begin, Descend, Cut, Quit, Finish, start, sent, after, says, drones, order_in, frames_of_step, land_order, answered_after, unanswered, orders_to, in_step, ordered, only_if, OnlyOrders, MayBegin, IsOnward, flight_group, is_for, Drone, does, obeys, obeys_all, overheard_by, overheard, HasJoined, OursLaw}
 use Rattle.flight_model.specs.declared.events.Order.TheVariants as order
-use Rattle.flight_model.specs.declared.events.Event.{Event}
-use Rattle.flight_model.specs.declared.events.Event.TheVariants.{Clock, Seen, Answered, Said}
-use Rattle.flight_model.specs.declared.events.Frame.{Frame}
-use Rattle.flight_model.specs.declared.events.Frame.TheVariants.{To, ToAll, Noted, Over}
-use Rattle.flight_model.specs.declared.flights.Step.{Step}
-use Rattle.flight_model.specs.declared.flights.Flight.{Flight}
 unfoldable use Rattle.flight_model.specs.Legs.{steps_of}
-use Rattle.flight_model.specs.Legs.{Routes, IsFlight, IsWayUp, Leg, legs_of, leg_count, first_move, group_step, arm_step}
 unfoldable use Rattle.flight_model.specs.Directors.{heard, choice, done, led, happens}
-use Rattle.flight_model.specs.Directors.{State, Choice, Rest, Begin, Descend, Cut, Quit, Finish, start, sent, after, says, drones, order_in, frames_of_step, land_order, answered_after, unanswered}
-use Rattle.flight_model.specs.Law.{orders_to, in_step, ordered, only_if, OnlyOrders, MayBegin, IsOnward}
-use Rattle.flight_model.specs.Ours.{flight_group, is_for, Drone, does, obeys, obeys_all, overheard_by, overheard, HasJoined, OursLaw}
 use Rattle.flight_model.proofs.OrdersTo.{orders_to-append, orders_to-of_step}
 use Rattle.flight_model.proofs.Telling.{orders_to-says, only_law}
 use Rattle.flight_model.proofs.Beginning.{begin-may, onward-begins, contains-nil, contains-one}

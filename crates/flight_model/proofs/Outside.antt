@@ -1,24 +1,7 @@
 -- Who is heard outside of the room while drones are in the air has all land.
-use Rattle.std.proofs.Common.{◌≡◌, ◌⊎◌, ◌<◌, ◌+◌, ◌∷◌, ◌++◌, ◌∙◌, ◌||◌, ◌&&◌, [], List, Bool, true, false, not, refl, sym, ap, subst, None, Some, Option, ℕ, zero, suc, take, length, eqb, inl, inr, arith}
-use Rattle.std.proofs.lemmas.Bool.{eqb-true, eqb-false}
-use Rattle.std.proofs.lemmas.List.{length-set, length-map}
-use Rattle.std.proofs.lemmas.List.Elements.{Contains-append_cases}
-use Rattle.std.specs.Prelude.{ℤ, map, replicate, slice_get, slice_set, Contains}
-use Rattle.std.specs.List.{list_any, range_with_len}
-use Rattle.flight_model.specs.declared.events.Order.{Order}
+use Rattle.flight_model.proofs.Prelude.{◌≡◌, ◌⊎◌, ◌<◌, ◌+◌, ◌∷◌, ◌++◌, ◌∙◌, ◌||◌, ◌&&◌, [], List, Bool, true, false, not, refl, sym, ap, subst, None, Some, Option, ℕ, zero, suc, take, length, eqb, inl, inr, arith, eqb-true, eqb-false, length-set, length-map, Contains-append_cases, ℤ, map, replicate, slice_get, slice_set, Contains, list_any, range_with_len, Order, Sample, Event, Clock, Seen, Answered, Said, Outside, Step, Flight, Phase, Steps, Landing, Off, Halted, Ended, Track, State, Choice, Rest, Begin, Descend, Cut, Quit, Finish, start, sent, after, drones, aged, renewed, tracked, track_with, is_fault, is_rise, order_in, has_risen, any_risen, is_airborne, is_outside, notes, land_order, is_in_room, Lands, orders_to, in_step, ordered, only_if, IsToLand, note_of, HasRisen, IsHeardOutside, OutsideLaw}
 use Rattle.flight_model.specs.declared.events.Order.TheVariants as order
-use Rattle.flight_model.specs.declared.events.Sample.{Sample}
-use Rattle.flight_model.specs.declared.events.Event.{Event}
-use Rattle.flight_model.specs.declared.events.Event.TheVariants.{Clock, Seen, Answered, Said}
-use Rattle.flight_model.specs.declared.events.Fault.TheVariants.{Outside}
-use Rattle.flight_model.specs.declared.flights.Step.{Step}
-use Rattle.flight_model.specs.declared.flights.Flight.{Flight}
 unfoldable use Rattle.flight_model.specs.Directors.{tracks_after, heard, choice, led, happens}
-use Rattle.flight_model.specs.Directors.{Phase, Steps, Landing, Off, Halted, Ended, Track, State, Choice, Rest, Begin, Descend, Cut, Quit, Finish, start, sent, after, drones, aged, renewed, tracked, track_with, is_fault, is_rise, order_in, has_risen, any_risen, is_airborne, is_outside, notes, land_order}
-use Rattle.flight_model.specs.Rooms.{is_in_room}
-use Rattle.flight_model.specs.Law.{Lands, orders_to, in_step, ordered, only_if}
-use Rattle.flight_model.specs.Alarms.{IsToLand, note_of}
-use Rattle.flight_model.specs.Outside.{HasRisen, IsHeardOutside, OutsideLaw}
 use Rattle.flight_model.proofs.Alarms.{alarm_law, outside-fault}
 use Rattle.flight_model.proofs.Beginning.{contains-nil, contains-one}
 use Rattle.flight_model.proofs.Holds.{got-back, put-here, put-other, some-track, left, IsOn, Rests, Begins, on-choice, rest-calm}

@@ -1,17 +1,7 @@
 -- The orders that the steps of a flight have for one drone.
-use Rattle.std.proofs.Common.{◌≡◌, ◌∷◌, ◌++◌, ◌∙◌, [], List, refl, sym, ap, None, Some, Option, ℕ, zero, suc}
-use Rattle.std.proofs.lemmas.List.{append_assoc}
-use Rattle.std.proofs.lemmas.Grind.{flat_map-append}
-use Rattle.std.specs.Prelude.{map, slice_get}
-use Rattle.std.specs.List.{flat_map, range_with_len}
-use Rattle.traj_codec.specs.declared.traj.Traj.{Traj}
-use Rattle.flight_model.specs.declared.events.Order.{Order}
+use Rattle.flight_model.proofs.Prelude.{◌≡◌, ◌∷◌, ◌++◌, ◌∙◌, [], List, refl, sym, ap, None, Some, Option, ℕ, zero, suc, append_assoc, flat_map-append, map, slice_get, flat_map, range_with_len, Traj, Order, Step, Routes, Leg, legs_of, leg_count, arm_order, up_order, down_order, arm_step, up_step, start_step, down_step, last_step, lasts, order_in, ordered, in_step}
 use Rattle.flight_model.specs.declared.events.Order.TheVariants as order
-use Rattle.flight_model.specs.declared.flights.Step.{Step}
 unfoldable use Rattle.flight_model.specs.Legs.{steps_of}
-use Rattle.flight_model.specs.Legs.{Routes, Leg, legs_of, leg_count, arm_order, up_order, down_order, arm_step, up_step, start_step, down_step, last_step, lasts}
-use Rattle.flight_model.specs.Directors.{order_in}
-use Rattle.flight_model.specs.Law.{ordered, in_step}
 use Rattle.flight_model.specs.Plan.{one_of, up_leg, PlanLaw}
 
 get-legs : (g : List Leg → Option Order) (ts : List Traj) (d : ℕ) (t : Traj) → slice_get ts d ≡ Some t → in_step (slice_get (map g (map legs_of ts)) d) ≡ one_of (g (legs_of t))

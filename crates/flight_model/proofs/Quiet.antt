@@ -1,28 +1,11 @@
 -- No false alarm.
-use Rattle.std.proofs.Common.{◌-◌, min, ltb, ◌≡◌, ◌≤◌, ◌+◌, ◌∷◌, ◌++◌, ◌∙◌, ◌||◌, ◌&&◌, [], List, Bool, true, false, cond, not, refl, sym, ap, subst, None, Some, Option, ℕ, suc, leb, eqb, length, arith}
-use Rattle.std.proofs.lemmas.Bool.{ltb-false, le-ltb, not-true, and_parts, leb-true, le-leb, leb-false}
-use Rattle.std.proofs.Math.Bool.{and-false}
-use Rattle.std.specs.Prelude.{map, slice_get}
-use Rattle.std.specs.List.{list_any}
-use Rattle.flight_model.specs.declared.events.Order.{Order}
-use Rattle.flight_model.specs.declared.events.Sample.{Sample}
+use Rattle.flight_model.proofs.Prelude.{◌-◌, min, ltb, ◌≡◌, ◌≤◌, ◌+◌, ◌∷◌, ◌++◌, ◌∙◌, ◌||◌, ◌&&◌, [], List, Bool, true, false, cond, not, refl, sym, ap, subst, None, Some, Option, ℕ, suc, leb, eqb, length, arith, ltb-false, le-ltb, not-true, and_parts, leb-true, le-leb, leb-false, and-false, map, slice_get, list_any, Order, Sample, Event, Clock, Seen, Answered, Said, Late, Frame, Orders, Each, Step, Flight, Phase, Steps, Landing, Off, Halted, Ended, Track, State, Choice, Rest, Begin, Descend, Cut, Quit, Finish, start, sent, after, chosen, is_go, is_land, is_stop, is_off_hold, are_aloft, is_outside, is_silent, is_lost, is_astray, older, aged, later, passed, fits, next_step, harms, in_show, noticed, overdue, note_if, silent_from, sample_notes, seen_notes, track_with, off_with, is_flying, is_due_step, is_late_step, unfit_in, all_fit, all_answered, frames_from, frames_of, frames_of_step, landings, IsQuiet, AllQuiet, is_on_course, noted_by, notes_in, QuietLaw, IsInRoom, is_in_room, flat_map-append}
 use Rattle.flight_model.specs.declared.events.Signal.TheVariants as signal
-use Rattle.flight_model.specs.declared.events.Event.{Event}
-use Rattle.flight_model.specs.declared.events.Event.TheVariants.{Clock, Seen, Answered, Said}
-use Rattle.flight_model.specs.declared.events.Fault.TheVariants.{Late}
-use Rattle.flight_model.specs.declared.events.Frame.{Frame}
-use Rattle.flight_model.specs.declared.flights.Orders.{Orders}
-use Rattle.flight_model.specs.declared.flights.Orders.TheVariants.{Each, All as ToEach}
-use Rattle.flight_model.specs.declared.flights.Step.{Step}
-use Rattle.flight_model.specs.declared.flights.Flight.{Flight}
+use Rattle.flight_model.specs.declared.flights.Orders.TheVariants.{All as ToEach}
 unfoldable use Rattle.flight_model.specs.Directors.{tracks_after, heard, is_due, notes, is_fault, choice, done, led, happens, says}
-use Rattle.flight_model.specs.Directors.{Phase, Steps, Landing, Off, Halted, Ended, Track, State, Choice, Rest, Begin, Descend, Cut, Quit, Finish, start, sent, after, chosen, is_go, is_land, is_stop, is_off_hold, are_aloft, is_outside, is_silent, is_lost, is_astray, older, aged, later, passed, fits, next_step, harms, in_show, noticed, overdue, note_if, silent_from, sample_notes, seen_notes, track_with, off_with, is_flying, is_due_step, is_late_step, unfit_in, all_fit, all_answered, frames_from, frames_of, frames_of_step, landings}
-use Rattle.flight_model.specs.Law.{IsQuiet, AllQuiet, is_on_course, noted_by, notes_in, QuietLaw}
-use Rattle.flight_model.specs.Rooms.{IsInRoom, is_in_room}
 use Rattle.flight_model.proofs.Rooms.{is-in-room}
 use Rattle.flight_model.proofs.Ending.{kept-all, none_harms}
 use Rattle.flight_model.proofs.Choices.{steps-has, off-has}
-use Rattle.std.proofs.lemmas.Grind.{flat_map-append}
 
 -- ---- nothing is noted
 

@@ -1,11 +1,6 @@
 -- Positions that are too far for a condition, beside positions that aren't.
-use Rattle.std.proofs.Common.{◌≡◌, true, refl, arith}
-use Rattle.std.specs.Prelude.{ℤ, pos, negsuc}
-use Rattle.std.proofs.lemmas.Int.{ints}
+use Rattle.flight_model.proofs.Prelude.{◌≡◌, true, refl, arith, ℤ, pos, negsuc, ints, Sample, IsFit, at_origin, standing, NearRows, on_its_pad, turning, DownRows, SureRows}
 unfoldable use Rattle.flight_model.specs.Samples.{is_fit_by}
-use Rattle.flight_model.specs.declared.events.Sample.{Sample}
-use Rattle.flight_model.specs.Law.{IsFit}
-use Rattle.flight_model.specs.Rejected.{at_origin, standing, NearRows, on_its_pad, turning, DownRows, SureRows}
 use Rattle.flight_model.proofs.Beginning.{fit-true}
 
 fit : (x y z : ℤ) → is_fit_by 500 at_origin (standing x y z) ≡ true → IsFit 500 at_origin (standing x y z)

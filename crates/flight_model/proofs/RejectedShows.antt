@@ -1,24 +1,12 @@
 -- Shows that weren't kept, beside one that was.
-use Rattle.std.proofs.Common.{◌≡◌, ◌<◌, ◌≤◌, ◌+◌, ◌∷◌, ◌++◌, ◌∙◌, ◌||◌, ◌&&◌, [], List, Bool, true, false, refl, sym, ap, subst, ℕ, zero, suc, take, length, leb, eqb, arith}
-use Rattle.std.proofs.lemmas.List.{append_assoc}
-use Rattle.std.proofs.lemmas.Bool.{eq-eqb, le-leb}
-use Rattle.std.specs.Prelude.{pos, Contains}
-use Rattle.flight_model.specs.declared.events.Order.{Order}
+use Rattle.flight_model.proofs.Prelude.{◌≡◌, ◌<◌, ◌≤◌, ◌+◌, ◌∷◌, ◌++◌, ◌∙◌, ◌||◌, ◌&&◌, [], List, Bool, true, false, refl, sym, ap, subst, ℕ, zero, suc, take, length, leb, eqb, arith, append_assoc, eq-eqb, le-leb, pos, Contains, Order, Sample, Event, Clock, Seen, Answered, Said, ToAll, Over, start, sent, after, orders_to, HasShow, IsHeard, IsKeptShow, time, brief, unhurried, late_news, flown_unsure, sample_at, heard_at, flown_by, begun, KeptRows}
 use Rattle.flight_model.specs.declared.events.Order.TheVariants as order
-use Rattle.flight_model.specs.declared.events.Sample.{Sample}
 use Rattle.flight_model.specs.declared.events.Signal.TheVariants as signal
-use Rattle.flight_model.specs.declared.events.Event.{Event}
-use Rattle.flight_model.specs.declared.events.Event.TheVariants.{Clock, Seen, Answered, Said}
-use Rattle.flight_model.specs.declared.events.Frame.TheVariants.{ToAll, Over}
 unfoldable use Rattle.flight_model.specs.Samples.{is_fit_by, is_kept}
 unfoldable use Rattle.flight_model.specs.Directors.{tracks_after, heard, is_due, notes, is_fault, choice, done, led, happens, says}
-use Rattle.flight_model.specs.Directors.{start, sent, after}
 unfoldable use Rattle.fleet_math.specs.Decoded.{decoded}
 unfoldable use Rattle.fleet_math.specs.Moments.{moment}
 unfoldable use Rattle.fleet_math.specs.Bernstein.{bernstein}
-use Rattle.flight_model.specs.Law.{orders_to}
-use Rattle.flight_model.specs.Kept.{HasShow, IsHeard, IsKeptShow, time}
-use Rattle.flight_model.specs.Rejected.{brief, unhurried, late_news, flown_unsure, sample_at, heard_at, flown_by, begun, KeptRows}
 use Rattle.flight_model.proofs.OrdersTo.{orders_to-append}
 use Rattle.flight_model.proofs.Sightings.{time-append}
 use Rattle.flight_model.proofs.Kept.{kept_law, sent-append}

@@ -1,29 +1,9 @@
 -- Where drones rise from.
-use Rattle.std.proofs.Common.{◌≡◌, ◌≤◌, ◌∷◌, ◌∙◌, ◌||◌, ◌&&◌, [], List, Bool, true, false, not, cond, refl, sym, ap, subst, None, Some, Option, ℕ, zero, suc, ◌-◌, arith}
-use Rattle.std.specs.Prelude.{ℤ, int_le, map, slice_get, Contains, All, ◌≤ℤ◌, pos}
-use Rattle.std.specs.List.{flat_map, range_with_len}
-use Rattle.std.specs.Option.{option_map}
-use Rattle.std.proofs.lemmas.Bool.{and_parts}
-use Rattle.std.proofs.lemmas.Int.{ints}
-use Rattle.std.proofs.lemmas.List.Elements.{All-nil, All-cons, All-append, All-head, All-tail}
-use Rattle.fleet_math.specs.Bernstein.{at}
+use Rattle.flight_model.proofs.Prelude.{◌≡◌, ◌≤◌, ◌∷◌, ◌∙◌, ◌||◌, ◌&&◌, [], List, Bool, true, false, not, cond, refl, sym, ap, subst, None, Some, Option, ℕ, zero, suc, ◌-◌, arith, ℤ, int_le, map, slice_get, Contains, All, ◌≤ℤ◌, pos, flat_map, range_with_len, option_map, and_parts, ints, All-nil, All-cons, All-append, All-head, All-tail, at, Segment, Traj, Order, Sample, Event, Position, Condition, Step, Flight, Routes, Leg, after_segment, legs_from, legs_of, leg, same_on, moves, has_moved, will_move, arm_order, up_order, down_order, way_begins, position_of, leg_count, group_step, arm_step, up_condition, up_step, start_step, down_step, last_step, lasts, State, Begin, order_in, frames_of_step, choice, says, orders_to, in_step, IsNear, Rises, square}
 use Rattle.fleet_math.proofs.DivisionLemmas.{square_le}
-use Rattle.traj_codec.specs.declared.traj.Segment.{Segment}
-use Rattle.traj_codec.specs.declared.traj.Traj.{Traj}
-use Rattle.flight_model.specs.declared.events.Order.{Order}
 use Rattle.flight_model.specs.declared.events.Order.TheVariants as order
-use Rattle.flight_model.specs.declared.events.Sample.{Sample}
-use Rattle.flight_model.specs.declared.events.Event.{Event}
-use Rattle.flight_model.specs.declared.flights.Position.{Position}
-use Rattle.flight_model.specs.declared.flights.Condition.{Condition}
-use Rattle.flight_model.specs.declared.flights.Step.{Step}
-use Rattle.flight_model.specs.declared.flights.Flight.{Flight}
 unfoldable use Rattle.flight_model.specs.Legs.{steps_of}
-use Rattle.flight_model.specs.Legs.{Routes, Leg, after_segment, legs_from, legs_of, leg, same_on, moves, has_moved, will_move, arm_order, up_order, down_order, way_begins, position_of, leg_count, group_step, arm_step, up_condition, up_step, start_step, down_step, last_step, lasts}
 unfoldable use Rattle.flight_model.specs.Directors.{heard, done}
-use Rattle.flight_model.specs.Directors.{State, Begin, order_in, frames_of_step, choice, says}
-use Rattle.flight_model.specs.Law.{orders_to, in_step, IsNear, Rises}
-use Rattle.flight_model.specs.Samples.{square}
 use Rattle.flight_model.specs.Rises.{RiseLaw}
 use Rattle.flight_model.proofs.OrdersTo.{orders_to-of_step}
 use Rattle.flight_model.proofs.Telling.{orders_to-says}

@@ -1,8 +1,6 @@
 -- The room of a small flight, by hand.
-use Rattle.std.proofs.Common.{refl, arith}
-use Rattle.std.proofs.lemmas.Int.{ints}
+use Rattle.flight_model.proofs.Prelude.{refl, arith, ints, RoomRows}
 unfoldable use Rattle.flight_model.specs.Rooms.{room_of}
-use Rattle.flight_model.specs.Outside.{RoomRows}
 
 pub room_rows : RoomRows
 unfolding room_of

@@ -1,20 +1,9 @@
 -- The room of curves is as small as it is said to be; and who is in a room.
-use Rattle.std.proofs.Common.{◌≡◌, ◌⊎◌, ◌∷◌, ◌++◌, ◌∙◌, ◌&&◌, [], List, Bool, true, false, cond, refl, sym, subst, ℕ, zero, suc, inl, inr, arith}
-use Rattle.std.proofs.lemmas.Bool.{and_parts}
-use Rattle.std.proofs.lemmas.Int.{ints}
-use Rattle.std.specs.Prelude.{ℤ, pos, ◌+ℤ◌, ◌≤ℤ◌, int_le, int_lt, Contains}
-use Rattle.std.specs.List.{flat_map}
+use Rattle.flight_model.proofs.Prelude.{◌≡◌, ◌⊎◌, ◌∷◌, ◌++◌, ◌∙◌, ◌&&◌, [], List, Bool, true, false, cond, refl, sym, subst, ℕ, zero, suc, inl, inr, arith, and_parts, ints, ℤ, pos, ◌+ℤ◌, ◌≤ℤ◌, int_le, int_lt, Contains, flat_map, at, element_on, stored, Segment, Traj, Sample, IsInRoom, is_in_span, is_in_room, all_values, with_value, with_values, span_of, IsSpanOf, RoomOfLaw}
 use Rattle.std.specs.Int.{int_max, int_min}
-use Rattle.fleet_math.specs.Bernstein.{at}
-use Rattle.traj_codec.specs.Positions.{element_on}
-use Rattle.traj_codec.specs.Spelling.{stored}
-use Rattle.traj_codec.specs.declared.traj.Segment.{Segment}
-use Rattle.traj_codec.specs.declared.traj.Traj.{Traj}
-use Rattle.flight_model.specs.declared.events.Sample.{Sample}
 use Rattle.flight_model.specs.declared.flights.Room.{Room}
 use Rattle.flight_model.specs.declared.flights.Span.{Span}
 unfoldable use Rattle.flight_model.specs.Rooms.{room_of}
-use Rattle.flight_model.specs.Rooms.{IsInRoom, is_in_span, is_in_room, all_values, with_value, with_values, span_of, IsSpanOf, RoomOfLaw}
 
 -- ---- the lesser and the greater
 

@@ -1,27 +1,15 @@
 -- The definitions at a small flight: two drones, one leg up, a show of one cue, one leg down.
-use Rattle.std.proofs.Common.{◌≡◌, ◌∷◌, ◌++◌, [], List, Bool, true, false, refl, None, Some, ℕ}
-use Rattle.std.specs.Prelude.{ℤ, pos, negsuc}
-use Rattle.flight_model.specs.declared.events.Order.{Order}
+use Rattle.flight_model.proofs.Prelude.{◌≡◌, ◌∷◌, ◌++◌, [], List, Bool, true, false, refl, None, Some, ℕ, ℤ, pos, negsuc, Order, Event, Clock, Seen, Answered, Said, Fault, Frame, To, ToAll, Noted, Over, is_fit, at_origin, standing, start, sent, after, State, Track, Steps, Landing, Off, ordered, sample, both, half, go, lift_off, show, way_down}
 use Rattle.flight_model.specs.declared.events.Order.TheVariants as order
 use Rattle.flight_model.specs.declared.events.Signal.TheVariants as signal
-use Rattle.flight_model.specs.declared.events.Event.{Event}
-use Rattle.flight_model.specs.declared.events.Event.TheVariants.{Clock, Seen, Answered, Said}
-use Rattle.flight_model.specs.declared.events.Fault.{Fault}
 use Rattle.flight_model.specs.declared.events.Fault.TheVariants as fault
-use Rattle.flight_model.specs.declared.events.Frame.{Frame}
-use Rattle.flight_model.specs.declared.events.Frame.TheVariants.{To, ToAll, Noted, Over}
 unfoldable use Rattle.flight_model.specs.Legs.{steps_of}
 unfoldable use Rattle.flight_model.specs.Samples.{is_fit_by, is_kept, is_on_course}
-use Rattle.flight_model.specs.Samples.{is_fit}
-use Rattle.flight_model.specs.Rejected.{at_origin, standing}
 unfoldable use Rattle.flight_model.specs.Directors.{tracks_after, heard, is_due, notes, is_fault, choice, done, led, happens, says}
-use Rattle.flight_model.specs.Directors.{start, sent, after, State, Track, Steps, Landing, Off}
 unfoldable use Rattle.fleet_math.specs.Decoded.{decoded}
 unfoldable use Rattle.fleet_math.specs.Moments.{moment}
 unfoldable use Rattle.fleet_math.specs.Bernstein.{bernstein}
-use Rattle.flight_model.specs.Law.{ordered}
 unfoldable use Rattle.flight_model.specs.Example.{flight}
-use Rattle.flight_model.specs.Example.{sample, both, half, go, lift_off, show, way_down}
 
 abbrev second : ℤ → Bool → Bool → List Event
 second z armed down = both (pos 0) z armed down ++ half z armed down ++ half z armed down

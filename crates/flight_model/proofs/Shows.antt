@@ -1,16 +1,6 @@
 -- The steps of a flight fly its show.
-use Rattle.std.proofs.Common.{◌≡◌, ◌<◌, ◌≤◌, ◌∷◌, ◌++◌, ◌∙◌, [], List, refl, sym, ap, Some, ℕ, zero, suc, length, arith}
-use Rattle.std.proofs.lemmas.List.{length-map}
-use Rattle.std.proofs.lemmas.List.Elements.{All-head}
-use Rattle.std.specs.Prelude.{map, slice_get, All}
-use Rattle.std.specs.List.{flat_map, range_with_len}
-use Rattle.traj_codec.specs.declared.traj.Traj.{Traj}
-use Rattle.flight_model.specs.declared.flights.Step.{Step}
-use Rattle.flight_model.specs.declared.flights.Flight.{Flight}
+use Rattle.flight_model.proofs.Prelude.{◌≡◌, ◌<◌, ◌≤◌, ◌∷◌, ◌++◌, ◌∙◌, [], List, refl, sym, ap, Some, ℕ, zero, suc, length, arith, length-map, All-head, map, slice_get, All, flat_map, range_with_len, Traj, Step, Flight, Routes, Leg, IsFlight, IsWayDown, legs_of, leg_count, last_move, lasts, group_step, arm_step, up_step, start_step, start_condition, down_step, last_step, most_ms, HasShow}
 unfoldable use Rattle.flight_model.specs.Legs.{steps_of}
-use Rattle.flight_model.specs.Legs.{Routes, Leg, IsFlight, IsWayDown, legs_of, leg_count, last_move, lasts, group_step, arm_step, up_step, start_step, start_condition, down_step, last_step}
-use Rattle.flight_model.specs.Directors.{most_ms}
-use Rattle.flight_model.specs.Kept.{HasShow}
 
 get-after : (xs : List Step) (y : Step) (ys : List Step) → slice_get (xs ++ y ∷ ys) (length xs) ≡ Some y
 get-after [] y ys = refl

@@ -1,16 +1,6 @@
 -- Each sample that is kept of a drone was heard of it, and is as old as it says.
-use Rattle.std.proofs.Common.{◌≡◌, ◌<◌, ◌≤◌, ◌+◌, ◌∷◌, ◌++◌, ◌∙◌, ◌||◌, [], List, Bool, true, false, min, refl, sym, ap, None, Some, Option, ℕ, zero, suc, eqb, arith}
-use Rattle.std.proofs.lemmas.List.{append_assoc}
-use Rattle.std.proofs.lemmas.Bool.{eqb-true, eqb-false}
-use Rattle.std.specs.Prelude.{map, slice_get, slice_set, replicate}
-use Rattle.std.specs.List.{list_any}
-use Rattle.flight_model.specs.declared.events.Sample.{Sample}
-use Rattle.flight_model.specs.declared.events.Event.{Event}
-use Rattle.flight_model.specs.declared.events.Event.TheVariants.{Clock, Seen, Answered, Said}
-use Rattle.flight_model.specs.declared.flights.Flight.{Flight}
+use Rattle.flight_model.proofs.Prelude.{◌≡◌, ◌<◌, ◌≤◌, ◌+◌, ◌∷◌, ◌++◌, ◌∙◌, ◌||◌, [], List, Bool, true, false, min, refl, sym, ap, None, Some, Option, ℕ, zero, suc, eqb, arith, append_assoc, eqb-true, eqb-false, map, slice_get, slice_set, replicate, list_any, Sample, Event, Clock, Seen, Answered, Said, Flight, Track, State, most_ms, later, passed, older, aged, tracked, track_with, is_silent, time, IsHeard}
 unfoldable use Rattle.flight_model.specs.Directors.{tracks_after}
-use Rattle.flight_model.specs.Directors.{Track, State, most_ms, later, passed, older, aged, tracked, track_with, is_silent}
-use Rattle.flight_model.specs.Kept.{time, IsHeard}
 
 -- ---- time
 

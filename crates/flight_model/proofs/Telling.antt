@@ -1,18 +1,7 @@
 -- The orders to a drone are those of the first steps, then possibly the landing, disarm and halt.
-use Rattle.std.proofs.Common.{◌≡◌, ◌∷◌, ◌++◌, ◌∙◌, [], List, Bool, true, false, cond, refl, sym, ap, subst, None, Some, Option, ℕ, suc, take, length, eqb}
-use Rattle.std.proofs.lemmas.List.{append-nil, append_assoc}
-use Rattle.std.proofs.lemmas.Bool.{ltb-true, ltb-false}
-use Rattle.std.proofs.Common.{ltb}
-use Rattle.std.specs.Prelude.{map, slice_get}
-use Rattle.flight_model.specs.declared.events.Order.{Order}
+use Rattle.flight_model.proofs.Prelude.{◌≡◌, ◌∷◌, ◌++◌, ◌∙◌, [], List, Bool, true, false, cond, refl, sym, ap, subst, None, Some, Option, ℕ, suc, take, length, eqb, append-nil, append_assoc, ltb-true, ltb-false, ltb, map, slice_get, Order, Event, Noted, Step, Flight, Phase, Steps, Landing, Off, Halted, Ended, State, Choice, Rest, Begin, Descend, start, sent, after, chosen, is_fault, notes, order_in, frames_from, landings, land_order, has_risen, drones, next_step, is_due_step, orders_to, in_step, ordered, only_if, OnlyOrders, OnlyLaw}
 use Rattle.flight_model.specs.declared.events.Order.TheVariants as order
-use Rattle.flight_model.specs.declared.events.Event.{Event}
-use Rattle.flight_model.specs.declared.events.Frame.TheVariants.{Noted}
-use Rattle.flight_model.specs.declared.flights.Step.{Step}
-use Rattle.flight_model.specs.declared.flights.Flight.{Flight}
 unfoldable use Rattle.flight_model.specs.Directors.{heard, is_due, choice, done, led, happens, says}
-use Rattle.flight_model.specs.Directors.{Phase, Steps, Landing, Off, Halted, Ended, State, Choice, Rest, Begin, Descend, start, sent, after, chosen, is_fault, notes, order_in, frames_from, landings, land_order, has_risen, drones, next_step, is_due_step}
-use Rattle.flight_model.specs.Law.{orders_to, in_step, ordered, only_if, OnlyOrders, OnlyLaw}
 use Rattle.flight_model.proofs.OrdersTo.{orders_to-append, orders_to-notes, orders_to-of_step, orders_to-landing, orders_to-no_landing, ordered-next}
 use Rattle.flight_model.proofs.Choices.{steps-has, landing-has, off-has, halted-has}
 

@@ -1,28 +1,9 @@
 -- In whose turn each order goes out.
-use Rattle.std.proofs.Common.{◌≡◌, ◌⊎◌, ◌≤◌, ◌∷◌, ◌∙◌, ◌||◌, ◌&&◌, [], List, Bool, true, false, not, cond, refl, sym, ap, subst, None, Some, Option, ℕ, zero, suc, inl, inr, ◌-◌, ◌+◌, ◌<◌, ◌++◌, length, leb, ltb, eqb, arith}
-use Rattle.std.specs.Prelude.{ℤ, map, slice_get, Contains, All}
-use Rattle.std.specs.Option.{option_map}
-use Rattle.std.proofs.lemmas.List.{append_assoc}
-use Rattle.std.specs.List.{flat_map, range_with_len}
-use Rattle.flight_model.specs.Samples.{stands_at}
-use Rattle.std.proofs.lemmas.Bool.{and_parts, not-true, leb-true, ltb-true, ltb-false, ne_eqb, eqb-true, eqb-false}
-use Rattle.traj_codec.specs.declared.traj.Traj.{Traj}
-use Rattle.flight_model.specs.declared.events.Order.{Order}
+use Rattle.flight_model.proofs.Prelude.{◌≡◌, ◌⊎◌, ◌≤◌, ◌∷◌, ◌∙◌, ◌||◌, ◌&&◌, [], List, Bool, true, false, not, cond, refl, sym, ap, subst, None, Some, Option, ℕ, zero, suc, inl, inr, ◌-◌, ◌+◌, ◌<◌, ◌++◌, length, leb, ltb, eqb, arith, ℤ, map, slice_get, Contains, All, option_map, append_assoc, flat_map, range_with_len, stands_at, and_parts, not-true, leb-true, ltb-true, ltb-false, ne_eqb, eqb-true, eqb-false, Traj, Order, Sample, Event, Clock, Seen, Answered, Said, Position, Condition, Step, Flight, Routes, Leg, legs_of, leg, moves, has_moved, will_move, arm_order, up_order, down_order, way_begins, position_of, leg_count, leg_ms, ms_before, up_bound, down_bound, arm_condition, group_step, arm_step, down_condition, up_condition, start_condition, start_step, up_step, down_step, lasts, last_condition, last_step, Phase, Steps, Landing, Off, Halted, Ended, Track, State, Choice, Rest, Begin, Descend, Cut, Quit, Finish, chosen, is_fault, is_stop, is_down, all_down, are_down, end_step, has_landed, order_in, says, later, passed, land_order, has_risen, drones, orders_to, only_if, IsNear, StandsAt, MayBegin, IsOnward, Arms, Rises, Starts, twice, MayGoOn, MayArm, MayRise, MayStart, AtPads, IsSeenDown, AllDown, TurnLaw}
 use Rattle.flight_model.specs.declared.events.Order.TheVariants as order
-use Rattle.flight_model.specs.declared.events.Sample.{Sample}
 use Rattle.flight_model.specs.declared.events.Signal.TheVariants as signal
-use Rattle.flight_model.specs.declared.events.Event.{Event}
-use Rattle.flight_model.specs.declared.events.Event.TheVariants.{Clock, Seen, Answered, Said}
-use Rattle.flight_model.specs.declared.flights.Position.{Position}
-use Rattle.flight_model.specs.declared.flights.Condition.{Condition}
-use Rattle.flight_model.specs.declared.flights.Step.{Step}
-use Rattle.flight_model.specs.declared.flights.Flight.{Flight}
 unfoldable use Rattle.flight_model.specs.Legs.{steps_of}
-use Rattle.flight_model.specs.Legs.{Routes, Leg, legs_of, leg, moves, has_moved, will_move, arm_order, up_order, down_order, way_begins, position_of, leg_count, leg_ms, ms_before, up_bound, down_bound, arm_condition, group_step, arm_step, down_condition, up_condition, start_condition, start_step, up_step, down_step, lasts, last_condition, last_step}
 unfoldable use Rattle.flight_model.specs.Directors.{heard, choice, done, led, happens}
-use Rattle.flight_model.specs.Directors.{Phase, Steps, Landing, Off, Halted, Ended, Track, State, Choice, Rest, Begin, Descend, Cut, Quit, Finish, chosen, is_fault, is_stop, is_down, all_down, are_down, end_step, has_landed, order_in, says, later, passed, land_order, has_risen, drones}
-use Rattle.flight_model.specs.Law.{orders_to, only_if, IsNear, StandsAt, MayBegin, IsOnward, Arms, Rises, Starts}
-use Rattle.flight_model.specs.Turns.{twice, MayGoOn, MayArm, MayRise, MayStart, AtPads, IsSeenDown, AllDown, TurnLaw}
 use Rattle.flight_model.proofs.OrdersTo.{orders_to-landing, orders_to-no_landing}
 use Rattle.flight_model.proofs.Telling.{orders_to-says}
 use Rattle.flight_model.proofs.Choices.{steps-has, landing-has, off-has, halted-has}

@@ -1,5 +1,5 @@
 -- Who is off where it is told to be, and who isn't.
-use Rattle.std.proofs.Common.{refl}
+use Rattle.flight_model.proofs.Prelude.{refl}
 unfoldable use Rattle.flight_model.specs.Legs.{steps_of}
 unfoldable use Rattle.flight_model.specs.Samples.{is_kept, is_on_course}
 unfoldable use Rattle.flight_model.specs.Example.{flight}

@@ -1,15 +1,7 @@
 -- Each step of a flight is for as many drones as the show has.
-use Rattle.std.proofs.Common.{◌≡◌, ◌∷◌, ◌∙◌, [], List, ℕ, Some, length, map, refl, inl, inr, arith}
-use Rattle.std.specs.Prelude.{All, slice_index_or}
-use Rattle.std.specs.List.{flat_map, range_with_len}
-use Rattle.std.proofs.lemmas.List.{length-map}
-use Rattle.std.proofs.lemmas.List.Elements.{All-nil, All-cons, All-append, All-map}
-use Rattle.flight_model.specs.declared.flights.Leg.{Leg}
-use Rattle.flight_model.specs.declared.flights.Step.{Step}
+use Rattle.flight_steps.proofs.Prelude.{◌≡◌, ◌∷◌, ◌∙◌, [], List, ℕ, Some, length, map, refl, inl, inr, arith, All, slice_index_or, flat_map, range_with_len, length-map, All-nil, All-cons, All-append, All-map, Leg, Step, Routes, IsFlight, legs_of, leg_count, lasts, group_step, arm_step, up_step, start_step, down_step, last_step, arm_condition, up_condition, start_condition, down_condition, last_condition, arm_order, up_order, down_order, AreConditionsOf, IsStepOf, SizeRows, anywhere}
 use Rattle.flight_model.specs.declared.events.Order.TheVariants as order
-use Rattle.flight_model.specs.Legs.{Routes, IsFlight, legs_of, leg_count, lasts, group_step, arm_step, up_step, start_step, down_step, last_step, arm_condition, up_condition, start_condition, down_condition, last_condition, arm_order, up_order, down_order}
 unfoldable use Rattle.flight_model.specs.Legs.{steps_of}
-use Rattle.flight_steps.specs.Sizes.{AreConditionsOf, IsStepOf, SizeRows, anywhere}
 
 flat-all : (P : Step → Type 0) (h : ℕ → List Step) (ks : List ℕ) → ((k : ℕ) → All P (h k)) → All P (flat_map h ks)
 flat-all P h [] each = All-nil P

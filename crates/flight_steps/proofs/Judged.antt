@@ -1,32 +1,17 @@
 -- That there is a fault exactly where there is no flight.
-use Rattle.std.proofs.Common.{◌≡◌, ◌<◌, ◌≤◌, ◌∷◌, ◌∙◌, [], List, Bool, false, cond, true, ◌&&◌, ◌==◌, refl, sym, ap, None, Some, Option, ℕ, zero, suc, length, map, arith, inl, inr, nat_le}
-use Rattle.std.proofs.lemmas.List.{length-map}
-use Rattle.std.specs.Prelude.{ℤ, slice_get, All, bytes_eq}
+use Rattle.flight_steps.proofs.Prelude.{◌≡◌, ◌<◌, ◌≤◌, ◌∷◌, ◌∙◌, [], List, Bool, false, cond, true, ◌&&◌, ◌==◌, refl, sym, ap, None, Some, Option, ℕ, zero, suc, length, map, arith, inl, inr, nat_le, length-map, ℤ, slice_get, All, bytes_eq, false≢true, All-nil, All-cons, All-head, All-tail, ArrayVec, at, stored, element_on, piece_on, Segment, Traj, Leg, Routes, RestsOn, IsWayUp, IsWayDown, IsFlight, after_segment, way_begins, way_ends, legs_of, first_move, last_move, FlightFault, routes, AreFitted, same_place, rests_on, rests_by, rests_in, restless_from, restless, first_other, other_drone, same_ellipsoid, other_ellipsoid, gap, seam_fault, seams_fault, is_straight, way_fault, up_fault, down_fault, ups_fault, downs_fault, narrow, name_fault, size_fault, crew_fault, route_fault, flight_fault, spelled, AreFlight, GivesFault}
 use Rattle.std.specs.Option.{option_or}
 use Rattle.std.specs.Cmp.Lexicographic.{pointwise_decides, bytes_decides}
-use Rattle.std.proofs.lemmas.Bool.{false≢true}
 use Rattle.std.proofs.lemmas.Bool.Decides.{Decides-int_eq, nat_tests}
-use Rattle.std.proofs.lemmas.List.Elements.{All-nil, All-cons, All-head, All-tail}
-use Rattle.arrayvec.specs.ArrayVec.{ArrayVec}
-use Rattle.fleet_math.specs.Bernstein.{at}
 use Rattle.fleet_math.specs.Decoded as plain
-use Rattle.traj_codec.specs.Spelling.{stored}
-use Rattle.traj_codec.specs.Positions.{element_on, piece_on}
-use Rattle.traj_codec.specs.declared.traj.Segment.{Segment}
-use Rattle.traj_codec.specs.declared.traj.Traj.{Traj}
-use Rattle.flight_model.specs.declared.flights.Leg.{Leg}
-use Rattle.flight_model.specs.Legs.{Routes, RestsOn, IsWayUp, IsWayDown, IsFlight, after_segment, way_begins, way_ends, legs_of, first_move, last_move}
 use Rattle.flight_steps.specs.declared.faults.Way.{Way}
 use Rattle.flight_steps.specs.declared.faults.Way.TheVariants as way
 use Rattle.flight_steps.specs.declared.faults.Seam.{Seam}
 use Rattle.flight_steps.specs.declared.faults.Seam.TheVariants as seam
-use Rattle.flight_steps.specs.declared.faults.FlightFault.{FlightFault}
 use Rattle.flight_steps.specs.declared.faults.FlightFault.TheVariants as fault
 use Rattle.flight_steps.specs.declared.ways.Crews.{Crews}
 use Rattle.flight_steps.specs.declared.ways.Ellipsoid.{Ellipsoid}
 use Rattle.flight_steps.specs.declared.ways.Ways.{Ways}
-use Rattle.flight_steps.specs.Ways.{routes, AreFitted}
-use Rattle.flight_steps.specs.Faults.{same_place, rests_on, rests_by, rests_in, restless_from, restless, first_other, other_drone, same_ellipsoid, other_ellipsoid, gap, seam_fault, seams_fault, is_straight, way_fault, up_fault, down_fault, ups_fault, downs_fault, narrow, name_fault, size_fault, crew_fault, route_fault, flight_fault, spelled, AreFlight, GivesFault}
 
 -- ---- no fault
 

@@ -1,3 +1,4 @@
+mod Prelude
 pub mod Walks
 pub mod Judged
 pub mod Counted

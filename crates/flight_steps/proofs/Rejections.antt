@@ -1,8 +1,5 @@
 -- Small ways that are no flight, beside ways that are one.
-use Rattle.std.proofs.Common.{◌≡◌, refl, Some, arith}
-use Rattle.flight_model.specs.Legs.{Routes}
-use Rattle.flight_steps.specs.declared.faults.FlightFault.{FlightFault}
-use Rattle.flight_steps.specs.Faults.{route_fault}
+use Rattle.flight_steps.proofs.Prelude.{◌≡◌, refl, Some, arith, Routes, FlightFault, route_fault}
 use Rattle.flight_steps.specs.Rejected.{hop, bent_hop, high_hop, Refuses, FlightRows}
 use Rattle.flight_steps.proofs.Judged.{route-of, route-to}
 

@@ -1,13 +1,6 @@
 -- Spans with values more.
-use Rattle.std.proofs.Common.{◌≡◌, ◌==◌, ◌<◌, ◌+◌, ◌∷◌, ◌++◌, ◌∙◌, [], List, Bool, true, false, cond, refl, sym, ap, Some, None, ℕ, zero, suc, length, drop, get_or, arith}
-use Rattle.std.specs.List.{flat_map}
-use Rattle.std.proofs.lemmas.Bool.{eqb-true}
+use Rattle.flight_steps.proofs.Prelude.{◌≡◌, ◌==◌, ◌<◌, ◌+◌, ◌∷◌, ◌++◌, ◌∙◌, [], List, Bool, true, false, cond, refl, sym, ap, Some, None, ℕ, zero, suc, length, drop, get_or, arith, flat_map, eqb-true, ℤ, pos, int_lt, Traj, Span, values_on, all_values, with_value, with_values, span_of, first_of, point}
 use Rattle.std.proofs.lemmas.Grind.{flat_map-append}
-use Rattle.std.specs.Prelude.{ℤ, pos, int_lt}
-use Rattle.traj_codec.specs.declared.traj.Traj.{Traj}
-use Rattle.flight_model.specs.declared.flights.Span.{Span}
-use Rattle.flight_model.specs.Rooms.{values_on, all_values, with_value, with_values, span_of}
-use Rattle.flight_steps.specs.Ways.{first_of, point}
 
 pub with_values-append : (s : Span) (us vs : List ℤ) → with_values s (us ++ vs) ≡ with_values (with_values s us) vs
 with_values-append s [] vs = refl

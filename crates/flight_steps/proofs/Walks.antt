@@ -1,15 +1,6 @@
 -- Walks over what is left of a list.
-use Rattle.std.proofs.Common.{◌≡◌, ◌<◌, ◌≤◌, ◌+◌, ◌∷◌, ◌++◌, ◌∙◌, [], List, Bool, false, cond, true, ◌||◌, refl, sym, ap, None, Some, Option, ℕ, zero, suc, ℤ, drop, length, map, arith}
-use Rattle.std.specs.List.{range_with_len, list_any, flat_map}
-use Rattle.std.proofs.lemmas.List.{append-nil, append_assoc}
+use Rattle.flight_steps.proofs.Prelude.{◌≡◌, ◌<◌, ◌≤◌, ◌+◌, ◌∷◌, ◌++◌, ◌∙◌, [], List, Bool, false, cond, true, ◌||◌, refl, sym, ap, None, Some, Option, ℕ, zero, suc, ℤ, drop, length, map, arith, range_with_len, list_any, flat_map, append-nil, append_assoc, ArrayVec, at, Traj, Leg, Step, moves, last_move, first_other, seams_fault}
 use Rattle.std.proofs.lemmas.List.FromFn.{map-range_with_len_more}
-use Rattle.arrayvec.specs.ArrayVec.{ArrayVec}
-use Rattle.fleet_math.specs.Bernstein.{at}
-use Rattle.traj_codec.specs.declared.traj.Traj.{Traj}
-use Rattle.flight_model.specs.declared.flights.Leg.{Leg}
-use Rattle.flight_model.specs.declared.flights.Step.{Step}
-use Rattle.flight_model.specs.Legs.{moves, last_move}
-use Rattle.flight_steps.specs.Faults.{first_other, seams_fault}
 
 -- the last leg in which a drone moves, or else this one
 abbrev pub last_from : Option Leg → List Leg → Option Leg

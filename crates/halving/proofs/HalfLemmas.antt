@@ -1,7 +1,6 @@
 -- The triangle of de Casteljau's rule, and its two edges.
-use Rattle.halving.proofs.Prelude.{◌≡◌, inl, inr, refl, ℕ, zero, suc, ◌≤◌, ◌+◌, ◌-◌, ◌*◌, ◌^◌, ℤ, pos, ◌+ℤ◌, ◌*ℤ◌, ◌≤ℤ◌, arith, sym, subst, ◌∙◌, ap, All, List, lit<, ints, mul-le-mul_right, mul_assoc, pow-le-pow_right, power, at, bernstein, linear, one_mul_ℤ, mul_assoc_ℤ, bernstein-zero, bernstein-same, bernstein-scale, bernstein-suc, bernstein-at_zero, bernstein-at_end, IsBelow, IsWithin, below_at, polar, part_value, pow-add, power-add}
+use Rattle.halving.proofs.Prelude.{◌≡◌, inl, inr, refl, ℕ, zero, suc, ◌≤◌, ◌+◌, ◌-◌, ◌*◌, ◌^◌, ℤ, pos, ◌+ℤ◌, ◌*ℤ◌, ◌≤ℤ◌, arith, sym, subst, ◌∙◌, ap, All, List, lit<, ints, mul-le-mul_right, mul_assoc, pow-le-pow_right, power, at, bernstein, linear, one_mul_ℤ, mul_assoc_ℤ, bernstein-zero, bernstein-same, bernstein-scale, bernstein-suc, bernstein-at_zero, bernstein-at_end, IsBelow, IsWithin, below_at, polar, part_value, pow-add, power-add, IsWord}
 use Rattle.bezier_core.proofs.BlendLemmas.{within_blend, within_mul, power_pos}
-use Rattle.halving.specs.Steps.{IsWord}
 
 -- the sums of a row keep a bound, scaled
 pub bernstein-within : (n : ℕ) (f : ℕ → ℤ) (m a c : ℤ) → pos 0 ≤ℤ a → a ≤ℤ c → ((k : ℕ) → k ≤ n → IsWithin m (f k)) → IsWithin (power c n *ℤ m) (bernstein n f a c)

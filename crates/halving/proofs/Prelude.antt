@@ -16,3 +16,4 @@ pub use Rattle.fleet_math.specs.Sums.{power}
 pub use mir.Syntax.{w128, w64}
 unfoldable pub use Rattle.halving.specs.Part.{polar}
 pub use Rattle.halving.specs.Part.{halved_along, part_value}
+pub use Rattle.halving.specs.Steps.{IsWord}

@@ -1,27 +1,13 @@
 -- What a call answers, from the run of its command.
-use Rattle.std.proofs.Common.{◌≡◌, ◌⊎◌, inl, inr, ℕ, ◌≤◌, List, [], ◌++◌, length, take, drop, Option, Some, None, refl, sym, ap, ◌∙◌, arith}
-use Rattle.std.proofs.lemmas.Bool.{cases_lt}
-use Rattle.std.proofs.lemmas.Bool.Decides.{nat_tests}
-use Rattle.std.proofs.lemmas.List.{take_all}
+use Rattle.hemtoghai.proofs.Prelude.{◌≡◌, ◌⊎◌, inl, inr, ℕ, ◌≤◌, List, [], ◌++◌, length, take, drop, Option, Some, None, refl, sym, ap, ◌∙◌, arith, cases_lt, nat_tests, take_all, Contains, String, codes, part_of, SureIn, told_sure, empty, told_input, Compile, UploadsText, Behaves, Does, Run, Verb, during, behaves_as, RunsOver, WholeOut, put_in, said_in}
 use Rattle.std.proofs.Math.Seq.{take-append_seam}
-use Rattle.std.specs.Prelude.{Contains, String, codes}
 use Rattle.std.specs.declared.alloc.Global.{Global}
-use Rattle.text_lines.specs.Marker.{part_of}
 use Rattle.fleet_io.specs.Causes.{Rose}
-use Rattle.fleet_io.specs.Memory.{SureIn, told_sure}
-use Rattle.fleet_io.proofs.CopiedLemmas.{empty}
-use Rattle.fleet_io.proofs.ToldLemmas.{told_input}
 use Rattle.command_words.specs.declared.command.Command.{Command}
-use Rattle.command_words.specs.declared.command.Command.TheVariants.{Compile}
-use Rattle.show_judge.specs.Headline.{UploadsText}
-use Rattle.show_judge.specs.Runs.{Behaves, Does}
-use Rattle.show_judge.specs.Verb.{Run, Verb, during}
 use Rattle.show_looks.specs.Compile.{Headline}
 use Rattle.show_looks.proofs.CompileLemmas.{headline_of}
 use Rattle.show_run.specs.Verbs.{IsCalled, command_in, judges_apart, verb_of}
 use Rattle.show_run.proofs.NameLemmas.{compiles, uploads}
-use Rattle.show_run.proofs.TopLemmas.{behaves_as}
-use Rattle.hemtoghai.specs.Answers.{RunsOver, WholeOut, put_in, said_in}
 
 -- ---- the run of a command over all of its input
 

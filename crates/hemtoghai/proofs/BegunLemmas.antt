@@ -1,26 +1,13 @@
 -- An upload that began: the whole input is that of a show that it accepted, however much of it was read.
-use Rattle.std.proofs.Common.{◌≡◌, inl, inr, ℕ, ◌+◌, ◌<◌, Bool, true, false, List, [], ◌∷◌, ◌++◌, length, get_or, replicate, take, drop, Option, Some, None, refl, sym, ap, subst, ◌∙◌, arith, append-nil}
-use Rattle.std.proofs.lemmas.Bool.{cases_lt}
-use Rattle.std.proofs.lemmas.List.{drop_all, length-append, length-replicate, length-take, take-append-drop, take_all}
+use Rattle.hemtoghai.proofs.Prelude.{◌≡◌, inl, inr, ℕ, ◌+◌, ◌<◌, Bool, true, false, List, [], ◌∷◌, ◌++◌, length, get_or, replicate, take, drop, Option, Some, None, refl, sym, ap, subst, ◌∙◌, arith, append-nil, cases_lt, drop_all, length-append, length-replicate, length-take, take-append-drop, take_all, between_feeds, has_marker, part_of, has_whole_marker, SureIn, told_sure, empty, UploadsText, Does, Runs, IsJudged, Outcome, Span, during, run_on, HasBegun, upload_verb, never_rose, WholeOut, put_in}
 use Rattle.std.proofs.lemmas.Option.{none-some}
 use Rattle.std.specs.Option.{option_map}
-use Rattle.text_lines.specs.Lines.{between_feeds}
-use Rattle.text_lines.specs.Marker.{has_marker, part_of}
 use Rattle.fleet_math.specs.Limits.{most_text}
-use Rattle.fleet_io.specs.Held.{has_whole_marker}
-use Rattle.fleet_io.specs.Memory.{SureIn, told_sure}
 use Rattle.fleet_io.specs.Told.{IsInput}
-use Rattle.fleet_io.proofs.CopiedLemmas.{empty}
 use Rattle.fleet_io.proofs.MarkerLaws.{marker_law}
 use Rattle.refusals.specs.declared.refusal.Refusal.{Refusal}
-use Rattle.show_judge.specs.Headline.{UploadsText}
 use Rattle.show_judge.specs.Outcome.{IsOutcome, said}
 use Rattle.show_judge.specs.Refused.{text_refusal}
-use Rattle.show_judge.specs.Runs.{Does, Runs}
-use Rattle.show_judge.specs.Verb.{IsJudged, Outcome, Span, during, run_on}
-use Rattle.show_uploads.specs.Upload.{HasBegun, upload_verb}
-use Rattle.show_run.proofs.TopLemmas.{never_rose}
-use Rattle.hemtoghai.specs.Answers.{WholeOut, put_in}
 use Rattle.hemtoghai.proofs.AnswerLemmas.{begins, not_rose, untouched, whole_of}
 use Rattle.hemtoghai.proofs.MarkLemmas.{never_marked}
 

@@ -1,3 +1,4 @@
+mod Prelude
 pub mod WordLemmas
 pub mod AnswerLemmas
 pub mod MarkLemmas

@@ -1,13 +1,7 @@
 -- A text without a whole marker line, and a line that goes on too long to be one.
-use Rattle.std.proofs.Common.{◌≡◌, ℕ, zero, suc, ◌<◌, Bool, true, false, ◌||◌, List, [], ◌∷◌, ◌++◌, length, replicate, refl, ap, arith}
+use Rattle.hemtoghai.proofs.Prelude.{◌≡◌, ℕ, zero, suc, ◌<◌, Bool, true, false, ◌||◌, List, [], ◌∷◌, ◌++◌, length, replicate, refl, ap, arith, onto_first, false_from_ne_true, length-append, length-replicate, between_feeds, is_line_feed, has_marker, is_marker, has_whole_marker, without_last}
 use Rattle.std.specs.Str.{bytes_eq}
-use Rattle.std.specs.List.{onto_first}
-use Rattle.std.proofs.lemmas.Bool.{false_from_ne_true}
 use Rattle.std.proofs.lemmas.Slice.Eq.{bytes_eq-Decides}
-use Rattle.std.proofs.lemmas.List.{length-append, length-replicate}
-use Rattle.text_lines.specs.Lines.{between_feeds, is_line_feed}
-use Rattle.text_lines.specs.Marker.{has_marker, is_marker}
-use Rattle.fleet_io.specs.Held.{has_whole_marker, without_last}
 use Rattle.fleet_io.proofs.CutLemmas.{IsFull-split, split-goes_on}
 
 -- zero bytes are one line

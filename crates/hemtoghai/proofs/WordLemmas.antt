@@ -1,12 +1,8 @@
 -- The words in bytes, from the first of them on.
-use Rattle.std.proofs.Common.{◌≡◌, inl, inr, ℕ, ◌+◌, ◌<◌, ◌≤◌, List, [], ◌∷◌, ◌++◌, length, take, drop, refl, sym, ap, subst, ◌∙◌, arith, append_assoc, All, IsUtf8}
-use Rattle.std.specs.List.{position_or_len, slice_split}
-use Rattle.std.proofs.lemmas.Bool.{cases_lt}
-use Rattle.std.proofs.lemmas.List.{take_all}
+use Rattle.hemtoghai.proofs.Prelude.{◌≡◌, inl, inr, ℕ, ◌+◌, ◌<◌, ◌≤◌, List, [], ◌∷◌, ◌++◌, length, take, drop, refl, sym, ap, subst, ◌∙◌, arith, append_assoc, All, IsUtf8, position_or_len, slice_split, cases_lt, take_all, divides, words_in}
 use Rattle.std.proofs.lemmas.List.Elements.{All-nil, All-cons, All-head, All-tail}
 use Rattle.text_lines.specs.Words.{without_empty}
 use Rattle.text_lines.proofs.Cuts.{cut_more, cut_none, position_within}
-use Rattle.hemtoghai.specs.Words.{divides, words_in}
 
 one_piece : (p : List ℕ) (ps : List (List ℕ)) → without_empty (p ∷ ps) ≡ without_empty (p ∷ []) ++ without_empty ps
 one_piece [] ps = refl

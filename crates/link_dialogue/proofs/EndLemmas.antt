@@ -1,11 +1,6 @@
 -- A dialogue gives one end, with one output.
-use Rattle.std.proofs.Common.{Bool, List, None, Option, Some, [], ap, append-nil, append_assoc, arith, false, inl, inr, length, length-append, refl, suc, sym, take, true, zero, ℕ, ◌++◌, ◌+◌, ◌<◌, ◌∙◌, ◌∷◌, ◌≡◌, ◌≤◌, ◌⊎◌}
+use Rattle.link_dialogue.proofs.Prelude.{Bool, List, None, Option, Some, [], ap, append-nil, append_assoc, arith, false, inl, inr, length, length-append, refl, suc, sym, take, true, zero, ℕ, ◌++◌, ◌+◌, ◌<◌, ◌∙◌, ◌∷◌, ◌≡◌, ◌≤◌, ◌⊎◌, take_at, All-head, ◌==◌, end_frame, BeginsNone, BeginsWith, Dialogue, DialogueGives, EndsGoing, EndsWith, IsDialogue, Takes, item_limit, items_bytes}
 use Rattle.std.proofs.lemmas.Bool.Decides.{nat_tests}
-use Rattle.std.proofs.lemmas.List.{take_at}
-use Rattle.std.proofs.lemmas.List.Elements.{All-head}
-use Rattle.std.specs.Prelude.{◌==◌}
-use Rattle.link_frames.specs.Frames.{end_frame}
-use Rattle.link_dialogue.specs.Dialogues.{BeginsNone, BeginsWith, Dialogue, DialogueGives, EndsGoing, EndsWith, IsDialogue, Takes, item_limit, items_bytes}
 use Rattle.link_dialogue.proofs.ItemLemmas.{All-later, BeginsWith-trans, Takes-push, compare, not_full}
 
 -- ---- one end

@@ -1,12 +1,5 @@
 -- A dialogue with its end frame.
-use Rattle.std.proofs.Common.{Bool, IfSome, List, None, Option, Some, [], ap, append-nil, append_assoc, arith, false, inl, refl, inr, sym, ℕ, ◌++◌, ◌∙◌, ◌∷◌, ◌≡◌, ◌≢◌, ◌⊎◌}
-use Rattle.std.specs.Io.KnownBytes.{Appends, Consumes}
-use Rattle.fleet_io.proofs.SentLemmas.{Appends-append}
-use Rattle.fleet_io.specs.Causes.{Rose}
-use Rattle.fleet_io.specs.Taken.{AppendsFront}
-use Rattle.link_frames.specs.Frames.{end_frame}
-use Rattle.link_dialogue.specs.Dialogues.{Dialogue, DialogueFails, DialogueGives, IsOwnEnd, IsStatus, StaysPrompt}
-use Rattle.link_dialogue.specs.Steps.{Breaks, Ends, Fails}
+use Rattle.link_dialogue.proofs.Prelude.{Bool, IfSome, List, None, Option, Some, [], ap, append-nil, append_assoc, arith, false, inl, refl, inr, sym, ℕ, ◌++◌, ◌∙◌, ◌∷◌, ◌≡◌, ◌≢◌, ◌⊎◌, Appends, Consumes, Appends-append, Rose, AppendsFront, end_frame, Dialogue, DialogueFails, DialogueGives, IsOwnEnd, IsStatus, StaysPrompt, Breaks, Ends, Fails}
 use Rattle.link_dialogue.proofs.ItemLemmas.{BeginsWith-trans, front_more, same_front}
 
 -- ---- what was sent

@@ -1,18 +1,8 @@
 -- Items at the front of bytes, and what is taken of bytes that are known.
-use Rattle.std.proofs.Common.{IfSome, List, None, Option, Some, [], ap, append-nil, append_assoc, arith, false, inl, inr, length, length-append, refl, suc, sym, take, zero, ℕ, ◌++◌, ◌<◌, ◌∙◌, ◌∷◌, ◌≡◌, ◌≤◌, ◌⊎◌}
+use Rattle.link_dialogue.proofs.Prelude.{IfSome, List, None, Option, Some, [], ap, append-nil, append_assoc, arith, false, inl, inr, length, length-append, refl, suc, sym, take, zero, ℕ, ◌++◌, ◌<◌, ◌∙◌, ◌∷◌, ◌≡◌, ◌≤◌, ◌⊎◌, length_push, take-append-le, take_all, All-head, All-nil, All-push, All-tail, Appends, Consumes, IsAtEnd, All, ◌==◌, Appends-append, Rose, AppendsFront, BeginsWith, Dialogue, IsDialogue, Takes, item_limit, items_bytes, IsFaulty}
 use Rattle.std.proofs.lemmas.Grind.{common_steps}
 use Rattle.std.proofs.lemmas.Bool.{eqb-true}
-use Rattle.std.proofs.lemmas.List.{length_push, take-append-le, take_all}
 use Rattle.std.proofs.lemmas.List.Concat.{flat_map-append}
-use Rattle.std.proofs.lemmas.List.Elements.{All-head, All-nil, All-push, All-tail}
-use Rattle.std.specs.Io.KnownBytes.{Appends, Consumes, IsAtEnd}
-use Rattle.std.specs.List.{All}
-use Rattle.std.specs.Prelude.{◌==◌}
-use Rattle.fleet_io.proofs.SentLemmas.{Appends-append}
-use Rattle.fleet_io.specs.Causes.{Rose}
-use Rattle.fleet_io.specs.Taken.{AppendsFront}
-use Rattle.link_dialogue.specs.Dialogues.{BeginsWith, Dialogue, IsDialogue, Takes, item_limit, items_bytes}
-use Rattle.link_dialogue.specs.Steps.{IsFaulty}
 
 -- ---- lists
 

@@ -1,9 +1,8 @@
 -- What an upload of the smallest path sends and how it ends.
-use Rattle.link_upload.proofs.Prelude.{◌≡◌, ◌<◌, ℕ, [], ◌∷◌, ◌++◌, List, Bool, false, None, take, refl, arith, All-nil, All-cons, Frame, IsFrame, link_of, events_in, sent_over, UploadGives}
+use Rattle.link_upload.proofs.Prelude.{◌≡◌, ◌<◌, ℕ, [], ◌∷◌, ◌++◌, List, Bool, false, None, take, refl, arith, Frame, IsFrame, link_of, events_in, sent_over, UploadGives, Upload, packet_at, write_count, read_count, packet_count, acked, acked_from, acknowledges, all_settled, phase_of, flight_in, flight_at, ticks, all_packets, ending, progress_within, progress, out}
+use Rattle.std.proofs.lemmas.List.Elements.{All-nil, All-cons}
 use Rattle.link_frames.specs.declared.frame.Frame.TheVariants as frame
-use Rattle.upload_model.specs.Sessions.{Upload, packet_at, write_count, read_count, packet_count}
 use Rattle.upload_model.specs.Replies.{reply_in, reply_to}
-use Rattle.upload_model.specs.Hosts.{acked, acked_from, acknowledges, all_settled, phase_of, flight_in, flight_at, ticks, all_packets, ending, progress_within, progress, out}
 
 abbrev path : List ℕ
 path = 0 ∷ 0 ∷ 0 ∷ 0 ∷ 0xE8 ∷ 3 ∷ 0 ∷ 0 ∷ 3 ∷ 0xD0 ∷ 7 ∷ 0 ∷ 0 ∷ 0 ∷ 0 ∷ 0 ∷ 0 ∷ 0xE8 ∷ 3 ∷ 0xE8 ∷ 3 ∷ 0xE8 ∷ 3 ∷ 0xE8 ∷ 3 ∷ 0 ∷ 0 ∷ 0 ∷ []

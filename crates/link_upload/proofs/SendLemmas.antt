@@ -1,5 +1,6 @@
 -- What is sent over events that come one after the other.
-use Rattle.link_upload.proofs.Prelude.{arith, common_steps, ◌≡◌, List, [], ◌∷◌, ◌++◌, append_assoc, append-nil, sym, ap, ◌∙◌, ℕ, flat_map-append, Frame, Event, Link, answers_after, event_in, events_in, packet_frames, sent_over, BeginsWith}
+use Rattle.link_upload.proofs.Prelude.{arith, common_steps, ◌≡◌, List, [], ◌∷◌, ◌++◌, append_assoc, append-nil, sym, ap, ◌∙◌, ℕ, Frame, Event, Link, answers_after, event_in, events_in, packet_frames, sent_over, BeginsWith}
+use Rattle.std.proofs.lemmas.List.Concat.{flat_map-append}
 
 answers-append : (s : Link) (g xs ys : List Event) → answers_after s g (xs ++ ys) ≡ answers_after s g xs ++ answers_after s (g ++ xs) ys
 answers-append s g [] ys = ap (λ (h : List Event). answers_after s h ys) (sym (append-nil g))

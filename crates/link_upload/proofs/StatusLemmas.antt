@@ -1,10 +1,8 @@
 -- The statuses of an upload.
-use Rattle.link_upload.proofs.Prelude.{◌≡◌, ◌≢◌, inl, inr, ℕ, [], ◌∷◌, Option, Some, refl, subst, arith, Contains, Event, Link, events_in, link_of, status_of, upload_of}
+use Rattle.link_upload.proofs.Prelude.{◌≡◌, ◌≢◌, inl, inr, ℕ, [], ◌∷◌, Option, Some, refl, subst, arith, Event, Link, events_in, link_of, status_of, upload_of, progress, Upload, IsStatus}
+use Rattle.std.specs.List.{Contains}
 use Rattle.upload_model.specs.declared.events.Progress.{Progress}
 use Rattle.upload_model.specs.declared.events.Progress.TheVariants.{Going, Done, GaveUp, Refused, Differs}
-use Rattle.upload_model.specs.Hosts.{progress}
-use Rattle.upload_model.specs.Sessions.{Upload}
-use Rattle.link_dialogue.specs.Dialogues.{IsStatus}
 
 abbrev IsKnown : ℕ → Type 0
 IsKnown status = Contains (0 ∷ 6 ∷ 7 ∷ 8 ∷ 9 ∷ 10 ∷ 11 ∷ 13 ∷ 14 ∷ []) status

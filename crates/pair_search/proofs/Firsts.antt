@@ -1,9 +1,6 @@
 -- The first direction that separates a place.
-use Rattle.pair_search.proofs.Prelude.{◌⊎◌, inl, inr, common_steps, ◌≡◌, ℕ, ◌+◌, ◌-◌, ◌≤◌, ◌<◌, Bool, true, false, zero, suc, ◌∷◌, cond, nat_lt, arith, refl, sym, subst, List, [], length, get_or, Option, Some, None, is_none, not, position_or_len_is, nat_tests, by_lt, Bez, Place, Measure, low_value, root, ap, option_map, option_or, Leaf, Split, node_for, first_by, first_direction, FindsFirst, does_separate}
-use Rattle.std.specs.Int.{bit_at}
+use Rattle.pair_search.proofs.Prelude.{◌⊎◌, inl, inr, common_steps, ◌≡◌, ℕ, ◌+◌, ◌-◌, ◌≤◌, ◌<◌, Bool, true, false, zero, suc, ◌∷◌, cond, nat_lt, arith, refl, sym, subst, List, [], length, get_or, Option, Some, None, is_none, not, position_or_len_is, nat_tests, by_lt, Bez, Place, Measure, low_value, root, ap, option_map, option_or, Leaf, Split, node_for, first_by, first_direction, FindsFirst, does_separate, bit_at, Marks, AreEarly, AreLeft, FindsEarliest, FindsEarly, IsOut}
 use Rattle.std.specs.List.{position, position_or_len}
-use Rattle.pair_search.specs.declared.marking.Marks.{Marks}
-use Rattle.pair_search.specs.Marks.{AreEarly, AreLeft, FindsEarliest, FindsEarly, IsOut}
 
 -- the first place where a test passes
 pub position-is : {X : Type 0} (p : X → Bool) (xs : List X) (i : ℕ) (d : X) → i < length xs → ((k : ℕ) → k < i → p (get_or xs k d) ≡ false) → p (get_or xs i d) ≡ true → position p xs ≡ Some i

@@ -1,9 +1,5 @@
 -- The highest bit of a number.
-use Rattle.pair_search.proofs.Prelude.{◌≡◌, ℕ, suc, ◌-◌, ◌^◌, ◌≤◌, ◌<◌, arith, ap, subst, pow-suc, pow_pos}
-use Rattle.std.specs.Int.{bit_at}
-use Rattle.std.proofs.Common.{◌/◌, ◌%◌}
-use Rattle.std.proofs.lemmas.Nat.{div_below, le-div, leading_top}
-use Rattle.std.proofs.lemmas.Nat.Bits.{bit_at_above}
+use Rattle.pair_search.proofs.Prelude.{◌≡◌, ℕ, suc, ◌-◌, ◌^◌, ◌≤◌, ◌<◌, arith, ap, subst, pow-suc, pow_pos, bit_at, ◌/◌, ◌%◌, div_below, le-div, leading_top, bit_at_above}
 use lib.Count.{count_leading_zeros}
 
 -- a number between two powers of 2 has the bit of the lower one

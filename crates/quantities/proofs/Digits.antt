@@ -1,6 +1,5 @@
 -- Numbers of decimal digits.
-use Rattle.quantities.proofs.Prelude.{◌≡◌, ℕ, zero, unwrap_or, option_map, suc, add-one, drop, drop-cons, get_or, min, ◌+◌, ◌-◌, ◌*◌, ◌^◌, ◌<◌, ◌≤◌, Bool, true, false, List, [], ◌∷◌, ◌++◌, length, Some, refl, sym, ap, ◌∙◌, arith, eqb-true, and_parts, ◌&&◌, ◌==◌, list_all, is_digit, digits_after, natural_of, AreDigits, capped, number_after, list_all_at, add-mul, mul_assoc, mul_comm, mul_left_comm, pow-suc, mul-le}
-use Rattle.std.proofs.lemmas.Bool.Decides.{nat_tests}
+use Rattle.quantities.proofs.Prelude.{◌≡◌, ℕ, zero, unwrap_or, option_map, suc, add-one, drop, drop-cons, get_or, min, ◌+◌, ◌-◌, ◌*◌, ◌^◌, ◌<◌, ◌≤◌, Bool, true, false, List, [], ◌∷◌, ◌++◌, length, Some, refl, sym, ap, ◌∙◌, arith, eqb-true, and_parts, ◌&&◌, ◌==◌, list_all, is_digit, digits_after, natural_of, AreDigits, capped, number_after, list_all_at, add-mul, mul_assoc, mul_comm, mul_left_comm, pow-suc, mul-le, nat_tests}
 
 pub digits_are : (n : ℕ) (ds : List ℕ) → AreDigits ds → digits_after n ds ≡ Some (number_after n ds)
 digits_are n [] h = refl

@@ -1,8 +1,6 @@
 -- What is read as a quantity is written as one.
-use Rattle.quantities.proofs.Prelude.{Ok, Err, in_range, ◌≡◌, ℕ, ℤ, ◌*◌, ◌^◌, ◌<◌, Bool, true, false, cond, List, [], ◌∷◌, ◌++◌, length, drop, prefix_len, Option, Some, None, option_map, refl, sym, ap, ◌∙◌, arith, pos, ◌&&◌, ◌≤ℤ◌, int_le, and_parts, eqb-true, take-append-drop, is_digit, natural_of, begins_with_minus, number_of, signed, Measure, measure_of, IsMeasured, IsQuantity, after_digits, begins_with_point, front_digits, is_empty, inl, inr, measured_of, or_else, point, quantity_of, sign, size_at, size_at_point, size_by, size_of, size_with, zero_alone}
+use Rattle.quantities.proofs.Prelude.{Ok, Err, in_range, ◌≡◌, ℕ, ℤ, ◌*◌, ◌^◌, ◌<◌, Bool, true, false, cond, List, [], ◌∷◌, ◌++◌, length, drop, prefix_len, Option, Some, None, option_map, refl, sym, ap, ◌∙◌, arith, pos, ◌&&◌, ◌≤ℤ◌, int_le, and_parts, eqb-true, take-append-drop, is_digit, natural_of, begins_with_minus, number_of, signed, Measure, measure_of, IsMeasured, IsQuantity, after_digits, begins_with_point, front_digits, is_empty, inl, inr, measured_of, or_else, point, quantity_of, sign, size_at, size_at_point, size_by, size_of, size_with, zero_alone, OutOfRange, Counts}
 use Rattle.std.proofs.lemmas.Int.{ints}
-use Rattle.text_lines.specs.declared.number.NumberFault.TheVariants.{OutOfRange}
-use Rattle.quantities.specs.declared.unit.Counts.{Counts}
 use Rattle.quantities.proofs.Quotients.{exactly_back}
 
 record IsBy (digits_of : Option ℕ) (places : ℕ) (measure_by : Option Measure) (size : ℕ) : Type 0 where

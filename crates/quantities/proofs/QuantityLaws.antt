@@ -1,7 +1,5 @@
 -- A quantity in its range is read, and what is read is one.
-use Rattle.quantities.proofs.Prelude.{◌≡◌, ℕ, ℤ, Bool, true, false, cond, List, Option, Some, None, Ok, Err, refl, ap, ◌∙◌, T, ◌&&◌, ◌≤ℤ◌, int_le, and_parts, in_range, IsQuantity, IsQuantityIn, quantity_of, quantity_in}
-use Rattle.text_lines.specs.declared.number.NumberFault.TheVariants.{OutOfRange}
-use Rattle.quantities.specs.declared.unit.Counts.{Counts}
+use Rattle.quantities.proofs.Prelude.{◌≡◌, ℕ, ℤ, Bool, true, false, cond, List, Option, Some, None, Ok, Err, refl, ap, ◌∙◌, T, ◌&&◌, ◌≤ℤ◌, int_le, and_parts, in_range, IsQuantity, IsQuantityIn, quantity_of, quantity_in, OutOfRange, Counts}
 use Rattle.quantities.proofs.Written.{quantity_is_found}
 use Rattle.quantities.proofs.Found.{found_is_quantity}
 

@@ -1,9 +1,5 @@
 -- Quantities whose values were worked out by hand, and words that are none.
-use Rattle.quantities.proofs.Prelude.{◌≡◌, ℕ, List, [], ◌∷◌, Option, Some, None, Ok, Err, refl, pos, ℤ, quantity_of, quantity_in}
-use Rattle.std.specs.Prelude.{codes, neg_ℤ}
-use Rattle.text_lines.specs.declared.number.NumberFault.TheVariants.{NotANumber, OutOfRange}
-use Rattle.quantities.specs.declared.unit.Counts.{Counts}
-use Rattle.quantities.specs.declared.unit.Counts.TheVariants.{Micrometres, Millimetres, Milliseconds, TenthsOfADegree}
+use Rattle.quantities.proofs.Prelude.{◌≡◌, ℕ, List, [], ◌∷◌, Option, Some, None, Ok, Err, refl, pos, ℤ, quantity_of, quantity_in, codes, neg_ℤ, NotANumber, OutOfRange, Counts, Micrometres, Millimetres, Milliseconds, TenthsOfADegree}
 
 -- each of these words, in a place that counts this, is this value, or none
 pub record Row : Type 0 where

@@ -1,6 +1,5 @@
 -- A size that is read.
-use Rattle.quantities.proofs.Prelude.{Bool, false, cond, [], ◌∷◌, suc, length-prefix_len, ◌≡◌, ℕ, ◌+◌, ◌<◌, true, List, ◌++◌, length, Option, Some, None, option_map, refl, sym, ap, ◌∙◌, arith, ◌&&◌, list_all, list_all-append, length-append, is_digit, natural_of, AreDigits, measure_of, measure_by, moved, number_after, prefix_len, take, is_empty, front_digits, size_by, size_with}
-use Rattle.quantities.specs.declared.unit.Counts.{Counts}
+use Rattle.quantities.proofs.Prelude.{Bool, false, cond, [], ◌∷◌, suc, length-prefix_len, ◌≡◌, ℕ, ◌+◌, ◌<◌, true, List, ◌++◌, length, Option, Some, None, option_map, refl, sym, ap, ◌∙◌, arith, ◌&&◌, list_all, list_all-append, length-append, is_digit, natural_of, AreDigits, measure_of, measure_by, moved, number_after, prefix_len, take, is_empty, front_digits, size_by, size_with, Counts}
 use Rattle.quantities.specs.declared.unit.Shift.{Shift}
 use Rattle.quantities.proofs.Digits.{natural_is}
 

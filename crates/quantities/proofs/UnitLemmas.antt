@@ -1,9 +1,6 @@
 -- Each unit begins with a letter.
-use Rattle.quantities.proofs.Prelude.{◌≡◌, ℕ, ◌<◌, Bool, true, false, cond, List, [], ◌∷◌, Option, Some, refl, ap, ◌∙◌, arith, ◌==◌, is_digit, Measure, measure_of}
-use Rattle.std.specs.Prelude.{bytes_eq, codes}
+use Rattle.quantities.proofs.Prelude.{◌≡◌, ℕ, ◌<◌, Bool, true, false, cond, List, [], ◌∷◌, Option, Some, refl, ap, ◌∙◌, arith, ◌==◌, is_digit, Measure, measure_of, bytes_eq, codes, Counts, Micrometres, Millimetres, Milliseconds, TenthsOfADegree}
 use Rattle.std.proofs.lemmas.Slice.Eq.{bytes_eq-Decides}
-use Rattle.quantities.specs.declared.unit.Counts.{Counts}
-use Rattle.quantities.specs.declared.unit.Counts.TheVariants.{Micrometres, Millimetres, Milliseconds, TenthsOfADegree}
 
 -- these bytes begin neither with a digit nor with a point
 pub record BeginsWithLetter (bytes : List ℕ) : Type 0 where

@@ -1,7 +1,6 @@
 -- What is written as a quantity is read as its value.
-use Rattle.quantities.proofs.Prelude.{◌≡◌, ℕ, ℤ, suc, ◌+◌, ◌-◌, ◌*◌, ◌^◌, ◌<◌, Bool, true, false, cond, List, [], ◌∷◌, ◌++◌, length, take, drop, Option, Some, None, option_map, refl, sym, ap, ◌∙◌, arith, ◌&&◌, ◌==◌, and_parts, list_all, list_all-append, prefix_len, take-append_seam, drop-append_seam, is_digit, digits_after, natural_of, begins_with_minus, signed, AreDigits, Measure, measure_of, IsMeasured, IsQuantity, after_digits, begins_with_point, front_digits, is_empty, inl, inr, measured_of, or_else, point, quantity_of, sign, size_at, size_at_point, size_by, size_of, size_with, zero_alone}
-use Rattle.std.proofs.lemmas.Bool.Decides.{nat_tests}
-use Rattle.quantities.specs.declared.unit.Counts.{Counts}
+use Rattle.quantities.proofs.Prelude.{◌≡◌, ℕ, ℤ, suc, ◌+◌, ◌-◌, ◌*◌, ◌^◌, ◌<◌, Bool, true, false, cond, List, [], ◌∷◌, ◌++◌, length, take, drop, Option, Some, None, option_map, refl, sym, ap, ◌∙◌, arith, ◌&&◌, ◌==◌, and_parts, list_all, list_all-append, prefix_len, is_digit, digits_after, natural_of, begins_with_minus, signed, AreDigits, Measure, measure_of, IsMeasured, IsQuantity, after_digits, begins_with_point, front_digits, is_empty, inl, inr, measured_of, or_else, point, quantity_of, sign, size_at, size_at_point, size_by, size_of, size_with, zero_alone, nat_tests, Counts}
+use Rattle.std.proofs.Math.Seq.{take-append_seam, drop-append_seam}
 use Rattle.quantities.proofs.Digits.{power_some}
 use Rattle.quantities.proofs.Quotients.{exactly_is}
 use Rattle.quantities.proofs.Moves.{product_some}

@@ -1,36 +1,12 @@
 -- An exchange that is carried, from what its steps did.
-use Rattle.std.proofs.Common.{◌≡◌, ◌⊎◌, inl, inr, ℕ, ◌+◌, ◌<◌, ◌≤◌, Bool, true, false, List, [], ◌∷◌, ◌++◌, Contains, append_assoc, append-nil, length, length-append, Option, Some, None, refl, sym, ap, subst, ◌∙◌, arith}
+use Rattle.show_direct.proofs.Prelude.{◌≡◌, ◌⊎◌, inl, inr, ℕ, ◌+◌, ◌<◌, ◌≤◌, Bool, true, false, List, [], ◌∷◌, ◌++◌, Contains, append_assoc, append-nil, length, length-append, Option, Some, None, refl, sym, ap, subst, ◌∙◌, arith, append_cancel_left, append_cancel_right, Appends, part_of, rest_of, ShowLaw, PlainShow, Rose, buffer_bytes, has_whole_marker, MarkerLaw, AppendsFront, Told, Went, most_text, end_byte, end_frame, Refusal, accepted_outcome, refused_outcome, refused_some, IsAccepted, IsRefusedBy, Wrote, IsOfInput, show_refusal, text_refusal, cut_of, Span, outcome, Accepted, Unread, Accepts, Exchange, TextStops, text_exchange, text_verb, text_ways, HasBegun, no_flight_byte, AreMarked, Carries, EndsBy, IsCut, IsRead, IsUnread, direct_statuses}
 use Rattle.std.proofs.lemmas.Grind.{common_steps}
-use Rattle.std.proofs.lemmas.List.{append_cancel_left, append_cancel_right}
-use Rattle.std.specs.Io.KnownBytes.{Appends}
-use Rattle.text_lines.specs.Marker.{part_of, rest_of}
 use Rattle.choreo_reader.specs.Grammar.{StandsFor}
-use Rattle.choreo_reader.specs.Laws.{ShowLaw}
-use Rattle.choreo_show.specs.Plain.{PlainShow}
 use Rattle.fleet_io.proofs.MarkerLaws.{whole_marker-front}
-use Rattle.fleet_io.specs.Causes.{Rose}
-use Rattle.fleet_io.specs.Held.{buffer_bytes, has_whole_marker}
-use Rattle.fleet_io.specs.Parts.{MarkerLaw}
-use Rattle.fleet_io.specs.Taken.{AppendsFront}
-use Rattle.fleet_io.specs.Told.{Told, Went}
-use Rattle.fleet_math.specs.Limits.{most_text}
-use Rattle.link_frames.specs.Frames.{end_byte, end_frame}
-use Rattle.refusals.specs.declared.refusal.Refusal.{Refusal}
 use Rattle.refusals.specs.Refusals.{status_of}
-use Rattle.show_judge.proofs.AnswerLemmas.{accepted_outcome, refused_outcome, refused_some}
 use Rattle.show_judge.proofs.RunLemmas.{refused_among, refused_judged}
 use Rattle.show_judge.proofs.TextLemmas.{stands_unrefused}
-use Rattle.show_judge.specs.Answers.{IsAccepted, IsRefusedBy, Wrote}
-use Rattle.show_judge.specs.Refused.{IsOfInput, show_refusal, text_refusal}
-use Rattle.show_judge.specs.Shows.{cut_of}
-use Rattle.show_judge.specs.Verb.{Span, outcome}
-use Rattle.show_judge.specs.declared.judging.Accepted.{Accepted}
-use Rattle.show_direct.specs.declared.reading.Unread.{Unread}
 use Rattle.show_direct.specs.declared.reading.Unread.TheVariants as unread
-use Rattle.show_direct.specs.Exchanges.{Accepts, Exchange, TextStops, text_exchange, text_verb, text_ways}
-use Rattle.show_direct.specs.Direct.{HasBegun}
-use Rattle.show_direct.specs.Frames.{no_flight_byte}
-use Rattle.show_direct.specs.Steps.{AreMarked, Carries, EndsBy, IsCut, IsRead, IsUnread, direct_statuses}
 
 -- ---- what was written
 

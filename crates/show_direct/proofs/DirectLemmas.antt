@@ -1,19 +1,6 @@
 -- The laws of `direct`.
-use Rattle.std.proofs.Common.{ℕ, true, List, Option}
-use Rattle.std.specs.Io.KnownBytes.{Appends}
-use Rattle.text_lines.specs.Marker.{rest_of}
-use Rattle.choreo_reader.specs.Laws.{ShowLaw}
-use Rattle.choreo_show.specs.Plain.{PlainShow}
-use Rattle.flight_model.specs.Kept.{KeptLaw}
+use Rattle.show_direct.proofs.Prelude.{ℕ, true, List, Option, Appends, rest_of, ShowLaw, PlainShow, KeptLaw, FlightLinkLaw, IsSafe, IsVerb, cut_of, Outcome, Options, fault_of, flight_of, routes_of, IsExchange, DirectLaw, FliesWhole, direct_verb, down_exchange, flight_exchange, show_exchange}
 use Rattle.flight_model.specs.Law.{OverLaw}
-use Rattle.flight_link.specs.Flights.{FlightLinkLaw}
-use Rattle.show_judge.specs.Outcome.{IsSafe, IsVerb}
-use Rattle.show_judge.specs.Shows.{cut_of}
-use Rattle.show_judge.specs.Verb.{Outcome}
-use Rattle.show_direct.specs.declared.options.Options.{Options}
-use Rattle.show_direct.specs.Flights.{fault_of, flight_of, routes_of}
-use Rattle.show_direct.specs.Exchanges.{IsExchange}
-use Rattle.show_direct.specs.Direct.{DirectLaw, FliesWhole, direct_verb, down_exchange, flight_exchange, show_exchange}
 use Rattle.show_direct.proofs.ExchangeLemmas.{flown_by, is_exchange_by, is_text_exchange, is_text_verb, led_on}
 use Rattle.show_direct.proofs.FlightLemmas.{are_flight, some_steps}
 use Rattle.show_direct.proofs.KeptLemmas.{flies_show, said_kept}

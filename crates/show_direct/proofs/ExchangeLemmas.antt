@@ -1,29 +1,5 @@
 -- The laws of exchanges, and of the commands that they are.
-use Rattle.std.proofs.Common.{◌≡◌, ◌==◌, inl, inr, ℕ, List, [], ◌++◌, length, Option, Some, None, refl, sym, ap, subst, ◌∙◌, arith}
-use Rattle.std.proofs.lemmas.List.Elements.{All-nil}
-use Rattle.std.specs.Option.{option_map}
-use Rattle.text_lines.specs.Marker.{part_of, rest_of}
-use Rattle.choreo_reader.specs.Laws.{ShowLaw}
-use Rattle.choreo_show.specs.Plain.{PlainShow}
-use Rattle.link_frames.specs.Frames.{end_frame}
-use Rattle.refusals.specs.declared.refusal.Refusal.{Refusal}
-use Rattle.flight_model.specs.Directors.{drones}
-use Rattle.flight_steps.specs.declared.faults.FlightFault.{FlightFault}
-use Rattle.link_dialogue.specs.Dialogues.{EndsWith, item_limit}
-use Rattle.flight_link.specs.Flights.{FlightGives, FlightLinkLaw, dialogue_of}
-use Rattle.flight_link.specs.Sends.{ended, sent_over}
-use Rattle.show_judge.proofs.AnswerLemmas.{refused_some}
-use Rattle.show_judge.proofs.HeadlineLemmas.{flies_text}
-use Rattle.show_judge.proofs.VerbLemmas.{outcomes}
-use Rattle.show_judge.specs.Outcome.{IsOutcomeOf, IsVerb, OutcomeLaw, ShowGives, said}
-use Rattle.show_judge.specs.Refused.{show_refusal, text_refusal}
-use Rattle.show_judge.specs.Shows.{cut_of}
-use Rattle.show_judge.specs.Verb.{Outcome, outcome}
-use Rattle.show_direct.specs.declared.options.Options.{Options}
-use Rattle.show_direct.specs.Flights.{flight_of}
-use Rattle.show_direct.specs.Frames.{no_flight_bytes}
-use Rattle.show_direct.specs.Exchanges.{Accepts, Exchange, IsExchange, text_exchange, text_verb, text_ways}
-use Rattle.show_direct.specs.Direct.{exchange_by}
+use Rattle.show_direct.proofs.Prelude.{◌≡◌, ◌==◌, inl, inr, ℕ, List, [], ◌++◌, length, Option, Some, None, refl, sym, ap, subst, ◌∙◌, arith, All-nil, option_map, part_of, rest_of, ShowLaw, PlainShow, end_frame, Refusal, drones, FlightFault, EndsWith, item_limit, FlightGives, FlightLinkLaw, dialogue_of, ended, sent_over, refused_some, flies_text, outcomes, IsOutcomeOf, IsVerb, OutcomeLaw, ShowGives, said, show_refusal, text_refusal, cut_of, Outcome, outcome, Options, flight_of, no_flight_bytes, Accepts, Exchange, IsExchange, text_exchange, text_verb, text_ways, exchange_by}
 
 -- outcomes of one status and one output are one
 outcome_by : (o p : Outcome) → o.status ≡ p.status → o.output ≡ p.output → o ≡ p

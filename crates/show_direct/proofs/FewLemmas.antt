@@ -1,15 +1,9 @@
 -- How little is read of what stands after a text.
-use Rattle.std.proofs.Common.{◌≡◌, ◌⊎◌, inl, inr, ℕ, ◌+◌, ◌≤◌, Bool, true, false, cond, ◌||◌, List, [], ◌∷◌, ◌++◌, append_assoc, length, length-append, refl, sym, ap, subst, ◌∙◌, arith}
-use Rattle.std.specs.List.{join_with_byte}
+use Rattle.show_direct.proofs.Prelude.{◌≡◌, ◌⊎◌, inl, inr, ℕ, ◌+◌, ◌≤◌, Bool, true, false, cond, ◌||◌, List, [], ◌∷◌, ◌++◌, append_assoc, length, length-append, refl, sym, ap, subst, ◌∙◌, arith, join_with_byte, has_marker, is_marker, lines_after, Asked, has_whole_marker, without_last, MayGive, Told, comes, comes_before, left_of}
 use Rattle.std.proofs.lemmas.List.Splits.{join_with_byte-slice_split}
 use Rattle.text_lines.specs.Lines.{between_feeds, is_line_feed}
-use Rattle.text_lines.specs.Marker.{has_marker, is_marker, lines_after}
 unfoldable use Rattle.text_lines.specs.Marker.{rest_of}
-use Rattle.fleet_io.specs.Held.{Asked, has_whole_marker, without_last}
-use Rattle.fleet_io.specs.Told.{MayGive, Told}
 use Rattle.fleet_io.proofs.CutLemmas.{IsFull-split, split-goes_on}
-use Rattle.fleet_io.proofs.ToldLemmas.{comes, comes_before}
-use Rattle.show_direct.specs.Steps.{left_of}
 
 -- a line in front makes joined lines longer
 join_longer : (l : List ℕ) (ls : List (List ℕ)) → length (join_with_byte 10 ls) ≤ length (join_with_byte 10 (l ∷ ls))

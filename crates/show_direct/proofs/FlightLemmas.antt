@@ -1,21 +1,6 @@
 -- What three shows are as a flight.
-use Rattle.std.proofs.Common.{◌≡◌, ◌≤◌, ◌∷◌, [], ◌++◌, length, map, None, refl, sym, ◌∙◌, arith, length-append}
-use Rattle.std.proofs.lemmas.List.{length-map}
-use Rattle.std.specs.List.{flat_map, range_with_len}
-use Rattle.choreo_show.specs.Plain.{PlainShow}
-use Rattle.choreo_show.specs.declared.show.DroneLine.{DroneLine}
-use Rattle.cue_grid.specs.Cues.{grid_of}
-use Rattle.flight_model.specs.Legs.{Routes, arm_step, down_step, last_step, lasts, leg_count, legs_of, start_step, up_step}
+use Rattle.show_direct.proofs.Prelude.{◌≡◌, ◌≤◌, ◌∷◌, [], ◌++◌, length, map, None, refl, sym, ◌∙◌, arith, length-append, length-map, flat_map, range_with_len, PlainShow, DroneLine, grid_of, Routes, arm_step, down_step, last_step, lasts, leg_count, legs_of, start_step, up_step, Crew, Crews, Ways, AreFitted, flight-of, by_cue_counted, names_of, trajectories_of, Options, AreFlight, ellipsoid_of, fault_of}
 unfoldable use Rattle.flight_model.specs.Legs.{steps_of}
-use Rattle.flight_steps.specs.declared.ways.Crew.{Crew}
-use Rattle.flight_steps.specs.declared.ways.Crews.{Crews}
-use Rattle.flight_steps.specs.declared.ways.Ways.{Ways}
-use Rattle.flight_steps.specs.Ways.{AreFitted}
-use Rattle.flight_steps.proofs.Judged.{flight-of}
-use Rattle.show_plan.proofs.Flight.{by_cue_counted}
-use Rattle.show_judge.specs.Shows.{names_of, trajectories_of}
-use Rattle.show_direct.specs.declared.options.Options.{Options}
-use Rattle.show_direct.specs.Flights.{AreFlight, ellipsoid_of, fault_of}
 
 -- a flight has steps: the start, and the last one
 pub some_steps : (w : Routes) → 1 ≤ length (steps_of w)

@@ -1,24 +1,7 @@
 -- Three shows are flown, or are no flight.
-use Rattle.std.proofs.Common.{◌≡◌, ◌≢◌, ◌⊎◌, inl, inr, ℕ, ◌+◌, ◌≤◌, Bool, false, List, [], ◌∷◌, ◌++◌, Contains, drop, length, length-append, Option, Some, None, Err, refl, sym, subst, arith}
-use Rattle.std.proofs.lemmas.List.Elements.{All-cons, All-contains, All-nil}
-use Rattle.std.specs.Io.KnownBytes.{Appends}
-use Rattle.choreo_show.specs.Plain.{PlainShow}
-use Rattle.fleet_io.specs.Held.{buffer_bytes}
-use Rattle.fleet_io.specs.Taken.{AppendsFront}
-use Rattle.flight_model.specs.declared.flights.Flight.{Flight}
-use Rattle.flight_steps.specs.declared.faults.FlightFault.{FlightFault}
+use Rattle.show_direct.proofs.Prelude.{◌≡◌, ◌≢◌, ◌⊎◌, inl, inr, ℕ, ◌+◌, ◌≤◌, Bool, false, List, [], ◌∷◌, ◌++◌, Contains, drop, length, length-append, Option, Some, None, Err, refl, sym, subst, arith, All-cons, All-contains, All-nil, Appends, PlainShow, buffer_bytes, AppendsFront, Flight, FlightFault, StepsError, RunGives, dialogue_of, Wrote, Span, outcome, Options, fault_of, flight_of, HasBegun, exchange_by, flight_exchange, no_flight_byte, no_flight_bytes, Carries, EndsFlight, FlightMade, direct_statuses}
 use Rattle.flight_steps.specs.declared.faults.FlightFault.TheVariants as cause
-use Rattle.flight_steps.specs.declared.faults.StepsError.{StepsError}
 use Rattle.flight_steps.specs.declared.faults.StepsError.TheVariants as error
-use Rattle.link_dialogue.specs.Dialogues.{RunGives}
-use Rattle.flight_link.specs.Flights.{dialogue_of}
-use Rattle.show_judge.specs.Answers.{Wrote}
-use Rattle.show_judge.specs.Verb.{Span, outcome}
-use Rattle.show_direct.specs.declared.options.Options.{Options}
-use Rattle.show_direct.specs.Flights.{fault_of, flight_of}
-use Rattle.show_direct.specs.Direct.{HasBegun, exchange_by, flight_exchange}
-use Rattle.show_direct.specs.Frames.{no_flight_byte, no_flight_bytes}
-use Rattle.show_direct.specs.Steps.{Carries, EndsFlight, FlightMade, direct_statuses}
 use Rattle.show_direct.proofs.CarryLemmas.{carried_memory, never_appended, never_front}
 use Rattle.show_direct.proofs.FlightLemmas.{are_flight}
 

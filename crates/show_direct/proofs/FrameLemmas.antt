@@ -1,11 +1,8 @@
 -- What a frame says of the cause that it names.
-use Rattle.std.proofs.Common.{◌≡◌, ℕ, ◌+◌, ◌*◌, ◌/◌, ◌%◌, ◌<◌, ap, refl, sym, ◌∙◌, arith}
-use Rattle.choreo_reader.specs.Laws.{ShowLaw}
-use Rattle.flight_steps.specs.declared.faults.FlightFault.{FlightFault}
+use Rattle.show_direct.proofs.Prelude.{◌≡◌, ℕ, ◌+◌, ◌*◌, ◌/◌, ◌%◌, ◌<◌, ap, refl, sym, ◌∙◌, arith, ShowLaw, FlightFault, FaultFrameLaw, IsNamed, fault_frame, fault_in}
 use Rattle.flight_steps.specs.declared.faults.FlightFault.TheVariants as fault
 use Rattle.flight_steps.specs.declared.faults.Seam.TheVariants as seam
 use Rattle.flight_steps.specs.declared.faults.Way.TheVariants as way
-use Rattle.show_direct.specs.Frames.{FaultFrameLaw, IsNamed, fault_frame, fault_in}
 use Rattle.show_direct.proofs.NamedLemmas.{named}
 
 one_byte : (n : ℕ) → n < 256 → n % 256 ≡ n

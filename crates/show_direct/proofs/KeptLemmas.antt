@@ -1,44 +1,17 @@
 -- A flight that ended with 0 was flown to its last step, and its show was kept.
-use Rattle.std.proofs.Common.{◌≡◌, ℕ, suc, ◌*◌, ◌<◌, ◌≤◌, ◌==◌, Bool, true, false, List, [], ◌∷◌, Contains, get_or, length, map, min, Option, Some, None, refl, sym, ap, ◌∙◌, arith}
+use Rattle.show_direct.proofs.Prelude.{◌≡◌, ℕ, suc, ◌*◌, ◌<◌, ◌≤◌, ◌==◌, Bool, true, false, List, [], ◌∷◌, Contains, get_or, length, map, min, Option, Some, None, refl, sym, ap, ◌∙◌, arith, length-map, sum_by-cons, sum, option_map, option_or, Name, ShowLaw, PlainShow, grid_of, FitCues, IsGrid, joined, durations, Traj, drones, most_ms, sent, start, HasShow, KeptLaw, lasts, Flight, item_limit, FlightGives, dialogue_of, end_in, Refusal, flight_lasts, in_order, no_plan, trajectories_of, Options, AreFlight, flight_of, most_silence, routes_of, Accepts}
 use Rattle.std.proofs.Math.Nat.{min-le_right}
-use Rattle.std.proofs.lemmas.List.{length-map}
-use Rattle.std.proofs.lemmas.List.Sums.{sum_by-cons}
-use Rattle.std.specs.List.{sum}
-use Rattle.std.specs.Option.{option_map, option_or}
-use Rattle.choreo_show.specs.Name.{Name}
-use Rattle.choreo_reader.specs.Laws.{ShowLaw}
-use Rattle.choreo_show.specs.Plain.{PlainShow}
 use Rattle.cue_grid.proofs.Fits.{fit_grid}
-use Rattle.cue_grid.specs.Cues.{grid_of}
-use Rattle.cue_grid.specs.Grids.{FitCues, IsGrid}
 use Rattle.cue_grid.specs.declared.grid.Cue.{Cue}
 use Rattle.cue_grid.specs.declared.grid.GridFault.{GridFault}
 use Rattle.figure_expand.specs.declared.fault.AxisValue.{AxisValue}
-use Rattle.traj_codec.specs.Joined.{joined}
-use Rattle.traj_codec.specs.Positions.{durations}
-use Rattle.traj_codec.specs.declared.traj.Traj.{Traj}
-use Rattle.flight_model.specs.Directors.{drones, most_ms, sent, start}
-use Rattle.flight_model.specs.Kept.{HasShow, KeptLaw}
-use Rattle.flight_model.specs.Legs.{lasts}
 use Rattle.flight_model.specs.declared.events.Event.{Event}
 use Rattle.flight_model.specs.declared.events.Frame.{Frame}
 use Rattle.flight_model.specs.declared.events.Frame.TheVariants.{To, ToAll, Noted, Over}
-use Rattle.flight_model.specs.declared.flights.Flight.{Flight}
-use Rattle.link_dialogue.specs.Dialogues.{item_limit}
 use Rattle.link_dialogue.proofs.EndLemmas.{ends_zero}
-use Rattle.flight_link.specs.Flights.{FlightGives, dialogue_of}
 use Rattle.flight_link.proofs.OrderLemmas.{zero_said}
 unfoldable use Rattle.flight_link.specs.Sends.{ended}
-use Rattle.flight_link.specs.Sends.{end_in}
-use Rattle.refusals.specs.declared.refusal.Refusal.{Refusal}
-use Rattle.show_plan.proofs.Flight.{flight_lasts}
-use Rattle.show_plan.specs.Fitting.{in_order}
 use Rattle.show_plan.specs.Trajectories.{by_cue, cue_times}
-use Rattle.show_judge.specs.Refused.{no_plan}
-use Rattle.show_judge.specs.Shows.{trajectories_of}
-use Rattle.show_direct.specs.declared.options.Options.{Options}
-use Rattle.show_direct.specs.Flights.{AreFlight, flight_of, most_silence, routes_of}
-use Rattle.show_direct.specs.Exchanges.{Accepts}
 
 -- ---- the end that gives 0
 

@@ -1,3 +1,4 @@
+mod Prelude
 pub mod ExchangeLemmas
 pub mod FlightLemmas
 pub mod FrameLemmas

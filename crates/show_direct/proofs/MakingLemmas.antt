@@ -1,50 +1,22 @@
 -- A flight that is made of three shows that fit.
-use Rattle.std.proofs.Common.{◌≡◌, ℕ, ◌*◌, ◌≤◌, ℤ, min, max, not, List, [], ◌∷◌, ◌++◌, ◌+◌, length, map, Option, Some, None, Result, Ok, Err, refl, sym, ap, subst, inl, inr, ◌∙◌, arith}
-use Rattle.std.proofs.lemmas.List.{length-map}
-use Rattle.std.proofs.lemmas.List.Elements.{All-cons, All-head, All-nil, All-tail, All-weaker}
-use Rattle.std.proofs.lemmas.List.Sums.{sum_by-cons}
-use Rattle.std.specs.List.{sum}
-use Rattle.std.specs.Option.{option_or}
-use Rattle.std.specs.Prelude.{All}
-use Rattle.choreo_show.specs.Name.{Name}
-use Rattle.choreo_show.specs.Plain.{PlainShow}
+use Rattle.show_direct.proofs.Prelude.{◌≡◌, ℕ, ◌*◌, ◌≤◌, ℤ, min, max, not, List, [], ◌∷◌, ◌++◌, ◌+◌, length, map, Option, Some, None, Result, Ok, Err, refl, sym, ap, subst, inl, inr, ◌∙◌, arith, length-map, All-cons, All-head, All-nil, All-tail, All-weaker, sum_by-cons, sum, option_or, All, Name, PlainShow, JoinLaw, joined, durations, Segment, Traj, Flight, Routes, lasts, steps_of, fault-of, FlightFault, StepsError, Crew, Crews, Ellipsoid, Ways, StepsGive, first_other, flight_fault, other_drone, route_fault, size_fault, AreFitted, routes, IsFitted, IsValidFitted, names_of, sent_of, trajectories_of, Options, course_of, ellipsoid_in, ellipsoid_of, fault_of, flight_of, most_silence, order_ms, room_in, room_mm, routes_of, FlightMade, StepsMade}
 use Rattle.choreo_show.specs.declared.show.Settings.{Settings}
 use Rattle.integer_player.specs.Played.{duration_of}
-use Rattle.traj_codec.specs.Joined.{JoinLaw, joined}
-use Rattle.traj_codec.specs.Positions.{durations}
 use Rattle.traj_codec.specs.Spelling.{IsSegment, IsTrajectory}
-use Rattle.traj_codec.specs.declared.traj.Segment.{Segment}
-use Rattle.traj_codec.specs.declared.traj.Traj.{Traj}
 use Rattle.flight_model.specs.declared.flights.Condition.{Condition}
 use Rattle.flight_model.specs.declared.flights.Course.{Course}
-use Rattle.flight_model.specs.declared.flights.Flight.{Flight}
 use Rattle.flight_model.specs.declared.flights.Room.{Room}
 use Rattle.flight_model.specs.declared.flights.Orders.{Orders}
 use Rattle.flight_model.specs.declared.flights.Orders.TheVariants.{Each, All as ToEach}
 use Rattle.flight_model.specs.declared.flights.Step.{Step}
-use Rattle.flight_model.specs.Legs.{Routes, lasts, steps_of}
 use Rattle.flight_model.specs.Rooms.{room_of}
 use Rattle.flight_director.specs.Held.{AreFew, IsCourse, IsHeld}
-use Rattle.flight_steps.proofs.Judged.{fault-of}
-use Rattle.flight_steps.specs.declared.faults.FlightFault.{FlightFault}
-use Rattle.flight_steps.specs.declared.faults.StepsError.{StepsError}
 use Rattle.flight_steps.specs.declared.faults.StepsError.TheVariants as error
 use Rattle.flight_steps.specs.declared.faults.Way.TheVariants as way
-use Rattle.flight_steps.specs.declared.ways.Crew.{Crew}
-use Rattle.flight_steps.specs.declared.ways.Crews.{Crews}
-use Rattle.flight_steps.specs.declared.ways.Ellipsoid.{Ellipsoid}
-use Rattle.flight_steps.specs.declared.ways.Ways.{Ways}
 use Rattle.flight_steps.specs.Faults as faults
-use Rattle.flight_steps.specs.Faults.{StepsGive, first_other, flight_fault, other_drone, route_fault, size_fault}
 use Rattle.flight_steps.specs.Sizes.{AreConditionsOf, AreOrdersOf, IsStepOf}
-use Rattle.flight_steps.specs.Ways.{AreFitted, routes}
 use Rattle.show_plan.specs.declared.fitted.Fitted.{Fitted}
-use Rattle.show_plan.specs.Fitting.{IsFitted, IsValidFitted}
 use Rattle.show_plan.specs.Landing.{AreUploadable}
-use Rattle.show_judge.specs.Shows.{names_of, sent_of, trajectories_of}
-use Rattle.show_direct.specs.declared.options.Options.{Options}
-use Rattle.show_direct.specs.Flights.{course_of, ellipsoid_in, ellipsoid_of, fault_of, flight_of, most_silence, order_ms, room_in, room_mm, routes_of}
-use Rattle.show_direct.specs.Steps.{FlightMade, StepsMade}
 
 -- ---- steps
 

@@ -1,35 +1,13 @@
 -- The first cause against three shows that are accepted can be named by a frame.
-use Rattle.std.proofs.Common.{◌≡◌, ℕ, suc, ◌+◌, ◌*◌, ◌<◌, ◌≤◌, true, false, cond, List, [], ◌∷◌, All, length, Option, Some, None, refl, subst, arith}
-use Rattle.std.proofs.lemmas.List.{length-map}
-use Rattle.std.proofs.lemmas.List.Elements.{All-head, All-tail}
-use Rattle.std.specs.Option.{option_or}
-use Rattle.std.specs.Prelude.{ℤ, IfSome, bytes_eq, nat_le}
+use Rattle.show_direct.proofs.Prelude.{◌≡◌, ℕ, suc, ◌+◌, ◌*◌, ◌<◌, ◌≤◌, true, false, cond, List, [], ◌∷◌, All, length, Option, Some, None, refl, subst, arith, length-map, All-head, All-tail, option_or, ℤ, IfSome, bytes_eq, nat_le, ShowLaw, PlainShow, DroneLine, grid_of, IsGrid, Segment, Traj, Routes, after_segment, first_move, last_move, legs_of, way_begins, way_ends, FlightFault, Ellipsoid, down_fault, downs_fault, first_other, gap, is_straight, narrow, other_drone, other_ellipsoid, rests_in, restless, restless_from, route_fault, same_ellipsoid, same_place, seam_fault, seams_fault, size_fault, up_fault, ups_fault, way_fault, by_cue_counted, IsFlown, names_of, trajectories_of, Options, Accepts, ellipsoid_of, fault_of, routes_of, IsNamed}
 use Rattle.arrayvec.specs.ArrayVec.{ArrayVec}
-use Rattle.choreo_reader.specs.Laws.{ShowLaw}
-use Rattle.choreo_show.specs.Plain.{PlainShow}
-use Rattle.choreo_show.specs.declared.show.DroneLine.{DroneLine}
-use Rattle.cue_grid.specs.Cues.{grid_of}
-use Rattle.cue_grid.specs.Grids.{IsGrid}
-use Rattle.traj_codec.specs.declared.traj.Segment.{Segment}
-use Rattle.traj_codec.specs.declared.traj.Traj.{Traj}
 use Rattle.flight_model.specs.declared.flights.Leg.{Leg}
-use Rattle.flight_model.specs.Legs.{Routes, after_segment, first_move, last_move, legs_of, way_begins, way_ends}
-use Rattle.flight_steps.specs.declared.faults.FlightFault.{FlightFault}
 use Rattle.flight_steps.specs.declared.faults.FlightFault.TheVariants as fault
 use Rattle.flight_steps.specs.declared.faults.Seam.{Seam}
 use Rattle.flight_steps.specs.declared.faults.Seam.TheVariants as seam
 use Rattle.flight_steps.specs.declared.faults.Way.{Way}
 use Rattle.flight_steps.specs.declared.faults.Way.TheVariants as way
-use Rattle.flight_steps.specs.declared.ways.Ellipsoid.{Ellipsoid}
-use Rattle.flight_steps.specs.Faults.{down_fault, downs_fault, first_other, gap, is_straight, narrow, other_drone, other_ellipsoid, rests_in, restless, restless_from, route_fault, same_ellipsoid, same_place, seam_fault, seams_fault, size_fault, up_fault, ups_fault, way_fault}
-use Rattle.show_plan.proofs.Flight.{by_cue_counted}
 use Rattle.show_plan.proofs.Sendable.{flown}
-use Rattle.show_plan.specs.Fitting.{IsFlown}
-use Rattle.show_judge.specs.Shows.{names_of, trajectories_of}
-use Rattle.show_direct.specs.declared.options.Options.{Options}
-use Rattle.show_direct.specs.Exchanges.{Accepts}
-use Rattle.show_direct.specs.Flights.{ellipsoid_of, fault_of, routes_of}
-use Rattle.show_direct.specs.Frames.{IsNamed}
 use Rattle.show_direct.proofs.KeptLemmas.{accepted_grid}
 
 -- what holds of either holds of the first of them

@@ -1,26 +1,12 @@
 -- What the reading of a text gives.
-use Rattle.std.proofs.Common.{◌≡◌, ◌⊎◌, inl, inr, ℕ, ◌<◌, ◌≤◌, Bool, true, false, cond, nat_lt, List, [], length, Some, Result, Ok, Err, refl, sym, ap, ◌∙◌, arith}
+use Rattle.show_direct.proofs.Prelude.{◌≡◌, ◌⊎◌, inl, inr, ℕ, ◌<◌, ◌≤◌, Bool, true, false, cond, nat_lt, List, [], length, Some, Result, Ok, Err, refl, sym, ap, ◌∙◌, arith, option_map, IsTrue, part_of, rest_of, consumed, Rose, Asked, Held, has_whole_marker, stream, TakesFewAfter, TakesPart, TookMarked, MayGive, Told, Took, to_come, most_text, Accepted, faulty, text_refusal, Cut, cut_of, Unread, JudgeGives, ReadGives, coming}
 use Rattle.std.proofs.lemmas.Bool.Decides.{nat_tests}
-use Rattle.std.specs.Option.{option_map}
-use Rattle.std.specs.Prelude.{IsTrue}
-use Rattle.text_lines.specs.Marker.{part_of, rest_of}
 use Rattle.choreo_reader.specs.Context.{fault}
-use Rattle.fleet_io.proofs.ToldLemmas.{consumed}
-use Rattle.fleet_io.specs.Causes.{Rose}
-use Rattle.fleet_io.specs.Held.{Asked, Held, has_whole_marker, stream}
-use Rattle.fleet_io.specs.Parts.{TakesFewAfter, TakesPart, TookMarked}
-use Rattle.fleet_io.specs.Told.{MayGive, Told, Took, to_come}
 use Rattle.fleet_io.specs.declared.parts.Part.{Part}
-use Rattle.fleet_math.specs.Limits.{most_text}
 use Rattle.refusals.specs.declared.refusal.Refusal.TheVariants as refusal
 use Rattle.show_judge.specs.declared.input.Text.TheVariants.{Whole}
-use Rattle.show_judge.specs.declared.judging.Accepted.{Accepted}
 use Rattle.show_judge.specs.Input.{IsShowText}
-use Rattle.show_judge.specs.Refused.{faulty, text_refusal}
-use Rattle.show_judge.specs.Shows.{Cut, cut_of}
-use Rattle.show_direct.specs.declared.reading.Unread.{Unread}
 use Rattle.show_direct.specs.declared.reading.Unread.TheVariants as unread
-use Rattle.show_direct.specs.Steps.{JudgeGives, ReadGives, coming}
 use Rattle.show_direct.proofs.FewLemmas.{few_asked}
 
 -- where the end wasn't met, a marker line ended the text

@@ -1,11 +1,8 @@
 -- Three shows by hand that are a flight, and beside them some that are none.
-use Rattle.std.proofs.Common.{◌≡◌, ℕ, ◌*◌, true, List, [], ◌∷◌, Some, None, refl, arith}
-use Rattle.std.proofs.lemmas.List.Elements.{All-nil}
-use Rattle.std.specs.Prelude.{codes, pos, negsuc}
+use Rattle.show_direct.proofs.Prelude.{◌≡◌, ℕ, ◌*◌, true, List, [], ◌∷◌, Some, None, refl, arith, All-nil, codes, pos, negsuc, PlainShow, FlightGives, outcome, Options, flight_exchange, course_of, fault_of, flight_of, room_in, fault_frame, fault_in}
 use Rattle.choreo_show.specs.declared.parts.Act.TheVariants as act
 use Rattle.choreo_show.specs.declared.parts.Point.{Point}
 use Rattle.choreo_show.specs.Plain as plain
-use Rattle.choreo_show.specs.Plain.{PlainShow}
 use Rattle.choreo_show.specs.declared.show.ActLine.TheVariants as on
 unfoldable use Rattle.figure_expand.specs.Expanded.{expanded}
 unfoldable use Rattle.figure_expand.specs.Written.{end_of}
@@ -15,13 +12,7 @@ use Rattle.flight_steps.specs.declared.faults.FlightFault.TheVariants as fault
 use Rattle.flight_steps.specs.declared.faults.Seam.TheVariants as seam
 use Rattle.flight_steps.specs.declared.faults.Way.TheVariants as way
 use Rattle.flight_frames.specs.Frames.{IsEvent}
-use Rattle.flight_link.specs.Flights.{FlightGives}
 unfoldable use Rattle.flight_link.specs.Sends.{ended, sent_over}
-use Rattle.show_judge.specs.Verb.{outcome}
-use Rattle.show_direct.specs.declared.options.Options.{Options}
-use Rattle.show_direct.specs.Direct.{flight_exchange}
-use Rattle.show_direct.specs.Flights.{course_of, fault_of, flight_of, room_in}
-use Rattle.show_direct.specs.Frames.{fault_frame, fault_in}
 
 -- so near to the pads
 abbrev within : ℕ → Options

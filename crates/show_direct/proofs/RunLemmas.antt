@@ -1,26 +1,6 @@
 -- What a run of `direct` is, from the exchange that was carried.
-use Rattle.std.proofs.Common.{◌≡◌, ◌⊎◌, inl, inr, ℕ, zero, suc, ◌+◌, ◌<◌, ◌≤◌, Bool, true, false, List, [], ◌++◌, length, Option, Some, None, refl, sym, ap, subst, ◌∙◌, arith}
-use Rattle.std.specs.Io.KnownBytes.{Appends}
-use Rattle.text_lines.specs.Marker.{part_of, rest_of}
-use Rattle.choreo_reader.specs.Laws.{ShowLaw}
-use Rattle.choreo_show.specs.Plain.{PlainShow}
-use Rattle.fleet_io.proofs.ToldLemmas.{IsInput-now, comes, of_source, takes_at_most, takes_front}
-use Rattle.fleet_io.specs.Held.{Held, buffer_bytes}
-use Rattle.fleet_io.specs.Taken.{TakesFront}
-use Rattle.fleet_io.specs.Told.{Gives, MayGive, Told, Went}
-use Rattle.fleet_math.specs.Limits.{most_text}
-use Rattle.show_judge.proofs.HeadlineLemmas.{behaves_of}
-use Rattle.show_judge.proofs.VerbLemmas.{outcomes}
-use Rattle.show_judge.specs.Outcome.{IsOutcomeOf, IsSafe, IsVerb, OutcomeLaw}
+use Rattle.show_direct.proofs.Prelude.{◌≡◌, ◌⊎◌, inl, inr, ℕ, zero, suc, ◌+◌, ◌<◌, ◌≤◌, Bool, true, false, List, [], ◌++◌, length, Option, Some, None, refl, sym, ap, subst, ◌∙◌, arith, Appends, part_of, rest_of, ShowLaw, PlainShow, IsInput-now, comes, of_source, takes_at_most, takes_front, Held, buffer_bytes, TakesFront, Gives, MayGive, Told, Went, most_text, behaves_of, outcomes, IsOutcomeOf, IsSafe, IsVerb, OutcomeLaw, cut_of, IsJudged, IsSafeShow, Outcome, Run, Span, run_of, Options, FlightFault, AreFlight, fault_of, Exchange, FlyAsOne, HasBegun, direct_verb, exchange_by, show_exchange, up_exchange, Carries, IsCut, coming, left_of}
 use Rattle.show_judge.specs.Runs.{Behaves, Does, IsStopped, Runs, TakesLittle}
-use Rattle.show_judge.specs.Shows.{cut_of}
-use Rattle.show_judge.specs.Verb.{IsJudged, IsSafeShow, Outcome, Run, Span, run_of}
-use Rattle.show_direct.specs.declared.options.Options.{Options}
-use Rattle.flight_steps.specs.declared.faults.FlightFault.{FlightFault}
-use Rattle.show_direct.specs.Flights.{AreFlight, fault_of}
-use Rattle.show_direct.specs.Exchanges.{Exchange}
-use Rattle.show_direct.specs.Direct.{FlyAsOne, HasBegun, direct_verb, exchange_by, show_exchange, up_exchange}
-use Rattle.show_direct.specs.Steps.{Carries, IsCut, coming, left_of}
 use Rattle.show_direct.proofs.ExchangeLemmas.{led_on}
 
 -- the run in which these bytes came, and these are left

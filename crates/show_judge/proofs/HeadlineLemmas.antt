@@ -1,10 +1,5 @@
 -- What status 0 says, from what a run promises.
-use Rattle.fleet_io.proofs.ToldLemmas.{left_to_come, met_end}
-use Rattle.show_judge.proofs.Prelude.{◌++◌, sym, to_come, run_of, ap, told_to_come, told_input, Span, Does, common_steps, ◌≡◌, ℕ, Bool, true, false, cond, List, Option, Some, None, IfSome, refl, subst, ◌∙◌, arith, Appends, option_or, between_feeds, has_marker, part_of, ShowLaw, PlainShow, Refusal, Ways, IsSafe, IsSafeBy, IsSafeOutcome, IsVerb, show_refusal, Behaves, Runs, StopsAtMarker, TakesLittle, told, Cut, cut_of, FliesApart, Judges, Outcome, Run, Verb, of_own, outcome, the_input}
-use Rattle.std.specs.Prelude.{IsTrue}
-use Rattle.std.specs.Io.KnownBytes.{IsAtEnd}
-use Rattle.show_judge.specs.Runs.{reads_all}
-use Rattle.show_judge.specs.Verb.{run_left}
+use Rattle.show_judge.proofs.Prelude.{left_to_come, met_end, ◌++◌, sym, to_come, run_of, ap, told_to_come, told_input, Span, Does, common_steps, ◌≡◌, ℕ, Bool, true, false, cond, List, Option, Some, None, IfSome, refl, subst, ◌∙◌, arith, Appends, option_or, between_feeds, has_marker, part_of, ShowLaw, PlainShow, Refusal, Ways, IsSafe, IsSafeBy, IsSafeOutcome, IsVerb, show_refusal, Behaves, Runs, StopsAtMarker, TakesLittle, told, Cut, cut_of, FliesApart, Judges, Outcome, Run, Verb, of_own, outcome, the_input, IsTrue, IsAtEnd, reads_all, run_left}
 use Rattle.show_judge.specs.Headline.{FliesText, SaysOf, UploadsText}
 use Rattle.show_judge.proofs.RunLemmas.{completes, some_map, told_is}
 use Rattle.show_judge.proofs.VerbLemmas.{outcomes}

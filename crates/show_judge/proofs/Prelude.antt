@@ -3,24 +3,24 @@ pub use Rattle.std.proofs.Common.{All, Bool, Contains, Err, IfOk, IfSome, List, 
 pub use Rattle.std.proofs.lemmas.Bool.Decides.{nat_tests}
 pub use Rattle.std.proofs.lemmas.Grind.{common_steps}
 pub use Rattle.std.proofs.lemmas.List.Elements.{All-append, All-cons, All-get_or, All-head, All-nil, All-tail}
-pub use Rattle.std.specs.Io.KnownBytes.{Appends}
+pub use Rattle.std.specs.Io.KnownBytes.{Appends, IsAtEnd}
 pub use Rattle.std.specs.Option.{option_map, option_or}
+pub use Rattle.std.specs.Prelude.{IsTrue}
 pub use Rattle.std.specs.declared.alloc.AllocError.{AllocError}
-pub use Rattle.choreo_show.specs.Name.{Name}
 pub use Rattle.choreo_reader.specs.Context.{fault}
 pub use Rattle.choreo_reader.specs.Grammar.{StandsFor}
 pub use Rattle.choreo_reader.specs.Laws.{ShowLaw}
+pub use Rattle.choreo_show.specs.Name.{Name}
 pub use Rattle.choreo_show.specs.Plain.{PlainShow, plain}
 pub use Rattle.choreo_show.specs.declared.show.DroneLine.{DroneLine}
 pub use Rattle.choreo_show.specs.declared.show.Settings.{Settings}
 pub use Rattle.cue_grid.specs.Cues.{grid_of}
-pub use Rattle.fleet_io.proofs.TakenLemmas.{TakesFront-none, TakesFront-trans}
-pub use Rattle.fleet_io.proofs.ToldLemmas.{Gives-none, Gives-trans, IsInput-now, at_its_end, back, comes, of_source, told_input, told_to_come, takes_at_most, takes_front}
+pub use Rattle.fleet_io.proofs.ToldLemmas.{Gives-trans, at_its_end, back, left_to_come, met_end, of_source, takes_at_most, takes_front, told_input, told_to_come}
 pub use Rattle.fleet_io.specs.Causes.{Rose}
 pub use Rattle.fleet_io.specs.Held.{Held, stream}
 pub use Rattle.fleet_io.specs.Parts.{TakesFewAfter}
 pub use Rattle.fleet_io.specs.Taken.{AppendsFront, TakesAtMost, TakesFront}
-pub use Rattle.fleet_io.specs.Told.{Gives, IsInput, MayGive, Told, Went, to_come}
+pub use Rattle.fleet_io.specs.Told.{IsInput, Told, to_come}
 pub use Rattle.fleet_math.specs.Limits.{most_text}
 pub use Rattle.refusals.specs.Refusals.{line_of, status_of}
 pub use Rattle.refusals.specs.declared.refusal.Refusal.{Refusal}
@@ -34,11 +34,10 @@ pub use Rattle.text_lines.specs.Marker.{ended, has_marker, is_marker, lines_afte
 pub use Rattle.show_judge.specs.Answers.{AnswersInput, AnswersText, AnswersTwo, EndsJudged, EndsWell, Fits, IsAccepted, IsRefusedBy, IsSaid, JudgedGives, JudgesInput, PlanGives, Responds, Wrote, outcome_of}
 pub use Rattle.show_judge.specs.Input.{GoesOn, IsNextText, IsReadBoth, IsReadWhole, IsShowText, IsText, IsUnmarked, IsWholeText, IsWithin, ReadsShow, ReadsTwo, TakesOneText}
 pub use Rattle.show_judge.specs.Outcome.{IsComplete, IsOutcome, IsOutcomeBy, IsOutcomeOf, IsSafe, IsSafeBy, IsSafeOutcome, IsVerb, OutcomeLaw, ShowGives, judged_text, refused, said}
-pub use Rattle.show_judge.specs.Refused.{IsOfInput, blocked_by, faulty, marker_refusal, no_plan, show_refusal, text_refusal}
-pub use Rattle.show_judge.specs.Runs.{Behaves, Completes, Does, IsOutput, IsStopped, Runs, StopsAtMarker, TakesLittle, reads, told}
+pub use Rattle.show_judge.specs.Refused.{IsOfInput, blocked_by, faulty, faulty_line, marker_refusal, no_plan, second_refusal, show_refusal, text_refusal}
+pub use Rattle.show_judge.specs.Runs.{Behaves, Completes, Does, IsOutput, IsStopped, Runs, StopsAtMarker, TakesLittle, reads, reads_all, told}
 pub use Rattle.show_judge.specs.Shows.{Cut, cut_of, feeds, marker_number, name_at, names_of, nodes_of, sent_of}
-pub use Rattle.show_judge.specs.TextsRead.{IsPastTwo, OneTextRead, TwoTextsRead}
-pub use Rattle.show_judge.specs.Verb.{FliesApart, IsAny, IsJudged, IsTwo, Judges, Outcome, Run, Span, Verb, run_on, nothing, of_nothing, of_own, of_show, outcome, own_text, run_of, the_input, two_ways}
+pub use Rattle.show_judge.specs.Verb.{FliesApart, IsAny, IsJudged, IsTwo, Judges, Outcome, Run, Span, Verb, nothing, of_nothing, of_own, of_show, outcome, own_text, run_left, run_of, the_input, two_ways}
 pub use Rattle.show_judge.specs.declared.ends.Answer.{Answer}
 pub use Rattle.show_judge.specs.declared.ends.Answer.TheVariants.{Done, Refused}
 pub use Rattle.show_judge.specs.declared.ends.Failure.{Failure}

@@ -1,7 +1,7 @@
 -- How much a run reads.
-use Rattle.std.specs.Prelude.{IsTrue}
+use Rattle.show_judge.proofs.Prelude.{IsTrue, common_steps, ◌≡◌, ◌∙◌, ◌++◌, ap, Bool, [], Held, stream, IsReadWhole, IsUnmarked, IsWithin, ReadsShow, ℕ, ◌<◌, List, Option, Some, None, Result, Ok, Err, IfOk, IfSome, length, sym, subst, arith, TakesFewAfter, TakesAtMost, Answer, Failure, Read, Memory, Responds, part_of, rest_of, Text, TooLarge, Whole, Input, GoesOn, IsNextText, IsReadBoth, IsWholeText, ReadsTwo, TakesOneText, most_text, IsJudged, ◌≤◌, Rose, IsInput, Told, to_come}
 use Rattle.show_judge.proofs.FewLemmas.{at_new}
-use Rattle.show_judge.proofs.Prelude.{common_steps, ◌≡◌, ◌∙◌, ◌++◌, ap, Bool, [], Held, stream, IsReadWhole, IsUnmarked, IsWithin, ReadsShow, ℕ, ◌<◌, List, Option, Some, None, Result, Ok, Err, IfOk, IfSome, length, sym, subst, arith, TakesFewAfter, TakesAtMost, Answer, Failure, Read, Memory, Responds, part_of, rest_of, Text, TooLarge, Whole, Input, GoesOn, IsNextText, IsReadBoth, IsWholeText, ReadsTwo, TakesOneText, most_text, IsJudged, ◌≤◌, Rose, IsInput, Told, to_come, IsPastTwo, OneTextRead, TwoTextsRead}
+use Rattle.show_judge.specs.TextsRead.{IsPastTwo, OneTextRead, TwoTextsRead}
 
 -- where an answer was judged, it is there
 pub judged_answer : (answer : Result Answer Failure) (old new : Option (List ℕ)) (before after status : ℕ) (P : Type 0) → Responds answer old new before after status →

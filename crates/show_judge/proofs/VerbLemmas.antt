@@ -1,7 +1,6 @@
 -- An input gives a command one outcome, from the command's own laws.
-use Rattle.show_judge.proofs.Prelude.{common_steps, ◌≡◌, inl, inr, ℕ, ◌≤◌, Bool, false, cond, nat_lt, List, length, Option, Some, None, Result, Ok, Err, refl, sym, ap, subst, ◌∙◌, option_map, option_or, nat_tests, arith, fault, StandsFor, ShowLaw, PlainShow, Refusal, IsComplete, IsOutcomeOf, IsVerb, OutcomeLaw, ShowGives, said, faulty, show_refusal, text_refusal, most_text, Cut, Outcome, Verb}
+use Rattle.show_judge.proofs.Prelude.{common_steps, ◌≡◌, inl, inr, ℕ, ◌≤◌, Bool, false, cond, nat_lt, List, length, Option, Some, None, Result, Ok, Err, refl, sym, ap, subst, ◌∙◌, option_map, option_or, nat_tests, arith, fault, StandsFor, ShowLaw, PlainShow, Refusal, IsComplete, IsOutcomeOf, IsVerb, OutcomeLaw, ShowGives, said, faulty, show_refusal, text_refusal, most_text, Cut, Outcome, Verb, faulty_line, second_refusal}
 use Rattle.refusals.specs.declared.refusal.Refusal.TheVariants as refusal
-use Rattle.show_judge.specs.Refused.{faulty_line, second_refusal}
 use Rattle.show_judge.proofs.TextLemmas.{none_said, stands_unrefused}
 
 show_one : (v : Verb) → IsVerb v → (r : Option Refusal) (s : PlainShow) (cut : Cut) (o p : Outcome) → ShowGives v r s cut o → ShowGives v r s cut p → o ≡ p

@@ -1,11 +1,13 @@
 -- What the proofs of this crate cite from elsewhere, passed on from one place. Declares nothing.
-pub use Rattle.std.proofs.Common.{All, Err, IfOk, List, Ok, Option, Result, Some, [], ap, arith, codes, decimal, length, map, refl, subst, sum, sym, take, ℕ, ◌*◌, ◌+◌, ◌∙◌, ◌∷◌, ◌≡◌, ◌≤◌}
+pub use Rattle.std.proofs.Common.{All, Err, IfOk, List, Ok, Option, Result, Some, [], ap, arith, map, refl, subst, sum, sym, take, ℕ, ◌*◌, ◌+◌, ◌∙◌, ◌∷◌, ◌≡◌, ◌≤◌}
 pub use Rattle.std.proofs.lemmas.Grind.{common_steps}
 pub use Rattle.std.proofs.lemmas.List.Elements.{All-cons, All-head, All-nil, All-tail}
+pub use Rattle.std.specs.Prelude.{drop, length, ◌++◌}
 pub use Rattle.choreo_show.specs.Name.{Name}
 pub use Rattle.choreo_show.specs.Plain.{PlainShow}
 pub use Rattle.crtp_packets.specs.Chunks.{chunk_count_of}
 pub use Rattle.drill_show.specs.Drill.{drill_text}
+pub use Rattle.fleet_io.proofs.ToldLemmas.{Gives-none, takes_front, told_input}
 pub use Rattle.integer_player.specs.Played.{duration_of, play_text}
 pub use Rattle.show_judge.proofs.AnswerLemmas.{answers_accepted, judges_text}
 pub use Rattle.show_judge.proofs.DriverLemmas.{show_plain, show_verb}
@@ -19,7 +21,4 @@ pub use Rattle.show_plan.specs.Fitting.{IsFitted, IsSendable, IsValidFitted, siz
 pub use Rattle.show_plan.specs.declared.fitted.Fitted.{Fitted}
 pub use Rattle.traj_codec.specs.declared.traj.Traj.{Traj}
 pub use Rattle.show_looks.specs.Play.{play_verb, rows}
-unfoldable pub use Rattle.show_looks.specs.Reports.{ok_line}
 pub use Rattle.show_looks.specs.Reports.{packets_for, report_of}
-pub use Rattle.fleet_io.proofs.ToldLemmas.{Gives-none, takes_front, told_input}
-pub use Rattle.fleet_io.specs.Told.{Gives, IsInput, Told, to_come}

@@ -1,5 +1,5 @@
 -- The trajectories of a grid are near to what the show says, at every instant.
-use Rattle.show_plan.proofs.Prelude.{common_steps, ◌≡◌, ℕ, zero, suc, ◌+◌, ◌*◌, ◌<◌, ◌≤◌, ℤ, pos, ◌*ℤ◌, List, [], ◌∷◌, map, take, length, get_or, sum, arith, refl, sym, ap, ◌∙◌, subst, All, get_or-map, length-map, All-nil, All-cons, All-get_or, All-from_get_or, Point, DroneLine, Cue, Grid, FitCues, IsGrid, Traj, stored, element_on, value_after, piece_on, durations, decoded, own, joined, IsLasting, SameCurve, join_holds_law, MicroPiece, millimetres, controls, first_control, rounded, element_of, axis_on, segment_of, act_of, on_axis, end_of, point_after, axes_of, piece_of, job_in, no_job, pieces_from, expanded_from, expanded, start_of, jobs_in, job_at, point_before, piece_at, written_at, StartsWell, RoundsWell, FitsWell, start_at, trajectory_of, trajectories_of, by_cue, sent, cue_times, FitsDrone, flight, FliesNearOn, FliesNear, written, no_trajectory, KeepsNearShow}
+use Rattle.show_plan.proofs.Prelude.{common_steps, ◌≡◌, ℕ, zero, suc, ◌+◌, ◌*◌, ◌<◌, ◌≤◌, ℤ, pos, ◌*ℤ◌, List, [], ◌∷◌, map, take, length, get_or, sum, arith, refl, sym, ap, ◌∙◌, subst, All, get_or-map, length-map, All-nil, All-cons, All-get_or, All-from_get_or, Point, DroneLine, Cue, Grid, FitCues, IsGrid, Traj, stored, element_on, value_after, piece_on, durations, decoded, own, joined, IsLasting, SameCurve, join_holds_law, MicroPiece, millimetres, controls, first_control, rounded, element_of, axis_on, segment_of, act_of, on_axis, end_of, point_after, axes_of, piece_of, job_in, no_job, pieces_from, expanded_from, expanded, start_of, jobs_in, job_at, point_before, piece_at, written_at, StartsWell, RoundsWell, FitsWell, start_at, trajectory_of, trajectories_of, by_cue, sent, cue_times, FitsDrone, flight, FliesNearOn, FliesNear, written, no_trajectory, KeepsNearShow, AtEachInstant}
 use Rattle.fleet_math.specs.Bernstein.{at}
 use Rattle.fleet_math.specs.Moments.{Moment, moment}
 use Rattle.fleet_math.specs.Near.{IsNear}
@@ -16,7 +16,6 @@ use Rattle.mm_rounding.specs.declared.piece.Axis.{Axis}
 use Rattle.mm_rounding.specs.declared.piece.Axis.TheVariants.{One}
 use Rattle.mm_rounding.specs.Near.{IsAxis, KeepsNear, StaysNear, position, last_control}
 use Rattle.mm_rounding.proofs.Elements.{rounded_is_axis, rounded_edges, ends_there, stays_near}
-use Rattle.show_plan.specs.Flight.{AtEachInstant}
 use Rattle.figure_expand.proofs.Pieces.{row_is, piece_begins, piece_ends, piece_whole, flies_as_written}
 
 -- ---- the ends of axes

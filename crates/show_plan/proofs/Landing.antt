@@ -1,13 +1,10 @@
 -- What is acknowledged has landed, and so has what is accepted.
-use Rattle.show_plan.proofs.Prelude.{common_steps, ◌≡◌, ℕ, ◌-◌, ◌<◌, ◌≤◌, Bool, false, true, List, [], ◌∷◌, ◌++◌, All, length, length-append, get_or, Some, sym, subst, ◌∙◌, arith, map, get_or-map, length-map, All-cons, All-get_or, All-nil, Settings, Traj, IsTrajectory, ending, spelling, CurveLaw, Carries, load_for, IsLoad, IsSession, Upload, drone_count, is_read, load_of, packet_count, start_number, write_count, Load, IsSafe, LastingLaw, UploadLaw, Grid, IsSendable, size, KeepsNearShow, no_trajectory, AreUploadable, IsLanded, LandingLaw, OrderLaw, session_for, FlyApart}
+use Rattle.show_plan.proofs.Prelude.{common_steps, ◌≡◌, ℕ, ◌-◌, ◌<◌, ◌≤◌, Bool, false, true, List, [], ◌∷◌, ◌++◌, All, length, length-append, get_or, Some, sym, subst, ◌∙◌, arith, map, get_or-map, length-map, All-cons, All-get_or, All-nil, Settings, Traj, IsTrajectory, ending, spelling, CurveLaw, Carries, load_for, IsLoad, IsSession, Upload, drone_count, is_read, load_of, packet_count, start_number, write_count, Load, IsSafe, LastingLaw, UploadLaw, Grid, IsSendable, size, KeepsNearShow, no_trajectory, AreUploadable, IsLanded, LandingLaw, OrderLaw, session_for, FlyApart, IsAccepted, IsTaken, TakingLaw, taken, world, accepted_later}
 use Rattle.upload_core.specs.declared.session.Settings.{Settings as Place}
 use Rattle.upload_core.specs.Uploads.{upload_of}
 use Rattle.upload_model.specs.Drones.{DroneState}
 use Rattle.upload_model.specs.Memories.{IsDrone, OnlyLoads, HasEntry, HasLoad}
-use Rattle.upload_model.specs.Taking.{IsAccepted, IsTaken, TakingLaw, taken}
-use Rattle.upload_model.specs.Worlds.{world}
 use Rattle.upload_model.proofs.Readings.{count-loads, count-start, is_read-below, is_read-past}
-use Rattle.upload_model.proofs.Taking.{accepted_later}
 
 -- the load of a drone is that of its trajectory
 load_is : (e : Settings) (trajs : List Traj) (readback start : Bool) (d : ℕ) → d < length trajs → load_of (session_for e trajs readback start) d ≡ load_for (get_or trajs d no_trajectory)

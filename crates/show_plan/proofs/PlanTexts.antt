@@ -1,15 +1,10 @@
 -- The text of a plan is of one list of drones and trajectories: its lines end at their feeds, its words at spaces.
-use Rattle.show_plan.proofs.Prelude.{◌≡◌, ℕ, ◌+◌, ◌-◌, ◌<◌, ◌≤◌, ◌⊎◌, inl, inr, Bool, true, false, cond, eqb, nat_lt, ◌&&◌, List, [], ◌∷◌, ◌++◌, All, All-from_get_or, All-get_or, All-head, All-tail, length, map, codes, decimal, drop, get_or, append_assoc, arith, refl, ap, sym, ◌∙◌, flat_map, list_all, range_with_len, hex_word, line, Name, is_name, Traj, IsTrajectory, ending, spelling, Upload, packet_at, packet_count, write_count, drone_part, drone_parts, packet_line, packet_lines, packet_word, plan_text, Settings, IsSendable, size, AreUploadable, no_trajectory, session_for, suc, append-nil}
-use Rattle.std.specs.Prelude.{nat_le, ◌/◌, ◌%◌, not, ◌||◌, ◌^◌}
+use Rattle.show_plan.proofs.Prelude.{◌≡◌, ℕ, ◌+◌, ◌-◌, ◌<◌, ◌≤◌, ◌⊎◌, inl, inr, Bool, true, false, cond, eqb, nat_lt, ◌&&◌, List, [], ◌∷◌, ◌++◌, All, All-from_get_or, All-get_or, All-head, All-tail, length, map, codes, decimal, drop, get_or, append_assoc, arith, refl, ap, sym, ◌∙◌, flat_map, list_all, range_with_len, hex_word, line, Name, is_name, Traj, IsTrajectory, ending, spelling, Upload, packet_at, packet_count, write_count, drone_part, drone_parts, packet_line, packet_lines, packet_word, plan_text, Settings, IsSendable, size, AreUploadable, no_trajectory, session_for, suc, append-nil, nat_le, ◌/◌, ◌%◌, not, ◌||◌, ◌^◌, hex_digit, begins_lower, goes_in_name, SpellingLaw, IsPlan, PlanLaw}
 use Rattle.std.specs.Str.{bytes_eq}
 use Rattle.std.proofs.lemmas.Bool.{and_parts, cases_lt, cond_both, eqb-true, false≢true, le-ltb, leb-true, lt-ltb, or_cases}
 use Rattle.std.proofs.lemmas.Fmt.{decimal_injective, decimal_is_IsNumeral}
 use Rattle.std.proofs.lemmas.Str.Parse.{digit_from_value}
 use Rattle.std.specs.Str.Parse.{AllDigits}
-use Rattle.fleet_io.specs.Words.{hex_digit}
-use Rattle.choreo_show.specs.Name.{begins_lower, goes_in_name}
-use Rattle.traj_codec.specs.Spelling.{SpellingLaw}
-use Rattle.show_plan.specs.Texts.{IsPlan, PlanLaw}
 
 -- ---- words
 

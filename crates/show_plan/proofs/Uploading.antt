@@ -1,11 +1,7 @@
 -- What can be uploaded is a session, so what holds of every session holds of it.
-use Rattle.show_plan.proofs.Prelude.{◌++◌, arith, List, Traj, CurveLaw, Upload, write_count, IsCase, IsSafe, UploadLaw, Settings, AreUploadable, LandingLaw, OrderLaw, session_for}
+use Rattle.show_plan.proofs.Prelude.{◌++◌, arith, List, Traj, CurveLaw, Upload, write_count, IsCase, IsSafe, UploadLaw, Settings, AreUploadable, LandingLaw, OrderLaw, session_for, IsTaken, TakingLaw, StaysSentLaw, UnstartedLaw, world, accepted_later}
 use Rattle.upload_model.specs.Readback.{ReadsCover, StartsLastLaw, VerifiedLaw}
 use Rattle.upload_model.specs.Starts.{BeginLaw, EachLaw, OnceLaw}
-use Rattle.upload_model.specs.Taking.{IsTaken, TakingLaw}
-use Rattle.upload_model.specs.Theorem.{StaysSentLaw, UnstartedLaw}
-use Rattle.upload_model.specs.Worlds.{world}
-use Rattle.upload_model.proofs.Taking.{accepted_later}
 use Rattle.show_plan.specs.Uploading.{FlyTheirOwn, UploadsLaw}
 use Rattle.show_plan.proofs.Landing.{carried, counted, is_session}
 

@@ -1,21 +1,13 @@
 -- What status 0 says where words begin with the name of a command.
-use Rattle.std.proofs.Common.{◌≡◌, ℕ, List, [], ◌∷◌, Option, Some, None, map, refl, sym, ap, subst, ◌∙◌, Contains}
+use Rattle.show_run.proofs.Prelude.{◌≡◌, ℕ, List, [], ◌∷◌, Option, Some, None, map, refl, sym, ap, subst, ◌∙◌, Contains, All-contains, All-from_recursion, command_of, depth_in, has, options_for, step_in, Command, Check, Compile, Certify, Play, Report, Verify, Rehearse, Upload, Runs, Run, uploads_of, IsCalled, command_in, judges_apart, verb_of}
 use Rattle.std.specs.Prelude.{codes, string_bytes, String}
 use Rattle.std.specs.Option.{option_map}
 use Rattle.std.specs.declared.alloc.Global.{Global}
-use Rattle.std.proofs.lemmas.List.Elements.{All-contains, All-from_recursion}
 use Rattle.std.proofs.lemmas.Option.{none-some}
-use Rattle.command_words.specs.Commands.{command_of, depth_in, has, options_for, step_in}
-use Rattle.command_words.specs.declared.command.Command.{Command}
-use Rattle.command_words.specs.declared.command.Command.TheVariants.{Check, Compile, Certify, Play, Report, Verify, Rehearse, Upload}
 use Rattle.command_words.specs.declared.options.OptionName.TheVariants.{Depth, Step, Start, Readback}
 use Rattle.command_words.specs.declared.options.Options.{Options}
 use Rattle.text_lines.specs.Marker.{part_of}
 use Rattle.show_judge.specs.Headline.{UploadsText}
-use Rattle.show_judge.specs.Runs.{Runs}
-use Rattle.show_judge.specs.Verb.{Run}
-use Rattle.show_judge.proofs.HeadlineLemmas.{uploads_of}
-use Rattle.show_run.specs.Verbs.{IsCalled, command_in, judges_apart, verb_of}
 
 -- what a value was made of
 made_of : {A B : Type 0} (f : A → B) (x : Option A) (y : B) → option_map f x ≡ Some y → (a : A) × (f a ≡ y)

@@ -1,17 +1,10 @@
 -- A run of the program, from that of its command.
-use Rattle.std.proofs.Common.{◌≡◌, ◌⊎◌, inl, inr, ℕ, ◌≤◌, ◌==◌, nat_le, Bool, true, not, Contains, Option, Some, None, ap, refl, subst, arith}
+use Rattle.show_run.proofs.Prelude.{◌≡◌, ◌⊎◌, inl, inr, ℕ, ◌≤◌, ◌==◌, nat_le, Bool, true, not, Contains, Option, Some, None, ap, refl, subst, arith, All-contains, Command, Direct, Options, Behaves, Does, Run, Span, options_of, verb_of}
 use Rattle.std.proofs.lemmas.Bool.Decides.{nat_tests}
-use Rattle.std.proofs.lemmas.List.Elements.{All-contains}
 use Rattle.std.proofs.lemmas.List.Sums.{AllPass-from_list_all}
 use Rattle.std.specs.List.{list_all}
 use Rattle.fleet_io.specs.Causes.{Rose}
-use Rattle.command_words.specs.declared.command.Command.{Command}
-use Rattle.command_words.specs.declared.command.Command.TheVariants.{Direct}
-use Rattle.show_direct.specs.declared.options.Options.{Options}
-use Rattle.show_judge.specs.Runs.{Behaves, Does}
-use Rattle.show_judge.specs.Verb.{Run, Span}
 use Rattle.show_judge.proofs.RunLemmas.{statuses}
-use Rattle.show_run.specs.Verbs.{options_of, verb_of}
 
 -- a count that never rises doesn't rise
 pub never_rose : Rose 0 0 → ⊥

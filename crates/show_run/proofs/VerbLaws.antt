@@ -1,18 +1,12 @@
 -- Each command keeps the laws of a command, and what status 0 of it says.
-use Rattle.command_words.specs.Commands.{help_text}
-use Rattle.command_words.specs.declared.command.Command.{Command}
-use Rattle.command_words.specs.declared.command.Command.TheVariants.{Help, Version, Check, Compile, Certify, Play, Report, Verify, Rehearse, Upload, Direct, Drill, Boxes, Speed, Explain, Dynamics}
-use Rattle.drill_show.specs.Drill.{drill_text}
+use Rattle.show_run.proofs.Prelude.{help_text, Command, Help, Version, Check, Compile, Certify, Play, Report, Verify, Rehearse, Upload, Direct, Drill, Boxes, Speed, Explain, Dynamics, drill_text, DirectLaw, drill_of, report_of, options_of, verb_of}
 use Rattle.report_text.specs.Report.{report_text}
-use Rattle.show_direct.specs.Direct.{DirectLaw}
 use Rattle.show_judge.specs.Outcome.{IsVerb}
 use Rattle.show_judge.proofs.DriverLemmas.{show_verb}
 use Rattle.show_judge.proofs.UnreadLemmas.{nothing_verb, own_verb}
 use Rattle.show_looks.specs.Check.{check_text}
 use Rattle.show_looks.specs.Compile.{plan_of}
-use Rattle.show_looks.specs.Drilled.{drill_of}
 use Rattle.show_looks.specs.Play.{rows}
-use Rattle.show_looks.specs.Reports.{report_of}
 use Rattle.show_looks.specs.Version.{version_line}
 use Rattle.show_looks.proofs.CertifyLemmas.{certify_laws}
 use Rattle.show_studies.specs.Boxes.{BoxesLaw}
@@ -20,7 +14,6 @@ use Rattle.show_studies.proofs.StudyLaws.{dynamics_laws, explain_laws, speed_law
 use Rattle.show_uploads.specs.Rehearse.{RehearseLaw}
 use Rattle.show_uploads.specs.Upload.{UploadingLaw}
 use Rattle.show_verify.specs.Verify.{VerifyLaw}
-use Rattle.show_run.specs.Verbs.{options_of, verb_of}
 
 pub laws : VerifyLaw → RehearseLaw → UploadingLaw → DirectLaw → BoxesLaw → (c : Command) → IsVerb (verb_of c)
 laws verify rehearse uploading direct boxes Help = nothing_verb help_text

@@ -1,21 +1,9 @@
 -- Which parts are blocked, and that lines of them say one thing alone.
-use Rattle.show_studies.proofs.Prelude.{common_steps, ◌≡◌, ◌⊎◌, ◌↔◌, inl, inr, ℕ, zero, suc, ◌+◌, ◌<◌, ℤ, pos, ◌*ℤ◌, ◌≤ℤ◌, ◌<ℤ◌, Bool, false, List, [], ◌∷◌, ◌++◌, length, Contains, Option, Some, None, option_map, option_or, refl, sym, ap, subst, ◌∙◌, arith, ints, Raised, PlainShow, Name, Traj, IsBefore, IsClosestIn, IsListed, left_of, listed, right_of, site_of, BlockedLaw, BlockedLines, Explains, SaysBlocked, SeparationSays, blocked_among, names_of, trajectories_of, with_part}
-use Rattle.std.specs.Prelude.{true}
-use Rattle.fleet_curves.specs.Raised.{difference, raised_of}
+use Rattle.show_studies.proofs.Prelude.{common_steps, ◌≡◌, ◌⊎◌, ◌↔◌, inl, inr, ℕ, zero, suc, ◌+◌, ◌<◌, ℤ, pos, ◌*ℤ◌, ◌≤ℤ◌, ◌<ℤ◌, Bool, false, List, [], ◌∷◌, ◌++◌, length, Contains, Option, Some, None, option_map, option_or, refl, sym, ap, subst, ◌∙◌, arith, ints, Raised, PlainShow, Name, Traj, IsBefore, IsClosestIn, IsListed, left_of, listed, right_of, site_of, BlockedLaw, BlockedLines, Explains, SaysBlocked, SeparationSays, blocked_among, names_of, trajectories_of, with_part, true, difference, raised_of, Clearance, Slot, blocked_place, BlockedPart, blocked_at, blocked_in, clearance_of, direction_at, measure_of, searched, slots_of, Closest, Touch, blocked_closest_line, cues_in, blocked_of, explain_text, word_at}
 use Rattle.choreo_show.specs.declared.show.Settings.{Settings}
-use Rattle.sep_parts.specs.declared.clearance.Clearance.{Clearance}
-use Rattle.sep_parts.specs.declared.slot.Slot.{Slot}
 use Rattle.pair_search.specs.Fleets as fleet
 use Rattle.pair_search.specs.Laws.{IsFirstBlocked}
-use Rattle.pair_search.specs.Search.{blocked_place}
 use Rattle.pair_search.proofs.SearchLaws.{laws}
-use Rattle.show_plan.specs.declared.separation.BlockedPart.{BlockedPart}
-use Rattle.show_plan.specs.Separation.{blocked_at, blocked_in, clearance_of, direction_at, measure_of, searched, slots_of}
-use Rattle.touch_witness.specs.declared.site.Closest.{Closest}
-use Rattle.touch_witness.specs.declared.site.Touch.{Touch}
-use Rattle.touch_witness.specs.Lines.{blocked_closest_line}
-use Rattle.show_judge.specs.Shows.{cues_in}
-use Rattle.show_studies.specs.Explained.{blocked_of, explain_text, word_at}
 use Rattle.show_studies.proofs.StudyLemmas.{left_above, left_least, level_one, nearest_one, same_closest, same_ints, same_site, sites_compared, touches_one}
 
 -- ---- lists

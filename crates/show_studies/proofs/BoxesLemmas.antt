@@ -1,8 +1,7 @@
 -- The laws of `boxes`.
-use Rattle.show_studies.proofs.Prelude.{common_steps, ◌≡◌, ℕ, List, length, Option, Some, None, Result, Ok, Err, refl, sym, ap, subst, ◌∙◌, arith, Appends, PlainShow, raised_of, Judged, Kept, Enters, Region, JudgeGives, regions_of, Refusal, IsSafe, second_refusal, Cut, cut_of, name_at, names_of, trajectories_of, Outcome, refused_some, none_both, most_text, BoxesLaw, RegionsGive, StaysInRegions, aside_of, boxes_verb, faulty_line, regions_end, upwards_of}
+use Rattle.show_studies.proofs.Prelude.{common_steps, ◌≡◌, ℕ, List, length, Option, Some, None, Result, Ok, Err, refl, sym, ap, subst, ◌∙◌, arith, Appends, PlainShow, raised_of, Judged, Kept, Enters, Region, JudgeGives, regions_of, Refusal, IsSafe, second_refusal, Cut, cut_of, name_at, names_of, trajectories_of, Outcome, refused_some, none_both, most_text, BoxesLaw, RegionsGive, StaysInRegions, aside_of, boxes_verb, faulty_line, regions_end, upwards_of, none_mapped, read_given, refused_as, within_limit}
 use Rattle.keepout_boxes.specs.Lines.{kept_line}
 use Rattle.refusals.specs.declared.refusal.Refusal.TheVariants as refusal
-use Rattle.show_judge.proofs.VerbLemmas.{none_mapped, read_given, refused_as, within_limit}
 use Rattle.show_studies.proofs.DecidingLemmas.{judge_some}
 use Rattle.show_studies.proofs.StudyLemmas.{judge_one, regions_given_one, regions_one}
 

@@ -1,8 +1,7 @@
 -- What `explain` answers, from what its steps do.
-use Rattle.show_studies.proofs.Prelude.{◌≡◌, ℕ, ◌*◌, ◌<◌, ◌≤◌, All, sum, List, [], ◌∷◌, ◌^◌, length, sym, ap, subst, ◌∙◌, arith, length-map, All-cons, All-head, All-nil, All-tail, Fitted, IsValidFitted, NoTouch, instant_of, Segment, durations, Traj}
+use Rattle.show_studies.proofs.Prelude.{◌≡◌, ℕ, ◌*◌, ◌<◌, ◌≤◌, All, sum, List, [], ◌∷◌, ◌^◌, length, sym, ap, subst, ◌∙◌, arith, length-map, All-cons, All-head, All-nil, All-tail, Fitted, IsValidFitted, NoTouch, instant_of, Segment, durations, Traj, FlyApart}
 use Rattle.std.proofs.Math.Nat.{one-le-pow}
 use Rattle.traj_codec.specs.Joined.{IsLasting}
-use Rattle.show_plan.specs.Separation.{FlyApart}
 use Rattle.touch_witness.proofs.Shows.{apart_disjoint, instant_inside}
 use Rattle.upload_model.proofs.Moments.{All-slice_get}
 use Rattle.fleet_curves.specs.Raised as raised

@@ -1,22 +1,13 @@
 -- The walk over the slots of a show, and the lines of those that are blocked.
-use Rattle.show_studies.proofs.Prelude.{◌≡◌, ℕ, zero, suc, ◌<◌, IfSome, Ok, length, Fitted, List, [], ◌∷◌, ◌++◌, append_assoc, append-nil, Option, Some, None, option_map, refl, sym, ap, subst, ◌∙◌, Raised, BlockedLines, blocked_among, with_part}
+use Rattle.show_studies.proofs.Prelude.{◌≡◌, ℕ, zero, suc, ◌<◌, IfSome, Ok, length, Fitted, List, [], ◌∷◌, ◌++◌, append_assoc, append-nil, Option, Some, None, option_map, refl, sym, ap, subst, ◌∙◌, Raised, BlockedLines, blocked_among, with_part, difference, Measure, IsSlot, Clearance, Slot, SearchGives, blocked_place, first_by, BlockedPart, blocked_at, measure_of, more_blocked_line, Ends, IsPartOf, NextGives, part_in}
 use Rattle.halving.specs.declared.Place.{Place}
 use Rattle.bezier_core.specs.declared.Bez.{Bez}
-use Rattle.fleet_curves.specs.Raised.{cues_in, difference}
+use Rattle.fleet_curves.specs.Raised.{cues_in}
 unfoldable use Rattle.fleet_curves.specs.Raised.{raised_of}
-use Rattle.sep_parts.specs.Rulers.{Measure}
-use Rattle.sep_parts.specs.Slots.{IsSlot}
 use Rattle.sep_parts.specs.declared.node.Node.{Node}
-use Rattle.sep_parts.specs.declared.clearance.Clearance.{Clearance}
-use Rattle.sep_parts.specs.declared.slot.Slot.{Slot}
 use Rattle.pair_search.specs.Fleets as fleet
-use Rattle.pair_search.specs.Search.{SearchGives, blocked_place, first_by}
 use Rattle.pair_search.specs.declared.walk.Found.{Found}
 use Rattle.pair_search.specs.declared.walk.Found.TheVariants as found
-use Rattle.show_plan.specs.declared.separation.BlockedPart.{BlockedPart}
-use Rattle.show_plan.specs.Separation.{blocked_at, measure_of}
-use Rattle.touch_witness.specs.Lines.{more_blocked_line}
-use Rattle.show_studies.specs.Steps.{Ends, IsPartOf, NextGives, part_in}
 
 -- the first blocked part of a slot is that by its differences
 pub direction_is : (m : Measure) (curves : Raised) (slot : Slot) (diff : List (Bez 8)) → diff ≡ difference curves slot.a slot.b slot.cue → first_by m diff ≡ fleet.direction_at m curves slot

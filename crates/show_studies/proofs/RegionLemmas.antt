@@ -1,8 +1,6 @@
 -- What `boxes` answers, from what its steps do.
-use Rattle.show_studies.proofs.Prelude.{common_steps, ◌≡◌, ℕ, ◌≤◌, false, nat_lt, List, length, Result, Ok, Err, IfOk, refl, arith, AllocError, PlainShow, Region, KeepClear, regions_of, Fitted, IsFitted, Answer, outcome_of, most_text, RegionsGive, aside_of, faulty_line, upwards_of, second_refusal, Cut, sent_of}
+use Rattle.show_studies.proofs.Prelude.{common_steps, ◌≡◌, ℕ, ◌≤◌, false, nat_lt, List, length, Result, Ok, Err, IfOk, refl, arith, AllocError, PlainShow, Region, KeepClear, regions_of, Fitted, IsFitted, Answer, outcome_of, most_text, RegionsGive, aside_of, faulty_line, upwards_of, second_refusal, Cut, sent_of, nothing_refused, EndsRegions}
 use Rattle.std.proofs.lemmas.Bool.{le-ltb}
-use Rattle.show_judge.proofs.VerbLemmas.{nothing_refused}
-use Rattle.show_studies.specs.Steps.{EndsRegions}
 
 -- so each drone of its show keeps to each region of the text
 pub regions_promised : (f : Fitted) (s : PlainShow) (cut : Cut) (regions : List Region) (result : Result Answer AllocError) → IsFitted f s → regions_of cut.second ≡ Ok regions →

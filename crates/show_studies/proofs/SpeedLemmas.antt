@@ -1,5 +1,6 @@
 -- What `speed` answers, drone by drone.
-use Rattle.show_studies.proofs.Prelude.{common_steps, ◌≡◌, ℕ, zero, suc, ◌+◌, ◌<◌, ◌≤◌, cond, nat_lt, pos, List, ◌∷◌, ◌++◌, All, length, get_or, drop, Option, Some, None, Result, Ok, Err, IfOk, IfSome, refl, sym, ap, subst, ◌∙◌, arith, append_assoc, option_or, AllocError, drop_all, drop_more, All-cons, All-nil, Name, PlainShow, Refusal, Fitted, IsFitted, speed, Traj, Answer, outcome_of, KeepsBounds, above, first_too_fast, speed_of_drone, speed_text, too_fast_by, sent_of, none_both}
+use Rattle.show_studies.proofs.Prelude.{common_steps, ◌≡◌, ℕ, zero, suc, ◌+◌, ◌<◌, ◌≤◌, cond, nat_lt, pos, List, ◌∷◌, ◌++◌, All, length, get_or, drop, Option, Some, None, Result, Ok, Err, IfOk, IfSome, refl, sym, ap, subst, ◌∙◌, arith, append_assoc, option_or, AllocError, drop_all, drop_more, All-cons, All-nil, Name, PlainShow, Refusal, Fitted, IsFitted, Traj, Answer, outcome_of, KeepsBounds, above, first_too_fast, speed_of_drone, speed_text, too_fast_by, sent_of, none_both}
+use Rattle.speed_bound.specs.Speed.{speed}
 use Rattle.std.proofs.lemmas.Bool.Decides.{nat_tests}
 
 -- what is left of drones and names from a drone on, as that drone and what comes after it

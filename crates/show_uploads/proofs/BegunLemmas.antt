@@ -1,6 +1,5 @@
 -- What is said of an upload that began, however it ended.
-use Rattle.show_uploads.proofs.Prelude.{common_steps, ◌≡◌, inl, inr, ℕ, Bool, List, [], ◌∷◌, ◌++◌, length, length-append, append-nil, Option, Some, IfSome, sym, ap, ◌∙◌, arith, append_cancel_left, part_of, AppendsFront, end_frame, packet_byte, Link, Wrote, cut_of, some_map, IsLinkOf, HasBegun, upload_ways}
-use Rattle.show_judge.specs.Headline.{UploadsText}
+use Rattle.show_uploads.proofs.Prelude.{common_steps, ◌≡◌, inl, inr, ℕ, Bool, List, [], ◌∷◌, ◌++◌, length, length-append, append-nil, Option, Some, IfSome, sym, ap, ◌∙◌, arith, append_cancel_left, part_of, AppendsFront, end_frame, packet_byte, Link, Wrote, cut_of, some_map, IsLinkOf, HasBegun, upload_ways, UploadsText}
 
 -- a packet's first byte isn't that of an end frame
 never_front : (status : ℕ) (old new : Option (List ℕ)) → AppendsFront old new (end_frame status) → HasBegun old new → ⊥

@@ -1,8 +1,6 @@
 -- What a rehearsal gives: one outcome alone, and one where the show lands.
-use Rattle.show_uploads.proofs.Prelude.{common_steps, ◌≡◌, ℕ, suc, ◌+◌, ◌<◌, Bool, true, false, cond, List, [], ◌∷◌, ◌++◌, append-nil, length, get_or, Option, Some, None, Result, Ok, Err, refl, sym, ap, subst, ◌∙◌, arith, length-replicate, option_map, option_or, PlainShow, Settings, Grid, grid_of, ScheduleLaw, schedule_of, CurveLaw, DecodesTo, Refusal, blank_drone, rehearsed, AreTexts, IsFound, IsRehearsalText, drone_text, title_line, IsLanded, Lands, session_for, Traj, Progress, Going, Done, GaveUp, Refused, Differs, WorldEvent, DroneState, progress, Upload, IsUnaltered, World, Outcome, outcome, refused, AllDecode, RehearsalEnds, Rehearses, ScheduleGives, schedule_refusal, faulty_line, most_text, Cut, name_at, names_of, sent_of, words_of, session_of}
+use Rattle.show_uploads.proofs.Prelude.{common_steps, ◌≡◌, ℕ, suc, ◌+◌, ◌<◌, Bool, true, false, cond, List, [], ◌∷◌, ◌++◌, append-nil, length, get_or, Option, Some, None, Result, Ok, Err, refl, sym, ap, subst, ◌∙◌, arith, length-replicate, option_map, option_or, PlainShow, Settings, Grid, grid_of, ScheduleLaw, schedule_of, CurveLaw, DecodesTo, Refusal, blank_drone, rehearsed, AreTexts, IsFound, IsRehearsalText, drone_text, title_line, IsLanded, Lands, session_for, Traj, Progress, Going, Done, GaveUp, Refused, Differs, WorldEvent, DroneState, progress, Upload, IsUnaltered, World, Outcome, outcome, refused, AllDecode, RehearsalEnds, Rehearses, ScheduleGives, schedule_refusal, faulty_line, most_text, Cut, name_at, names_of, sent_of, words_of, session_of, none_both, none_mapped, read_given, within_limit}
 use Rattle.refusals.specs.declared.refusal.Refusal.TheVariants as refusal
-use Rattle.show_judge.proofs.HeadlineLemmas.{none_both}
-use Rattle.show_judge.proofs.VerbLemmas.{none_mapped, read_given, within_limit}
 use Rattle.upload_model.specs.declared.loads.Def.{Def}
 use Rattle.upload_model.specs.Memories.{IsDrone}
 

@@ -1,7 +1,6 @@
 -- The laws of `rehearse`.
-use Rattle.show_uploads.proofs.Prelude.{common_steps, ◌≡◌, ℕ, Bool, true, false, List, length, map, Option, Some, None, Result, Ok, refl, sym, ◌∙◌, arith, length-map, Name, PlainShow, grid_of, ScheduleLaw, schedule_of, CurveLaw, rehearsed, Refusal, Progress, Done, WorldEvent, progress, World, faulty_line, second_refusal, Cut, sent_of, words_of, Outcome, RehearsalEnds, RehearseGives, RehearseLaw, RehearseSucceeds, ScheduleGives, rehearse_known, schedule_refusal, most_text, session_of, flies_text}
+use Rattle.show_uploads.proofs.Prelude.{common_steps, ◌≡◌, ℕ, Bool, true, false, List, length, map, Option, Some, None, Result, Ok, refl, sym, ◌∙◌, arith, length-map, Name, PlainShow, grid_of, ScheduleLaw, schedule_of, CurveLaw, rehearsed, Refusal, Progress, Done, WorldEvent, progress, World, faulty_line, second_refusal, Cut, sent_of, words_of, Outcome, RehearsalEnds, RehearseGives, RehearseLaw, RehearseSucceeds, ScheduleGives, rehearse_known, schedule_refusal, most_text, session_of, flies_text, refused_as}
 use Rattle.choreo_show.specs.declared.show.DroneLine.{DroneLine}
-use Rattle.show_judge.proofs.VerbLemmas.{refused_as}
 use Rattle.show_plan.proofs.Flight.{sent_counted}
 use Rattle.show_uploads.proofs.RehearsalLemmas.{events_one, schedule_one, schedule_some}
 

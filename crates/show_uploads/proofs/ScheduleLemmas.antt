@@ -1,6 +1,5 @@
 -- What `rehearse` answers, from what its steps do.
-use Rattle.show_uploads.proofs.Prelude.{common_steps, ◌≡◌, ℕ, zero, suc, ◌+◌, ◌<◌, ◌≤◌, Bool, true, false, cond, ◌==◌, List, [], ◌∷◌, ◌++◌, All, length, map, nat_lt, Option, Some, None, Result, Ok, Err, IfOk, IfSome, refl, sym, ap, subst, ◌∙◌, arith, option_map, option_or, length-map, All-head, All-map, All-tail, All-weaker, Name, PlainShow, Settings, Grid, schedule_of, WorldStandsAt, WorldState, state_at, load_for, Refusal, rehearsed, AreTexts, IsFound, IsRehearsalText, drone_text, Fitted, IsFitted, IsValidFitted, Lands, session_for, Traj, Progress, Going, Done, GaveUp, Refused, Differs, WorldEvent, DroneState, acked, all_packets, ended_by, ended_for, ending, flight, gave_up, or_else, progress, progress_within, sent_to, ticks, Upload, drone_count, packet_count, IsUnaltered, World, outcome_of, Outcome, outcome, AllDecode, RehearsalEnds, RehearseGives, Rehearses, SaysHeld, Cut, words_of, most_text}
-use Rattle.std.specs.Prelude.{find, take}
+use Rattle.show_uploads.proofs.Prelude.{common_steps, ◌≡◌, ℕ, zero, suc, ◌+◌, ◌<◌, ◌≤◌, Bool, true, false, cond, ◌==◌, List, [], ◌∷◌, ◌++◌, All, length, map, nat_lt, Option, Some, None, Result, Ok, Err, IfOk, IfSome, refl, sym, ap, subst, ◌∙◌, arith, option_map, option_or, length-map, All-head, All-map, All-tail, All-weaker, Name, PlainShow, Settings, Grid, schedule_of, WorldStandsAt, WorldState, state_at, load_for, Refusal, rehearsed, AreTexts, IsFound, IsRehearsalText, drone_text, Fitted, IsFitted, IsValidFitted, Lands, session_for, Traj, Progress, Going, Done, GaveUp, Refused, Differs, WorldEvent, DroneState, acked, all_packets, ended_by, ended_for, ending, flight, gave_up, or_else, progress, progress_within, sent_to, ticks, Upload, drone_count, packet_count, IsUnaltered, World, outcome_of, Outcome, outcome, AllDecode, RehearsalEnds, RehearseGives, Rehearses, SaysHeld, Cut, words_of, most_text, find, take, nothing_refused}
 use Rattle.std.specs.List.{range_with_len}
 use Rattle.std.specs.declared.alloc.AllocError.{AllocError}
 use Rattle.std.proofs.lemmas.Bool.{le-ltb}
@@ -8,7 +7,6 @@ use Rattle.crtp_packets.specs.Reading.{up_of}
 use Rattle.crtp_packets.specs.declared.reading.PacketFault.{PacketFault}
 use Rattle.crtp_packets.specs.declared.reading.Up.{Up}
 use Rattle.refusals.specs.declared.refusal.Refusal.TheVariants as refusal
-use Rattle.show_judge.proofs.VerbLemmas.{nothing_refused}
 use Rattle.traj_codec.specs.Joined.{joined}
 use Rattle.upload_model.proofs.Answers.{reply-by}
 use Rattle.upload_model.proofs.HostLaws.{All-flat_map_range, All-range, IsFlight, flight-fits}

@@ -6,9 +6,7 @@ pub use Rattle.std.proofs.lemmas.Int.{by_lt_z, ints, to_z-of_z, to_z_pos}
 pub use Rattle.std.proofs.lemmas.List.{drop_all, get_or_past, length-map, take_all}
 pub use Rattle.std.proofs.lemmas.List.Elements.{All-cons, All-from_get_or, All-get_or, All-head, All-nil, All-tail}
 pub use Rattle.std.proofs.lemmas.Nat.{mul-le, pow-add, pow_pos}
-unfoldable pub use Rattle.std.specs.Fmt.{digits}
 pub use Rattle.std.specs.Int.{div_ceil}
-pub use Rattle.std.specs.Prelude.{codes}
 pub use Rattle.bezier_core.proofs.BlendLemmas.{bound_positive, within_mul}
 pub use Rattle.bezier_core.proofs.CurveLemmas.{at-eight, raise, raised-level}
 pub use Rattle.bezier_core.specs.Raised.{eight, raised}

@@ -1,5 +1,7 @@
 -- Values of the definitions, compared with numbers that were computed elsewhere.
-use Rattle.speed_bound.proofs.Prelude.{◌≡◌, [], ◌∷◌, ◌++◌, refl, digits, codes, speed_of}
+use Rattle.speed_bound.proofs.Prelude.{◌≡◌, [], ◌∷◌, ◌++◌, refl, speed_of}
+use Rattle.std.specs.Fmt.{digits}
+use Rattle.std.specs.Prelude.{codes}
 use Rattle.speed_bound.specs.Lines.{speed_line}
 
 speed-row : speed_line (codes "solo") 1093750 0 0 ≡ codes "speed solo 1093750 0 0" ++ 10 ∷ []

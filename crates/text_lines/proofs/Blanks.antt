@@ -1,9 +1,5 @@
 -- Bytes before the next blank, and the bits that mark blanks.
-use Rattle.text_lines.proofs.Prelude.{◌≡◌, ◌≢◌, ℕ, ◌+◌, ◌-◌, ◌<◌, ◌≤◌, true, List, ◌++◌, length, get_or, drop, drop-drop, get_or-drop, length-drop, sym, ap, ◌∙◌, ⊎_elim, arith, nat_tests, cases_lt, false_from_ne_true, position_or_len, is_blank, word_token, line_tokens, Token, NoBlank, Marks}
-use Rattle.std.specs.Int.{bit_at}
-use Rattle.std.proofs.Common.{◌%◌, pow_pos}
-use Rattle.std.proofs.Math.Nat.{div-eq_of_lt}
-use Rattle.std.proofs.lemmas.List.Sums.{position_or_len_is}
+use Rattle.text_lines.proofs.Prelude.{◌≡◌, ◌≢◌, ℕ, ◌+◌, ◌-◌, ◌<◌, ◌≤◌, true, List, ◌++◌, length, get_or, drop, drop-drop, get_or-drop, length-drop, sym, ap, ◌∙◌, ⊎_elim, arith, nat_tests, cases_lt, false_from_ne_true, position_or_len, is_blank, word_token, line_tokens, Token, NoBlank, Marks, bit_at, ◌%◌, pow_pos, div-eq_of_lt, position_or_len_is}
 use Rattle.text_lines.proofs.Cuts.{word_more, word_last}
 
 -- a blank is at most a space

@@ -1,8 +1,7 @@
 -- The first piece of bytes that are cut, and what stands after it.
-use Rattle.text_lines.proofs.Prelude.{◌≡◌, ℕ, ◌+◌, ◌<◌, ◌≤◌, Bool, true, false, cond, List, [], ◌∷◌, ◌++◌, length, take, drop, refl, sym, ap, ◌∙◌, append_assoc, append-nil, Option, Some, None, arith, unwrap_or, not, false_from_ne_true, slice_split, onto_first, position_or_len, length-take, Token, Comments, is_line_feed, lines_of, without_empty_end, is_blank, visible, word_token, words_at, line_tokens, tokens_from}
+use Rattle.text_lines.proofs.Prelude.{◌≡◌, ℕ, ◌+◌, ◌<◌, ◌≤◌, Bool, true, false, cond, List, [], ◌∷◌, ◌++◌, length, take, drop, refl, sym, ap, ◌∙◌, append_assoc, append-nil, Option, Some, None, arith, unwrap_or, not, false_from_ne_true, slice_split, onto_first, position_or_len, length-take, Token, Comments, is_line_feed, lines_of, without_empty_end, is_blank, visible, word_token, words_at, line_tokens, tokens_from, fails_before_first, position_or_len_is, prefix_len-le-length}
 use Rattle.memchr.specs.Find.{IsFirstByte}
 use Rattle.std.proofs.lemmas.List.Splits.{slice_split_first, slice_split_none}
-use Rattle.std.proofs.lemmas.List.Sums.{fails_before_first, position_or_len_is, prefix_len-le-length}
 
 pub position_within : (p : ℕ → Bool) (xs : List ℕ) → position_or_len p xs ≤ length xs
 position_within p xs = prefix_len-le-length (λ x. not (p x)) xs

@@ -1,5 +1,7 @@
 -- The closest of one pair in one cue, one fraction more at a time.
-use Rattle.touch_witness.proofs.Prelude.{◌≡◌, ℕ, ◌+◌, ◌*◌, ◌^◌, ◌≤◌, ◌<◌, ◌⊎◌, inl, inr, ℤ, pos, ◌*ℤ◌, ◌≤ℤ◌, ◌<ℤ◌, arith, refl, ap, sym, subst, ◌∙◌, List, length, Some, slice_get, unsigned_abs, by_lt, IsIn, Traj, Touch, Point, IsSlot, Slot, cues_in, ArePlaces, IsBefore, IsClosestIn, IsLeastOf, IsLeftAt, IsListed, IsOf, LeftAbove, LeftFrom, LeftIs, left_of, left_side, listed, most_ratio, point_at, right_side}
+use Rattle.touch_witness.proofs.Prelude.{◌≡◌, ℕ, ◌+◌, ◌*◌, ◌^◌, ◌≤◌, ◌<◌, ◌⊎◌, inl, inr, ℤ, pos, ◌*ℤ◌, ◌≤ℤ◌, ◌<ℤ◌, arith, refl, ap, sym, subst, ◌∙◌, List, length, Some, slice_get, unsigned_abs, by_lt, IsIn, Traj, Touch, Point, cues_in, ArePlaces, IsBefore, IsClosestIn, IsLeastOf, IsLeftAt, IsListed, IsOf, LeftAbove, LeftFrom, LeftIs, left_of, left_side, listed, most_ratio, point_at, right_side}
+use Rattle.sep_parts.specs.Slots.{IsSlot}
+use Rattle.sep_parts.specs.declared.slot.Slot.{Slot}
 use Rattle.touch_witness.proofs.Least.{le_le, lt_le, lt_to_le, same_le}
 use Rattle.touch_witness.proofs.Levels.{level_high, level_low, some_told}
 use Rattle.touch_witness.proofs.Pairs.{sides}

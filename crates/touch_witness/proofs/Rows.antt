@@ -1,5 +1,6 @@
 -- Values of the definitions, compared with lines and numbers that were written down elsewhere.
-use Rattle.touch_witness.proofs.Prelude.{◌≡◌, [], ◌∷◌, ◌++◌, refl, codes, instant_of, blocked_pair_line, closest_line, no_touch_line, separated_line, touch_line}
+use Rattle.touch_witness.proofs.Prelude.{◌≡◌, [], ◌∷◌, ◌++◌, refl, codes, instant_of}
+use Rattle.touch_witness.specs.Lines.{blocked_pair_line, closest_line, no_touch_line, separated_line, touch_line}
 use Rattle.std.specs.Fmt.{digits}
 
 separated-row : separated_line ≡ codes "separated" ++ 10 ∷ []

@@ -1,8 +1,7 @@
 -- A spelling stands for one trajectory, and none of as many segments is a front of another.
-use Rattle.traj_codec.proofs.Prelude.{common_steps, ◌≡◌, ℕ, ◌<◌, ◌^◌, ℤ, List, [], ◌∷◌, ◌++◌, length, drop, refl, sym, ap, ◌∙◌, append_assoc, arith, to_z, FitsSigned, flat_map, All, append_cancel_left, All-head, All-tail, little_bytes, little_number, little_number-reads_back, Element, Constant, Linear, Cubic, Seven, Segment, number, numbers, kind, stored, header, bodies, segment, IsNumber, IsElement, IsSegment, SpellingLaw}
+use Rattle.traj_codec.proofs.Prelude.{common_steps, ◌≡◌, ℕ, ◌<◌, ◌^◌, ℤ, List, [], ◌∷◌, ◌++◌, length, drop, refl, sym, ap, ◌∙◌, append_assoc, arith, to_z, FitsSigned, flat_map, All, append_cancel_left, All-head, All-tail, little_bytes, little_number, little_number-reads_back, Element, Constant, Linear, Cubic, Seven, Segment, number, numbers, kind, stored, header, bodies, segment, IsNumber, IsElement, IsSegment, SpellingLaw, ints, to_z-of_z}
 use Rattle.std.specs.Int.{w16, cast_unsigned}
 use Rattle.std.proofs.Math.Facts.{Fits-of_z, Fits-lt-pow}
-use Rattle.std.proofs.lemmas.Int.{ints, to_z-of_z}
 
 fits : (z : ℤ) → IsNumber z → FitsSigned w16 z
 fits z is = omega (arith, ints, is)

@@ -4,7 +4,7 @@ pub use Rattle.std.proofs.lemmas.Bool.{and_from, and_left, and_parts, and_right,
 pub use Rattle.std.proofs.lemmas.Grind.{common_steps, flat_map-append}
 pub use Rattle.std.proofs.lemmas.List.{append-nil, append_assoc, get_or-set_other, get_or-set_same, length-append, length-map, length-set, map-append, take_all, take_at, take_more, with_items_is}
 pub use Rattle.std.proofs.lemmas.List.Elements.{All-append, All-cons, All-filter, All-from_get_or, All-head, All-map, All-nil, All-set, All-tail, All-weaker, filter-append, filter_agree}
-pub use Rattle.std.proofs.lemmas.List.Folds.{find-append, list_all-append, list_any-append}
+pub use Rattle.std.proofs.lemmas.List.Folds.{find-append, list_any-append}
 pub use Rattle.std.specs.List.{flat_map, list_all, list_any, range_with_len}
 pub use Rattle.std.specs.Option.{option_copied, option_or}
 pub use Rattle.std.specs.Prelude.{All, bit_or, find, nat_lt, slice_get}
@@ -12,7 +12,7 @@ pub use Rattle.std.specs.Vec.{with_items}
 pub use Rattle.crtp_packets.specs.Reading.{up_of}
 pub use Rattle.crtp_packets.specs.declared.reading.PacketFault.{PacketFault}
 pub use Rattle.upload_model.proofs.Answers.{reply-by, reply-of_read, reply-plain}
-pub use Rattle.upload_model.proofs.HostLaws.{All-flat_map_range, IsFlight, Settled-from, acked-done, acked-more, acked-nil, acked-push, all_packets-each, allowed-few, flight-fits, if_going-fits, list_all-range}
+pub use Rattle.upload_model.proofs.HostLaws.{All-flat_map_range, All-range, IsFlight, Settled-from, acked-done, acked-more, acked-nil, acked-push, all_packets-each, allowed-few, flight-fits, if_going-fits, list_all-range}
 pub use Rattle.upload_model.proofs.HostSteps.{Agree, acked-tick, all_settled-agree, filter-range-agree, flat_map-range-agree, flight-tick, flight_after-agree, list_all-range-agree, phase-inside, phase_of-agree, progress-next, progress-nil, progress-stays, progress-tick, range-more, ticks-nil, ticks-push}
 pub use Rattle.upload_model.proofs.OneRead.{length-wanted, wanted-at}
 pub use Rattle.upload_model.proofs.Readings.{Kind, a_define, a_read, a_start, a_write, count-loads, is_read-at, packet_at-define, packet_at-start, packet_kind}

@@ -1,6 +1,5 @@
 -- From the rows of a host to the definitions over its list of events.
-use Rattle.upload_core.proofs.Prelude.{common_steps, ◌≡◌, ◌==◌, ◌≢◌, ℕ, zero, suc, ◌+◌, ◌<◌, ◌≤◌, Bool, true, false, not, cond, ◌&&◌, ◌||◌, eqb, List, [], ◌∷◌, ◌++◌, length, map, filter, refl, ap, sym, subst, ◌∙◌, arith, Option, Some, None, inl, inr, find, nat_lt, All, range_with_len, list_all, flat_map, option_or, cases_eq, eq-eqb, false≢true, false_from_ne_true, length-map, find-append, or_right, All-nil, All-cons, All-head, All-tail, All-map, All-weaker, All-from_get_or, Event, Phase, Loading, Sent, Progress, Going, Done, Upload, drone_count, load_count, packet_count, reply_to, is_good, is_end, Packets, phase_of, includes, gave_up, if_going, sent_at, sent_to, all_packets, acknowledges, joined, acked, counts, flight_after, flight, ticks, ended_for, ends_for, ended_by, progress, out, All-flat_map_range, acked-push, acked-more, acked-done, IsFlight, flight-fits, flat_map-range-agree, acked-tick, flight-tick, ticks-push, progress-stays, progress-next, progress-tick, Agree, all_settled-agree, phase_of-agree, flight_after-agree, InFlight, Row, packets_in, among, is_past, is_marked, row_at, marked, window_at, counted, count_in, IsRow, older, older_row, tired_in, RowStands, RowsStand, IsReady, IsLow, in_windows, HostView, IsPacketOf, HostStandsFor}
-use Rattle.upload_model.proofs.HostLaws.{All-range}
+use Rattle.upload_core.proofs.Prelude.{common_steps, ◌≡◌, ◌==◌, ◌≢◌, ℕ, zero, suc, ◌+◌, ◌<◌, ◌≤◌, Bool, true, false, not, cond, ◌&&◌, ◌||◌, eqb, List, [], ◌∷◌, ◌++◌, length, map, filter, refl, ap, sym, subst, ◌∙◌, arith, Option, Some, None, inl, inr, find, nat_lt, All, range_with_len, list_all, flat_map, option_or, cases_eq, eq-eqb, false≢true, false_from_ne_true, length-map, find-append, or_right, All-nil, All-cons, All-head, All-tail, All-map, All-weaker, All-from_get_or, Event, Phase, Loading, Sent, Progress, Going, Done, Upload, drone_count, load_count, packet_count, reply_to, is_good, is_end, Packets, phase_of, includes, gave_up, if_going, sent_at, sent_to, all_packets, acknowledges, joined, acked, counts, flight_after, flight, ticks, ended_for, ends_for, ended_by, progress, out, All-flat_map_range, acked-push, acked-more, acked-done, IsFlight, flight-fits, flat_map-range-agree, acked-tick, flight-tick, ticks-push, progress-stays, progress-next, progress-tick, Agree, all_settled-agree, phase_of-agree, flight_after-agree, InFlight, Row, packets_in, among, is_past, is_marked, row_at, marked, window_at, counted, count_in, IsRow, older, older_row, tired_in, RowStands, RowsStand, IsReady, IsLow, in_windows, HostView, IsPacketOf, HostStandsFor, All-range}
 use Rattle.upload_model.specs.declared.events.Event.TheVariants as event
 use Rattle.upload_core.proofs.Numbers.{between-weaker}
 use Rattle.upload_core.proofs.RowLemmas.{packets-older, count_in-older}

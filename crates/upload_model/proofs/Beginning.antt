@@ -1,9 +1,7 @@
 -- A drone that takes a start and has an entry begins: it is counted.
-use Rattle.upload_model.proofs.Prelude.{common_steps, ◌≡◌, ℕ, zero, suc, ◌+◌, ◌<◌, ◌≤◌, true, false, cond, eqb, refl, ap, sym, ◌∙◌, inl, inr, List, [], ◌∷◌, ◌++◌, take, arith, Option, Some, None, slice_get, All-cons, All-head, All-nil, All-tail, start_of, and_parts, cases_Bool, eqb-true, false≢true, Tick, Take, Hear, Alter, eq-eqb, slice_get_within, WorldEvent, DroneState, has_entry, handled, Upload, IsSession, drone_count, load_of, write_count, start_number, packet_count, packet_at, taken, World, start_world, happens, run, TakesStart}
+use Rattle.upload_model.proofs.Prelude.{common_steps, ◌≡◌, ℕ, zero, suc, ◌+◌, ◌<◌, ◌≤◌, true, false, cond, eqb, refl, ap, sym, ◌∙◌, inl, inr, List, [], ◌∷◌, ◌++◌, take, arith, Option, Some, None, slice_get, All-cons, All-head, All-nil, All-tail, start_of, and_parts, cases_Bool, eqb-true, false≢true, Tick, Take, Hear, Alter, eq-eqb, slice_get_within, WorldEvent, DroneState, has_entry, handled, Upload, IsSession, drone_count, load_of, write_count, start_number, packet_count, packet_at, taken, World, start_world, happens, run, TakesStart, bytes_eq, AreOwn}
 use Rattle.std.proofs.lemmas.Slice.Eq.{bytes_eq-Decides}
-use Rattle.std.specs.Str.{bytes_eq}
 use Rattle.upload_model.specs.Starts.{begins, begins_by, beginnings, beginnings_in, starts_in, BeginLaw, EachLaw, OnceLaw}
-use Rattle.upload_model.specs.Taking.{AreOwn}
 use Rattle.upload_model.proofs.OneDrone.{Effect, OnCourse, has_entry_from}
 use Rattle.upload_model.proofs.Readings.{is_read-below, packet_at-start}
 use Rattle.upload_model.proofs.Sending.{last_number}

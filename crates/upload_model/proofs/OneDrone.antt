@@ -1,6 +1,5 @@
 -- One drone that takes a packet of the session which is no read.
-use Rattle.upload_model.proofs.Prelude.{common_steps, ◌≡◌, ◌≢◌, ℕ, zero, suc, ◌+◌, ◌-◌, ◌*◌, ◌/◌, ◌%◌, ◌^◌, ◌<◌, ◌≤◌, min, Bool, true, false, not, cond, ◌&&◌, eqb, ltb, List, [], ◌∷◌, length, take, drop, get_or, set, refl, ap, sym, ◌∙◌, arith, Option, Some, None, ◌⊎◌, inl, inr, subst, IfSome, slice_get, slice_set, le-ltb, lt-ltb, lt-leb, eqb-true, cases_lt, cases_eq, cases_Bool, eq-eqb, ne_eqb, and_parts, false≢true, not-true, places, length-append, length-take, length-drop, length-set, get_or-take, get_or-drop, chunk_of, write_request_of, write_answer_of, up_of, define_of, start_of, answer_of, DroneState, Handled, answers, stored, write_taken, message_taken, has_entry, handled, Upload, IsLoad, IsSession, drone_count, load_of, write_count, start_number, packet_count, packet_at, is_read, status_in, IsInside, OnlyLoads, HasPiece, HasEntry, HasLoad}
-use Rattle.std.specs.Str.{bytes_eq}
+use Rattle.upload_model.proofs.Prelude.{common_steps, ◌≡◌, ◌≢◌, ℕ, zero, suc, ◌+◌, ◌-◌, ◌*◌, ◌/◌, ◌%◌, ◌^◌, ◌<◌, ◌≤◌, min, Bool, true, false, not, cond, ◌&&◌, eqb, ltb, List, [], ◌∷◌, length, take, drop, get_or, set, refl, ap, sym, ◌∙◌, arith, Option, Some, None, ◌⊎◌, inl, inr, subst, IfSome, slice_get, slice_set, le-ltb, lt-ltb, lt-leb, eqb-true, cases_lt, cases_eq, cases_Bool, eq-eqb, ne_eqb, and_parts, false≢true, not-true, places, length-append, length-take, length-drop, length-set, get_or-take, get_or-drop, chunk_of, write_request_of, write_answer_of, up_of, define_of, start_of, answer_of, DroneState, Handled, answers, stored, write_taken, message_taken, has_entry, handled, Upload, IsLoad, IsSession, drone_count, load_of, write_count, start_number, packet_count, packet_at, is_read, status_in, IsInside, OnlyLoads, HasPiece, HasEntry, HasLoad, bytes_eq}
 use Rattle.upload_model.specs.declared.loads.Def.{Def}
 use Rattle.upload_model.specs.declared.limits.TheConstants.{ACCEPTED}
 use Rattle.upload_model.proofs.Readings.{Kind, a_write, a_define, a_read, a_start, packet_kind, is_read-at, packet_at-write, packet_at-define, packet_at-start, down_of-write, command_of-define, up_of-write_answer}

@@ -1,9 +1,7 @@
 -- What the host sends, whoever else alters a byte: packets of the session; reads only after the first
 -- phase; starts only after all reads.
-use Rattle.upload_model.proofs.Prelude.{common_steps, ◌≡◌, ℕ, ◌<◌, ◌≤◌, Bool, true, false, cond, ◌&&◌, eqb, ltb, List, [], ◌∷◌, ◌++◌, map, get_or, refl, ap, sym, ◌∙◌, arith, Option, Some, None, subst, slice_get, All, Contains, filter, cond_both, eqb-true, append-nil, append_assoc, All-nil, All-cons, All-head, All-tail, All-append, All-weaker, All-contains, start_of, Event, Loading, Reading, Sent, WorldEvent, Tick, Take, Hear, Alter, DroneState, Upload, drone_count, load_count, start_number, packet_count, packet_at, acked, flight, out, World, changed, packets_for, start_world, host_event, take_named, hear_named, altered, happens, run, world}
-use Rattle.std.proofs.lemmas.List.Elements.{Contains-append_left}
+use Rattle.upload_model.proofs.Prelude.{common_steps, ◌≡◌, ℕ, ◌<◌, ◌≤◌, Bool, true, false, cond, ◌&&◌, eqb, ltb, List, [], ◌∷◌, ◌++◌, map, get_or, refl, ap, sym, ◌∙◌, arith, Option, Some, None, subst, slice_get, All, Contains, filter, cond_both, eqb-true, append-nil, append_assoc, All-nil, All-cons, All-head, All-tail, All-append, All-weaker, All-contains, start_of, Event, Loading, Reading, Sent, WorldEvent, Tick, Take, Hear, Alter, DroneState, Upload, drone_count, load_count, start_number, packet_count, packet_at, acked, flight, out, World, changed, packets_for, start_world, host_event, take_named, hear_named, altered, happens, run, world, Contains-append_left, StaysSentLaw}
 use Rattle.upload_model.specs.declared.events.Event.TheVariants as event
-use Rattle.upload_model.specs.Theorem.{StaysSentLaw}
 use Rattle.upload_model.proofs.Readings.{Kind, a_write, a_define, a_read, a_start, packet_kind, packet_at-write, packet_at-define, packet_at-read}
 use Rattle.upload_model.proofs.HostLaws.{Settled, Settled-more, IsFlight, flight-fits, out-fits}
 

@@ -1,6 +1,5 @@
 -- At Done each drone has taken a start, whoever else alters a byte: only a start is answered as one.
-use Rattle.upload_model.proofs.Prelude.{common_steps, ◌≡◌, ℕ, ◌+◌, ◌*◌, ◌^◌, ◌<◌, true, false, not, ◌&&◌, cond, eqb, ltb, List, [], ◌∷◌, ◌++◌, take, drop, refl, ap, sym, ◌∙◌, arith, None, Some, inl, inr, subst, Bool, IfSome, slice_get, cases_Bool, cases_eq, cond_both, false≢true, le-ltb, take-append-le, slice_get_within, chunk_of, write_answer_of, read_answer_of, up_of, define_of, start_of, answer_of, Event, WorldEvent, Take, DroneState, Handled, answers, has_entry, write_taken, handled, Upload, IsSession, drone_count, load_of, write_count, start_number, packet_at, read_address, status_in, reply_to, is_good, acked, progress, Done, World, happens, world, IsCase, TakesStart, TakenLaw}
-use Rattle.std.specs.Str.{bytes_eq}
+use Rattle.upload_model.proofs.Prelude.{common_steps, ◌≡◌, ℕ, ◌+◌, ◌*◌, ◌^◌, ◌<◌, true, false, not, ◌&&◌, cond, eqb, ltb, List, [], ◌∷◌, ◌++◌, take, drop, refl, ap, sym, ◌∙◌, arith, None, Some, inl, inr, subst, Bool, IfSome, slice_get, cases_Bool, cases_eq, cond_both, false≢true, le-ltb, take-append-le, slice_get_within, chunk_of, write_answer_of, read_answer_of, up_of, define_of, start_of, answer_of, Event, WorldEvent, Take, DroneState, Handled, answers, has_entry, write_taken, handled, Upload, IsSession, drone_count, load_of, write_count, start_number, packet_at, read_address, status_in, reply_to, is_good, acked, progress, Done, World, happens, world, IsCase, TakesStart, TakenLaw, bytes_eq}
 use Rattle.upload_model.specs.declared.events.Event.TheVariants as event
 use Rattle.upload_model.proofs.Readings.{Kind, a_write, a_define, a_read, a_start, packet_kind, packet_at-define, packet_at-read, packet_at-start, is_read-past, count-start, up_of-write_answer, up_of-read_answer}
 use Rattle.upload_model.proofs.OneDrone.{accepts, handled-write, handled-define, handled-start, length-chunk_of, write_count-below}

@@ -1,5 +1,4 @@
-use Rattle.halving.proofs.Prelude.{arith, subst, inl, inr, lit<, pow-le-pow_right, ◌≡◌, ℕ, ℤ, pos, ◌-◌, ◌*ℤ◌, ◌^◌, ◌≤◌, FitsSigned, ints, to_z-of_z, w64, w128, IsWithin}
-use Rattle.halving.specs.Steps.{IsWord}
+use Rattle.halving.proofs.Prelude.{arith, subst, inl, inr, lit<, pow-le-pow_right, ◌≡◌, ℕ, ℤ, pos, ◌-◌, ◌*ℤ◌, ◌^◌, ◌≤◌, FitsSigned, ints, to_z-of_z, w64, w128, IsWithin, IsWord}
 use Rattle.halving.proofs.doubled.Goals as goal
 
 -- a word of 64 bits holds the value, the scale and their product

@@ -1,5 +1,4 @@
-use Rattle.std.proofs.Common.{arith, sym, ◌∙◌}
-use Rattle.command_words.specs.declared.command.Command.TheVariants.{Boxes, Dynamics, Explain, Speed}
+use Rattle.hemtoghai.proofs.Prelude.{arith, sym, ◌∙◌, Boxes, Dynamics, Explain, Speed}
 use Rattle.hemtoghai.proofs.AnswerLemmas.{said_as, whole_of}
 use Rattle.hemtoghai.proofs.BegunLemmas.{begun_whole}
 use Rattle.hemtoghai.proofs.hemtoghai_run.Goals as goal

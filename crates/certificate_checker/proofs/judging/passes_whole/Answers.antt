@@ -1,4 +1,4 @@
-use Rattle.certificate_checker.proofs.Prelude.{first_stack}
+use Rattle.sep_parts.proofs.Stacks.{first_stack}
 use Rattle.certificate_checker.proofs.judging.passes_whole.Goals as goal
 
 pub returns-clause-stack : goal.returns-clause-stack

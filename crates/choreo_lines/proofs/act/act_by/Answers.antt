@@ -1,8 +1,5 @@
-use Rattle.choreo_lines.proofs.Prelude.{◌≡◌, ℕ, List, length, sym, ap, ◌∙◌, words_in, word_in, act_places}
+use Rattle.choreo_lines.proofs.Prelude.{◌≡◌, ℕ, List, length, sym, ap, ◌∙◌, words_in, word_in, act_places, act_read, length-map, Token}
 use Rattle.choreo_lines.proofs.Acts.{hold_values, line_values, move_values, turn_values, arc_values, eased_values, curve_values}
-use Rattle.choreo_lines.specs.Steps.{act_read}
-use Rattle.std.proofs.lemmas.List.{length-map}
-use Rattle.text_lines.specs.declared.token.Token.{Token}
 use Rattle.choreo_lines.proofs.act.act_by.Goals as goal
 
 size : (text : List ℕ) (words : List Token) (n : ℕ) → length words ≡ n → length (words_in text words) ≡ n

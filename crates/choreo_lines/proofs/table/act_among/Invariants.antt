@@ -1,5 +1,4 @@
-use Rattle.choreo_lines.proofs.Prelude.{◌≡◌, length, map}
-use Rattle.choreo_lines.specs.Steps.{act_among}
+use Rattle.choreo_lines.proofs.Prelude.{◌≡◌, length, map, act_among}
 use Rattle.choreo_lines.proofs.table.act_among.Given as goal
 
 abbrev pub invariant-loop-words : goal.invariant-loop-words

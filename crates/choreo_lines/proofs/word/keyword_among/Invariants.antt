@@ -1,5 +1,4 @@
-use Rattle.choreo_lines.proofs.Prelude.{◌≡◌, length, map}
-use Rattle.choreo_lines.specs.Steps.{keyword_among}
+use Rattle.choreo_lines.proofs.Prelude.{◌≡◌, length, map, keyword_among}
 use Rattle.choreo_lines.proofs.word.keyword_among.Given as goal
 
 abbrev pub invariant-loop-words : goal.invariant-loop-words

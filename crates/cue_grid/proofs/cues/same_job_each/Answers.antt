@@ -1,5 +1,4 @@
-use Rattle.cue_grid.proofs.Prelude.{◌≡◌, ℕ, zero, suc, ◌+◌, ◌<◌, List, [], ◌∷◌, ◌++◌, length, map, take, arith, refl, ap, ◌∙◌, Job, DroneLine}
-use Rattle.std.proofs.lemmas.List.{take_all}
+use Rattle.cue_grid.proofs.Prelude.{◌≡◌, ℕ, zero, suc, ◌+◌, ◌<◌, List, [], ◌∷◌, ◌++◌, length, map, take, arith, refl, ap, ◌∙◌, Job, DroneLine, take_all}
 use Rattle.cue_grid.proofs.cues.same_job_each.Goals as goal
 
 -- one drone more

@@ -1,7 +1,6 @@
-use Rattle.std.proofs.Common.{◌≡◌, ℕ, ◌≤◌, ◌^◌, ℤ, ◌+ℤ◌, FitsSigned, arith, refl, sym, subst, to_z, of_z}
+use Rattle.cue_grid.proofs.Prelude.{◌≡◌, ℕ, ◌≤◌, ◌^◌, ℤ, ◌+ℤ◌, FitsSigned, arith, refl, sym, subst, to_z, of_z, IsUpTo}
 use Rattle.std.proofs.lemmas.Int.{ints, to_z-of_z}
 use mir.Syntax.{w64}
-use Rattle.cue_grid.specs.Frames.{IsUpTo}
 use Rattle.cue_grid.proofs.frame.shift_step.Goals as goal
 
 -- a number that 64 bits hold

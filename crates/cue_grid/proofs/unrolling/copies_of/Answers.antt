@@ -1,5 +1,4 @@
-use Rattle.cue_grid.proofs.Prelude.{◌≡◌, ℕ, zero, suc, ◌+◌, ◌<◌, List, [], ◌∷◌, ◌++◌, length, take, get_or, arith, ap, ◌∙◌, DroneLine}
-use Rattle.std.proofs.lemmas.List.{take_all}
+use Rattle.cue_grid.proofs.Prelude.{◌≡◌, ℕ, zero, suc, ◌+◌, ◌<◌, List, [], ◌∷◌, ◌++◌, length, take, get_or, arith, ap, ◌∙◌, DroneLine, take_all}
 use Rattle.cue_grid.proofs.unrolling.copies_of.Goals as goal
 
 -- one drone more

@@ -1,6 +1,4 @@
-use Rattle.cue_grid.proofs.Prelude.{ap, sym, subst, ◌∙◌, shown}
-use Rattle.cue_grid.specs.Grids.{IsGrid}
-use Rattle.cue_grid.specs.declared.grid.Grid.{Grid}
+use Rattle.cue_grid.proofs.Prelude.{ap, sym, subst, ◌∙◌, shown, IsGrid, Grid}
 use Rattle.cue_grid.proofs.Distinct.{answered_distinct}
 use Rattle.cue_grid.proofs.Fits.{answered_names, fit_grid}
 use Rattle.cue_grid.proofs.unrolling.unrolled.Goals as goal

@@ -1,6 +1,4 @@
-use Rattle.figure_expand.proofs.Prelude.{◌≡◌, ◌+◌, ◌<◌, ◌++◌, [], ◌∷◌, List, ℕ, arith, refl, sym, ap, suc, ◌∙◌, drop, get_or, length, Point, DroneLine, start_points}
-use Rattle.std.proofs.Common.{append_assoc, drop-cons}
-use Rattle.std.proofs.lemmas.List.{append-nil, drop_all}
+use Rattle.figure_expand.proofs.Prelude.{◌≡◌, ◌+◌, ◌<◌, ◌++◌, [], ◌∷◌, List, ℕ, arith, refl, sym, ap, suc, ◌∙◌, drop, get_or, length, Point, DroneLine, start_points, append_assoc, drop-cons, append-nil, drop_all}
 use Rattle.figure_expand.proofs.range.points_of.Goals as goal
 
 -- the next start and those after it

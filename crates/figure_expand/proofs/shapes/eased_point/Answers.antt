@@ -1,5 +1,4 @@
-use Rattle.figure_expand.proofs.Prelude.{◌≡◌, ℤ, ◌^◌, ◌+ℤ◌, arith, ap, ◌∙◌}
-use Rattle.figure_expand.specs.Acts.{millionths}
+use Rattle.figure_expand.proofs.Prelude.{◌≡◌, ℤ, ◌^◌, ◌+ℤ◌, arith, ap, ◌∙◌, millionths}
 use Rattle.figure_expand.proofs.Reach.{kept, sum_kept, wider}
 use Rattle.figure_expand.proofs.shapes.eased_point.Goals as goal
 

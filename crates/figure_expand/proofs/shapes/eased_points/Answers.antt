@@ -1,7 +1,4 @@
-use Rattle.std.proofs.Common.{rules, FitsSigned}
-use Rattle.figure_expand.proofs.Prelude.{◌≡◌, ◌<◌, ◌≤◌, ◌^◌, ℤ, map, length, to_z, of_z, to_z-of_z, w64, arith, ap, ◌∙◌}
-use Rattle.std.proofs.lemmas.List.{length-set}
-use Rattle.figure_expand.specs.Acts.{eased_point, shares}
+use Rattle.figure_expand.proofs.Prelude.{rules, FitsSigned, ◌≡◌, ◌<◌, ◌≤◌, ◌^◌, ℤ, map, length, to_z, of_z, to_z-of_z, w64, arith, ap, ◌∙◌, length-set, eased_point, shares}
 use Rattle.figure_expand.proofs.Eased.{eight_shares, filled_all, filled_more}
 use Rattle.figure_expand.proofs.Reach.{kept, wider}
 use Rattle.figure_expand.proofs.shapes.eased_points.Goals as goal

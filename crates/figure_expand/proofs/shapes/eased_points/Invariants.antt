@@ -1,5 +1,4 @@
-use Rattle.figure_expand.proofs.Prelude.{◌≡◌, length, map, take}
-use Rattle.figure_expand.specs.Acts.{eased_point}
+use Rattle.figure_expand.proofs.Prelude.{◌≡◌, length, map, take, eased_point}
 use Rattle.figure_expand.proofs.shapes.eased_points.Given as goal
 
 -- this many points are made

@@ -1,5 +1,4 @@
-use Rattle.figure_expand.proofs.Prelude.{◌≡◌, ℤ, ◌^◌, ◌-ℤ◌, to_z, of_z, w64, arith, ◌∙◌, cond}
-use Rattle.std.specs.Prelude.{neg_ℤ}
+use Rattle.figure_expand.proofs.Prelude.{◌≡◌, ℤ, ◌^◌, ◌-ℤ◌, to_z, of_z, w64, arith, ◌∙◌, cond, neg_ℤ}
 use Rattle.figure_expand.proofs.Reach.{held, kept, same_eased, sense_kept, way_told, wider}
 use Rattle.figure_expand.proofs.shapes.eased_x.Goals as goal
 

@@ -1,5 +1,4 @@
-use Rattle.figure_expand.proofs.Prelude.{◌≡◌, ℤ, ◌^◌, ◌+ℤ◌, ◌-ℤ◌, arith, ap, ◌∙◌}
-use Rattle.figure_expand.specs.Written.{forty_seconds}
+use Rattle.figure_expand.proofs.Prelude.{◌≡◌, ℤ, ◌^◌, ◌+ℤ◌, ◌-ℤ◌, arith, ap, ◌∙◌, forty_seconds}
 use Rattle.figure_expand.proofs.Reach.{kept, way_kept, turned_kept, wider}
 use Rattle.figure_expand.proofs.shapes.yaw_in.Goals as goal
 

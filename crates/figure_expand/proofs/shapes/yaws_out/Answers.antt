@@ -1,7 +1,4 @@
-use Rattle.std.proofs.Common.{rules, FitsSigned}
-use Rattle.figure_expand.proofs.Prelude.{◌≡◌, ◌<◌, ◌≤◌, ◌^◌, ℤ, map, length, to_z, of_z, to_z-of_z, w64, arith, ap, ◌∙◌}
-use Rattle.std.proofs.lemmas.List.{length-set}
-use Rattle.figure_expand.specs.Written.{squares_left, yaw_out}
+use Rattle.figure_expand.proofs.Prelude.{rules, FitsSigned, ◌≡◌, ◌<◌, ◌≤◌, ◌^◌, ℤ, map, length, to_z, of_z, to_z-of_z, w64, arith, ap, ◌∙◌, length-set, squares_left, yaw_out}
 use Rattle.figure_expand.proofs.Eased.{filled_all, filled_more}
 use Rattle.figure_expand.proofs.Reach.{kept, wider}
 use Rattle.figure_expand.proofs.shapes.yaws_out.Goals as goal

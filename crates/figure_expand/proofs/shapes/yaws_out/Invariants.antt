@@ -1,5 +1,4 @@
-use Rattle.figure_expand.proofs.Prelude.{◌≡◌, length, map, take}
-use Rattle.figure_expand.specs.Written.{yaw_out}
+use Rattle.figure_expand.proofs.Prelude.{◌≡◌, length, map, take, yaw_out}
 use Rattle.figure_expand.proofs.shapes.yaws_out.Given as goal
 
 -- this many points are made

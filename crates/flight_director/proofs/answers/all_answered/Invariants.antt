@@ -1,5 +1,4 @@
-use Rattle.std.proofs.Common.{◌≡◌, drop}
-use Rattle.flight_model.specs.Directors.{all_answered}
+use Rattle.flight_director.proofs.Prelude.{◌≡◌, drop, all_answered}
 use Rattle.flight_director.proofs.answers.all_answered.Given as goal
 
 abbrev pub invariant-loop-has : goal.invariant-loop-has

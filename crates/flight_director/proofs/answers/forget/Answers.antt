@@ -1,4 +1,4 @@
-use Rattle.std.proofs.Common.{◌≡◌, ◌∙◌, ap, set, false}
+use Rattle.flight_director.proofs.Prelude.{◌≡◌, ◌∙◌, ap, set, false}
 use Rattle.flight_director.proofs.Walks.{forget-step}
 use Rattle.flight_director.proofs.answers.forget.Goals as goal
 

@@ -1,5 +1,4 @@
-use Rattle.std.proofs.Common.{◌≡◌, ◌++◌, take, drop}
-use Rattle.flight_model.specs.Directors.{unanswered}
+use Rattle.flight_director.proofs.Prelude.{◌≡◌, ◌++◌, take, drop, unanswered}
 use Rattle.flight_director.proofs.answers.forget.Given as goal
 
 abbrev pub invariant-loop-d : goal.invariant-loop-d

@@ -1,7 +1,4 @@
-use Rattle.std.proofs.Common.{◌≡◌, ◌∙◌, ◌||◌, ◌+◌, ◌-◌, ℕ, Bool, true, false, sym, ap, arith}
-use Rattle.std.specs.List.{list_any, range_with_len}
-use Rattle.integer_player.specs.Played.{played}
-use Rattle.flight_model.specs.Samples.{is_within}
+use Rattle.flight_director.proofs.Prelude.{◌≡◌, ◌∙◌, ◌||◌, ◌+◌, ◌-◌, ℕ, Bool, true, false, sym, ap, arith, list_any, range_with_len, played, is_within}
 use Rattle.flight_director.proofs.Walks.{any-step}
 use Rattle.flight_director.proofs.curve.is_near.Goals as goal
 

@@ -1,7 +1,4 @@
-use Rattle.std.proofs.Common.{◌≡◌, ◌-◌, ◌+◌, min, ◌/◌}
-use Rattle.std.specs.List.{list_any, range_with_len}
-use Rattle.integer_player.specs.Played.{played}
-use Rattle.flight_model.specs.Samples.{is_within, instants_near}
+use Rattle.flight_director.proofs.Prelude.{◌≡◌, ◌-◌, ◌+◌, min, ◌/◌, list_any, range_with_len, played, is_within, instants_near}
 use Rattle.flight_director.proofs.curve.is_near.Given as goal
 
 abbrev pub invariant-loop-i : goal.invariant-loop-i

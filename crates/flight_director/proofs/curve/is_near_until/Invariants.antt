@@ -1,7 +1,4 @@
-use Rattle.std.proofs.Common.{◌≡◌, ◌-◌}
-use Rattle.std.specs.List.{list_any, range_with_len}
-use Rattle.integer_player.specs.Played.{played}
-use Rattle.flight_model.specs.Samples.{is_within, instants_until}
+use Rattle.flight_director.proofs.Prelude.{◌≡◌, ◌-◌, list_any, range_with_len, played, is_within, instants_until}
 use Rattle.flight_director.proofs.curve.is_near_until.Given as goal
 
 abbrev pub invariant-loop-i : goal.invariant-loop-i

@@ -1,8 +1,4 @@
-use Rattle.std.proofs.Common.{◌≡◌, ◌∙◌, ◌*◌, ◌^◌, ℕ, FitsSigned, pos, arith, rules, get_or, w16, w64}
-use Rattle.std.specs.Prelude.{ℤ, ◌*ℤ◌, ◌-ℤ◌}
-use Rattle.flight_model.specs.Samples.{is_short}
-use Rattle.std.proofs.lemmas.Int.{to_z-of_z, ints}
-use Rattle.std.proofs.lemmas.Grind.{common_steps}
+use Rattle.flight_director.proofs.Prelude.{◌≡◌, ◌∙◌, ◌*◌, ◌^◌, ℕ, FitsSigned, pos, arith, rules, get_or, w16, w64, ℤ, ◌*ℤ◌, ◌-ℤ◌, is_short, to_z-of_z, ints, common_steps}
 use Rattle.fleet_math.specs.Numbers.{IsBelow}
 use Rattle.flight_director.proofs.curve.is_within.Goals as goal
 

@@ -1,9 +1,5 @@
-use Rattle.std.proofs.Common.{◌∙◌, ap, ◌≡◌, ◌<◌, FitsSigned, pos, arith, w64, to_z}
+use Rattle.flight_director.proofs.Prelude.{◌∙◌, ap, ◌≡◌, ◌<◌, FitsSigned, pos, arith, w64, to_z, int_le, ◌+ℤ◌, ℤ, to_z-of_z, ints, common_steps, square}
 use Rattle.std.proofs.Math.Facts.{to_z_pos}
-use Rattle.std.specs.Prelude.{int_le, ◌+ℤ◌, ℤ}
-use Rattle.std.proofs.lemmas.Int.{to_z-of_z, ints}
-use Rattle.std.proofs.lemmas.Grind.{common_steps}
-use Rattle.flight_model.specs.Samples.{square}
 use Rattle.flight_director.proofs.distance.is_short.Goals as goal
 
 pub overflow_add-result : goal.overflow_add-result

@@ -1,4 +1,4 @@
-use Rattle.std.proofs.Common.{◌≡◌, ◌∙◌, false, sym, arith}
+use Rattle.flight_director.proofs.Prelude.{◌≡◌, ◌∙◌, false, sym, arith}
 use Rattle.flight_director.proofs.Walks.{all_down-short, all_down-high}
 use Rattle.flight_director.proofs.down.all_down.Goals as goal
 

@@ -1,4 +1,4 @@
-use Rattle.std.proofs.Common.{◌≡◌, ◌∙◌, false, sym, arith}
+use Rattle.flight_director.proofs.Prelude.{◌≡◌, ◌∙◌, false, sym, arith}
 use Rattle.std.proofs.lemmas.Bool.{not-true}
 use Rattle.flight_director.proofs.Walks.{all_fit-short, all_fit-unfit}
 use Rattle.flight_director.proofs.fit.all_fit.Goals as goal

@@ -1,5 +1,4 @@
-use Rattle.std.proofs.Common.{◌≡◌, drop}
-use Rattle.flight_model.specs.Directors.{all_fit}
+use Rattle.flight_director.proofs.Prelude.{◌≡◌, drop, all_fit}
 use Rattle.flight_director.proofs.fit.all_fit.Given as goal
 
 abbrev pub invariant-loop-d : goal.invariant-loop-d

@@ -1,4 +1,4 @@
-use Rattle.std.proofs.Common.{◌≡◌, ◌∙◌, false, sym, arith}
+use Rattle.flight_director.proofs.Prelude.{◌≡◌, ◌∙◌, false, sym, arith}
 use Rattle.flight_director.proofs.Walks.{first_unfit-short, first_unfit-here}
 use Rattle.flight_director.proofs.fit.first_unfit.Goals as goal
 

@@ -1,5 +1,4 @@
-use Rattle.std.proofs.Common.{◌≡◌, drop}
-use Rattle.flight_model.specs.Directors.{first_unfit}
+use Rattle.flight_director.proofs.Prelude.{◌≡◌, drop, first_unfit}
 use Rattle.flight_director.proofs.fit.first_unfit.Given as goal
 
 abbrev pub invariant-loop-d : goal.invariant-loop-d

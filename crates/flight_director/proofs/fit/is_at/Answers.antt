@@ -1,6 +1,4 @@
-use Rattle.std.proofs.Common.{FitsSigned, arith, rules, w16, w64}
-use Rattle.std.specs.Prelude.{◌-ℤ◌}
-use Rattle.std.proofs.lemmas.Int.{to_z-of_z, ints}
+use Rattle.flight_director.proofs.Prelude.{FitsSigned, arith, rules, w16, w64, ◌-ℤ◌, to_z-of_z, ints}
 use Rattle.flight_director.proofs.fit.is_at.Goals as goal
 
 pub returns : goal.returns

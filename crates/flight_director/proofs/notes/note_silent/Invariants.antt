@@ -1,5 +1,4 @@
-use Rattle.std.proofs.Common.{◌≡◌, ◌≤◌, ◌+◌, ◌++◌, drop, length}
-use Rattle.flight_model.specs.Directors.{silent_from}
+use Rattle.flight_director.proofs.Prelude.{◌≡◌, ◌≤◌, ◌+◌, ◌++◌, drop, length, silent_from}
 use Rattle.flight_director.proofs.notes.note_silent.Given as goal
 
 abbrev pub invariant-loop-d : goal.invariant-loop-d

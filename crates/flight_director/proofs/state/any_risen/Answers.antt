@@ -1,7 +1,5 @@
-use Rattle.std.proofs.Common.{◌≡◌, ◌∙◌, ◌||◌, ◌+◌, ◌-◌, ℕ, List, Bool, false, length, sym, ap, arith}
-use Rattle.std.specs.List.{list_any, range_with_len}
+use Rattle.flight_director.proofs.Prelude.{◌≡◌, ◌∙◌, ◌||◌, ◌+◌, ◌-◌, ℕ, List, Bool, false, length, sym, ap, arith, list_any, range_with_len, drones, has_risen}
 use Rattle.traj_codec.specs.declared.traj.Traj.{Traj}
-use Rattle.flight_model.specs.Directors.{drones, has_risen}
 use Rattle.flight_director.proofs.Walks.{any-step}
 use Rattle.flight_director.proofs.state.any_risen.Goals as goal
 

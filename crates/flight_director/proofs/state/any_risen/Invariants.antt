@@ -1,6 +1,4 @@
-use Rattle.std.proofs.Common.{◌≡◌, ◌-◌}
-use Rattle.std.specs.List.{list_any, range_with_len}
-use Rattle.flight_model.specs.Directors.{any_risen, drones, has_risen}
+use Rattle.flight_director.proofs.Prelude.{◌≡◌, ◌-◌, list_any, range_with_len, any_risen, drones, has_risen}
 use Rattle.flight_director.proofs.state.any_risen.Given as goal
 
 abbrev pub invariant-loop-d : goal.invariant-loop-d

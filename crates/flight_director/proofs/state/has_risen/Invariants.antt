@@ -1,5 +1,4 @@
-use Rattle.std.proofs.Common.{◌≡◌, false, take}
-use Rattle.flight_model.specs.Directors.{has_risen}
+use Rattle.flight_director.proofs.Prelude.{◌≡◌, false, take, has_risen}
 use Rattle.flight_director.proofs.state.has_risen.Given as goal
 
 abbrev pub invariant-loop-k : goal.invariant-loop-k

@@ -1,7 +1,4 @@
-use Rattle.std.proofs.Common.{◌≡◌, ◌++◌, ◌∷◌, ◌∙◌, [], Option, sym, ap, arith}
-use Rattle.std.proofs.lemmas.List.{append_assoc}
-use Rattle.flight_model.specs.declared.events.Order.{Order}
-use Rattle.flight_model.specs.Directors.{frames_from}
+use Rattle.flight_director.proofs.Prelude.{◌≡◌, ◌++◌, ◌∷◌, ◌∙◌, [], Option, sym, ap, arith, append_assoc, Order, frames_from}
 use Rattle.flight_director.proofs.Walks.{first_landings, landings-step}
 use Rattle.flight_director.proofs.state.put_landings.Goals as goal
 

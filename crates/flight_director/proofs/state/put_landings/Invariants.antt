@@ -1,5 +1,4 @@
-use Rattle.std.proofs.Common.{◌≡◌, ◌≤◌, ◌+◌, ◌++◌, length}
-use Rattle.flight_model.specs.Directors.{frames_from}
+use Rattle.flight_director.proofs.Prelude.{◌≡◌, ◌≤◌, ◌+◌, ◌++◌, length, frames_from}
 use Rattle.flight_director.proofs.Walks.{first_landings}
 use Rattle.flight_director.proofs.state.put_landings.Given as goal
 

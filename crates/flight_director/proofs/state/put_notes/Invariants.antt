@@ -1,6 +1,4 @@
-use Rattle.std.proofs.Common.{◌≡◌, take}
-use Rattle.std.specs.Prelude.{map}
-use Rattle.flight_model.specs.declared.events.Frame.TheVariants.{Noted}
+use Rattle.flight_director.proofs.Prelude.{◌≡◌, take, map, Noted}
 use Rattle.flight_director.proofs.state.put_notes.Given as goal
 
 abbrev pub invariant-loop-n : goal.invariant-loop-n

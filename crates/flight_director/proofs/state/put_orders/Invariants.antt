@@ -1,5 +1,4 @@
-use Rattle.std.proofs.Common.{◌≡◌, ◌≤◌, ◌+◌, ◌++◌, drop, length}
-use Rattle.flight_model.specs.Directors.{frames_from}
+use Rattle.flight_director.proofs.Prelude.{◌≡◌, ◌≤◌, ◌+◌, ◌++◌, drop, length, frames_from}
 use Rattle.flight_director.proofs.state.put_orders.Given as goal
 
 abbrev pub invariant-loop-d : goal.invariant-loop-d

@@ -1,10 +1,5 @@
-use Rattle.std.proofs.Common.{◌≡◌, ◌++◌, ◌∙◌, Option, None, Some, sym, ap, subst, arith}
-use Rattle.std.proofs.lemmas.List.{append-nil}
-use Rattle.std.proofs.lemmas.Option.{slice_get_past, slice_get-get_or}
-use Rattle.std.specs.Prelude.{slice_get}
+use Rattle.flight_director.proofs.Prelude.{◌≡◌, ◌++◌, ◌∙◌, Option, None, Some, sym, ap, subst, arith, append-nil, slice_get_past, slice_get-get_or, slice_get, frames_of_step, AreFew}
 use Rattle.flight_model.specs.declared.flights.Step.{Step}
-use Rattle.flight_model.specs.Directors.{frames_of_step}
-use Rattle.flight_director.specs.Held.{AreFew}
 use Rattle.flight_director.proofs.state.put_step_at.Goals as goal
 
 pub put_all-requires-clause-small : goal.put_all-requires-clause-small

@@ -1,8 +1,4 @@
-use Rattle.std.proofs.Common.{◌≡◌, ◌∙◌, None, ap, arith, set, get_or, false}
-use Rattle.std.proofs.lemmas.Grind.{common_steps}
-use Rattle.std.proofs.lemmas.List.{get_or-set_other}
-use Rattle.flight_model.specs.declared.states.Track.{Track}
-use Rattle.flight_model.specs.Directors.{aged}
+use Rattle.flight_director.proofs.Prelude.{◌≡◌, ◌∙◌, None, ap, arith, set, get_or, false, common_steps, get_or-set_other, Track, aged}
 use Rattle.flight_director.proofs.Walks.{map-step}
 use Rattle.flight_director.proofs.tracks.age.Goals as goal
 

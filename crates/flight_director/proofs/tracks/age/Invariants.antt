@@ -1,6 +1,4 @@
-use Rattle.std.proofs.Common.{◌≡◌, ◌≤◌, ◌++◌, ℕ, take, drop, get_or, None, false}
-use Rattle.std.specs.Prelude.{map}
-use Rattle.flight_model.specs.Directors.{aged}
+use Rattle.flight_director.proofs.Prelude.{◌≡◌, ◌≤◌, ◌++◌, ℕ, take, drop, get_or, None, false, map, aged}
 use Rattle.flight_director.proofs.tracks.age.Given as goal
 
 abbrev pub invariant-loop-d : goal.invariant-loop-d

@@ -1,5 +1,4 @@
-use Rattle.std.proofs.Common.{◌≡◌, drop}
-use Rattle.flight_model.specs.Directors.{all_seen, is_disarmed}
+use Rattle.flight_director.proofs.Prelude.{◌≡◌, drop, all_seen, is_disarmed}
 use Rattle.flight_director.proofs.tracks.all_disarmed.Given as goal
 
 abbrev pub invariant-loop-t : goal.invariant-loop-t

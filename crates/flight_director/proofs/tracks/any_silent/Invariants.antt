@@ -1,7 +1,4 @@
-use Rattle.std.proofs.Common.{◌≡◌, drop}
-use Rattle.std.specs.List.{list_any}
-use Rattle.flight_model.specs.declared.states.Track.{Track}
-use Rattle.flight_model.specs.Directors.{is_silent, older}
+use Rattle.flight_director.proofs.Prelude.{◌≡◌, drop, list_any, Track, is_silent, older}
 use Rattle.flight_director.proofs.tracks.any_silent.Given as goal
 
 abbrev pub invariant-loop-t : goal.invariant-loop-t

@@ -1,7 +1,4 @@
-use Rattle.std.proofs.Common.{◌≡◌, ◌∙◌, None, ap, arith, set, get_or, false}
-use Rattle.std.proofs.lemmas.List.{get_or-set_other}
-use Rattle.flight_model.specs.declared.states.Track.{Track}
-use Rattle.flight_model.specs.Directors.{renewed}
+use Rattle.flight_director.proofs.Prelude.{◌≡◌, ◌∙◌, None, ap, arith, set, get_or, false, get_or-set_other, Track, renewed}
 use Rattle.flight_director.proofs.Walks.{map-step}
 use Rattle.flight_director.proofs.tracks.renew.Goals as goal
 

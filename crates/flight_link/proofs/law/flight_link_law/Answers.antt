@@ -1,5 +1,4 @@
-use Rattle.flight_link.proofs.Prelude.{dialogue_of}
-use Rattle.link_dialogue.proofs.EndLemmas.{one, some}
+use Rattle.flight_link.proofs.Prelude.{dialogue_of, one, some}
 use Rattle.flight_link.proofs.FlightLemmas.{is_dialogue}
 use Rattle.flight_link.proofs.OverLemmas.{over}
 use Rattle.flight_link.proofs.law.flight_link_law.Goals as goal

@@ -1,5 +1,4 @@
-use Rattle.std.proofs.Common.{◌≡◌, drop}
-use Rattle.flight_steps.specs.Faults.{downs_fault}
+use Rattle.flight_steps.proofs.Prelude.{◌≡◌, drop, downs_fault}
 use Rattle.flight_steps.proofs.judging.downs_fault.Given as goal
 
 abbrev pub invariant-loop-d : goal.invariant-loop-d

@@ -1,4 +1,4 @@
-use Rattle.std.proofs.Common.{arith}
+use Rattle.flight_steps.proofs.Prelude.{arith}
 use Rattle.flight_steps.proofs.Walks.{other_here, other_end}
 use Rattle.flight_steps.proofs.judging.first_other.Goals as goal
 

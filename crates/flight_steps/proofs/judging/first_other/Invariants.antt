@@ -1,5 +1,4 @@
-use Rattle.std.proofs.Common.{◌≡◌, ◌≤◌, drop, length}
-use Rattle.flight_steps.specs.Faults.{first_other}
+use Rattle.flight_steps.proofs.Prelude.{◌≡◌, ◌≤◌, drop, length, first_other}
 use Rattle.flight_steps.proofs.judging.first_other.Given as goal
 
 abbrev pub invariant-loop-d : goal.invariant-loop-d

@@ -1,5 +1,4 @@
-use Rattle.std.proofs.Common.{◌≡◌, drop}
-use Rattle.flight_steps.specs.Faults.{restless_from}
+use Rattle.flight_steps.proofs.Prelude.{◌≡◌, drop, restless_from}
 use Rattle.flight_steps.proofs.judging.restless.Given as goal
 
 abbrev pub invariant-loop-cue : goal.invariant-loop-cue

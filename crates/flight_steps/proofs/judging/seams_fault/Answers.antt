@@ -1,4 +1,4 @@
-use Rattle.std.proofs.Common.{arith}
+use Rattle.flight_steps.proofs.Prelude.{arith}
 use Rattle.flight_steps.proofs.Walks.{seams_short-shows, seams_short-downs}
 use Rattle.flight_steps.proofs.judging.seams_fault.Goals as goal
 

@@ -1,5 +1,4 @@
-use Rattle.std.proofs.Common.{◌≡◌, drop}
-use Rattle.flight_steps.specs.Faults.{seams_fault}
+use Rattle.flight_steps.proofs.Prelude.{◌≡◌, drop, seams_fault}
 use Rattle.flight_steps.proofs.judging.seams_fault.Given as goal
 
 abbrev pub invariant-loop-d : goal.invariant-loop-d

@@ -1,5 +1,4 @@
-use Rattle.std.proofs.Common.{◌≡◌, drop}
-use Rattle.flight_steps.specs.Faults.{ups_fault}
+use Rattle.flight_steps.proofs.Prelude.{◌≡◌, drop, ups_fault}
 use Rattle.flight_steps.proofs.judging.ups_fault.Given as goal
 
 abbrev pub invariant-loop-d : goal.invariant-loop-d

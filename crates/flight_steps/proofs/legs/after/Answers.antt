@@ -1,6 +1,4 @@
-use Rattle.std.proofs.Common.{◌≡◌, length, rules}
-use Rattle.fleet_math.specs.Bernstein.{at}
-use Rattle.traj_codec.specs.Positions.{element_on, value_after}
+use Rattle.flight_steps.proofs.Prelude.{◌≡◌, length, rules, at, element_on, value_after}
 use Rattle.flight_steps.proofs.Walks.{four-are}
 use Rattle.flight_steps.proofs.legs.after.Goals as goal
 

@@ -1,5 +1,4 @@
-use Rattle.std.proofs.Common.{◌≡◌, take, map}
-use Rattle.flight_model.specs.Legs.{legs_of}
+use Rattle.flight_steps.proofs.Prelude.{◌≡◌, take, map, legs_of}
 use Rattle.flight_steps.proofs.legs.all_legs.Given as goal
 
 abbrev pub invariant-loop-t : goal.invariant-loop-t

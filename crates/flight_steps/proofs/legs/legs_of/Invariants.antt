@@ -1,5 +1,4 @@
-use Rattle.std.proofs.Common.{◌≡◌, ◌++◌, drop}
-use Rattle.flight_model.specs.Legs.{legs_from}
+use Rattle.flight_steps.proofs.Prelude.{◌≡◌, ◌++◌, drop, legs_from}
 use Rattle.flight_steps.proofs.legs.legs_of.Given as goal
 
 abbrev pub invariant-loop-s : goal.invariant-loop-s

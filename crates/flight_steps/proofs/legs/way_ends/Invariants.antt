@@ -1,5 +1,4 @@
-use Rattle.std.proofs.Common.{◌≡◌, drop}
-use Rattle.flight_model.specs.Legs.{ends_from}
+use Rattle.flight_steps.proofs.Prelude.{◌≡◌, drop, ends_from}
 use Rattle.flight_steps.proofs.legs.way_ends.Given as goal
 
 abbrev pub invariant-loop-s : goal.invariant-loop-s

@@ -1,6 +1,4 @@
-use Rattle.std.proofs.Common.{◌≡◌, take, map}
-use Rattle.flight_model.specs.Legs.{arm_condition}
-use Rattle.flight_steps.specs.Ways.{routes}
+use Rattle.flight_steps.proofs.Prelude.{◌≡◌, take, map, arm_condition, routes}
 use Rattle.flight_steps.proofs.lists.arm_conditions.Given as goal
 
 abbrev pub invariant-loop-legs : goal.invariant-loop-legs

@@ -1,6 +1,4 @@
-use Rattle.std.proofs.Common.{◌≡◌, take, map}
-use Rattle.flight_model.specs.Legs.{down_condition}
-use Rattle.flight_steps.specs.Ways.{routes}
+use Rattle.flight_steps.proofs.Prelude.{◌≡◌, take, map, down_condition, routes}
 use Rattle.flight_steps.proofs.lists.down_conditions.Given as goal
 
 abbrev pub invariant-loop-legs : goal.invariant-loop-legs

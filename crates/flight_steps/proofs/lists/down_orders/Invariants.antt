@@ -1,5 +1,4 @@
-use Rattle.std.proofs.Common.{◌≡◌, take, map}
-use Rattle.flight_model.specs.Legs.{down_order}
+use Rattle.flight_steps.proofs.Prelude.{◌≡◌, take, map, down_order}
 use Rattle.flight_steps.proofs.lists.down_orders.Given as goal
 
 abbrev pub invariant-loop-legs : goal.invariant-loop-legs

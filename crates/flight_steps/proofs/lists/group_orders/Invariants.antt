@@ -1,4 +1,4 @@
-use Rattle.std.proofs.Common.{◌≡◌, take, map, Some}
+use Rattle.flight_steps.proofs.Prelude.{◌≡◌, take, map, Some}
 use Rattle.flight_model.specs.declared.events.Order.TheVariants as order
 use Rattle.flight_steps.proofs.lists.group_orders.Given as goal
 

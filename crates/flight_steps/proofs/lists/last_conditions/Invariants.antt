@@ -1,6 +1,4 @@
-use Rattle.std.proofs.Common.{◌≡◌, take, map}
-use Rattle.flight_model.specs.Legs.{last_condition}
-use Rattle.flight_steps.specs.Ways.{routes}
+use Rattle.flight_steps.proofs.Prelude.{◌≡◌, take, map, last_condition, routes}
 use Rattle.flight_steps.proofs.lists.last_conditions.Given as goal
 
 abbrev pub invariant-loop-t : goal.invariant-loop-t

@@ -1,6 +1,4 @@
-use Rattle.std.proofs.Common.{◌≡◌, take, map}
-use Rattle.flight_model.specs.Legs.{start_condition}
-use Rattle.flight_steps.specs.Ways.{routes}
+use Rattle.flight_steps.proofs.Prelude.{◌≡◌, take, map, start_condition, routes}
 use Rattle.flight_steps.proofs.lists.start_conditions.Given as goal
 
 abbrev pub invariant-loop-t : goal.invariant-loop-t

@@ -1,6 +1,4 @@
-use Rattle.std.proofs.Common.{◌≡◌, take, map}
-use Rattle.flight_model.specs.Legs.{up_condition}
-use Rattle.flight_steps.specs.Ways.{routes}
+use Rattle.flight_steps.proofs.Prelude.{◌≡◌, take, map, up_condition, routes}
 use Rattle.flight_steps.proofs.lists.up_conditions.Given as goal
 
 abbrev pub invariant-loop-legs : goal.invariant-loop-legs

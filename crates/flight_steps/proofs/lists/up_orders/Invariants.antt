@@ -1,5 +1,4 @@
-use Rattle.std.proofs.Common.{◌≡◌, take, map}
-use Rattle.flight_model.specs.Legs.{up_order}
+use Rattle.flight_steps.proofs.Prelude.{◌≡◌, take, map, up_order}
 use Rattle.flight_steps.proofs.lists.up_orders.Given as goal
 
 abbrev pub invariant-loop-legs : goal.invariant-loop-legs

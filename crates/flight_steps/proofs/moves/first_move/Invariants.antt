@@ -1,5 +1,4 @@
-use Rattle.std.proofs.Common.{◌≡◌, drop}
-use Rattle.flight_model.specs.Legs.{first_move}
+use Rattle.flight_steps.proofs.Prelude.{◌≡◌, drop, first_move}
 use Rattle.flight_steps.proofs.moves.first_move.Given as goal
 
 abbrev pub invariant-loop-l : goal.invariant-loop-l

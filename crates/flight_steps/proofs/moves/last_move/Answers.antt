@@ -1,4 +1,4 @@
-use Rattle.std.proofs.Common.{arith}
+use Rattle.flight_steps.proofs.Prelude.{arith}
 use Rattle.flight_steps.proofs.Walks.{last_end}
 use Rattle.flight_steps.proofs.moves.last_move.Goals as goal
 

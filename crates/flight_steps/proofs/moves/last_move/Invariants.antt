@@ -1,4 +1,4 @@
-use Rattle.std.proofs.Common.{◌≡◌, drop, None}
+use Rattle.flight_steps.proofs.Prelude.{◌≡◌, drop, None}
 use Rattle.flight_steps.proofs.Walks.{last_from}
 use Rattle.flight_steps.proofs.moves.last_move.Given as goal
 

@@ -1,4 +1,4 @@
-use Rattle.std.proofs.Common.{◌∙◌, ◌++◌, sym}
+use Rattle.flight_steps.proofs.Prelude.{◌∙◌, ◌++◌, sym}
 use Rattle.flight_steps.proofs.Spans.{first-behind, first-front}
 use Rattle.flight_steps.proofs.room.first_of_three.Goals as goal
 

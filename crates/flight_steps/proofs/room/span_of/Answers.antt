@@ -1,7 +1,4 @@
-use Rattle.std.proofs.Common.{◌≡◌, ◌∙◌, ◌++◌, ℕ, List, refl, ap}
-use Rattle.traj_codec.specs.declared.traj.Traj.{Traj}
-use Rattle.flight_model.specs.declared.flights.Span.{Span}
-use Rattle.flight_model.specs.Rooms.{all_values, with_values}
+use Rattle.flight_steps.proofs.Prelude.{◌≡◌, ◌∙◌, ◌++◌, ℕ, List, refl, ap, Traj, Span, all_values, with_values}
 use Rattle.flight_steps.proofs.Spans.{span-of, three}
 use Rattle.flight_steps.proofs.room.span_of.Goals as goal
 

@@ -1,4 +1,4 @@
-use Rattle.flight_model.specs.Rooms.{values_on}
+use Rattle.flight_steps.proofs.Prelude.{values_on}
 use Rattle.flight_steps.proofs.Spans.{step-in}
 use Rattle.flight_steps.proofs.room.with_curves.Goals as goal
 

@@ -1,5 +1,4 @@
-use Rattle.std.proofs.Common.{◌≡◌, drop}
-use Rattle.flight_model.specs.Rooms.{all_values, with_values}
+use Rattle.flight_steps.proofs.Prelude.{◌≡◌, drop, all_values, with_values}
 use Rattle.flight_steps.proofs.room.with_curves.Given as goal
 
 abbrev pub invariant-loop-t : goal.invariant-loop-t

@@ -1,9 +1,5 @@
-use Rattle.std.proofs.Common.{◌∙◌, refl, ap}
-use Rattle.traj_codec.specs.Positions.{element_on}
-use Rattle.traj_codec.specs.Spelling.{stored}
+use Rattle.flight_steps.proofs.Prelude.{◌∙◌, refl, ap, element_on, stored, Segment, with_values}
 use Rattle.traj_codec.specs.declared.traj.Element.{Element}
-use Rattle.traj_codec.specs.declared.traj.Segment.{Segment}
-use Rattle.flight_model.specs.Rooms.{with_values}
 use Rattle.flight_steps.proofs.Spans.{step-in}
 use Rattle.flight_steps.proofs.room.with_segments.Goals as goal
 

@@ -1,9 +1,4 @@
-use Rattle.std.proofs.Common.{◌≡◌, drop}
-use Rattle.std.specs.List.{flat_map}
-use Rattle.traj_codec.specs.Positions.{element_on}
-use Rattle.traj_codec.specs.Spelling.{stored}
-use Rattle.traj_codec.specs.declared.traj.Segment.{Segment}
-use Rattle.flight_model.specs.Rooms.{with_values}
+use Rattle.flight_steps.proofs.Prelude.{◌≡◌, drop, flat_map, element_on, stored, Segment, with_values}
 use Rattle.flight_steps.proofs.room.with_segments.Given as goal
 
 abbrev pub invariant-loop-g : goal.invariant-loop-g

@@ -1,5 +1,4 @@
-use Rattle.std.proofs.Common.{◌≡◌, drop}
-use Rattle.flight_model.specs.Rooms.{with_values}
+use Rattle.flight_steps.proofs.Prelude.{◌≡◌, drop, with_values}
 use Rattle.flight_steps.proofs.room.with_values.Given as goal
 
 abbrev pub invariant-loop-v : goal.invariant-loop-v

@@ -1,6 +1,5 @@
-use Rattle.std.proofs.Common.{◌≡◌, ◌∙◌, ◌+◌, ℕ, suc, ap, arith}
+use Rattle.flight_steps.proofs.Prelude.{◌≡◌, ◌∙◌, ◌+◌, ℕ, suc, ap, arith, ms_until}
 use Rattle.flight_model.specs.Directors.{later}
-use Rattle.flight_model.specs.Legs.{ms_until}
 use Rattle.flight_steps.proofs.steps.ms_until.Goals as goal
 
 pub loop-i-preserved : goal.loop-i-preserved

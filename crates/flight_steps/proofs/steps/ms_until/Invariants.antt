@@ -1,5 +1,4 @@
-use Rattle.std.proofs.Common.{◌≡◌}
-use Rattle.flight_model.specs.Legs.{ms_until}
+use Rattle.flight_steps.proofs.Prelude.{◌≡◌, ms_until}
 use Rattle.flight_steps.proofs.steps.ms_until.Given as goal
 
 abbrev pub invariant-loop-i : goal.invariant-loop-i

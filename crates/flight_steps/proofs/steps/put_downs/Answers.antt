@@ -1,6 +1,5 @@
 use Rattle.flight_steps.proofs.Walks.{put_step}
-use Rattle.flight_model.specs.Legs.{down_step}
-use Rattle.flight_steps.specs.Ways.{routes}
+use Rattle.flight_steps.proofs.Prelude.{down_step, routes}
 use Rattle.flight_steps.proofs.steps.put_downs.Goals as goal
 
 pub loop-k-preserved : goal.loop-k-preserved

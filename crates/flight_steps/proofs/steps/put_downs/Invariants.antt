@@ -1,7 +1,4 @@
-use Rattle.std.proofs.Common.{◌≡◌, ◌++◌, map}
-use Rattle.std.specs.List.{range_with_len}
-use Rattle.flight_model.specs.Legs.{down_step}
-use Rattle.flight_steps.specs.Ways.{routes}
+use Rattle.flight_steps.proofs.Prelude.{◌≡◌, ◌++◌, map, range_with_len, down_step, routes}
 use Rattle.flight_steps.proofs.steps.put_downs.Given as goal
 
 abbrev pub invariant-loop-k : goal.invariant-loop-k

@@ -1,6 +1,5 @@
 use Rattle.flight_steps.proofs.Walks.{put_pair}
-use Rattle.flight_model.specs.Legs.{arm_step, up_step}
-use Rattle.flight_steps.specs.Ways.{routes}
+use Rattle.flight_steps.proofs.Prelude.{arm_step, up_step, routes}
 use Rattle.flight_steps.proofs.steps.put_ups.Goals as goal
 
 pub loop-k-preserved : goal.loop-k-preserved

@@ -1,7 +1,4 @@
-use Rattle.std.proofs.Common.{◌≡◌, ◌++◌, ◌∷◌, []}
-use Rattle.std.specs.List.{flat_map, range_with_len}
-use Rattle.flight_model.specs.Legs.{arm_step, up_step}
-use Rattle.flight_steps.specs.Ways.{routes}
+use Rattle.flight_steps.proofs.Prelude.{◌≡◌, ◌++◌, ◌∷◌, [], flat_map, range_with_len, arm_step, up_step, routes}
 use Rattle.flight_steps.proofs.steps.put_ups.Given as goal
 
 abbrev pub invariant-loop-k : goal.invariant-loop-k

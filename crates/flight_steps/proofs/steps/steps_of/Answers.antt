@@ -1,11 +1,5 @@
-use Rattle.std.proofs.Common.{◌≡◌, ◌∙◌, List, ap, map, sym, subst, length}
-use Rattle.std.specs.Prelude.{All}
-use Rattle.flight_model.specs.declared.flights.Leg.{Leg}
-use Rattle.flight_model.specs.declared.flights.Step.{Step}
-use Rattle.flight_model.specs.Legs.{Routes, legs_of, steps_between}
+use Rattle.flight_steps.proofs.Prelude.{◌≡◌, ◌∙◌, List, ap, map, sym, subst, length, All, Leg, Step, Routes, legs_of, steps_between, routes, IsStepOf}
 unfoldable use Rattle.flight_model.specs.Legs.{steps_of}
-use Rattle.flight_steps.specs.Ways.{routes}
-use Rattle.flight_steps.specs.Sizes.{IsStepOf}
 use Rattle.flight_steps.proofs.Counted.{sizes}
 use Rattle.flight_steps.proofs.Judged.{flight-of, fault-of}
 use Rattle.flight_steps.proofs.steps.steps_of.Goals as goal

@@ -1,10 +1,5 @@
-use Rattle.std.proofs.Common.{◌≡◌, [], Some, ap, refl}
-use Rattle.fleet_io.specs.Memory.{told_sure}
-use Rattle.fleet_io.proofs.ToldLemmas.{IsInput-now}
-use Rattle.command_words.specs.declared.command.Command.TheVariants.{Upload}
-use Rattle.show_run.proofs.TopLemmas.{never_rose, never_seven, never_six}
+use Rattle.hemtoghai.proofs.Prelude.{◌≡◌, [], Some, ap, refl, told_sure, IsInput-now, Upload, never_rose, never_seven, never_six, HasBegun}
 use Rattle.hemtoghai.proofs.AnswerLemmas.{headline_over, none_written, not_rose, runs_over, uploads_over}
-use Rattle.show_uploads.specs.Upload.{HasBegun}
 use Rattle.hemtoghai.proofs.BegunLemmas.{begun_over}
 use Rattle.hemtoghai.proofs.answering.answer_of.Goals as goal
 

@@ -1,5 +1,4 @@
-use Rattle.std.proofs.Common.{arith}
-use Rattle.std.proofs.lemmas.Bool.Decides.{nat_tests}
+use Rattle.hemtoghai.proofs.Prelude.{arith, nat_tests}
 use Rattle.hemtoghai.proofs.WordLemmas.{not_one}
 use Rattle.hemtoghai.proofs.words.put_word.Goals as goal
 

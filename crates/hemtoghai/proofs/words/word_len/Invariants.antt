@@ -1,6 +1,4 @@
-use Rattle.std.proofs.Common.{◌≡◌, ◌+◌, ◌-◌, ◌≤◌, length, drop}
-use Rattle.std.specs.List.{position_or_len}
-use Rattle.hemtoghai.specs.Words.{divides}
+use Rattle.hemtoghai.proofs.Prelude.{◌≡◌, ◌+◌, ◌-◌, ◌≤◌, length, drop, position_or_len, divides}
 use Rattle.hemtoghai.proofs.words.word_len.Given as goal
 
 abbrev pub invariant-bytes : goal.invariant-bytes

@@ -1,5 +1,4 @@
-use Rattle.std.proofs.Common.{◌≡◌, arith, map, Err, ap, ◌∙◌}
-use Rattle.std.specs.Prelude.{string_bytes}
+use Rattle.hemtoghai.proofs.Prelude.{◌≡◌, arith, map, Err, ap, ◌∙◌, string_bytes}
 use Rattle.hemtoghai.specs.declared.words.WordsFault.TheVariants.{NotText}
 use Rattle.hemtoghai.proofs.WordLemmas.{words_taken, words_done, not_all}
 use Rattle.hemtoghai.proofs.words.words_of.Goals as goal

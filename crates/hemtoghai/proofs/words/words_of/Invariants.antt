@@ -1,6 +1,4 @@
-use Rattle.std.proofs.Common.{◌≡◌, ◌++◌, length, map}
-use Rattle.std.specs.Prelude.{string_bytes}
-use Rattle.hemtoghai.specs.Words.{words_in}
+use Rattle.hemtoghai.proofs.Prelude.{◌≡◌, ◌++◌, length, map, string_bytes, words_in}
 use Rattle.hemtoghai.proofs.words.words_of.Given as goal
 
 abbrev pub invariant-words : goal.invariant-words

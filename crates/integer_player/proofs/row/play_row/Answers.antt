@@ -1,5 +1,4 @@
-use Rattle.integer_player.proofs.Prelude.{common_steps, ◌≡◌, ◌++◌, ◌∷◌, [], pos, length, FitsSigned, get_or, rules, arith, to_z-of_z, w64}
-use Rattle.std.specs.Fmt.{decimal}
+use Rattle.integer_player.proofs.Prelude.{common_steps, ◌≡◌, ◌++◌, ◌∷◌, [], pos, length, FitsSigned, get_or, rules, arith, to_z-of_z, w64, decimal}
 use Rattle.integer_player.proofs.RowLemmas.{row-built}
 use Rattle.integer_player.proofs.row.play_row.Goals as goal
 

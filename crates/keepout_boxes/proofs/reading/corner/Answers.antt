@@ -1,9 +1,4 @@
-use Rattle.keepout_boxes.proofs.Prelude.{◌≡◌, ◌∙◌, ℕ, zero, suc, ◌+◌, ◌<◌, ◌≤◌, ℤ, pos, neg_ℤ, ◌≤ℤ◌, List, [], ◌∷◌, Option, Some, None, FitsSigned, arith, ints, refl, sym, ap, get_or, length, to_z, of_z, to_z-of_z, w32, at, words_in}
-use Rattle.text_lines.specs.Tokens.{word_in}
-use Rattle.text_lines.specs.declared.token.Token.{Token}
-use Rattle.keepout_boxes.specs.Kept.{farthest}
-use Rattle.keepout_boxes.specs.Regions.{coordinate, three}
-use Rattle.keepout_boxes.specs.Steps.{IsCoordinate}
+use Rattle.keepout_boxes.proofs.Prelude.{◌≡◌, ◌∙◌, ℕ, zero, suc, ◌+◌, ◌<◌, ◌≤◌, ℤ, pos, neg_ℤ, ◌≤ℤ◌, List, [], ◌∷◌, Option, Some, None, FitsSigned, arith, ints, refl, sym, ap, get_or, length, to_z, of_z, to_z-of_z, w32, at, words_in, word_in, Token, farthest, coordinate, three, IsCoordinate}
 use Rattle.keepout_boxes.proofs.reading.corner.Goals as goal
 
 abbrev nothing : Token

@@ -1,11 +1,4 @@
-use Rattle.keepout_boxes.proofs.Prelude.{◌≡◌, ◌∙◌, ℕ, Bool, true, false, ℤ, List, [], ◌∷◌, Option, Some, None, arith, refl, sym, get_or, length, codes, AreEnds, IsNear, Keepout, Volume, words_in}
-use Rattle.std.proofs.Common.{cond, eqb}
-use Rattle.std.proofs.lemmas.Bool.{ne_eqb}
-use Rattle.std.proofs.lemmas.List.{length-map}
-use Rattle.std.specs.Prelude.{IfSome, bytes_eq}
-use Rattle.text_lines.specs.Tokens.{word_in}
-use Rattle.text_lines.specs.declared.token.Token.{Token}
-use Rattle.keepout_boxes.specs.Regions.{are_ordered, corner, region_of, region_with}
+use Rattle.keepout_boxes.proofs.Prelude.{◌≡◌, ◌∙◌, ℕ, Bool, true, false, ℤ, List, [], ◌∷◌, Option, Some, None, arith, refl, sym, get_or, length, codes, AreEnds, IsNear, Keepout, Volume, words_in, cond, eqb, ne_eqb, length-map, IfSome, bytes_eq, word_in, Token, are_ordered, corner, region_of, region_with}
 use Rattle.keepout_boxes.proofs.reading.region_on.Goals as goal
 
 -- a line of any other number of words

@@ -1,7 +1,4 @@
-use Rattle.std.proofs.Common.{inl, inr, refl, sym, ◌∙◌, arith}
-use Rattle.fleet_io.proofs.ToldLemmas.{IsInput-now, Went-none, Went-trans, back, consumed, of_source}
-use Rattle.fleet_io.specs.Held.{stream}
-use Rattle.fleet_io.specs.Told.{to_come}
+use Rattle.link_dialogue.proofs.Prelude.{inl, inr, refl, sym, ◌∙◌, arith, IsInput-now, Went-none, Went-trans, back, consumed, of_source, stream, to_come}
 use Rattle.link_dialogue.proofs.ItemLemmas.{Rose-later, grown_by, grown_more}
 use Rattle.link_dialogue.proofs.CarryLemmas.{Carries-none, Carries-push, breaks, breaks_first, carried, end_answered, end_faulty, end_full, end_none, fails, prompt_answered, prompt_broken, prompt_carried, prompt_first, short_begun, short_end, short_faulty, short_item, short_waiting, stops_before, stops_first, stops_waiting}
 use Rattle.link_dialogue.proofs.driver.carry.Goals as goal

@@ -1,7 +1,4 @@
-use Rattle.std.specs.Prelude.{◌≡◌, ◌≤◌, false, length, List, [], ℕ, IsTrue}
-use Rattle.std.specs.Io.KnownBytes.{Appends}
-use Rattle.fleet_io.specs.Held.{stream}
-use Rattle.fleet_io.specs.Told.{MayGive, Went, to_come}
+use Rattle.link_dialogue.proofs.Prelude.{◌≡◌, ◌≤◌, false, length, List, [], ℕ, IsTrue, Appends, stream, MayGive, Went, to_come}
 use Rattle.link_dialogue.proofs.CarryLemmas.{Carries}
 use Rattle.link_dialogue.proofs.driver.carry.Given as goal
 

@@ -1,7 +1,4 @@
-use Rattle.std.proofs.Common.{inl, inr, refl, sym, ◌∙◌, arith}
-use Rattle.fleet_io.specs.Held.{stream}
-use Rattle.fleet_io.specs.Told.{to_come}
-use Rattle.link_frames.specs.Frames.{end_frame}
+use Rattle.link_dialogue.proofs.Prelude.{inl, inr, refl, sym, ◌∙◌, arith, stream, to_come, end_frame}
 use Rattle.link_dialogue.proofs.ItemLemmas.{Rose-later, grown_more}
 use Rattle.link_dialogue.proofs.FinishLemmas.{all_sent, cut_broken, cut_ended, cut_failed, failed, grew_ended, grew_failed, prompt_kept, status_ended, status_known}
 use Rattle.link_dialogue.proofs.driver.run.Goals as goal

@@ -1,8 +1,4 @@
-use Rattle.std.proofs.Common.{◌≡◌, ◌++◌, ◌∷◌, [], append_assoc, length-append, refl, sym, arith, rules, length, List, ℕ}
-use Rattle.fleet_io.proofs.ToldLemmas.{Took-none, Took-trans, Went-none, Went-trans, back, consumed, nothing_before}
-use Rattle.fleet_io.specs.Held.{stream}
-use Rattle.fleet_io.specs.Told.{to_come}
-use Rattle.link_dialogue.specs.Dialogues.{BeginsNone}
+use Rattle.link_dialogue.proofs.Prelude.{◌≡◌, ◌++◌, ◌∷◌, [], append_assoc, length-append, refl, sym, arith, rules, length, List, ℕ, Took-none, Took-trans, Went-none, Went-trans, back, consumed, nothing_before, stream, to_come, BeginsNone}
 use Rattle.link_dialogue.proofs.ItemLemmas.{bad_front, cut_front, end_front}
 use Rattle.link_dialogue.proofs.CarryLemmas.{moved, took_front}
 use Rattle.link_dialogue.proofs.driver.step.Goals as goal

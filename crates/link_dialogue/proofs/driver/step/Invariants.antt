@@ -1,5 +1,4 @@
-use Rattle.std.specs.Prelude.{◌≡◌, ◌≤◌, false, length, List, [], ℕ, None, IsTrue}
-use Rattle.fleet_io.specs.Told.{Took, Went}
+use Rattle.link_dialogue.proofs.Prelude.{◌≡◌, ◌≤◌, false, length, List, [], ℕ, None, IsTrue, Took, Went}
 use Rattle.link_dialogue.proofs.driver.step.Given as goal
 
 -- the bytes that were taken are those of the item that is begun

@@ -1,5 +1,4 @@
-use Rattle.link_upload.proofs.Prelude.{arith, sym, ◌∙◌, refl, frame_law, events_in, link_of}
-use Rattle.upload_model.specs.Hosts.{progress}
+use Rattle.link_upload.proofs.Prelude.{arith, sym, ◌∙◌, refl, frame_law, events_in, link_of, progress}
 use Rattle.link_upload.proofs.SendLemmas.{sent-none}
 use Rattle.link_upload.proofs.StatusLemmas.{known, own}
 use Rattle.link_upload.proofs.UploadLemmas.{is_dialogue}

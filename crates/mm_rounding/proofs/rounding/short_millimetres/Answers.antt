@@ -1,5 +1,4 @@
-use Rattle.mm_rounding.proofs.Prelude.{rules, Some, ◌≡◌, ◌∙◌, ◌+◌, suc, FitsSigned, arith, sym, ap, map, length, to_z-of_z, w16, w64, at, millimetres, short}
-use Rattle.std.proofs.lemmas.List.{length-map, length-set}
+use Rattle.mm_rounding.proofs.Prelude.{rules, Some, ◌≡◌, ◌∙◌, ◌+◌, suc, FitsSigned, arith, sym, ap, map, length, to_z-of_z, w16, w64, at, millimetres, short, length-map, length-set}
 use Rattle.mm_rounding.proofs.Curves.{at-map}
 use Rattle.mm_rounding.proofs.Elements.{all_kept, one_more, one_unfitted}
 use Rattle.mm_rounding.proofs.rounding.short_millimetres.Goals as goal

@@ -1,5 +1,4 @@
-use Rattle.mm_rounding.proofs.Prelude.{rules, ◌≡◌, ◌∙◌, ◌+◌, suc, FitsSigned, arith, to_z-of_z, w16, w64, at}
-use Rattle.std.proofs.lemmas.List.{length-set}
+use Rattle.mm_rounding.proofs.Prelude.{rules, ◌≡◌, ◌∙◌, ◌+◌, suc, FitsSigned, arith, to_z-of_z, w16, w64, at, length-set}
 use Rattle.mm_rounding.proofs.Elements.{all_kept, one_more, one_unfitted}
 use Rattle.mm_rounding.proofs.rounding.shorts.Goals as goal
 

@@ -1,7 +1,4 @@
-use Rattle.pair_search.proofs.Prelude.{◌≡◌, ◌⊎◌, ℕ, inl, inr, true, false, Option, Some, None, arith, subst, sym, ◌∙◌}
-use Rattle.std.specs.Int.{bit_at}
-use Rattle.std.proofs.lemmas.Nat.Bits.{bit_at-zero}
-use Rattle.pair_search.specs.Marks.{AnswersBit, dir_of}
+use Rattle.pair_search.proofs.Prelude.{◌≡◌, ◌⊎◌, ℕ, inl, inr, true, false, Option, Some, None, arith, subst, sym, ◌∙◌, bit_at, bit_at-zero, AnswersBit, dir_of}
 use Rattle.pair_search.proofs.LaneLemmas.{by_same}
 use Rattle.pair_search.proofs.first.first_marked.Goals as goal
 

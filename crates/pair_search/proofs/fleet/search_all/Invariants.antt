@@ -1,6 +1,5 @@
-use Rattle.pair_search.proofs.Prelude.{◌≡◌, List, ◌++◌, map, Slot, best_nodes, slots_in}
+use Rattle.pair_search.proofs.Prelude.{◌≡◌, List, ◌++◌, map, Slot, best_nodes, slots_in, AreWeighed}
 use Rattle.pair_search.proofs.Fleets.{IsPending, left}
-use Rattle.pair_search.specs.Marks.{AreWeighed}
 use Rattle.pair_search.proofs.fleet.search_all.Given as goal
 
 -- the slots so far aren't blocked, and have their trees; two points are kept, weighed

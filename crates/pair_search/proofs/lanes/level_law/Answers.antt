@@ -1,5 +1,4 @@
-use Rattle.pair_search.proofs.Prelude.{◌*◌, ◌^◌, arith, pow_pos}
-use Rattle.sep_parts.proofs.Parts.{level_below}
+use Rattle.pair_search.proofs.Prelude.{◌*◌, ◌^◌, arith, pow_pos, level_below}
 use Rattle.pair_search.proofs.lanes.level_law.Goals as goal
 
 pub returns-clause-values : goal.returns-clause-values

@@ -1,9 +1,4 @@
-use Rattle.std.proofs.Common.{◌≡◌, ℕ, zero, suc, ◌+◌, List, cond, leb, length, get_or, map, ap, subst, ◌∙◌, arith, rules, w8}
-use Rattle.std.specs.Int.{bit_at}
-use Rattle.std.specs.Simd.Lanes.{mask_l, chunk}
-use Rattle.std.proofs.lemmas.Simd.{length-chunk, get_or-chunk, bit_mask_l, bitmask_splat}
-use Rattle.std.proofs.Math.ListN.{get_or-map}
-use Rattle.std.proofs.lemmas.List.{get_or_default}
+use Rattle.pair_search.proofs.Prelude.{◌≡◌, ℕ, zero, suc, ◌+◌, List, cond, leb, length, get_or, map, ap, subst, ◌∙◌, arith, rules, w8, bit_at, mask_l, chunk, length-chunk, get_or-chunk, bit_mask_l, bitmask_splat, get_or-map, get_or_default}
 use Rattle.pair_search.proofs.marking.clear_bytes.Goals as goal
 
 set : (x bit : ℕ) → bit ≡ cond {A = ℕ} (leb x 0) 1 0 → x ≡ 0 → bit ≡ 0 → ⊥

@@ -1,4 +1,4 @@
-use Rattle.std.proofs.Common.{arith}
+use Rattle.pair_search.proofs.Prelude.{arith}
 use Rattle.pair_search.proofs.HighBits.{highest_set}
 use Rattle.pair_search.proofs.marking.highest.Goals as goal
 

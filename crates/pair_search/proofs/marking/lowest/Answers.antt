@@ -1,5 +1,5 @@
-use Rattle.std.proofs.Common.{arith, w64}
-use Rattle.std.proofs.lemmas.Nat.Bits.{bit_at-trailing_zeros}
+use Rattle.pair_search.proofs.Prelude.{arith, bit_at-trailing_zeros}
+use Rattle.std.proofs.Common.{w64}
 use Rattle.pair_search.proofs.marking.lowest.Goals as goal
 
 pub returns-clause-set : goal.returns-clause-set

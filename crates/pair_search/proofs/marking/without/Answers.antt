@@ -1,8 +1,5 @@
-use Rattle.std.proofs.Common.{◌≡◌, suc, ◌-◌, ◌*◌, ◌%◌, ◌^◌, ◌<◌, sym, ap, subst, ◌∙◌, arith, w64, bit_and}
-use Rattle.std.proofs.Common.{pow_pos, pow_mono}
-use Rattle.std.proofs.lemmas.Nat.Bits.{bit_at_clear_other, and_pow}
-use Rattle.std.proofs.lemmas.Nat.{and-not, and_comm}
-use Rattle.std.proofs.Math.Nat.{two-pow-succ}
+use Rattle.pair_search.proofs.Prelude.{◌≡◌, suc, ◌-◌, ◌*◌, ◌%◌, ◌^◌, ◌<◌, sym, ap, subst, ◌∙◌, arith, bit_and, pow_pos, pow_mono, bit_at_clear_other, and_pow, and-not, and_comm, two-pow-succ}
+use Rattle.std.proofs.Common.{w64}
 use Rattle.pair_search.proofs.marking.without.Goals as goal
 
 pub returns-clause-kept : goal.returns-clause-kept

@@ -1,6 +1,4 @@
-use Rattle.pair_search.proofs.Prelude.{common_steps, ◌≡◌, ◌≤◌, [], ◌∷◌, sym, ◌∙◌, ap, subst, refl, drop, length, rules, List, arith, Bez, Level, IsLevel, IsStack, places_of, root, first_stack, first_by, marked, some_next}
-use Rattle.pair_search.specs.declared.ends.Ends.{Ends}
-use Rattle.pair_search.specs.Marks.{TellAll}
+use Rattle.pair_search.proofs.Prelude.{common_steps, ◌≡◌, ◌≤◌, [], ◌∷◌, sym, ◌∙◌, ap, subst, refl, drop, length, rules, List, arith, Bez, Level, IsLevel, IsStack, places_of, root, first_stack, first_by, marked, some_next, Ends, TellAll}
 use Rattle.pair_search.proofs.EndLemmas.{next_ends, whole_told}
 use Rattle.pair_search.proofs.Halves.{left_has, right_has}
 use Rattle.pair_search.proofs.Marks.{has_counted, has_there, count_begun, count_blocked, count_ended, count_past}

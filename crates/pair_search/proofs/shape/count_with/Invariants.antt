@@ -1,7 +1,6 @@
-use Rattle.pair_search.proofs.Prelude.{◌≡◌, length, IsStack, places_of, first_by}
+use Rattle.pair_search.proofs.Prelude.{◌≡◌, length, IsStack, places_of, first_by, TellAll}
 use Rattle.pair_search.proofs.Marks.{IsCount}
 use Rattle.pair_search.proofs.Trees.{work}
-use Rattle.pair_search.specs.Marks.{TellAll}
 use Rattle.pair_search.proofs.shape.count_with.Given as goal
 
 abbrev pub invariant-loop-level : goal.invariant-loop-level

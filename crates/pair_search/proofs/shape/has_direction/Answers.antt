@@ -1,5 +1,4 @@
-use Rattle.pair_search.proofs.Prelude.{◌≤◌, length, arith, rules, sym, ◌∙◌}
-use Rattle.pair_search.specs.Marks.{AreLeft}
+use Rattle.pair_search.proofs.Prelude.{◌≤◌, length, arith, rules, sym, ◌∙◌, AreLeft}
 use Rattle.pair_search.proofs.EndLemmas.{left_marks, nothing_left}
 use Rattle.pair_search.proofs.Marks.{some_there}
 use Rattle.pair_search.proofs.shape.has_direction.Goals as goal

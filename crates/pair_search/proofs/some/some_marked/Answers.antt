@@ -1,6 +1,5 @@
-use Rattle.pair_search.proofs.Prelude.{◌≡◌, ℕ, Option, None, false, arith, inl, length, subst, sym, does_separate}
+use Rattle.pair_search.proofs.Prelude.{◌≡◌, ℕ, Option, None, false, arith, inl, length, subst, sym, does_separate, FindsBit, dir_of}
 use Rattle.pair_search.proofs.EndLemmas.{bits_left}
-use Rattle.pair_search.specs.Marks.{FindsBit, dir_of}
 use Rattle.pair_search.proofs.some.some_marked.Goals as goal
 
 pub loop-rest-init : goal.loop-rest-init

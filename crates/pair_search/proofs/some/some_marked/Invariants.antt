@@ -1,6 +1,4 @@
-use Rattle.pair_search.proofs.Prelude.{◌≡◌, ◌⊎◌, ℕ, ◌<◌, false, length, does_separate}
-use Rattle.std.specs.Int.{bit_at}
-use Rattle.pair_search.specs.Marks.{dir_of}
+use Rattle.pair_search.proofs.Prelude.{◌≡◌, ◌⊎◌, ℕ, ◌<◌, false, length, does_separate, bit_at, dir_of}
 use Rattle.pair_search.proofs.some.some_marked.Given as goal
 
 abbrev pub invariant-loop-rest : goal.invariant-loop-rest

@@ -1,5 +1,4 @@
-use Rattle.pair_search.proofs.Prelude.{rules, ◌∷◌, ◌++◌, [], ◌∙◌, ap, refl, List, Bez, root, Node, Leaf, Level, first_by}
-use Rattle.sep_parts.proofs.Parts.{raised_level}
+use Rattle.pair_search.proofs.Prelude.{rules, ◌∷◌, ◌++◌, [], ◌∙◌, ap, refl, List, Bez, root, Node, Leaf, Level, first_by, raised_level}
 use Rattle.pair_search.proofs.EndLemmas.{early_left}
 use Rattle.pair_search.proofs.Firsts.{early_node, early_none}
 use Rattle.pair_search.proofs.Halves.{left_has, right_has}

@@ -1,6 +1,4 @@
-use Rattle.pair_search.proofs.Prelude.{common_steps, ◌≡◌, sym, ◌∙◌, subst, refl, ap, arith, rules, drop, length, List, [], ◌∷◌, ◌++◌, Place, places_of, Level, Bez, IsShallow, IsStack, root, Node, Split, first_by, first_stack, next_same, some_next}
-use Rattle.pair_search.specs.declared.ends.Ends.{Ends}
-use Rattle.pair_search.specs.Marks.{TellAll}
+use Rattle.pair_search.proofs.Prelude.{common_steps, ◌≡◌, sym, ◌∙◌, subst, refl, ap, arith, rules, drop, length, List, [], ◌∷◌, ◌++◌, Place, places_of, Level, Bez, IsShallow, IsStack, root, Node, Split, first_by, first_stack, next_same, some_next, Ends, TellAll}
 use Rattle.pair_search.proofs.EndLemmas.{next_ends}
 use Rattle.pair_search.proofs.Halves.{left_has, right_has}
 use Rattle.pair_search.proofs.Trees.{begun, less_pending, past_pending, blocked_pending, ended_pending}

@@ -1,6 +1,5 @@
-use Rattle.pair_search.proofs.Prelude.{◌≡◌, length, IsStack, places_of, first_by}
+use Rattle.pair_search.proofs.Prelude.{◌≡◌, length, IsStack, places_of, first_by, TellAll}
 use Rattle.pair_search.proofs.Trees.{IsWalk, work}
-use Rattle.pair_search.specs.Marks.{TellAll}
 use Rattle.pair_search.proofs.walk.walk_halves.Given as goal
 
 abbrev pub invariant-loop-level : goal.invariant-loop-level

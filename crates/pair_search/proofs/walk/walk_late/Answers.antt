@@ -1,5 +1,4 @@
-use Rattle.pair_search.proofs.Prelude.{rules, ◌∷◌, ◌++◌, [], sym, ◌∙◌, ap, refl, arith, List, Some, Bez, root, Node, Leaf, Level, first_by}
-use Rattle.sep_parts.proofs.Parts.{raised_level}
+use Rattle.pair_search.proofs.Prelude.{rules, ◌∷◌, ◌++◌, [], sym, ◌∙◌, ap, refl, arith, List, Some, Bez, root, Node, Leaf, Level, first_by, raised_level}
 use Rattle.pair_search.proofs.EndLemmas.{ends_kept, ends_told, late_left}
 use Rattle.pair_search.proofs.Halves.{left_has, right_has}
 use Rattle.pair_search.proofs.Trees.{begun, past_pending, blocked_pending, ended_pending}

@@ -1,6 +1,5 @@
-use Rattle.quantities.proofs.Prelude.{◌≡◌, ℕ, ◌-◌, true, List, drop, take, length, option_map, rules, arith, signed, size_of, measured_of, begins_with_minus as begins_with_minus_of}
+use Rattle.quantities.proofs.Prelude.{◌≡◌, ℕ, ◌-◌, true, List, drop, take, length, option_map, rules, arith, signed, size_of, measured_of, begins_with_minus as begins_with_minus_of, Counts}
 use Rattle.std.proofs.lemmas.Grind.{common_steps}
-use Rattle.quantities.specs.declared.unit.Counts.{Counts}
 use Rattle.quantities.proofs.quantity.measured_in.Goals as goal
 
 negative : (counts : Counts) (w : List ℕ) → true ≡ begins_with_minus_of w → measured_of counts w ≡ option_map (signed true) (size_of counts (take (length w - 1) (drop 1 w)))

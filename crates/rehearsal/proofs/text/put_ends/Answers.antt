@@ -1,6 +1,5 @@
 -- Why `put_ends` keeps its contract: its words are those of the last values.
-use Rattle.rehearsal.proofs.Prelude.{◌≡◌, ◌∙◌, ◌++◌, [], ◌∷◌, ℤ, get_or, rules}
-use Rattle.std.proofs.Common.{OnOk, codes, lit<, of_z, pos, to_z, w16, w64}
+use Rattle.rehearsal.proofs.Prelude.{◌≡◌, ◌∙◌, ◌++◌, [], ◌∷◌, ℤ, get_or, rules, OnOk, codes, lit<, of_z, pos, to_z, w16, w64}
 use Rattle.std.proofs.lemmas.Int.{to_z-of_z}
 use Rattle.std.specs.Fmt.{signed_decimal}
 use Rattle.fleet_io.specs.Words.{line}

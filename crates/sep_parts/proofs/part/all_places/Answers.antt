@@ -1,5 +1,4 @@
-use Rattle.sep_parts.proofs.Prelude.{arith, ℕ, zero, suc, ◌-◌, ◌<◌, ◌≤◌, true}
-use Rattle.std.proofs.Common.{◌%◌}
+use Rattle.sep_parts.proofs.Prelude.{arith, ℕ, zero, suc, ◌-◌, ◌<◌, ◌≤◌, true, ◌%◌}
 use Rattle.sep_parts.proofs.part.all_places.Goals as goal
 
 -- what holds of the turns so far and of this one holds of one more

@@ -1,5 +1,4 @@
-use Rattle.sep_parts.proofs.Prelude.{ℕ, ◌-◌, ◌<◌, true}
-use Rattle.std.proofs.Common.{◌%◌}
+use Rattle.sep_parts.proofs.Prelude.{ℕ, ◌-◌, ◌<◌, true, ◌%◌}
 use Rattle.sep_parts.proofs.part.all_places.Given as goal
 
 -- the places of the turns so far are answered with yes

@@ -1,4 +1,5 @@
-use Rattle.sep_parts.proofs.Prelude.{common_steps, rules, arith, pos, FitsSigned, to_z-of_z, w64, IsBelow, three}
+use Rattle.sep_parts.proofs.Prelude.{common_steps, rules, arith, pos, FitsSigned, to_z-of_z, w64, IsBelow}
+use Rattle.fleet_curves.proofs.Small.{three}
 use Rattle.sep_parts.proofs.NarrowLemmas.{narrow_kept}
 use Rattle.sep_parts.proofs.Entries.{entry_fits, entry_small, told_three}
 use Rattle.sep_parts.proofs.short.weights.Goals as goal

@@ -1,4 +1,4 @@
-use Rattle.show_judge.specs.Verb.{during}
+use Rattle.show_direct.proofs.Prelude.{during}
 use Rattle.show_direct.proofs.RunLemmas.{begun_direct, does_direct}
 use Rattle.show_direct.proofs.flying.direct.Goals as goal
 

@@ -1,6 +1,4 @@
-use Rattle.std.proofs.Common.{arith}
-use Rattle.show_judge.specs.Verb.{during}
-use Rattle.show_direct.specs.Steps.{coming, left_of}
+use Rattle.show_direct.proofs.Prelude.{arith, during, coming, left_of}
 use Rattle.show_direct.proofs.FlownLemmas.{carried_error, carried_flight, few_unread}
 use Rattle.show_direct.proofs.flying.fly.Goals as goal
 

@@ -1,7 +1,4 @@
-use Rattle.fleet_io.proofs.ToldLemmas.{Went-trans, back}
-use Rattle.show_judge.specs.Verb.{during}
-use Rattle.show_direct.specs.Direct.{down_exchange}
-use Rattle.show_direct.specs.Steps.{coming, left_of}
+use Rattle.show_direct.proofs.Prelude.{Went-trans, back, during, down_exchange, coming, left_of}
 use Rattle.show_direct.proofs.CarryLemmas.{carried_read, carried_unread, unmet_before}
 use Rattle.show_direct.proofs.flying.fly_show.Goals as goal
 

@@ -1,4 +1,4 @@
-use Rattle.std.proofs.Common.{w16, ◌∙◌}
+use Rattle.show_direct.proofs.Prelude.{w16, ◌∙◌}
 use Rattle.std.proofs.lemmas.Int.{to_z-of_z}
 use Rattle.show_direct.proofs.MakingLemmas.{flight_made, is_held}
 use Rattle.show_direct.proofs.making.make_flight.Goals as goal

@@ -1,5 +1,4 @@
-use Rattle.std.proofs.Common.{refl}
-use Rattle.flight_steps.specs.declared.ways.Ways.{Ways}
+use Rattle.show_direct.proofs.Prelude.{refl, Ways}
 use Rattle.show_direct.proofs.MakingLemmas.{are_fitted, steps_fitted}
 use Rattle.show_direct.proofs.making.make_steps.Goals as goal
 

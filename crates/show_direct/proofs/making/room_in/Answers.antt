@@ -1,4 +1,4 @@
-use Rattle.std.proofs.Common.{◌∙◌}
+use Rattle.show_direct.proofs.Prelude.{◌∙◌}
 use Rattle.show_direct.proofs.MakingLemmas.{room_from, room_is}
 use Rattle.show_direct.proofs.making.room_in.Goals as goal
 

@@ -1,5 +1,4 @@
-use Rattle.std.specs.Prelude.{◌++◌, drop, length}
-use Rattle.show_looks.proofs.Prelude.{ℕ, List, subst, refl, drill_text, cut_of, told_input}
+use Rattle.show_looks.proofs.Prelude.{◌++◌, drop, length, ℕ, List, subst, refl, drill_text, cut_of, told_input}
 use Rattle.fleet_io.proofs.CopiedLemmas.{empty}
 use Rattle.fleet_io.specs.Memory.{SureIn, told_sure}
 use Rattle.show_judge.specs.Input.{IsShowText}

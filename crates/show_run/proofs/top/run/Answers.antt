@@ -1,13 +1,6 @@
-use Rattle.std.proofs.Common.{Some, ap, refl, sym, ◌∙◌}
-use Rattle.fleet_io.proofs.ToldLemmas.{IsInput-now, comes}
-use Rattle.command_words.specs.declared.command.Command.TheVariants.{Boxes, Compile, Direct, Drill, Dynamics, Explain, Speed, Upload}
-use Rattle.drill_show.specs.Drill.{drill_text}
-use Rattle.show_judge.proofs.HeadlineLemmas.{behaves_left, flies_own, read_to_end}
+use Rattle.show_run.proofs.Prelude.{Some, ap, refl, sym, ◌∙◌, IsInput-now, comes, Boxes, Compile, Direct, Drill, Dynamics, Explain, Speed, Upload, drill_text, behaves_left, flies_own, read_to_end, drill_of, report_of, verb_of}
 use Rattle.show_judge.proofs.VerbLemmas.{outcomes}
-use Rattle.show_looks.specs.Drilled.{drill_of}
-use Rattle.show_looks.specs.Reports.{report_of}
 use Rattle.show_looks.proofs.CompileLemmas.{headline_of}
-use Rattle.show_run.specs.Verbs.{verb_of}
 use Rattle.show_run.proofs.TopLemmas.{behaves_as, does_as, known_small, never, one_command}
 use Rattle.show_run.proofs.NameLemmas.{compiles, uploads}
 use Rattle.show_run.proofs.VerbLaws.{laws}

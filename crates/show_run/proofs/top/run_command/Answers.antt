@@ -1,10 +1,4 @@
-use Rattle.std.proofs.Common.{subst, sym, ◌∙◌}
-use Rattle.command_words.specs.declared.command.Command.{Command}
-use Rattle.show_direct.specs.declared.options.Options.{Options}
-use Rattle.show_direct.specs.Direct.{FlyAsOne, direct_verb}
-use Rattle.show_judge.specs.Runs.{Does}
-use Rattle.show_judge.specs.Verb.{during}
-use Rattle.show_run.specs.Verbs.{verb_of}
+use Rattle.show_run.proofs.Prelude.{subst, sym, ◌∙◌, Command, Options, FlyAsOne, direct_verb, Does, during, verb_of}
 use Rattle.show_run.proofs.TopLemmas.{flight_as}
 use Rattle.show_run.proofs.top.run_command.Goals as goal
 

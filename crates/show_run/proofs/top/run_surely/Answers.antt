@@ -1,6 +1,5 @@
-use Rattle.fleet_io.proofs.ToldLemmas.{IsInput-now}
+use Rattle.show_run.proofs.Prelude.{IsInput-now, inl, inr}
 use Rattle.fleet_io.specs.Memory.{told_sure}
-use Rattle.std.proofs.Common.{inl, inr}
 use Rattle.show_run.proofs.TopLemmas.{never_rose, never_seven, never_six}
 use Rattle.show_run.proofs.top.run_surely.Goals as goal
 

@@ -1,6 +1,4 @@
-use Rattle.show_studies.proofs.Prelude.{◌≡◌, suc, ◌-◌, Option, Some, arith, subst, sym}
-use Rattle.show_plan.specs.declared.separation.BlockedPart.{BlockedPart}
-use Rattle.show_studies.specs.Steps.{NextGives, SaysOf}
+use Rattle.show_studies.proofs.Prelude.{◌≡◌, suc, ◌-◌, Option, Some, arith, subst, sym, BlockedPart, NextGives, SaysOf}
 use Rattle.show_studies.proofs.ListingLemmas.{next_line}
 use Rattle.show_studies.proofs.blocking.put_next.Goals as goal
 

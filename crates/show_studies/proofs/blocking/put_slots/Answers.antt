@@ -1,12 +1,4 @@
-use Rattle.show_studies.proofs.Prelude.{◌≡◌, ℕ, ◌<◌, Option, None, Some, ap, arith, sym, subst, ◌∙◌, Raised, blocked_among, blocked_parts}
-use Rattle.sep_parts.proofs.Orders.{IsAhead, first_ahead, next_ahead, some_ahead}
-use Rattle.sep_parts.specs.Slots.{following, slots}
-use Rattle.sep_parts.specs.Rulers.{Measure}
-use Rattle.sep_parts.specs.declared.slot.Slot.{Slot}
-use Rattle.show_plan.specs.declared.separation.BlockedPart.{BlockedPart}
-use Rattle.show_plan.specs.Separation.{clearance_of, measure_of}
-use Rattle.show_studies.specs.Explained.{most_blocked}
-use Rattle.show_studies.specs.Steps.{Ends, NextGives, SaysOf, part_in}
+use Rattle.show_studies.proofs.Prelude.{◌≡◌, ℕ, ◌<◌, Option, None, Some, ap, arith, sym, subst, ◌∙◌, Raised, blocked_among, blocked_parts, IsAhead, first_ahead, next_ahead, some_ahead, following, slots, Measure, Slot, BlockedPart, clearance_of, measure_of, most_blocked, Ends, NextGives, SaysOf, part_in}
 use Rattle.show_studies.proofs.ListingLemmas.{part_of, slot_last, slot_next, slots_over}
 use Rattle.show_studies.proofs.blocking.put_slots.Goals as goal
 

@@ -1,10 +1,5 @@
-use Rattle.show_studies.proofs.Prelude.{List, blocked_among, blocked_parts}
+use Rattle.show_studies.proofs.Prelude.{List, blocked_among, blocked_parts, IsAhead, Slot, clearance_of, most_blocked, SaysOf}
 use Rattle.pair_search.proofs.Fleets.{left}
-use Rattle.sep_parts.proofs.Orders.{IsAhead}
-use Rattle.sep_parts.specs.declared.slot.Slot.{Slot}
-use Rattle.show_plan.specs.Separation.{clearance_of}
-use Rattle.show_studies.specs.Explained.{most_blocked}
-use Rattle.show_studies.specs.Steps.{SaysOf}
 use Rattle.show_studies.proofs.ListingLemmas.{IsPending}
 use Rattle.show_studies.proofs.blocking.put_slots.Given as goal
 

@@ -1,11 +1,5 @@
-use Rattle.std.proofs.Common.{◌≡◌, inl, inr, true, false}
-use Rattle.show_uploads.proofs.Prelude.{common_steps, ap, refl, arith, link_of, List, ℕ, Option, IfSome, Held, cut_of, Gives-trans, IsInput-now, at_new, back, consumed, of_source, takes_front, to_come, run_on, stream, stream_new, during, upload_verb}
-use Rattle.std.specs.Io.KnownBytes.{Consumes}
-use Rattle.fleet_io.specs.Parts.{TakesFewAfter}
+use Rattle.show_uploads.proofs.Prelude.{◌≡◌, inl, inr, true, false, common_steps, ap, refl, arith, link_of, List, ℕ, Option, IfSome, Held, cut_of, Gives-trans, IsInput-now, at_new, back, consumed, of_source, takes_front, to_come, run_on, stream, stream_new, during, upload_verb, Consumes, TakesFewAfter, GoesOnReady, ReadyGives, upload_ways, outcomes}
 use Rattle.show_uploads.specs.declared.uploading.Ready.TheVariants as ready
-use Rattle.show_uploads.specs.Ready.{GoesOnReady, ReadyGives}
-use Rattle.show_uploads.specs.Upload.{upload_ways}
-use Rattle.show_judge.proofs.VerbLemmas.{outcomes}
 use Rattle.show_uploads.proofs.BegunLemmas.{begun_link, never_same, never_wrote}
 use Rattle.show_uploads.proofs.UploadLemmas.{stops_failed, stops_late, stops_refused, upload_carried, upload_failed, upload_refused}
 use Rattle.show_uploads.proofs.uploading.carry.Goals as goal

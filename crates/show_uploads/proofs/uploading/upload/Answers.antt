@@ -1,5 +1,4 @@
-use Rattle.show_uploads.proofs.Prelude.{List, ℕ, subst, part_of, behaves_of, upload_verb, IsInput-now, comes}
-use Rattle.show_judge.specs.Headline.{UploadsText}
+use Rattle.show_uploads.proofs.Prelude.{List, ℕ, subst, part_of, behaves_of, upload_verb, IsInput-now, comes, UploadsText}
 use Rattle.show_uploads.proofs.uploading.upload.Goals as goal
 
 pub returns-clause-behaves : goal.returns-clause-behaves

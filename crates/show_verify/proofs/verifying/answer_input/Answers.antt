@@ -1,9 +1,6 @@
-use Rattle.fleet_io.specs.Told.{Told}
+use Rattle.show_verify.proofs.Prelude.{Told, IsNextText, takes_at_most, ap, List, ℕ, Option, Gives-trans, GoesOn, back, of_source, takes_front, to_come, Held, stream, verify_verb, EndsWell, IsWholeText}
 use Rattle.fleet_math.specs.Limits.{most_text}
-use Rattle.show_judge.specs.Input.{IsNextText}
 use Rattle.show_judge.proofs.ReadLemmas.{little_two, rose_later}
-use Rattle.fleet_io.proofs.ToldLemmas.{takes_at_most}
-use Rattle.show_verify.proofs.Prelude.{ap, List, ℕ, Option, Gives-trans, GoesOn, back, of_source, takes_front, to_come, Held, stream, verify_verb, EndsWell, IsWholeText}
 use Rattle.show_judge.specs.declared.judging.Planned.TheVariants.{Fits}
 use Rattle.show_verify.proofs.SecondLemmas.{both_read, input_fitted, input_refused, there}
 use Rattle.show_judge.proofs.FewLemmas.{at_new}

@@ -1,5 +1,4 @@
-use Rattle.std.proofs.lemmas.Grind.{common_steps}
-use Rattle.show_verify.proofs.Prelude.{cond, arith}
+use Rattle.show_verify.proofs.Prelude.{common_steps, cond, arith}
 use Rattle.show_verify.proofs.SecondLemmas.{feeds_next}
 use Rattle.show_verify.proofs.verifying.feeds.Goals as goal
 

@@ -1,6 +1,4 @@
-use Rattle.std.proofs.lemmas.Grind.{common_steps}
-use Rattle.std.proofs.Common.{arith}
-use Rattle.show_verify.proofs.Prelude.{IsInput-now, of_source, ap, ◌∙◌, raised_of, to_come, stream, outcome_of, TakenGives, Whole}
+use Rattle.show_verify.proofs.Prelude.{common_steps, arith, IsInput-now, of_source, ap, ◌∙◌, raised_of, to_come, stream, outcome_of, TakenGives, Whole}
 use Rattle.show_verify.proofs.SecondLemmas.{taken_whole, whole_gives}
 use Rattle.show_verify.proofs.verifying.judge_second.Goals as goal
 

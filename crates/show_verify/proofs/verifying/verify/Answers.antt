@@ -1,5 +1,4 @@
-use Rattle.fleet_io.proofs.ToldLemmas.{takes_front}
-use Rattle.show_verify.proofs.Prelude.{None, refl, certificate_limit, verify_verb}
+use Rattle.show_verify.proofs.Prelude.{takes_front, None, refl, certificate_limit, verify_verb}
 use Rattle.show_judge.proofs.DriverLemmas.{two_behaves}
 use Rattle.show_verify.proofs.verifying.verify.Goals as goal
 

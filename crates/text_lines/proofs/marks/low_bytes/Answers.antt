@@ -1,10 +1,7 @@
-use Rattle.std.proofs.Common.{◌≡◌, ◌↔◌, ℕ, ◌+◌, ◌<◌, ◌≤◌, List, Bool, true, false, cond, leb, length, get_or, map, refl, sym, ap, subst, ◌∙◌, arith, w8, ⊎_elim}
-use Rattle.std.specs.Int.{bit_at}
+use Rattle.text_lines.proofs.Prelude.{◌≡◌, ◌↔◌, ℕ, ◌+◌, ◌<◌, ◌≤◌, List, Bool, true, false, cond, leb, length, get_or, map, refl, sym, ap, subst, ◌∙◌, arith, w8, ⊎_elim, bit_at, leb-true, leb-false, cases_lt, get_or_past, get_or_default}
 use Rattle.std.specs.Simd.Lanes.{mask_l, chunk}
 use Rattle.std.proofs.lemmas.Simd.{length-chunk, get_or-chunk, bit_mask_l, bitmask_splat}
-use Rattle.std.proofs.lemmas.Bool.{leb-true, leb-false, cases_lt}
 use Rattle.std.proofs.Math.ListN.{get_or-map}
-use Rattle.std.proofs.lemmas.List.{get_or_past, get_or_default}
 use Rattle.text_lines.proofs.marks.low_bytes.Goals as goal
 
 set_tells : (x : ℕ) (b : Bool) → leb x 32 ≡ b → (cond {A = ℕ} b 1 0 ≡ 1) ↔ (x ≤ 32)

@@ -1,5 +1,4 @@
-use Rattle.std.proofs.Common.{◌≡◌, ◌++◌, [], ◌∷◌, OnOk, codes, decimal}
-use Rattle.fleet_io.specs.Words.{line}
+use Rattle.touch_witness.proofs.Prelude.{◌≡◌, ◌++◌, [], ◌∷◌, OnOk, codes, decimal, line}
 use Rattle.touch_witness.proofs.lines.put_blocked.Goals as goal
 
 pub returns : goal.returns

@@ -1,5 +1,4 @@
-use Rattle.traj_codec.proofs.Prelude.{common_steps, pos, arith}
-use Rattle.std.proofs.lemmas.Int.{to_z-of_z}
+use Rattle.traj_codec.proofs.Prelude.{common_steps, pos, arith, to_z-of_z}
 use Rattle.traj_codec.proofs.PositionLemmas.{last-at}
 use Rattle.traj_codec.proofs.ends.last_of.Goals as goal
 

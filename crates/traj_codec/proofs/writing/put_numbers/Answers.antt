@@ -1,8 +1,5 @@
-use Rattle.traj_codec.proofs.Prelude.{◌≡◌, ℕ, ◌+◌, ◌<◌, ◌++◌, ◌∷◌, [], List, ℤ, FitsSigned, ap, sym, ◌∙◌, append-nil, append_assoc, flat_map-append, get_or, length, pos, take, take_all, number, numbers}
-use Rattle.std.proofs.Common.{rules}
-use Rattle.std.proofs.lemmas.Int.{to_z-of_z}
+use Rattle.traj_codec.proofs.Prelude.{◌≡◌, ℕ, ◌+◌, ◌<◌, ◌++◌, ◌∷◌, [], List, ℤ, FitsSigned, ap, sym, ◌∙◌, append-nil, append_assoc, flat_map-append, get_or, length, pos, take, take_all, number, numbers, rules, to_z-of_z, take_more}
 use mir.Syntax.{w16}
-use Rattle.std.proofs.lemmas.List.{take_more}
 use Rattle.traj_codec.proofs.writing.put_numbers.Goals as goal
 
 -- one number more

@@ -1,5 +1,4 @@
-use Rattle.choreo_reader.proofs.Prelude.{◌≡◌, ◌+◌, ◌<◌, length, refl, ap, arith, Result, Ok, Err, built_of}
-use Rattle.std.specs.Prelude.{◌-◌, OnOk}
+use Rattle.choreo_reader.proofs.Prelude.{◌≡◌, ◌+◌, ◌<◌, length, refl, ap, arith, Result, Ok, Err, built_of, ◌-◌, OnOk}
 use Rattle.choreo_reader.proofs.Opened.{opens_set}
 use Rattle.choreo_reader.proofs.reader.Reader.add_act.Goals as goal
 

@@ -1,7 +1,4 @@
-use Rattle.std.proofs.Common.{◌≡◌, drop}
-use Rattle.std.specs.List.{list_any}
-use Rattle.flight_model.specs.declared.events.Note.{Note}
-use Rattle.flight_model.specs.Directors.{is_grave}
+use Rattle.flight_director.proofs.Prelude.{◌≡◌, drop, list_any, Note, is_grave}
 use Rattle.flight_director.proofs.state.State.any_grave.Given as goal
 
 abbrev pub invariant-loop-n : goal.invariant-loop-n

@@ -1,9 +1,4 @@
-use Rattle.std.proofs.Common.{◌≡◌, ◌++◌, ◌∙◌, Bool, List, sym, ap}
-use Rattle.std.specs.Prelude.{map}
-use Rattle.std.specs.List.{list_any}
-use Rattle.flight_model.specs.declared.events.Note.{Note}
-use Rattle.flight_model.specs.declared.events.Frame.TheVariants.{Noted}
-use Rattle.flight_model.specs.Directors.{notes, done, overdue, is_grave}
+use Rattle.flight_director.proofs.Prelude.{◌≡◌, ◌++◌, ◌∙◌, Bool, List, sym, ap, map, list_any, Note, Noted, notes, done, overdue, is_grave}
 use Rattle.flight_director.proofs.Walks.{happens-by, says-by, notes-by}
 use Rattle.flight_director.proofs.state.State.happen.Goals as goal
 use Rattle.flight_director.proofs.state.State.happen.Goals.{After-lead}

@@ -1,4 +1,4 @@
-use Rattle.std.proofs.Common.{◌≡◌, replicate, None, false}
+use Rattle.flight_director.proofs.Prelude.{◌≡◌, replicate, None, false}
 use Rattle.flight_director.proofs.state.State.start.Given as goal
 
 abbrev pub invariant-loop-d : goal.invariant-loop-d

@@ -1,10 +1,4 @@
-use Rattle.std.proofs.Common.{◌≡◌, ◌<◌, ◌∙◌, List, Some, sym, ap, arith, set, get_or, length, None, false}
-use Rattle.std.proofs.lemmas.List.{length-set}
-use Rattle.std.proofs.lemmas.Option.{slice_get-get_or}
-use Rattle.std.specs.Prelude.{slice_get}
-use Rattle.flight_model.specs.declared.states.Track.{Track}
-use Rattle.flight_model.specs.Directors.{State, track_with}
-use Rattle.flight_director.specs.Held.{with_tracks}
+use Rattle.flight_director.proofs.Prelude.{◌≡◌, ◌<◌, ◌∙◌, List, Some, sym, ap, arith, set, get_or, length, None, false, length-set, slice_get-get_or, slice_get, Track, State, track_with, with_tracks}
 use Rattle.flight_director.proofs.Walks.{refill-same, take-by}
 use Rattle.flight_director.proofs.state.State.take.Goals as goal
 

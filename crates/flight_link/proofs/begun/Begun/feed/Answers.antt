@@ -1,4 +1,5 @@
-use Rattle.flight_link.proofs.Prelude.{◌<◌, arith, common_steps}
+use Rattle.flight_link.proofs.Prelude.{◌<◌, arith}
+use Rattle.std.proofs.lemmas.Grind.{common_steps}
 use Rattle.flight_link.proofs.EventLemmas.{short}
 use Rattle.flight_link.proofs.BegunLemmas.{put_byte}
 use Rattle.flight_link.proofs.begun.Begun.feed.Goals as goal

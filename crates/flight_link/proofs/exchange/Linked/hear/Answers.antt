@@ -1,5 +1,4 @@
-use Rattle.flight_link.proofs.Prelude.{◌∙◌}
-use Rattle.link_dialogue.proofs.CarryLemmas.{moved}
+use Rattle.flight_link.proofs.Prelude.{◌∙◌, moved}
 use Rattle.flight_link.proofs.CarryLemmas.{heard}
 use Rattle.flight_link.proofs.exchange.Linked.hear.Goals as goal
 

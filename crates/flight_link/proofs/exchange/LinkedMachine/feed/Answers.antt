@@ -1,6 +1,5 @@
-use Rattle.flight_link.proofs.Prelude.{◌++◌, ◌∷◌, [], drones, sym, ◌∙◌, IsBegun}
+use Rattle.flight_link.proofs.Prelude.{◌++◌, ◌∷◌, [], drones, sym, ◌∙◌, IsBegun, moved}
 use Rattle.flight_link.proofs.EventLemmas.{none_begun}
-use Rattle.link_dialogue.proofs.CarryLemmas.{moved}
 use Rattle.flight_link.proofs.exchange.LinkedMachine.feed.Goals as goal
 
 pub feed-requires : goal.feed-requires

@@ -1,6 +1,4 @@
-use Rattle.std.proofs.Common.{◌∙◌, ◌-◌, ◌++◌, ap, List, ℕ, suc, length, drop, take, arith}
-use Rattle.std.proofs.lemmas.List.{take_rest}
-use Rattle.fleet_io.proofs.CopiedLemmas.{Reads-copied}
+use Rattle.hemtoghai.proofs.Prelude.{◌∙◌, ◌-◌, ◌++◌, ap, List, ℕ, suc, length, drop, take, arith, take_rest, Reads-copied}
 use Rattle.hemtoghai.proofs.ends.SliceSourceSource.read.Goals as goal
 
 pub returns-clause-reads : goal.returns-clause-reads

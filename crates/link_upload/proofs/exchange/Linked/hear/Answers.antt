@@ -1,5 +1,6 @@
-use Rattle.link_upload.proofs.Prelude.{ap, ◌∙◌, frame_law, link_of, HostStandsFor, view_of}
-use Rattle.link_dialogue.proofs.CarryLemmas.{moved}
+use Rattle.link_upload.proofs.Prelude.{ap, ◌∙◌, frame_law, link_of, moved}
+use Rattle.upload_core.specs.HostStandsFor.{HostStandsFor}
+use Rattle.upload_core.specs.HostState.{view_of}
 use Rattle.link_upload.proofs.CarryLemmas.{answered}
 use Rattle.link_upload.proofs.exchange.Linked.hear.Goals as goal
 

@@ -1,6 +1,5 @@
-use Rattle.link_upload.proofs.Prelude.{◌≡◌, ◌++◌, ◌∷◌, [], List, ℕ, ap, append_assoc, sym, ◌∙◌, frame_law, fed}
+use Rattle.link_upload.proofs.Prelude.{◌≡◌, ◌++◌, ◌∷◌, [], List, ℕ, ap, append_assoc, sym, ◌∙◌, frame_law, fed, moved}
 use Rattle.link_frames.specs.declared.frame.Fed.TheVariants as fed_is
-use Rattle.link_dialogue.proofs.CarryLemmas.{moved}
 use Rattle.link_upload.proofs.exchange.LinkedMachine.feed.Goals as goal
 
 pub feed-requires : goal.feed-requires

@@ -1,7 +1,5 @@
-use Rattle.link_upload.proofs.Prelude.{List, ℕ, ap, sym, take, ◌∙◌, frame_bytes}
+use Rattle.link_upload.proofs.Prelude.{List, ℕ, ap, sym, take, ◌∙◌, frame_bytes, frame_of, moved}
 use Rattle.std.proofs.lemmas.List.{take_at}
-use Rattle.link_frames.specs.Frames.{frame_of}
-use Rattle.link_dialogue.proofs.CarryLemmas.{moved}
 use Rattle.link_upload.proofs.exchange.LinkedMachine.take.Goals as goal
 
 pub returns-in-Some-clause-gives : goal.returns-in-Some-clause-gives
