@@ -23,8 +23,13 @@ impl Bounds {
         }
     }
 
-    fn of(points: &[Place; 4]) -> Bounds {
-        let [low, high] = extent(points);
+    fn of(points: &[Place]) -> Bounds {
+        let (fours, _) = points.as_chunks();
+        let each = |four| Bounds::from(extent(four));
+        fours.iter().map(each).fold(Bounds::NONE, Bounds::with)
+    }
+
+    fn from([low, high]: [Place; 2]) -> Bounds {
         Bounds { low, high }
     }
 
@@ -42,18 +47,21 @@ impl Bounds {
     }
 }
 
-/// What a drone flies in a cue: a cubic curve by four points, or a `move`, whose control values of degree seven are
-/// four times the first point and four times the last.
+/// What a drone flies in a cue: its control points up to the last of its degree, three or seven.
 #[derive(Clone, Copy)]
 pub struct Segment {
-    points: [Place; 4],
-    is_move: bool,
+    points: [Place; 8],
+    last: usize,
     pub bounds: Bounds,
 }
 
 impl Segment {
     fn hold(at: Place) -> Segment {
-        Segment { points: [at; 4], is_move: false, bounds: Bounds { low: at, high: at } }
+        Segment { points: [at; 8], last: 3, bounds: Bounds { low: at, high: at } }
+    }
+
+    fn end(&self) -> Place {
+        self.points[self.last]
     }
 
     /// Whether it moves on an axis.
@@ -71,25 +79,18 @@ impl Segment {
 
     /// Its degree on an axis.
     pub fn degree(&self, axis: usize) -> usize {
-        match (self.moves(axis), self.is_move) {
-            (false, _) => 0,
-            (true, false) => 3,
-            (true, true) => 7,
-        }
+        if self.moves(axis) { self.last } else { 0 }
     }
 
     /// A control value on an axis: there are as many as its degree and one more.
     pub fn value(&self, axis: usize, k: usize) -> i16 {
-        self.points[if self.is_move { k / 4 * 3 } else { k }][axis]
+        self.points[k][axis]
     }
 
     /// Its control values of degree seven on an axis, times 5,040.
     pub fn raised(&self, axis: usize) -> Curve<i32> {
-        let [a, b, c, d] = self.points.map(|point| i32::from(point[axis]));
-        if self.is_move {
-            return [a, a, a, a, d, d, d, d].map(|v| 5040 * v);
-        }
-        raised(&[a, b, c, d])
+        let values = self.points.map(|point| i32::from(point[axis]));
+        if self.last == 7 { values.map(|v| 5040 * v) } else { raised(&values[..4]) }
     }
 }
 
@@ -142,6 +143,52 @@ fn axis(text: &mut Text) -> i64 {
     text.quantity(1, 2000, MILLIMETRES)
 }
 
+/// The millionths of the ways from the centre to the start and to the end in each control point of a quarter circle.
+type Shares = [[i64; 8]; 2];
+const ARC: Shares = [[1_000_000, 1_000_000, 552_285, 0, 0, 0, 0, 0], [0, 552_285, 1_000_000, 1_000_000, 0, 0, 0, 0]];
+const SWING: Shares = [
+    [1_000_000, 1_000_000, 1_000_000, 1_063_179, 696_647, 0, 0, 0],
+    [0, 0, 0, 696_647, 1_063_179, 1_000_000, 1_000_000, 1_000_000],
+];
+const ARC_IN: Shares = [
+    [1_000_000, 1_000_000, 1_000_144, 993_507, 974_935, 785_073, 473_387, 0],
+    [0, 0, 114_406, 186_897, 507_934, 741_519, 1_000_000, 1_000_000],
+];
+const ARC_OUT: Shares = [
+    [1_000_000, 1_000_000, 741_519, 507_934, 186_897, 114_406, 0, 0],
+    [0, 473_387, 785_073, 974_935, 993_507, 1_000_144, 1_000_000, 1_000_000],
+];
+
+/// The control points of a quarter circle whose start and centre have whole millimetres, and the last of its degree.
+#[inline(never)]
+fn quarter(act: &[u8], start: Place, text: &mut Text) -> ([Place; 8], usize) {
+    let (shares, last) = match act {
+        b"arc" => (ARC, 3),
+        b"swing" => (SWING, 7),
+        b"arc_in" => (ARC_IN, 7),
+        b"arc_out" => (ARC_OUT, 7),
+        _ => panic!("an act that is known"),
+    };
+    let is_left = match text.word() {
+        b"ccw" => true,
+        b"cw" => false,
+        _ => panic!("a sense that is known"),
+    };
+    let centre = [(); 2].map(|()| text.quantity(-100_000_000, 100_000_000, MICROMETRES));
+    assert!(centre.iter().all(|v| v % 1000 == 0), "a centre in whole millimetres");
+    let [x, y] = [0, 1].map(|axis| 1000 * i64::from(start[axis]) - centre[axis]);
+    let end = if is_left { [-y, x] } else { [y, -x] };
+    let mut points = [start; 8];
+    for k in 0..=last {
+        for (axis, from, to) in [(0, x, end[0]), (1, y, end[1])] {
+            let share = |share: i64, way: i64| (share * way + 500_000).div_euclid(1_000_000);
+            let micrometres = centre[axis] + share(shares[0][k], from) + share(shares[1][k], to);
+            points[k][axis] = i16::try_from((micrometres + 500).div_euclid(1000)).expect("a coordinate that fits");
+        }
+    }
+    (points, last)
+}
+
 fn no_yaw(text: &mut Text) {
     assert!(text.word() == b"0", "a yaw of 0");
 }
@@ -192,7 +239,7 @@ impl Show {
     fn begin_cue(&mut self, ms: i64) {
         let last = self.segments.len().saturating_sub(self.drones());
         for drone in 0..self.drones() {
-            let at = self.segments.get(last + drone).map_or(self.starts[drone], |it| it.points[3]);
+            let at = self.segments.get(last + drone).map_or(self.starts[drone], Segment::end);
             self.segments.push(Segment::hold(at));
         }
         self.times.push(ms);
@@ -206,19 +253,16 @@ impl Show {
         let drone = drone.expect("a line that is known");
         let first = self.segments.len().checked_sub(self.drones()).expect("a cue");
         let segment = &mut self.segments[first + drone];
-        segment.is_move = match text.word() {
-            b"curve" => false,
-            b"move" => true,
-            _ => panic!("an act that is known"),
-        };
-        if segment.is_move {
-            let to = place(text);
-            (segment.points[1], segment.points[2], segment.points[3]) = (segment.points[0], to, to);
-        } else {
-            segment.points[1..].fill_with(|| place(text));
+        match text.word() {
+            b"curve" => segment.points[1..4].fill_with(|| place(text)),
+            b"move" => {
+                segment.points[4..].fill(place(text));
+                segment.last = 7;
+            }
+            act => (segment.points, segment.last) = quarter(act, segment.points[0], text),
         }
         no_yaw(text);
-        segment.bounds = Bounds::of(&segment.points);
+        segment.bounds = Bounds::of(&segment.points[..=segment.last]);
         self.next = drone + 1;
     }
 

@@ -1,7 +1,7 @@
 //! A plain program that does what `check`, `certify`, `verify`, `compile`, `play`, `boxes`, `speed`, `dynamics`,
-//! `explain` and `upload` do for shows of drones that hold or fly by `curve` and `move`, with any half axes, stray and
-//! lateness, and the depth that stands where the words set none: for bench/time, which compares the two. It stops at
-//! lines and trees that it doesn't know.
+//! `explain` and `upload` do for shows of drones that hold or fly by `curve`, `move` and quarter circles, with any half
+//! axes, stray and lateness, and the depth that stands where the words set none: for bench/time, which compares the two.
+//! It stops at lines and trees that it doesn't know.
 //!
 //! It has one thread and no more than SSE2. The text is read once. Boxes of whole flights are asked before those of
 //! cues, and these before curves. Directions are weighed four at a time in 32-bit floats, a place between two parts

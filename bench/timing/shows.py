@@ -159,6 +159,22 @@ def diagonal(cues: int) -> bytes:
     return show([turned(x, y, 35) for x, y, _ in homes], steps, (*MEMORY, "stray 25", "late 60"))
 
 
+def swings(cues: int) -> bytes:
+    """Two rings of eight drones that turn against one another by quarters: `swing`, `arc_in`, `arc` and `arc_out`, and
+    then a rest of as many cues, in which the other ring turns half of the time. Yaws stay."""
+    quarters = (("swing", 3000), ("arc_in", 3000), ("arc", 1500), ("arc_out", 3000))
+    rings = [(0, "ccw", 0), (1_400_000, "cw", 2)]  # where a ring's middle is, which way it turns, and when it begins
+    ring = [(500_000, 0), (354_000, 354_000), (0, 500_000), (-354_000, 354_000),
+            (-500_000, 0), (-354_000, -354_000), (0, -500_000), (354_000, -354_000)]
+
+    def acts(cue: int) -> Cue:
+        turning = [(k, (cue + first) % 8) for k, (_, _, first) in enumerate(rings) if (cue + first) % 8 < 4]
+        lines = ["d%d %s %s %d 0 0" % (8 * k + i + 1, quarters[n][0], rings[k][1], rings[k][0])
+                 for k, n in turning for i in range(8)]
+        return max((quarters[n][1] for _, n in turning), default=1000), lines
+    return show([(middle + x, y) for middle, _, _ in rings for x, y in ring], [acts(cue) for cue in range(cues)])
+
+
 def measured(micrometres: int, unit: str, places: int) -> str:
     """A length in the second form of the language."""
     whole, rest = divmod(abs(micrometres), 10 ** places)
@@ -188,4 +204,4 @@ def compared() -> list[tuple[str, bytes]]:
     return [("dense", dense(255)), ("XL", rings(255)), ("XL set", rings(255, ("ellipsoid 65 300", *STRAYED))),
             ("spread", curves(32, 255)), ("spread set", curves(32, 255, STRAYED)),
             ("ring", turning_ring(120)), ("lanes", lanes(1000)), ("diagonal", diagonal(160)),
-            ("units", with_units(255))]
+            ("units", with_units(255)), ("swings", swings(200))]
