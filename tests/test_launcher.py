@@ -17,7 +17,8 @@ import unittest
 
 from common import TOP
 from hemtoghai.__main__ import COMMANDS
-from hemtoghai.launching import progress, records, words as commands
+from hemtoghai.dev import progress
+from hemtoghai.launching import records, words as commands
 from hemtoghai.launching.help import PURPOSES
 
 # As rt does, it keeps others out of the crate's folder and of those below it, refuses a crate whose lower ones aren't

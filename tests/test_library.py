@@ -136,7 +136,7 @@ class Writes(common.Folder, unittest.TestCase):
     def made(self, *words, most=None):
         """The status and the words of the command, which may write so many bytes to a file."""
         code = ("import os, resource, sys\nsys.path[:0] = [%r]\nfrom unittest import mock\n"
-                "from hemtoghai import __main__, streams\nfrom hemtoghai.commands import library\nreal = library.said\n"
+                "from hemtoghai import __main__, streams\nfrom hemtoghai.dev import library\nreal = library.said\n"
                 "library.toolchain = lambda: %r\nlibrary.prove = lambda *_: (%r, 'logic=proved nothing')\n"
                 "library.stamps = lambda: {'stamp': 'a', 'program_stamp': 'b'}\n"
                 "library.said = lambda *given, **more: 'rt 0' if given[0] == 'rt' else real(*given, **more)\n"

@@ -12,7 +12,7 @@ import unittest
 from unittest import mock
 
 import common
-from hemtoghai.commands import library
+from hemtoghai.dev import library
 
 LINE = "logic=proved functions=3 axioms=3"
 RT = """#!/bin/sh
@@ -61,7 +61,7 @@ class Watched(common.Folder, unittest.TestCase):
 
     def test_ended(self):
         # What it started is ended with it, also by a signal that only the tool gets.
-        code = ("import sys; sys.path.insert(0, %r)\nfrom hemtoghai.commands import library\n"
+        code = ("import sys; sys.path.insert(0, %r)\nfrom hemtoghai.dev import library\n"
                 "from hemtoghai.launching import running\nrunning.watch_signals()\n"
                 "library.watched('sh', '-c', 'echo $$ > started; exec sleep 300', place=%r, doing='')" % (common.PYTHON, self.place))
         for number in (signal.SIGTERM, signal.SIGINT):

@@ -22,9 +22,10 @@ from unittest import mock
 from common import Folder, PROGRAM, TOP
 from hemtoghai import program
 from hemtoghai.language import choreo
-from hemtoghai.commands import release
+from hemtoghai.dev import release
 from hemtoghai.__main__ import COMMANDS
-from hemtoghai.launching import manual, words as commands
+from hemtoghai.dev import manual
+from hemtoghai.launching import words as commands
 
 PROVED = "logic=proved functions=3 axioms=1"
 STAND_IN = """#!/bin/sh
@@ -338,7 +339,7 @@ class Release(unittest.TestCase):
             self.assertNotIn(word, text)
         for path in re.findall(r"\]\(([^)#]*)\)", text) + re.findall(r"`((?:share|docs|python)/[a-z_.0-9/]+)", text):
             self.assertTrue(os.path.exists(os.path.join(self.top, path)), path)
-        self.assertFalse(os.path.exists(os.path.join(self.top, "python", "hemtoghai", "launching", "release.md")))
+        self.assertFalse(os.path.exists(os.path.join(self.top, "python", "hemtoghai", "dev")))
 
     def differing(self):
         """What --version says of files that aren't as released."""

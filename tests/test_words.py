@@ -10,7 +10,7 @@ import unittest
 
 import common
 from hemtoghai import __main__, program
-from hemtoghai.launching import completion, manual
+from hemtoghai.dev import completion, manual
 from hemtoghai.launching.help import help_text, usage_of
 
 

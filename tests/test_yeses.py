@@ -23,7 +23,7 @@ PACKAGE = os.path.join(PYTHON, "hemtoghai")
 WORDS = re.compile(r"\b(valid|KEPT|APART|PROVED|proved|accepted|accepts|apart|separated|ok|kept|landed|disarmed|stored|"
                    r"land now|judged as|judged stage|as a whole|stage by stage|as the show has them|has its trajectory|"
                    r"has what it is to fly|come home by themselves|[Nn]othing is blocked|nothing is refused)\b")
-STATUSES = re.compile("commands/|exchange/export|launching/|__main__|streams|geometry/separation|"
+STATUSES = re.compile("commands/|dev/|exchange/export|launching/|__main__|streams|geometry/separation|"
                       "flying/(bridge|descent)|seeing/studio_work")  # modules that end with one
 TRUTHS = re.compile("judging|program")  # modules whose yes may be a value that is true
 
@@ -45,7 +45,7 @@ WAY = "`check` of the way as one show, or of each of its stages, by the file tha
 TOLD = "says what was computed, and nothing of whether a show is accepted"
 # By module and function the words that are found there, and what they rest on.
 YESES = {
-    "__main__.py main": ("handed handed handed handed handed proved", PASSED + "; `--proved` is an option"),
+    "__main__.py main": ("handed handed handed handed handed handed handed proved", PASSED + "; `--proved` is an option; two are of no answer"),
     "__main__.py run": ("proved", WHAT),
     "answering.py library": ("proved", RECORD),
     "judging.py Verdict.as_data": ("ok proved", PROGRAM + "; `proved` is true of a record with its proof alone"),
@@ -103,17 +103,17 @@ YESES = {
     "commands/judge.py trajectory.number": ("handed", NUMBER),
     "commands/legs.py main": ("handed handed", PROGRAM + " of the show; " + WAY),
     "commands/legs.py summed_up": ("judged as judged stage", WAY),
-    "commands/library.py main": ("0 kept proved", WRITTEN + "; the words are an option's and a refusal's"),
-    "commands/library.py over_built": ("proved", WHAT),
-    "commands/library.py over_kept": ("proved proved proved", NO),
-    "commands/library.py prove": ("proved", RECORD),
+    "dev/library.py main": ("0 kept proved", WRITTEN + "; the words are an option's and a refusal's"),
+    "dev/library.py over_built": ("proved", WHAT),
+    "dev/library.py over_kept": ("proved proved proved", NO),
+    "dev/library.py prove": ("proved", RECORD),
     "commands/picture.py main": ("0 0", WRITTEN),
     "commands/picture.py picture_of": ("nothing is refused", OWN + ": the page begins with `Worked out without the "
                                        "program`, and standard error says that `check` was not asked"),
     "commands/picture.py step": ("handed", NUMBER),
-    "commands/release.py contents_of": ("proved", RECORD),
-    "commands/release.py judged_record": ("proved", RECORD),
-    "commands/release.py main": ("0", WRITTEN),
+    "dev/release.py contents_of": ("proved", RECORD),
+    "dev/release.py judged_record": ("proved", RECORD),
+    "dev/release.py main": ("0", WRITTEN),
     "commands/studio.py main": ("0", "says that the studio was ended, and nothing of the show"),
     "commands/studio.py port": ("handed", NUMBER),
     "commands/studio.py serve": ("PROVED proved", NO),
@@ -163,14 +163,14 @@ YESES = {
     "judging.py Verdict.proved": ("true", RECORD),
     "judging.py is_path": ("true", NO),
     "language/cures.py -": ("apart apart", WHAT),
-    "launching/building.py -": ("proved", NO),
-    "launching/building.py Watch.lanes": ("handed handed", NUMBER),
-    "launching/building.py build_all": ("proved", NO),
-    "launching/building.py prove": ("proved", NO),
-    "launching/building.py side_by_side": ("handed handed", NUMBER),
-    "launching/building.py try_on": ("handed", "the sources without a proof, for --unproved, which says so"),
-    "launching/building.py try_sources": ("handed handed", "the sources without a proof, for --unproved, which says so"),
-    "launching/completion.py -": ("proved proved proved", WHAT),
+    "dev/building.py -": ("proved", NO),
+    "dev/building.py Watch.lanes": ("handed handed", NUMBER),
+    "dev/building.py build_all": ("proved", NO),
+    "dev/building.py prove": ("proved", NO),
+    "dev/building.py side_by_side": ("handed handed", NUMBER),
+    "dev/building.py try_on": ("handed", "the sources without a proof, for --unproved, which says so"),
+    "dev/building.py try_sources": ("handed handed", "the sources without a proof, for --unproved, which says so"),
+    "dev/completion.py -": ("proved proved proved", WHAT),
     "launching/help.py -": ("apart proved proved proved", WHAT),
     "launching/help.py refuse": ("2 handed", RUN),
     "launching/launcher.py answer": ("handed handed", RUN),
@@ -178,12 +178,12 @@ YESES = {
     "launching/launcher.py file_for": ("proved", NO),
     "launching/launcher.py input_number": ("0 handed handed", NUMBER),
     "launching/launcher.py main": ("0 0 handed handed handed", PASSED + "; 0 itself is of a help text"),
-    "launching/manual.py main": ("0", WRITTEN),
-    "launching/manual.py page": ("proved", WHAT),
+    "dev/manual.py main": ("0", WRITTEN),
+    "dev/manual.py page": ("proved", WHAT),
     "launching/records.py print_version": ("0 handed handed kept", RECORD + "; its lines name what differs from that"),
     "launching/records.py write_record": ("proved", RECORD),
-    "launching/unproved.py fault": ("proved", NO),
-    "launching/unproved.py take": ("proved", NO),
+    "dev/unproved.py fault": ("proved", NO),
+    "dev/unproved.py take": ("proved", NO),
     "launching/running.py ended": ("handed", RUN),
     "launching/running.py fed": ("handed", RUN),
     "launching/running.py started": ("handed", NUMBER),

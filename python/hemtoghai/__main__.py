@@ -17,15 +17,16 @@ from hemtoghai import program, streams
 
 COMMANDS = {
     **{word: "hemtoghai.commands." + word for word in (
-        "bridge", "convert", "deal", "export", "figures", "flown", "fly", "judge", "legs", "library", "picture", "release",
-        "studio", "summary", "why", "without")},
+        "bridge", "convert", "deal", "export", "figures", "flown", "fly", "judge", "legs", "picture", "studio", "summary",
+        "why", "without")},
+    **{word: "hemtoghai.dev." + word for word in ("library", "manual", "release")},
     "import": "hemtoghai.commands.importing",
-    "manual": "hemtoghai.launching.manual",
     "studio_work": "hemtoghai.seeing.studio_work",  # a process of the studio
 }
 # As values, in place of lines.
 WITH_JSON = "check", "compile", "certify", "verify", "explain", "dynamics", "speed", "boxes", "why", "summary"
 WITH_INSTALLED = "bridge", "fly"  # they may need the radio's library, which was installed
+DEV = os.path.join(os.path.dirname(os.path.abspath(__file__)), "dev")  # of a checkout alone
 
 
 def add_installed() -> None:
@@ -40,6 +41,13 @@ def add_installed() -> None:
     sys.path += filter(None, os.environ.get("PYTHONPATH", "").split(os.pathsep))
 
 
+def needs_checkout(word: str) -> str | None:
+    """Why a word isn't carried out here, or None: a release and an installed package have none of `dev`."""
+    if not COMMANDS[word].startswith("hemtoghai.dev.") or os.path.isdir(DEV):
+        return None
+    return "this is a release, and `%s` is a word of the repository" % word
+
+
 def main(words: list[str]) -> int:
     if words[:1] == ["--proved"]:
         from hemtoghai.launching import launcher
@@ -48,7 +56,10 @@ def main(words: list[str]) -> int:
             streams.tell(program.NAME, fault)
             return streams.NO_ANSWER
     if words[:1] == ["--unproved"] and words[1:2] and words[1] in COMMANDS:
-        from hemtoghai.launching import unproved
+        if not os.path.isdir(DEV):
+            streams.tell(program.NAME, "a release has no sources to run")
+            return streams.NO_ANSWER
+        from hemtoghai.dev import unproved
         words = words[1:]
         if fault := unproved.fault(words):
             streams.tell(program.NAME, fault)
@@ -61,6 +72,9 @@ def main(words: list[str]) -> int:
         companion.set_tool(words[0])
         return as_json.main(words)
     if words[:1] and words[0] in COMMANDS:
+        if fault := needs_checkout(words[0]):
+            streams.tell(words[0], fault)
+            return streams.NO_ANSWER
         if words[0] in WITH_INSTALLED:
             add_installed()
         if words[0] != "judge":  # which shares nothing with the others

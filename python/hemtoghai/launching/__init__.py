@@ -1,1 +1,1 @@
-"""What ./show does beside the program: proving, building, records, releases."""
+"""What ./show does beside the program: which program runs, its words and help, records, versions."""

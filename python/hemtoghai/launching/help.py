@@ -64,9 +64,9 @@ PURPOSES = {
     "fly": "a flight, simulated or with drones",
     "flown": "whether the drones of a flight's log stayed within the premises of the proof",
     "bridge": "the upload alone, over a link",
-    "library": "the judge as a library for C, C++ and Rust",
-    "manual": "the manual page, and completion for Bash, Zsh and Fish",
-    "release": "an archive and a wheel",
+    "library": "the judge as a library for C, C++ and Rust; of the repository",
+    "manual": "the manual page, and completion for Bash, Zsh and Fish; of the repository",
+    "release": "an archive and a wheel; of the repository",
 }
 
 

@@ -63,7 +63,7 @@ def file_for(unproved: bool, words: Sequence[str] = (), files: Sequence[str] = (
         say("nothing is proved in this run")
         return file_if_current(program.UNPROVED)
     if (found := file_if_current(program.PROGRAM)) is None:
-        from hemtoghai.launching import building
+        from hemtoghai.dev import building
         building.build(list(words), list(files))
         found = file_if_current(program.PROGRAM) or stop("the program that was built isn't that of the sources")
     return found
@@ -117,7 +117,7 @@ def answer(found: str | None, words: list[str], files: list[str]) -> int:
     number = None if len(files) == 2 else input_number(words, files)
     begin = os.lseek(number, 0, os.SEEK_CUR) if number is not None and texts.is_plain(number) else 0
     if found is None:
-        from hemtoghai.launching import building
+        from hemtoghai.dev import building
         status = building.try_sources(words, number, files)
         found = file_if_current(program.UNPROVED)
     elif number is None:

@@ -15,8 +15,8 @@ import sys
 
 from hemtoghai.__main__ import WITH_JSON
 from hemtoghai.companion import parser
+from hemtoghai.dev.completion import all_words, completion as completion, SHELLS, Word
 from hemtoghai.launching import records, words as commands
-from hemtoghai.launching.completion import all_words, completion as completion, SHELLS, Word
 from hemtoghai.launching.help import PURPOSES as OTHERS
 
 

@@ -8,8 +8,8 @@ later. VERSION is the content of the file VERSION. The library is in library/out
 own manifest. MANIFEST.json identifies the build: version, commit, toolchain, the SHA-256 of each file, and the last
 line of the build, which lists everything on which the proof rests. ./show of a release runs no other program than the
 one of the manifest, and ./show --version prints the manifest, each file that differs from it, and each that was added.
-README.md is the one of a release, launching/release.md. There are no crates in it: to read the definitions and proofs,
-take the commit.
+README.md is the one of a release, dev/release.md. There are no crates in it, and nothing that only a checkout needs: to
+read the definitions and proofs, take the commit.
 
 hemtoghai-VERSION-py3-none-manylinux_2_34_x86_64.whl is what pip installs: `import hemtoghai` and the command hemtoghai,
 with a manifest of its own. Setuptools makes it, without a network; if setuptools or wheel isn't installed no wheel is
@@ -36,16 +36,18 @@ from typing import Any, Dict, List, Tuple
 
 from hemtoghai import outputs, program
 from hemtoghai.companion import parser, stop
-from hemtoghai.launching import completion, manual, records
+from hemtoghai.dev import completion, manual
+from hemtoghai.launching import records
 from hemtoghai.launching.records import git
 
 Record = Dict[str, Any]  # of a build, as it is noted beside the program
 Contents = List[Tuple[str, bytes, int]]  # files as path, bytes and mode
 Links = List[Tuple[str, str]]  # each with what it leads to
 TOP = program.TOP
+DEV = "python/hemtoghai/dev/"  # what only a checkout needs
 SHIPPED = ["VERSION", "CHANGELOG.md", "SECURITY.md", "show", "docs", "examples", "python", "tools", "library",
            "crates/CONTRACTS.md"]
-README = os.path.join("python", "hemtoghai", "launching", "release.md")  # of the release; it is its README.md
+README = os.path.join("python", "hemtoghai", "dev", "release.md")  # of the release; it is its README.md
 PROGRAM = os.path.relpath(program.PROGRAM, TOP)
 LIBRARY = os.path.join("library", "out")
 COPIES = ["include/hemtoghai.h"]  # of its files this is a copy of one of the repository
@@ -101,7 +103,7 @@ def contents_of() -> Contents:
         parts = re.fullmatch(r"(100644|100755) [0-9a-f]+ 0\t([^\n]*)", line)
         if line and not parts:
             stop("no release has such a file: %s" % line.partition("\t")[2][:100])
-        if parts and parts[2] != README:
+        if parts and not parts[2].startswith(DEV):
             found.append((parts[2], int(parts[1][3:], 8)))
     out = [(path, pathlib.Path(TOP, path).read_bytes(), mode) for path, mode in found]
     readme = pathlib.Path(TOP, README).read_bytes().replace(b"@VERSION@", records.version().encode())

@@ -15,8 +15,8 @@ import time
 from collections.abc import Callable, Iterable
 from typing import Any, IO
 
+from hemtoghai.dev.progress import ahead, costs, Crates, Progress
 from hemtoghai.launching.launcher import say, stop
-from hemtoghai.launching.progress import ahead, costs, Crates, Progress
 from hemtoghai.launching.records import CRATES, crates_below, is_current, LAST, LEFT_OUT, sha256, stamp, write_record
 from hemtoghai.launching.running import end_if_told, joined, Noted
 from hemtoghai.program import PROGRAM, RECORD, TOP, UNPROVED

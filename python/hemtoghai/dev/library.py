@@ -32,7 +32,8 @@ from typing import Any, Optional
 
 from hemtoghai import outputs, program
 from hemtoghai.companion import many, parser, stop, tool_name
-from hemtoghai.launching import building, records, running
+from hemtoghai.dev import building
+from hemtoghai.launching import records, running
 from hemtoghai.launching.records import git
 from hemtoghai.streams import tell
 

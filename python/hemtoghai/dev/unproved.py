@@ -6,7 +6,8 @@ from __future__ import annotations
 import os
 
 from hemtoghai import program
-from hemtoghai.launching import building, launcher, records, running
+from hemtoghai.dev import building
+from hemtoghai.launching import launcher, records, running
 
 OF_PROOF = "release", "library"  # words that are about what is proved
 RADIO = "--radio", "--link"  # options that lead to real drones
