@@ -76,17 +76,18 @@ class Words(unittest.TestCase):
         with open(os.path.join(TOP, "crates", "quantities", "proofs", "Rows.antt"), encoding="utf-8") as file:
             text = file.read()
         seen = 0
-        for name, rows in re.findall(r"^\w+ : AllAre (\w+) \((.*?)\[\]\)", text, re.M | re.S):
-            for kind, word, value in re.findall(r'(row|none) \(codes "([^"]*)"\)(.*?) ∷', rows):
-                wanted = None if kind == "none" else number_of(value)
-                self.assertEqual(quantities.value_of(PLACES[name], word), wanted, (name, word))
-                seen += 1
+        for name, rows in re.findall(r"^\w+ : AllAre (\w+) \((.*?)^    \[\]\)", text, re.M | re.S):
+            for value, words in re.findall(r"are (None|\(Some .*?\)\)) \((.*?)\) ∷$", rows, re.M | re.S):
+                wanted = None if value == "None" else number_of(value)
+                for word in re.findall(r'codes "([^"]*)"', words):
+                    self.assertEqual(quantities.value_of(PLACES[name], word), wanted, (name, word))
+                    seen += 1
         self.assertGreater(seen, 85)
 
     def test_proved_ranges(self):
         """Those with limits: a value, or the fault."""
         with open(os.path.join(TOP, "crates", "quantities", "proofs", "Rows.antt"), encoding="utf-8") as file:
-            rows = re.findall(r"quantity_in (\w+) (.*?) \(codes \"(.*?)\"\) ≡ (Ok|Err) (.*)", file.read())
+            rows = re.findall(r"quantity_in (\w+) (.*?) \(codes \"(.*?)\"\) ≡ (Ok|Err) (.*)\)", file.read())
         self.assertGreater(len(rows), 12)
         for name, limits, word, kind, value in rows:
             slot = choreo.Number(*map(number_of, re.findall(r"(?:neg_ℤ \()?pos \d+", limits)), PLACES[name])

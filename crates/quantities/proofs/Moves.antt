@@ -1,183 +1,115 @@
 -- Numbers whose point is moved.
-use Rattle.quantities.proofs.Prelude.{zero, cases_lt, capped, inl, inr, ◌⊎◌, add-mul, mul_assoc, mul_comm, mul_left_comm, mul-le, pow-add, ◌≡◌, ℕ, suc, ◌+◌, ◌-◌, ◌*◌, ◌^◌, ◌<◌, ◌≤◌, Bool, true, false, List, [], ◌∷◌, ◌++◌, length, take, drop, Some, None, refl, sym, ap, ◌∙◌, arith, min, ◌&&◌, list_all, is_digit, AreDigits, moved, number_after, and_parts, list_all-append, take-append-drop, length-drop}
-use Rattle.quantities.specs.declared.unit.Shift.TheVariants.{Right, Left}
-use Rattle.quantities.proofs.Digits.{is_zero, number_append, number_below, number_shift, power_some, some_over, zeros_are}
+use Rattle.quantities.proofs.Prelude.{◌≡◌, ℕ, min, suc, ◌+◌, ◌-◌, ◌*◌, ◌^◌, ◌<◌, ◌≤◌, List, [], ◌∷◌, ◌++◌, length, drop, drop_all, get_or, Some, None, refl, sym, subst, ap, ◌∙◌, arith, list_all, is_digit, and_parts, AreDigits, IsMoved, moved, number_after, length-append, length-drop, add-mul, mul_assoc, pow-add, pow-suc, mul-lt-mul_of_pos_right, exactly}
+use Rattle.quantities.specs.declared.unit.Shift.{Shift}
+use Rattle.quantities.proofs.Digits.{digit_is, digit_over, digit_small, digits_drop, digits_joined, number_more, power_some, times_ten}
 use Rattle.quantities.proofs.Quotients.{exactly_is, exactly_not}
 
--- Numbers that stand for all that are greater.
+pub moved_start : (ds : List ℕ) (ahead before : ℕ) → IsMoved ds ahead before 0 0 (ahead - before)
+moved_start ds ahead before = record { kept = 0; so_far = 0; number_is = refl; places_are = omega arith; zeros_are = omega arith; rest = refl }
 
-capped_by : (n q r most : ℕ) → 0 < q → (most < n) ⊎ (n ≤ most) → min (min n most * q + r) most ≡ min (n * q + r) most
-capped_by n q r most some (inl over) =
-    let e : min n most ≡ most = omega arith in
-    let one : most * 1 ≤ most * q = mul-le most 1 most q (omega arith) some in
-    let two : most * 1 ≤ n * q = mul-le most 1 n q (omega arith) some in
-    rw e (omega arith)
-capped_by n q r most some (inr under) =
-    let e : min n most ≡ n = omega arith in
-    rw e refl
+-- a digit that is kept
+pub moved_on : (ds : List ℕ) (ahead before i n p m q : ℕ) → IsMoved ds ahead before i n p → i < length ds → 0 < p
+    → m ≡ min (10 * n + (get_or ds i 0 - 48)) 1000000000000 → q ≡ p - 1 → IsMoved ds ahead before (i + 1) m q
+moved_on ds ahead before i n p m q h lt some number places =
+    let now : before + i - ahead ≡ 0 = omega (arith, h.places_are) in
+    let next : before + (i + 1) - ahead ≡ 0 = omega (arith, h.places_are) in
+    let same : h.so_far ≡ h.kept * 1 = h.zeros_are ∙ ap (λ e. h.kept * 10 ^ e) now in
+    record {
+      kept = 10 * h.kept + (get_or ds i 0 - 48);
+      so_far = 10 * h.so_far + (get_or ds i 0 - 48);
+      number_is = omega (arith, h.number_is, number);
+      places_are = omega (arith, h.places_are, places);
+      zeros_are = rw next (omega (arith, same));
+      rest = h.rest ∙ number_more h.so_far i ds lt;
+    }
 
-capped_sum : (n q r most : ℕ) → 0 < q → min (min n most * q + r) most ≡ min (n * q + r) most
-capped_sum n q r most some = capped_by n q r most some (cases_lt most n)
+-- a zero after those
+pub moved_past : (ds : List ℕ) (ahead before i n p m q : ℕ) → IsMoved ds ahead before i n p → i < length ds → p ≡ 0 → get_or ds i 0 ≡ 48
+    → m ≡ n → q ≡ p → IsMoved ds ahead before (i + 1) m q
+moved_past ds ahead before i n p m q h lt none zero_is number places =
+    let next : before + (i + 1) - ahead ≡ suc (before + i - ahead) = omega (arith, h.places_are) in
+    record {
+      kept = h.kept;
+      so_far = 10 * h.so_far + (get_or ds i 0 - 48);
+      number_is = number ∙ h.number_is;
+      places_are = omega (arith, h.places_are, places);
+      zeros_are = rw next (let e = times_ten h.kept (before + i - ahead) in omega (arith, h.zeros_are, zero_is));
+      rest = h.rest ∙ number_more h.so_far i ds lt;
+    }
 
-capped_after : (n : ℕ) (ds : List ℕ) → capped (number_after (capped n) ds) ≡ capped (number_after n ds)
-capped_after n ds =
-    ap capped (number_shift (capped n) ds)
-    ∙ capped_sum n (10 ^ length ds) (number_after 0 ds) 1000000000000 (power_some (length ds))
-    ∙ ap capped (sym (number_shift n ds))
+powers : (a b c d : ℕ) → a + b ≡ c + d → 10 ^ a * 10 ^ b ≡ 10 ^ c * 10 ^ d
+powers a b c d is = sym (pow-add 10 a b) ∙ ap (λ e. 10 ^ e) is ∙ pow-add 10 c d
 
-plus_none : (m : ℕ) → m ≡ m + 0
-plus_none m = omega arith
-
-capped_product : (n k : ℕ) → capped (capped n * 10 ^ k) ≡ capped (n * 10 ^ k)
-capped_product n k =
-    ap capped (plus_none (capped n * 10 ^ k)) ∙ capped_sum n (10 ^ k) 0 1000000000000 (power_some k) ∙ ap capped (sym (plus_none (n * 10 ^ k)))
-
--- digits after others, and then zeros
-pub capped_passed : (n k : ℕ) (ds : List ℕ) → capped (capped (number_after (capped n) ds) * 10 ^ k) ≡ capped (number_after n ds * 10 ^ k)
-capped_passed n k ds = ap (λ t. capped (t * 10 ^ k)) (capped_after n ds) ∙ capped_product (number_after n ds) k
-
-digits_cut : (k : ℕ) (ds : List ℕ) → AreDigits ds → (AreDigits (take k ds)) × (AreDigits (drop k ds))
-digits_cut k ds h =
-    and_parts (list_all is_digit (take k ds)) (list_all is_digit (drop k ds))
-    (sym (list_all-append is_digit (take k ds) (drop k ds)) ∙ ap (list_all is_digit) (take-append-drop k ds) ∙ h)
-
-pub digits_take : (k : ℕ) (ds : List ℕ) → AreDigits ds → AreDigits (take k ds)
-digits_take k ds h = (digits_cut k ds h).0
-
-pub digits_drop : (k : ℕ) (ds : List ℕ) → AreDigits ds → AreDigits (drop k ds)
-digits_drop k ds h = (digits_cut k ds h).1
-
--- digits that are cut
-split : (n k : ℕ) (ds : List ℕ) → number_after n ds ≡ number_after n (take k ds) * 10 ^ length (drop k ds) + number_after 0 (drop k ds)
-split n k ds =
-    ap (number_after n) (sym (take-append-drop k ds))
-    ∙ number_append n (take k ds) (drop k ds)
-    ∙ number_shift (number_after n (take k ds)) (drop k ds)
-
--- To the right.
-
-products : (a x r q y z k : ℕ) → q ≡ y * z → k ≡ z * x → (a * x + r) * q ≡ (a * y) * (1 * k) + r * q
-products a x r q y z k one two =
-    let first : (a * x + r) * q ≡ a * x * q + r * q = add-mul (a * x) r q in
-    let second : a * x * q ≡ a * x * (y * z) = ap (λ t. a * x * t) one in
-    let third : a * x * (y * z) ≡ a * y * (z * x) = simp (mul_assoc, mul_comm, mul_left_comm) in
-    let fourth : a * y * (z * x) ≡ a * y * (1 * k) = ap (λ t. a * y * t) (sym two ∙ omega arith) in
-    omega arith
-
-right_split : (a r p kept m k : ℕ) → kept ≤ p → k ≡ kept + m → (a * 10 ^ m + r) * 10 ^ p ≡ (a * 10 ^ (p - kept)) * (1 * 10 ^ k) + r * 10 ^ p
-right_split a r p kept m k within is =
-    let e : p ≡ p - kept + kept = omega arith in
-    products a (10 ^ m) r (10 ^ p) (10 ^ (p - kept)) (10 ^ kept) (10 ^ k)
-    (ap (λ t. 10 ^ t) e ∙ pow-add 10 (p - kept) kept)
-    (ap (λ t. 10 ^ t) is ∙ pow-add 10 kept m)
-
--- the digits that the point passes, with zeros after them
-abbrev pub passed : ℕ → ℕ → List ℕ → List ℕ → ℕ
-passed p kept whole fraction = number_after (number_after 0 whole) (take kept fraction) * 10 ^ (p - kept)
-
-right_sum : (p kept : ℕ) (whole fraction : List ℕ) → kept ≡ min p (length fraction)
-    → number_after 0 (whole ++ fraction) * 10 ^ p ≡ passed p kept whole fraction * (1 * 10 ^ length fraction) + number_after 0 (drop kept fraction) * 10 ^ p
-right_sum p kept whole fraction is =
-    ap (λ t. t * 10 ^ p) (number_append 0 whole fraction ∙ split (number_after 0 whole) kept fraction)
-    ∙ right_split (number_after (number_after 0 whole) (take kept fraction)) (number_after 0 (drop kept fraction)) p kept (length (drop kept fraction)) (length fraction)
-    (omega arith) (omega (arith, length-drop kept fraction))
-
-pub right_is : (p kept : ℕ) (whole fraction : List ℕ) → kept ≡ min p (length fraction) → list_all is_zero (drop kept fraction) ≡ true
-    → moved (Right p) whole fraction ≡ Some (passed p kept whole fraction)
-right_is p kept whole fraction is zeros =
-    let rest : number_after 0 (drop kept fraction) * 10 ^ p ≡ 0 = ap (λ t. t * 10 ^ p) (zeros_are (drop kept fraction) zeros) ∙ omega arith in
-    exactly_is _ _ _ (omega (arith, power_some (length fraction))) (omega (arith, right_sum p kept whole fraction is))
-
-below_product : (r x q : ℕ) → r < x → 0 < q → r * q < x * q
-below_product r x q lt some =
-    let e : (1 + r) * q ≡ 1 * q + r * q = add-mul 1 r q in
-    let le : (1 + r) * q ≤ x * q = mul-le (1 + r) q x q (omega arith) (omega arith) in
-    omega arith
-
-right_small : (p kept : ℕ) (fraction : List ℕ) → kept ≡ min p (length fraction) → AreDigits fraction → 0 < length (drop kept fraction)
-    → number_after 0 (drop kept fraction) * 10 ^ p < 1 * 10 ^ length fraction
-right_small p kept fraction is digits some =
-    let size = length-drop kept fraction in
-    let below = below_product (number_after 0 (drop kept fraction)) (10 ^ length (drop kept fraction)) (10 ^ p) (number_below (drop kept fraction) (digits_drop kept fraction digits)) (power_some p) in
-    let e : length fraction ≡ length (drop kept fraction) + p = omega arith in
-    let power : 10 ^ length fraction ≡ 10 ^ length (drop kept fraction) * 10 ^ p = ap (λ t. 10 ^ t) e ∙ pow-add 10 (length (drop kept fraction)) p in
-    omega arith
-
-not_empty : (ds : List ℕ) → list_all is_zero ds ≡ false → 0 < length ds
-not_empty [] h = absurd (cc)
-not_empty (d ∷ ds) h = omega arith
+scaled : (k p y u v w : ℕ) → p + (u + v) ≡ y + w → k * 10 ^ p * (10 ^ u * 10 ^ v) ≡ k * 10 ^ y * 10 ^ w
+scaled k p y u v w is =
+    mul_assoc k (10 ^ p) (10 ^ u * 10 ^ v)
+    ∙ ap (λ t. k * t) (ap (λ t. 10 ^ p * t) (sym (pow-add 10 u v)) ∙ powers p (u + v) y w is)
+    ∙ sym (mul_assoc k (10 ^ y) (10 ^ w))
 
 pub product_some : (a b : ℕ) → 0 < a → 0 < b → 0 < a * b
-product_some a b one two =
-    let none : 0 * b ≡ 0 = omega arith in
-    omega (arith, below_product 0 a b one two)
+product_some a b one two = let e : 0 * b < a * b = mul-lt-mul_of_pos_right one two in omega (arith, e)
 
-pub right_not : (p kept : ℕ) (whole fraction : List ℕ) → kept ≡ min p (length fraction) → AreDigits fraction → list_all is_zero (drop kept fraction) ≡ false
-    → moved (Right p) whole fraction ≡ None
-right_not p kept whole fraction is digits others =
-    exactly_not _ _ (passed p kept whole fraction) _ (right_sum p kept whole fraction is)
-    (right_small p kept fraction is digits (not_empty (drop kept fraction) others))
-    (product_some (number_after 0 (drop kept fraction)) (10 ^ p) (some_over (drop kept fraction) (digits_drop kept fraction digits) others) (power_some p))
+-- each digit was kept, or is a zero
+pub moved_whole : (shift : Shift) (whole fraction : List ℕ) (i n p : ℕ) → i ≡ length whole + length fraction
+    → (h : IsMoved (whole ++ fraction) (length whole + shift.right) shift.left i n p) → moved shift whole fraction ≡ Some (h.kept * 10 ^ p)
+moved_whole shift whole fraction i n p all h =
+    let y = shift.left + i - (length whole + shift.right) in
+    let ended = drop_all i (whole ++ fraction) (omega (arith, length-append whole fraction, all)) in
+    let number : number_after 0 (whole ++ fraction) ≡ h.kept * 10 ^ y = h.rest ∙ ap (number_after h.so_far) ended ∙ h.zeros_are in
+    exactly_is _ _ _ (product_some (10 ^ shift.left) (10 ^ length fraction) (power_some shift.left) (power_some (length fraction)))
+    (scaled h.kept p y shift.left (length fraction) shift.right (omega (arith, h.places_are, all)) ∙ ap (λ t. t * 10 ^ shift.right) (sym number))
 
--- To the left.
+-- a multiple of a power of ten, and more that is less than the power
+record IsBetween (n power : ℕ) : Type 0 where
+  kept : ℕ
+  more : ℕ
+  is : n ≡ kept * 10 ^ power + more
+  some : 0 < more
+  less : more < 10 ^ power
 
-same_power : (n kept : ℕ) (whole : List ℕ) (p : ℕ) → kept ≡ length whole - p → n ≡ number_after 0 (take kept whole) → n * 10 ^ length (drop kept whole) ≡ n * 10 ^ p
-same_power n zero whole p is of =
-    let none : n ≡ 0 = of in
-    rw none (omega arith)
-same_power n (suc kept) whole p is of = ap (λ t. n * 10 ^ t) (length-drop (suc kept) whole ∙ omega arith)
+between_more : (n power d : ℕ) → d ≤ 9 → IsBetween n power → IsBetween (10 * n + d) (suc power)
+between_more n power d small h =
+    let ten = pow-suc 10 power in
+    let next = times_ten h.kept power in
+    record { kept = h.kept; more = 10 * h.more + d; is = omega (arith, h.is); some = omega (arith, h.some); less = omega (arith, h.less) }
 
-left_products : (a x y m k f : ℕ) → a * x ≡ a * y → ((a * x + m) * k + f) * 1 ≡ a * (y * k) + (m * k + f)
-left_products a x y m k f same =
-    let first : (a * x + m) * k ≡ a * x * k + m * k = add-mul (a * x) m k in
-    let second : a * x * k ≡ a * y * k = ap (λ t. t * k) same in
-    let third : a * y * k ≡ a * (y * k) = mul_assoc a y k in
-    omega arith
+between_after : (n power later : ℕ) (ds : List ℕ) → later ≡ power + length ds → AreDigits ds → IsBetween n power → IsBetween (number_after n ds) later
+between_after n power later [] is h between = subst (IsBetween n) (omega (arith, is)) between
+between_after n power later (d ∷ ds) is h between =
+    let p = and_parts (is_digit d) (list_all is_digit ds) h in
+    between_after (10 * n + (d - 48)) (suc power) later ds (omega (arith, is)) p.1 (between_more n power (d - 48) (digit_small d p.0) between)
 
-left_sum : (p kept : ℕ) (whole fraction : List ℕ) → kept ≡ length whole - p
-    → number_after 0 (whole ++ fraction) * 1
-    ≡ number_after 0 (take kept whole) * (10 ^ p * 10 ^ length fraction) + (number_after 0 (drop kept whole) * 10 ^ length fraction + number_after 0 fraction)
-left_sum p kept whole fraction is =
-    ap (λ t. t * 1) (number_append 0 whole fraction ∙ number_shift (number_after 0 whole) fraction ∙ ap (λ t. t * 10 ^ length fraction + number_after 0 fraction) (split 0 kept whole))
-    ∙ left_products (number_after 0 (take kept whole)) (10 ^ length (drop kept whole)) (10 ^ p) (number_after 0 (drop kept whole)) (10 ^ length fraction) (number_after 0 fraction)
-    (same_power (number_after 0 (take kept whole)) kept whole p is refl)
+not_whole : (n y right left places : ℕ) → y + right ≡ left + places → IsBetween n y → exactly (n * 10 ^ right) (10 ^ left * 10 ^ places) ≡ None
+not_whole n y right left places is h =
+    let sum = add-mul (h.kept * 10 ^ y) h.more (10 ^ right) in
+    let same = scaled h.kept 0 y left places right (omega (arith, is)) in
+    let power = powers y right left places is in
+    let less : h.more * 10 ^ right < 10 ^ y * 10 ^ right = mul-lt-mul_of_pos_right h.less (power_some right) in
+    exactly_not _ _ (h.kept * 10 ^ 0) (h.more * 10 ^ right) (ap (λ t. t * 10 ^ right) h.is ∙ omega (arith, sum, same)) (omega (arith, less, power))
+    (product_some h.more (10 ^ right) h.some (power_some right))
 
-pub left_is : (p kept : ℕ) (whole fraction : List ℕ) → kept ≡ length whole - p → list_all is_zero (drop kept whole) ≡ true → list_all is_zero fraction ≡ true
-    → moved (Left p) whole fraction ≡ Some (number_after 0 (take kept whole))
-left_is p kept whole fraction is zeros more =
-    let none : number_after 0 (drop kept whole) * 10 ^ length fraction ≡ 0 = ap (λ t. t * 10 ^ length fraction) (zeros_are (drop kept whole) zeros) ∙ omega arith in
-    exactly_is _ _ _ (product_some (10 ^ p) (10 ^ length fraction) (power_some p) (power_some (length fraction)))
-    (omega (arith, left_sum p kept whole fraction is, zeros_are fraction more))
-
-power_grows : (i j : ℕ) → i ≤ j → 10 ^ i ≤ 10 ^ j
-power_grows i j le =
-    let e : j ≡ j - i + i = omega arith in
-    let power : 10 ^ j ≡ 10 ^ (j - i) * 10 ^ i = ap (λ t. 10 ^ t) e ∙ pow-add 10 (j - i) i in
-    let least : 1 * 10 ^ i ≤ 10 ^ (j - i) * 10 ^ i = mul-le 1 (10 ^ i) (10 ^ (j - i)) (10 ^ i) (power_some (j - i)) (omega arith) in
-    omega arith
-
-left_small : (p kept : ℕ) (whole fraction : List ℕ) → kept ≡ length whole - p → AreDigits whole → AreDigits fraction
-    → number_after 0 (drop kept whole) * 10 ^ length fraction + number_after 0 fraction < 10 ^ p * 10 ^ length fraction
-left_small p kept whole fraction is digits more =
-    let m = number_after 0 (drop kept whole) in
-    let last : m < 10 ^ length (drop kept whole) = number_below (drop kept whole) (digits_drop kept whole digits) in
-    let grows : 10 ^ length (drop kept whole) ≤ 10 ^ p = power_grows (length (drop kept whole)) p (omega (arith, length-drop kept whole)) in
-    let e : (1 + m) * 10 ^ length fraction ≡ 1 * 10 ^ length fraction + m * 10 ^ length fraction = add-mul 1 m (10 ^ length fraction) in
-    let le : (1 + m) * 10 ^ length fraction ≤ 10 ^ p * 10 ^ length fraction = mul-le (1 + m) (10 ^ length fraction) (10 ^ p) (10 ^ length fraction) (omega arith) (omega arith) in
-    let below : number_after 0 fraction < 10 ^ length fraction = number_below fraction more in
-    omega arith
-
-left_some : (p kept : ℕ) (whole fraction : List ℕ) (b c : Bool) → list_all is_zero (drop kept whole) ≡ b → list_all is_zero fraction ≡ c → (b && c) ≡ false → AreDigits whole → AreDigits fraction
-    → 0 < number_after 0 (drop kept whole) * 10 ^ length fraction + number_after 0 fraction
-left_some p kept whole fraction true true one two h digits more = absurd (cc)
-left_some p kept whole fraction true false one two h digits more = omega (arith, some_over fraction more two)
-left_some p kept whole fraction false c one two h digits more =
-    omega (arith, product_some (number_after 0 (drop kept whole)) (10 ^ length fraction) (some_over (drop kept whole) (digits_drop kept whole digits) one) (power_some (length fraction)))
-
-pub left_not : (p kept : ℕ) (whole fraction : List ℕ) → kept ≡ length whole - p → AreDigits whole → AreDigits fraction
-    → (list_all is_zero (drop kept whole) && list_all is_zero fraction) ≡ false
-    → moved (Left p) whole fraction ≡ None
-left_not p kept whole fraction is digits more others =
-    exactly_not _ _ (number_after 0 (take kept whole)) _ (left_sum p kept whole fraction is)
-    (left_small p kept whole fraction is digits more)
-    (left_some p kept whole fraction (list_all is_zero (drop kept whole)) (list_all is_zero fraction) refl refl others digits more)
+-- a digit after those is no zero
+pub moved_not : (shift : Shift) (whole fraction : List ℕ) (i n p : ℕ) → AreDigits whole → AreDigits fraction
+    → IsMoved (whole ++ fraction) (length whole + shift.right) shift.left i n p → i < length whole + length fraction → p ≡ 0
+    → (get_or (whole ++ fraction) i 0 ≡ 48 → ⊥) → moved shift whole fraction ≡ None
+moved_not shift whole fraction i n p first second h lt none other =
+    let ds = whole ++ fraction in
+    let digits = digits_joined whole fraction first second in
+    let long = length-append whole fraction in
+    let x = shift.left + i - (length whole + shift.right) in
+    let y = shift.left + length ds - (length whole + shift.right) in
+    let d = get_or ds i 0 - 48 in
+    let digit = digit_is ds i (omega (arith, lt, long)) digits in
+    let small = digit_small (get_or ds i 0) digit in
+    let next = times_ten h.kept x in
+    let ten = pow-suc 10 x in
+    let begun : IsBetween (10 * h.so_far + d) (suc x) = record {
+      kept = h.kept;
+      more = d;
+      is = omega (arith, h.zeros_are);
+      some = digit_over (get_or ds i 0) digit other;
+      less = omega (arith, small, power_some x);
+    } in
+    let after = between_after _ (suc x) y (drop (i + 1) ds) (omega (arith, h.places_are, length-drop (i + 1) ds, lt, long)) (digits_drop (i + 1) ds digits) begun in
+    let between : IsBetween (number_after 0 ds) y = subst (λ t. IsBetween t y) (sym (h.rest ∙ number_more h.so_far i ds (omega (arith, lt, long)))) after in
+    not_whole (number_after 0 ds) y shift.right shift.left (length fraction) (omega (arith, h.places_are, lt, long)) between

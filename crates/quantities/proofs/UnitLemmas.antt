@@ -1,71 +1,46 @@
 -- Each unit begins with a letter.
-use Rattle.quantities.proofs.Prelude.{◌≡◌, ℕ, ◌<◌, Bool, true, false, cond, List, [], ◌∷◌, Option, Some, refl, ap, ◌∙◌, arith, ◌==◌, is_digit, Measure, measure_of, bytes_eq, codes, Counts, Micrometres, Millimetres, Milliseconds, TenthsOfADegree}
+use Rattle.quantities.proofs.Prelude.{◌≡◌, ℕ, ◌<◌, Bool, true, false, cond, List, [], ◌∷◌, Option, Some, None, option_map, refl, sym, subst, arith, nat_le, Measure, measure_of, micrometres_in, milliseconds_in, tenths_in, one_is, thousand_are, bytes_eq, codes, Counts, Micrometres, Millimetres, Milliseconds, TenthsOfADegree}
 use Rattle.std.proofs.lemmas.Slice.Eq.{bytes_eq-Decides}
 
--- these bytes begin neither with a digit nor with a point
-pub record BeginsWithLetter (bytes : List ℕ) : Type 0 where
-  pub first : ℕ
-  pub others : List ℕ
-  pub is : bytes ≡ first ∷ others
-  pub no_digit : is_digit first ≡ false
-  pub no_point : (first == 46) ≡ false
+-- a letter is above all digits and the point
+abbrev pub begins_with_letter : List ℕ → Bool
+begins_with_letter [] = false
+begins_with_letter (b ∷ bs) = nat_le 97 b
+
+abbrev pub IsLettered : List ℕ → Type 0
+IsLettered unit = begins_with_letter unit ≡ true
+
+or_by : (t : Bool) (unit word : List ℕ) (n m : ℕ) (later : Option ℕ) → bytes_eq unit word ≡ t → IsLettered word → (later ≡ Some m → IsLettered unit) → cond t (Some n) later ≡ Some m → IsLettered unit
+or_by true unit word n m later e letter next h = subst IsLettered (sym ((bytes_eq-Decides unit word).0 e)) letter
+or_by false unit word n m later e letter next h = next h
+
+or_unit : (unit word : List ℕ) (n m : ℕ) (later : Option ℕ) → IsLettered word → (later ≡ Some m → IsLettered unit) → cond (bytes_eq unit word) (Some n) later ≡ Some m → IsLettered unit
+or_unit unit word n m later = or_by (bytes_eq unit word) unit word n m later refl
+
+of_length : (unit : List ℕ) (m : ℕ) → micrometres_in unit ≡ Some m → IsLettered unit
+of_length unit m =
+    or_unit unit (codes "m") _ m _ refl
+    (or_unit unit (codes "cm") _ m _ refl (or_unit unit (codes "mm") _ m _ refl (or_unit unit (codes "um") _ m None refl (λ h. absurd (cc)))))
+
+of_time : (unit : List ℕ) (m : ℕ) → milliseconds_in unit ≡ Some m → IsLettered unit
+of_time unit m = or_unit unit (codes "s") _ m _ refl (or_unit unit (codes "ms") _ m None refl (λ h. absurd (cc)))
+
+of_angle : (unit : List ℕ) (m : ℕ) → tenths_in unit ≡ Some m → IsLettered unit
+of_angle unit m = or_unit unit (codes "deg") _ m None refl (λ h. absurd (cc))
 
 -- a unit, and that some of it are counted
-pub record IsUnit (bytes : List ℕ) (measure : Measure) : Type 0 where
-  pub letter : BeginsWithLetter bytes
-  pub some : 0 < measure.units
+abbrev pub IsUnit : List ℕ → Measure → Type 0
+IsUnit unit measure = IsLettered unit × (0 < measure.units)
 
-found : (bytes word : List ℕ) (m measure : Measure) → bytes ≡ word → BeginsWithLetter word → 0 < m.units → Some m ≡ Some measure → IsUnit bytes measure
-found bytes word m measure is letter some e =
-    let same : m ≡ measure = cc in
-    let units : m.units ≡ measure.units = ap (λ (x : Measure). x.units) same in
-    record {
-      letter = record { first = letter.first; others = letter.others; is = is ∙ letter.is; no_digit = letter.no_digit; no_point = letter.no_point };
-      some = omega arith;
-    }
-
-one_of : (b : Bool) (bytes word : List ℕ) (m measure : Measure) (later : Option Measure) → bytes_eq bytes word ≡ b → BeginsWithLetter word → 0 < m.units
-    → (later ≡ Some measure → IsUnit bytes measure) → cond b (Some m) later ≡ Some measure → IsUnit bytes measure
-one_of true bytes word m measure later e letter some next h = found bytes word m measure ((bytes_eq-Decides bytes word).0 e) letter some h
-one_of false bytes word m measure later e letter some next h = next h
-
-or_unit : (bytes word : List ℕ) (m measure : Measure) (later : Option Measure) → cond (bytes_eq bytes word) (Some m) later ≡ Some measure
-    → BeginsWithLetter word → 0 < m.units → (later ≡ Some measure → IsUnit bytes measure) → IsUnit bytes measure
-or_unit bytes word m measure later h letter some next = one_of (bytes_eq bytes word) bytes word m measure later refl letter some next h
-
-metres : BeginsWithLetter (codes "m")
-metres = record { first = 109; others = []; is = refl; no_digit = refl; no_point = refl }
-
-centimetres : BeginsWithLetter (codes "cm")
-centimetres = record { first = 99; others = 109 ∷ []; is = refl; no_digit = refl; no_point = refl }
-
-millimetres : BeginsWithLetter (codes "mm")
-millimetres = record { first = 109; others = 109 ∷ []; is = refl; no_digit = refl; no_point = refl }
-
-micrometres : BeginsWithLetter (codes "um")
-micrometres = record { first = 117; others = 109 ∷ []; is = refl; no_digit = refl; no_point = refl }
-
-seconds : BeginsWithLetter (codes "s")
-seconds = record { first = 115; others = []; is = refl; no_digit = refl; no_point = refl }
-
-milliseconds : BeginsWithLetter (codes "ms")
-milliseconds = record { first = 109; others = 115 ∷ []; is = refl; no_digit = refl; no_point = refl }
-
-degrees : BeginsWithLetter (codes "deg")
-degrees = record { first = 100; others = 101 ∷ 103 ∷ []; is = refl; no_digit = refl; no_point = refl }
+by_measure : (of : ℕ → Measure) (o : Option ℕ) (unit : List ℕ) (measure : Measure) → ((m : ℕ) → o ≡ Some m → IsLettered unit) → ((m : ℕ) → 0 < (of m).units)
+    → option_map of o ≡ Some measure → IsUnit unit measure
+by_measure of None unit measure letter some h = absurd (cc)
+by_measure of (Some m) unit measure letter some h =
+    let same : of m ≡ measure = cc in
+    (letter m refl, subst (λ (x : Measure). 0 < x.units) same (some m))
 
 pub is_unit : (counts : Counts) (unit : List ℕ) (measure : Measure) → measure_of counts unit ≡ Some measure → IsUnit unit measure
-is_unit Micrometres unit measure h =
-    or_unit unit (codes "m") _ measure _ h metres (omega arith) (λ second.
-    or_unit unit (codes "cm") _ measure _ second centimetres (omega arith) (λ third.
-    or_unit unit (codes "mm") _ measure _ third millimetres (omega arith) (λ fourth.
-    or_unit unit (codes "um") _ measure _ fourth micrometres (omega arith) (λ others. absurd (cc)))))
-is_unit Millimetres unit measure h =
-    or_unit unit (codes "m") _ measure _ h metres (omega arith) (λ second.
-    or_unit unit (codes "cm") _ measure _ second centimetres (omega arith) (λ third.
-    or_unit unit (codes "mm") _ measure _ third millimetres (omega arith) (λ fourth.
-    or_unit unit (codes "um") _ measure _ fourth micrometres (omega arith) (λ others. absurd (cc)))))
-is_unit Milliseconds unit measure h =
-    or_unit unit (codes "s") _ measure _ h seconds (omega arith) (λ second.
-    or_unit unit (codes "ms") _ measure _ second milliseconds (omega arith) (λ others. absurd (cc)))
-is_unit TenthsOfADegree unit measure h = or_unit unit (codes "deg") _ measure _ h degrees (omega arith) (λ others. absurd (cc))
+is_unit Micrometres unit measure = by_measure one_is (micrometres_in unit) unit measure (of_length unit) (λ m. omega arith)
+is_unit Millimetres unit measure = by_measure thousand_are (micrometres_in unit) unit measure (of_length unit) (λ m. omega arith)
+is_unit Milliseconds unit measure = by_measure one_is (milliseconds_in unit) unit measure (of_time unit) (λ m. omega arith)
+is_unit TenthsOfADegree unit measure = by_measure one_is (tenths_in unit) unit measure (of_angle unit) (λ m. omega arith)

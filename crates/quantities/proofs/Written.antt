@@ -1,10 +1,11 @@
 -- What is written as a quantity is read as its value.
-use Rattle.quantities.proofs.Prelude.{◌≡◌, ℕ, ℤ, suc, ◌+◌, ◌-◌, ◌*◌, ◌^◌, ◌<◌, Bool, true, false, cond, List, [], ◌∷◌, ◌++◌, length, take, drop, Option, Some, None, option_map, refl, sym, ap, ◌∙◌, arith, ◌&&◌, ◌==◌, and_parts, list_all, list_all-append, prefix_len, is_digit, digits_after, natural_of, begins_with_minus, signed, AreDigits, Measure, measure_of, IsMeasured, IsQuantity, after_digits, begins_with_point, front_digits, is_empty, inl, inr, measured_of, or_else, point, quantity_of, sign, size_at, size_at_point, size_by, size_of, size_with, zero_alone, nat_tests, Counts}
+use Rattle.quantities.proofs.Prelude.{◌≡◌, ℕ, ℤ, suc, ◌+◌, ◌-◌, ◌*◌, ◌^◌, ◌<◌, Bool, true, false, cond, List, [], ◌∷◌, ◌++◌, append-nil, length, take, drop, Option, Some, None, option_map, refl, sym, ap, ◌∙◌, arith, ◌&&◌, ◌==◌, and_parts, list_all, list_all-append, prefix_len, is_digit, digits_after, natural_of, begins_with_minus, number_of, signed, AreDigits, Measure, measure_of, IsMeasured, IsQuantity, after_digits, begins_with_fraction, fraction_of, front_digits, inl, inr, measured_of, or_zero, point, quantity_of, sign, size_at, size_by, size_of, unit_of, unsigned, nat_le, nat_tests, Counts, Micrometres, Millimetres, Milliseconds, TenthsOfADegree}
 use Rattle.std.proofs.Math.Seq.{take-append_seam, drop-append_seam}
 use Rattle.quantities.proofs.Digits.{power_some}
 use Rattle.quantities.proofs.Quotients.{exactly_is}
 use Rattle.quantities.proofs.Moves.{product_some}
-use Rattle.quantities.proofs.UnitLemmas.{BeginsWithLetter, is_unit}
+use Rattle.quantities.proofs.Sizes.{no_size}
+use Rattle.quantities.proofs.UnitLemmas.{IsLettered, is_unit}
 
 -- A number has digits alone.
 
@@ -17,32 +18,11 @@ digits_back : (n : ℕ) (ds : List ℕ) (m : ℕ) → digits_after n ds ≡ Some
 digits_back n [] m h = refl
 digits_back n (d ∷ ds) m h = digits_back_by (is_digit d) n d ds m refl (digits_back (10 * n + (d - 48)) ds m) h
 
-pub natural_digits : (ds : List ℕ) (m : ℕ) → natural_of ds ≡ Some m → AreDigits ds
+natural_digits : (ds : List ℕ) (m : ℕ) → natural_of ds ≡ Some m → AreDigits ds
 natural_digits [] m h = refl
 natural_digits (d ∷ ds) m h = digits_back 0 (d ∷ ds) m h
 
-pub digits_both : (xs ys : List ℕ) → AreDigits (xs ++ ys) → (AreDigits xs) × (AreDigits ys)
-digits_both xs ys h = and_parts (list_all is_digit xs) (list_all is_digit ys) (sym (list_all-append is_digit xs ys) ∙ h)
-
--- Bytes that begin with no digit.
-
-abbrev pub BeginsOtherwise : List ℕ → Type 0
-BeginsOtherwise bytes = (first : ℕ) × (others : List ℕ) × (bytes ≡ first ∷ others) × (is_digit first ≡ false)
-
-no_more : (b : Bool) → cond {A = Option ℕ} b None None ≡ None
-no_more true = refl
-no_more false = refl
-
-stop : (n : ℕ) (ds : List ℕ) (u : ℕ) (us : List ℕ) → is_digit u ≡ false → digits_after n (ds ++ u ∷ us) ≡ None
-stop n [] u us h = ap (λ b. cond b (digits_after (10 * n + (u - 48)) us) None) h
-stop n (d ∷ ds) u us h =
-    ap (λ o. cond (is_digit d) o None) (stop (10 * n + (d - 48)) ds u us h) ∙ no_more (is_digit d)
-
-natural_stop : (w : ℕ) (ws tail : List ℕ) → BeginsOtherwise tail → natural_of ((w ∷ ws) ++ tail) ≡ None
-natural_stop w ws tail t = ap (λ (x : List ℕ). natural_of ((w ∷ ws) ++ x)) t.2 ∙ stop 0 (w ∷ ws) t.0 t.1 t.3
-
-prefix_none : (tail : List ℕ) → BeginsOtherwise tail → prefix_len is_digit tail ≡ 0
-prefix_none tail t = ap (λ (x : List ℕ). prefix_len is_digit x) t.2 ∙ ap (λ (b : Bool). cond b (1 + prefix_len is_digit t.1) 0) t.3
+-- Digits in front of what begins with none.
 
 prefix_is : (ds tail : List ℕ) → AreDigits ds → prefix_len is_digit tail ≡ 0 → prefix_len is_digit (ds ++ tail) ≡ length ds
 prefix_is [] tail h none = none
@@ -52,92 +32,114 @@ prefix_is (d ∷ ds) tail h none =
     let more : 1 + prefix_len is_digit (ds ++ tail) ≡ suc (length ds) = omega arith in
     ap (λ (b : Bool). cond b (1 + prefix_len is_digit (ds ++ tail)) 0) p.0 ∙ more
 
-front_is : (ds tail : List ℕ) → AreDigits ds → BeginsOtherwise tail → front_digits (ds ++ tail) ≡ ds
-front_is ds tail h other = ap (λ n. take n (ds ++ tail)) (prefix_is ds tail h (prefix_none tail other)) ∙ take-append_seam ds tail
+front_is : (ds tail : List ℕ) → AreDigits ds → prefix_len is_digit tail ≡ 0 → front_digits (ds ++ tail) ≡ ds
+front_is ds tail h none = ap (λ n. take n (ds ++ tail)) (prefix_is ds tail h none) ∙ take-append_seam ds tail
 
-after_is : (ds tail : List ℕ) → AreDigits ds → BeginsOtherwise tail → after_digits (ds ++ tail) ≡ tail
-after_is ds tail h other = ap (λ n. drop n (ds ++ tail)) (prefix_is ds tail h (prefix_none tail other)) ∙ drop-append_seam ds tail
+after_is : (ds tail : List ℕ) → AreDigits ds → prefix_len is_digit tail ≡ 0 → after_digits (ds ++ tail) ≡ tail
+after_is ds tail h none = ap (λ n. drop n (ds ++ tail)) (prefix_is ds tail h none) ∙ drop-append_seam ds tail
+
+letter_no_digit : (b : ℕ) → nat_le 97 b ≡ true → is_digit b ≡ false
+letter_no_digit b h = grind (arith, nat_tests)
+
+letter_no_point : (b : ℕ) → nat_le 97 b ≡ true → (b == 46) ≡ false
+letter_no_point b h = grind (arith, nat_tests)
+
+unit_stops : (unit : List ℕ) → IsLettered unit → prefix_len is_digit unit ≡ 0
+unit_stops [] letter = absurd (cc)
+unit_stops (b ∷ bs) letter = ap (λ (t : Bool). cond t (1 + prefix_len is_digit bs) 0) (letter_no_digit b letter)
+
+tail_stops : (fraction unit : List ℕ) → IsLettered unit → prefix_len is_digit (point fraction ++ unit) ≡ 0
+tail_stops [] unit letter = unit_stops unit letter
+tail_stops (d ∷ ds) unit letter = refl
 
 -- A word without its sign.
 
-unit_otherwise : (unit : List ℕ) → BeginsWithLetter unit → BeginsOtherwise unit
-unit_otherwise unit letter = (letter.first, letter.others, letter.is, letter.no_digit)
+no_fraction : (unit : List ℕ) → IsLettered unit → begins_with_fraction unit ≡ false
+no_fraction [] letter = refl
+no_fraction (b ∷ []) letter = refl
+no_fraction (b ∷ d ∷ bs) letter = ap (λ t. t && is_digit d) (letter_no_point b letter)
 
-tail_otherwise : (fraction unit : List ℕ) → BeginsWithLetter unit → BeginsOtherwise (point fraction ++ unit)
-tail_otherwise [] unit letter = unit_otherwise unit letter
-tail_otherwise (d ∷ ds) unit letter = (46, (d ∷ ds) ++ unit, refl, refl)
+fraction_is : (fraction unit : List ℕ) → AreDigits fraction → IsLettered unit → fraction_of (point fraction ++ unit) ≡ fraction
+fraction_is [] unit h letter = ap (λ t. cond t (front_digits (drop 1 unit)) []) (no_fraction unit letter)
+fraction_is (d ∷ ds) unit h letter =
+    ap (λ t. cond t (front_digits ((d ∷ ds) ++ unit)) []) (and_parts (is_digit d) (list_all is_digit ds) h).0
+    ∙ front_is (d ∷ ds) unit h (unit_stops unit letter)
 
-at_front : (counts : Counts) (w : ℕ) (ws tail : List ℕ) → AreDigits (w ∷ ws) → BeginsOtherwise tail → size_of counts ((w ∷ ws) ++ tail) ≡ size_at counts (w ∷ ws) tail
-at_front counts w ws tail h other =
-    ap (λ front. cond (is_empty front) None (size_at counts front (after_digits ((w ∷ ws) ++ tail)))) (front_is (w ∷ ws) tail h other)
-    ∙ ap (λ after. size_at counts (w ∷ ws) after) (after_is (w ∷ ws) tail h other)
+unit_is : (fraction unit : List ℕ) → AreDigits fraction → IsLettered unit → unit_of (point fraction ++ unit) ≡ unit
+unit_is [] unit h letter = ap (λ t. cond t (after_digits (drop 1 unit)) unit) (no_fraction unit letter)
+unit_is (d ∷ ds) unit h letter =
+    ap (λ t. cond t (after_digits ((d ∷ ds) ++ unit)) (46 ∷ (d ∷ ds) ++ unit)) (and_parts (is_digit d) (list_all is_digit ds) h).0
+    ∙ after_is (d ∷ ds) unit h (unit_stops unit letter)
 
-at_point : (counts : Counts) (whole : List ℕ) (d : ℕ) (ds unit : List ℕ) → AreDigits (d ∷ ds) → BeginsOtherwise unit
-    → size_at_point counts whole ((d ∷ ds) ++ unit) ≡ size_with counts whole (d ∷ ds) unit
-at_point counts whole d ds unit h other =
-    ap (λ front. cond (is_empty front) None (size_with counts whole front (after_digits ((d ∷ ds) ++ unit)))) (front_is (d ∷ ds) unit h other)
-    ∙ ap (λ after. size_with counts whole (d ∷ ds) after) (after_is (d ∷ ds) unit h other)
+cut_is : (counts : Counts) (whole tail : List ℕ) → AreDigits whole → prefix_len is_digit tail ≡ 0 → size_of counts (whole ++ tail) ≡ size_at counts whole tail
+cut_is counts whole tail h none =
+    ap (λ front. size_at counts front (after_digits (whole ++ tail))) (front_is whole tail h none)
+    ∙ ap (λ after. size_at counts whole after) (after_is whole tail h none)
 
-no_point : (unit : List ℕ) → BeginsWithLetter unit → begins_with_point unit ≡ false
-no_point unit letter = ap begins_with_point letter.is ∙ letter.no_point
+sized : (counts : Counts) (w : ℕ) (ws fraction unit : List ℕ) (digits size : ℕ) (measure : Measure) → natural_of ((w ∷ ws) ++ fraction) ≡ Some digits → AreDigits fraction
+    → measure_of counts unit ≡ Some measure → size * (measure.units * 10 ^ length fraction) ≡ digits * measure.counted → size_at counts (w ∷ ws) (point fraction ++ unit) ≡ Some size
+sized counts w ws fraction unit digits size measure number h measure_is is =
+    let u = is_unit counts unit measure measure_is in
+    ap (λ f. size_by (natural_of ((w ∷ ws) ++ f)) (length f) (measure_of counts (unit_of (point fraction ++ unit)))) (fraction_is fraction unit h u.0)
+    ∙ ap (λ (x : List ℕ). size_by (natural_of ((w ∷ ws) ++ fraction)) (length fraction) (measure_of counts x)) (unit_is fraction unit h u.0)
+    ∙ ap (λ o. size_by o (length fraction) (measure_of counts unit)) number
+    ∙ ap (λ o. size_by (Some digits) (length fraction) o) measure_is
+    ∙ exactly_is (digits * measure.counted) (measure.units * 10 ^ length fraction) size (product_some measure.units (10 ^ length fraction) u.1 (power_some (length fraction))) is
 
-at_tail : (counts : Counts) (whole fraction unit : List ℕ) → AreDigits fraction → BeginsWithLetter unit → size_at counts whole (point fraction ++ unit) ≡ size_with counts whole fraction unit
-at_tail counts whole [] unit h letter =
-    ap (λ b. cond b (size_at_point counts whole (drop 1 unit)) (size_with counts whole [] unit)) (no_point unit letter)
-at_tail counts whole (d ∷ ds) unit h letter = at_point counts whole d ds unit h (unit_otherwise unit letter)
-
-sized : (counts : Counts) (whole fraction unit : List ℕ) (digits size : ℕ) (measure : Measure) → natural_of (whole ++ fraction) ≡ Some digits → measure_of counts unit ≡ Some measure
-    → 0 < measure.units → size * (measure.units * 10 ^ length fraction) ≡ digits * measure.counted → size_with counts whole fraction unit ≡ Some size
-sized counts whole fraction unit digits size measure number unit_is some is =
-    ap (λ o. size_by o (length fraction) (measure_of counts unit)) number
-    ∙ ap (λ o. size_by (Some digits) (length fraction) o) unit_is
-    ∙ exactly_is (digits * measure.counted) (measure.units * 10 ^ length fraction) size
-    (product_some measure.units (10 ^ length fraction) some (power_some (length fraction))) is
-
--- a word without its sign has this size, is no number, and begins with no sign
-record IsSized (counts : Counts) (bytes : List ℕ) (size : ℕ) : Type 0 where
-  size_is : size_of counts bytes ≡ Some size
-  no_number : natural_of bytes ≡ None
-  no_sign : begins_with_minus bytes ≡ false
+-- The whole word.
 
 digit_no_sign : (d : ℕ) → is_digit d ≡ true → (d == 45) ≡ false
 digit_no_sign d h = grind (arith, nat_tests)
 
-is_sized : (counts : Counts) (whole fraction unit : List ℕ) (digits size : ℕ) (measure : Measure) → 0 < length whole → natural_of (whole ++ fraction) ≡ Some digits
-    → measure_of counts unit ≡ Some measure → size * (measure.units * 10 ^ length fraction) ≡ digits * measure.counted → IsSized counts (whole ++ (point fraction ++ unit)) size
-is_sized counts [] fraction unit digits size measure some number unit_is is = absurd (omega arith)
-is_sized counts (w ∷ ws) fraction unit digits size measure some number unit_is is =
-    let u = is_unit counts unit measure unit_is in
-    let both = digits_both (w ∷ ws) fraction (natural_digits ((w ∷ ws) ++ fraction) digits number) in
-    let other = tail_otherwise fraction unit u.letter in
-    record {
-      size_is = at_front counts w ws (point fraction ++ unit) both.0 other
-          ∙ at_tail counts (w ∷ ws) fraction unit both.1 u.letter
-          ∙ sized counts (w ∷ ws) fraction unit digits size measure number unit_is u.some is;
-      no_number = natural_stop w ws (point fraction ++ unit) other;
-      no_sign = digit_no_sign w (and_parts (is_digit w) (list_all is_digit ws) both.0).0;
-    }
+by_sign : (counts : Counts) (negative : Bool) (w : ℕ) (bs : List ℕ) → is_digit w ≡ true → measured_of counts (sign negative ++ w ∷ bs) ≡ option_map (signed negative) (size_of counts (w ∷ bs))
+by_sign counts true w bs h = refl
+by_sign counts false w bs h = ap (λ b. option_map (signed b) (size_of counts (cond b bs (w ∷ bs)))) (digit_no_sign w h)
 
--- The whole word.
+measured_by : (counts : Counts) (negative : Bool) (whole fraction unit : List ℕ) (digits size : ℕ) (measure : Measure) → 0 < length whole → natural_of (whole ++ fraction) ≡ Some digits
+    → measure_of counts unit ≡ Some measure → size * (measure.units * 10 ^ length fraction) ≡ digits * measure.counted
+    → measured_of counts (sign negative ++ (whole ++ (point fraction ++ unit))) ≡ Some (signed negative size)
+measured_by counts negative [] fraction unit digits size measure some number measure_is is = absurd (omega arith)
+measured_by counts negative (w ∷ ws) fraction unit digits size measure some number measure_is is =
+    let tail = point fraction ++ unit in
+    let all : (list_all is_digit (w ∷ ws) && list_all is_digit fraction) ≡ true = sym (list_all-append is_digit (w ∷ ws) fraction) ∙ natural_digits ((w ∷ ws) ++ fraction) digits number in
+    let both = and_parts (list_all is_digit (w ∷ ws)) (list_all is_digit fraction) all in
+    let first = and_parts (is_digit w) (list_all is_digit ws) both.0 in
+    by_sign counts negative w (ws ++ tail) first.0
+    ∙ ap (option_map (signed negative))
+    (cut_is counts (w ∷ ws) tail both.0 (tail_stops fraction unit (is_unit counts unit measure measure_is).0)
+    ∙ sized counts w ws fraction unit digits size measure number both.1 measure_is is)
 
-by_sign : (counts : Counts) (negative : Bool) (bytes : List ℕ) (size : ℕ) → IsSized counts bytes size → quantity_of counts (sign negative ++ bytes) ≡ Some (signed negative size)
-by_sign counts true bytes size h =
-    ap (λ o. or_else (zero_alone (option_map (signed true) o)) (option_map (signed true) (size_of counts bytes))) h.no_number
-    ∙ ap (λ o. option_map (signed true) o) h.size_is
-by_sign counts false bytes size h =
-    ap (λ b. or_else (zero_alone (cond b (option_map (signed true) (natural_of (drop 1 bytes))) (option_map (signed false) (natural_of bytes))))
-    (cond b (option_map (signed true) (size_of counts (drop 1 bytes))) (option_map (signed false) (size_of counts bytes)))) h.no_sign
-    ∙ ap (λ o. or_else (zero_alone (option_map (signed false) o)) (option_map (signed false) (size_of counts bytes))) h.no_number
-    ∙ ap (λ o. option_map (signed false) o) h.size_is
-
-measured_is_read : (counts : Counts) (word : List ℕ) (value : ℤ) → IsMeasured counts word value → quantity_of counts word ≡ Some value
+measured_is_read : (counts : Counts) (word : List ℕ) (value : ℤ) → IsMeasured counts word value → measured_of counts word ≡ Some value
 measured_is_read counts word value h =
-    ap (quantity_of counts) h.word_is
-    ∙ by_sign counts h.negative (h.whole ++ (point h.fraction ++ h.unit)) h.size (is_sized counts h.whole h.fraction h.unit h.digits h.size h.measure h.some h.digits_are h.unit_is h.size_is)
+    ap (measured_of counts) h.word_is
+    ∙ measured_by counts h.negative h.whole h.fraction h.unit h.digits h.size h.measure h.some h.digits_are h.unit_is h.size_is
     ∙ ap (λ v. Some v) (sym h.value_is)
+
+-- Zeros alone have no unit.
+
+no_unit : (counts : Counts) → measure_of counts [] ≡ None
+no_unit Micrometres = refl
+no_unit Millimetres = refl
+no_unit Milliseconds = refl
+no_unit TenthsOfADegree = refl
+
+bare : (counts : Counts) (ds : List ℕ) → AreDigits ds → size_of counts ds ≡ None
+bare counts ds h = ap (size_of counts) (sym (append-nil ds)) ∙ cut_is counts ds [] h refl ∙ no_size counts ds [] (sym (no_unit counts))
+
+signed_digits : (negative : Bool) (ds : List ℕ) (o : Option ℕ) (value : ℤ) → natural_of ds ≡ o → option_map (signed negative) o ≡ Some value → AreDigits ds
+signed_digits negative ds None value is h = absurd (cc)
+signed_digits negative ds (Some n) value is h = natural_digits ds n is
+
+number_digits : (word : List ℕ) (value : ℤ) (b : Bool) → cond b (option_map (signed true) (natural_of (drop 1 word))) (option_map (signed false) (natural_of word)) ≡ Some value
+    → AreDigits (cond b (drop 1 word) word)
+number_digits word value true h = signed_digits true (drop 1 word) (natural_of (drop 1 word)) value refl h
+number_digits word value false h = signed_digits false word (natural_of word) value refl h
 
 -- a quantity is read as its value
 pub quantity_is_found : (counts : Counts) (word : List ℕ) (value : ℤ) → IsQuantity counts word value → quantity_of counts word ≡ Some value
 quantity_is_found counts word value (inl zero_is) =
-    ap (λ o. or_else (zero_alone o) (measured_of counts word)) (zero_is.0 ∙ ap (λ v. Some v) zero_is.1) ∙ ap (λ v. Some v) (sym zero_is.1)
-quantity_is_found counts word value (inr measured) = measured_is_read counts word value measured
+    let none : size_of counts (unsigned word) ≡ None = bare counts (unsigned word) (number_digits word value (begins_with_minus word) zero_is.0) in
+    ap (λ o. or_zero (option_map (signed (begins_with_minus word)) o) (number_of word)) none
+    ∙ ap (λ o. or_zero None o) (zero_is.0 ∙ ap (λ v. Some v) zero_is.1)
+    ∙ ap (λ v. Some v) (sym zero_is.1)
+quantity_is_found counts word value (inr measured) = ap (λ o. or_zero o (number_of word)) (measured_is_read counts word value measured)

@@ -1,6 +1,6 @@
 -- Quantities: decimal numbers with a unit, which are a whole number of what a place counts.
-use Rattle.std.specs.Prelude.{◌≡◌, ℕ, ◌*◌, ◌/◌, ◌%◌, ◌^◌, ◌<◌, ◌⊎◌, Bool, true, false, List, [], ◌∷◌, ◌++◌, length}
-use Rattle.std.specs.Prelude.{take, drop, ◌==◌, Option, Some, None, option_map, Result, ℤ, pos, ◌≤ℤ◌, int_le, ◌&&◌}
+use Rattle.std.specs.Prelude.{◌≡◌, ℕ, zero, ◌*◌, ◌/◌, ◌%◌, ◌^◌, ◌<◌, ◌⊎◌, Bool, true, false, List, [], ◌∷◌, ◌++◌}
+use Rattle.std.specs.Prelude.{length, take, drop, ◌==◌, ◌&&◌, Option, Some, None, option_map, Result, ℤ, pos, ◌≤ℤ◌}
 use Rattle.std.specs.Prelude.{if◌then◌else◌}
 use Rattle.std.specs.List.{prefix_len}
 use Rattle.text_lines.specs.Numbers.{is_digit, natural_of, signed, begins_with_minus, number_of, in_range}
@@ -57,13 +57,19 @@ front_digits bytes = take (prefix_len is_digit bytes) bytes
 abbrev pub after_digits : List ℕ → List ℕ
 after_digits bytes = drop (prefix_len is_digit bytes) bytes
 
-abbrev pub is_empty : List ℕ → Bool
-is_empty [] = true
-is_empty (b ∷ bs) = false
+-- a point, and a digit after it
+abbrev pub begins_with_fraction : List ℕ → Bool
+begins_with_fraction [] = false
+begins_with_fraction (b ∷ []) = false
+begins_with_fraction (b ∷ d ∷ bs) = b == 46 && is_digit d
 
-abbrev pub begins_with_point : List ℕ → Bool
-begins_with_point [] = false
-begins_with_point (b ∷ bs) = b == 46
+-- of what stands after the digits in front: the digits after a point, or none
+abbrev pub fraction_of : List ℕ → List ℕ
+fraction_of rest = if begins_with_fraction rest then front_digits (drop 1 rest) else []
+
+-- and what stands after them
+abbrev pub unit_of : List ℕ → List ℕ
+unit_of rest = if begins_with_fraction rest then after_digits (drop 1 rest) else rest
 
 -- a quotient, where it is a whole number
 abbrev pub exactly : ℕ → ℕ → Option ℕ
@@ -74,46 +80,32 @@ abbrev pub size_by : Option ℕ → ℕ → Option Measure → Option ℕ
 size_by (Some digits) places (Some measure) = exactly (digits * measure.counted) (measure.units * 10 ^ places)
 size_by digits places measure = None
 
--- digits before the point and after it, and their unit
-abbrev pub size_with : Counts → List ℕ → List ℕ → List ℕ → Option ℕ
-size_with counts whole fraction unit =
-    size_by (natural_of (whole ++ fraction)) (length fraction) (measure_of counts unit)
-
--- digits before the point, and what stands after it
-abbrev pub size_at_point : Counts → List ℕ → List ℕ → Option ℕ
-size_at_point counts whole rest =
-    if is_empty (front_digits rest) then None else size_with counts whole (front_digits rest) (after_digits rest)
-
--- the digits in front, and what stands after them
+-- the digits in front, at least one, and what stands after them
 abbrev pub size_at : Counts → List ℕ → List ℕ → Option ℕ
-size_at counts whole rest =
-    if begins_with_point rest then size_at_point counts whole (drop 1 rest) else size_with counts whole [] rest
+size_at counts [] rest = None
+size_at counts (d ∷ ds) rest =
+    size_by (natural_of ((d ∷ ds) ++ fraction_of rest)) (length (fraction_of rest)) (measure_of counts (unit_of rest))
 
 -- a word without its sign
 abbrev pub size_of : Counts → List ℕ → Option ℕ
-size_of counts bytes =
-    if is_empty (front_digits bytes) then None else size_at counts (front_digits bytes) (after_digits bytes)
+size_of counts bytes = size_at counts (front_digits bytes) (after_digits bytes)
+
+abbrev pub unsigned : List ℕ → List ℕ
+unsigned word = if begins_with_minus word then drop 1 word else word
 
 -- a number with a unit
 abbrev pub measured_of : Counts → List ℕ → Option ℤ
-measured_of counts word =
-    if begins_with_minus word
-    then option_map (signed true) (size_of counts (drop 1 word))
-    else option_map (signed false) (size_of counts word)
+measured_of counts word = option_map (signed (begins_with_minus word)) (size_of counts (unsigned word))
 
--- the first of two values that there is
-abbrev pub or_else : Option ℤ → Option ℤ → Option ℤ
-or_else (Some value) later = Some value
-or_else None later = later
+-- a number with a unit, or zeros alone
+abbrev pub or_zero : Option ℤ → Option ℤ → Option ℤ
+or_zero (Some value) number = Some value
+or_zero None (Some (pos zero)) = Some (pos 0)
+or_zero None number = None
 
--- a value that is zero
-abbrev pub zero_alone : Option ℤ → Option ℤ
-zero_alone None = None
-zero_alone (Some value) = if int_le (pos 0) value && int_le value (pos 0) then Some value else None
-
--- zeros alone, or a number with a unit
+-- the value of a word, where it has one
 abbrev pub quantity_of : Counts → List ℕ → Option ℤ
-quantity_of counts word = or_else (zero_alone (number_of word)) (measured_of counts word)
+quantity_of counts word = or_zero (measured_of counts word) (number_of word)
 
 -- the quantity that a word is, or what is wrong with it
 abbrev pub quantity_in : Counts → ℤ → ℤ → List ℕ → Result ℤ NumberFault

@@ -1,7 +1,7 @@
 //! Units of length, time and angle.
 
-ghost use Rattle.std.specs.Prelude.{◌≡◌, option_map};
-ghost use Rattle.quantities.specs.Units.{measure_of};
+ghost use Rattle.std.specs.Prelude.{◌≡◌, ◌^◌, option_map};
+ghost use Rattle.quantities.specs.Units.{measure_of, micrometres_in, milliseconds_in, tenths_in};
 ghost use Rattle.quantities.specs.Steps.{measure_by};
 
 /// What a place counts.
@@ -15,60 +15,44 @@ pub enum Counts {
 
 /// Where the point of a number goes when its unit becomes what a place counts: by this many places.
 #[derive(Clone, Copy)]
-pub enum Shift {
-    Right(usize),
-    Left(usize),
+pub struct Shift {
+    pub right: u8,
+    pub left: u8,
 }
 
-fn for_micrometres(unit: &[u8]) -> Option<Shift>
-    ensures { option_map measure_by result ≡ measure_of Counts.Micrometres unit.now }
+fn length_places(unit: &[u8]) -> Option<u8>
+    ensures { option_map (λ places. 10 ^ places) result ≡ micrometres_in unit.now }
 {
     if unit == b"m".as_slice() {
-        Some(Shift::Right(6))
+        Some(6)
     } else if unit == b"cm".as_slice() {
-        Some(Shift::Right(4))
+        Some(4)
     } else if unit == b"mm".as_slice() {
-        Some(Shift::Right(3))
+        Some(3)
     } else if unit == b"um".as_slice() {
-        Some(Shift::Right(0))
+        Some(0)
     } else {
         None
     }
 }
 
-fn for_millimetres(unit: &[u8]) -> Option<Shift>
-    ensures { option_map measure_by result ≡ measure_of Counts.Millimetres unit.now }
-{
-    if unit == b"m".as_slice() {
-        Some(Shift::Right(3))
-    } else if unit == b"cm".as_slice() {
-        Some(Shift::Right(1))
-    } else if unit == b"mm".as_slice() {
-        Some(Shift::Right(0))
-    } else if unit == b"um".as_slice() {
-        Some(Shift::Left(3))
-    } else {
-        None
-    }
-}
-
-fn for_milliseconds(unit: &[u8]) -> Option<Shift>
-    ensures { option_map measure_by result ≡ measure_of Counts.Milliseconds unit.now }
+fn time_places(unit: &[u8]) -> Option<u8>
+    ensures { option_map (λ places. 10 ^ places) result ≡ milliseconds_in unit.now }
 {
     if unit == b"s".as_slice() {
-        Some(Shift::Right(3))
+        Some(3)
     } else if unit == b"ms".as_slice() {
-        Some(Shift::Right(0))
+        Some(0)
     } else {
         None
     }
 }
 
-fn for_tenths(unit: &[u8]) -> Option<Shift>
-    ensures { option_map measure_by result ≡ measure_of Counts.TenthsOfADegree unit.now }
+fn angle_places(unit: &[u8]) -> Option<u8>
+    ensures { option_map (λ places. 10 ^ places) result ≡ tenths_in unit.now }
 {
     if unit == b"deg".as_slice() {
-        Some(Shift::Right(1))
+        Some(1)
     } else {
         None
     }
@@ -78,10 +62,11 @@ fn for_tenths(unit: &[u8]) -> Option<Shift>
 pub fn shift_of(counts: Counts, unit: &[u8]) -> Option<Shift>
     ensures { option_map measure_by result ≡ measure_of counts unit.now }
 {
-    match counts {
-        Counts::Micrometres => for_micrometres(unit),
-        Counts::Millimetres => for_millimetres(unit),
-        Counts::Milliseconds => for_milliseconds(unit),
-        Counts::TenthsOfADegree => for_tenths(unit),
-    }
+    let (right, left) = match counts {
+        Counts::Micrometres => (length_places(unit)?, 0),
+        Counts::Millimetres => (length_places(unit)?, 3),
+        Counts::Milliseconds => (time_places(unit)?, 0),
+        Counts::TenthsOfADegree => (angle_places(unit)?, 0),
+    };
+    Some(Shift { right, left })
 }
