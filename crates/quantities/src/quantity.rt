@@ -137,6 +137,10 @@ pub fn quantity_in(counts: Counts, word: &[u8], low: i64, high: i64) -> Result<i
     ensures value { result ≡ spec.quantity_in counts low high word.now }
     ensures within { IfOk result (λ v. (low ≤ℤ v) × (v ≤ℤ high)) }
 {
+    // Most zeros are this word: it takes no search for a unit.
+    if word == b"0".as_slice() {
+        return in_range(Some(0), false, low, high);
+    }
     match size(counts, unsigned(word)) {
         Some(size) => in_range(Some(size), begins_with_minus(word), low, high),
         None => zero_in(word, low, high),
