@@ -80,16 +80,17 @@ abbrev pub size_by : Option ℕ → ℕ → Option Measure → Option ℕ
 size_by (Some digits) places (Some measure) = exactly (digits * measure.counted) (measure.units * 10 ^ places)
 size_by digits places measure = None
 
--- the digits in front, at least one, and what stands after them
+-- the size of the digits in front, at least one, and of what stands after them
 abbrev pub size_at : Counts → List ℕ → List ℕ → Option ℕ
 size_at counts [] rest = None
 size_at counts (d ∷ ds) rest =
     size_by (natural_of ((d ∷ ds) ++ fraction_of rest)) (length (fraction_of rest)) (measure_of counts (unit_of rest))
 
--- a word without its sign
+-- the size of a word without its sign
 abbrev pub size_of : Counts → List ℕ → Option ℕ
 size_of counts bytes = size_at counts (front_digits bytes) (after_digits bytes)
 
+-- a word, without its sign where it has one
 abbrev pub unsigned : List ℕ → List ℕ
 unsigned word = if begins_with_minus word then drop 1 word else word
 
