@@ -28,14 +28,22 @@ class Curve:
         self.table = [self.at(k * self.STEP) for k in range(t // self.STEP + 2)]
 
     def at(self, t: float) -> list[float]:
-        t = min(max(t, 0), self.end)
-        begin, length, rows = self.pieces[max(0, bisect.bisect_right(self.begins, t) - 1)]
-        return [value_of(row, (t - begin) / length) for row in rows]
+        t = 0 if t < 0 else self.end if t > self.end else t
+        begin, length, rows = self.pieces[bisect.bisect_right(self.begins, t) - 1]
+        u, place = (t - begin) / length, []
+        for row in rows:  # as value_of has it: this is asked a million times for a log
+            v = 0.0
+            for c in row:
+                v = v * u + c
+            place.append(v)
+        return place
 
     def nearest(self, place: Sequence[float], low: float, high: float, enough: float = 0.0) -> tuple[float, float]:
         """The distance of a place from the curve between two times, as far as it is looked for, and its time; no finer
         than the table where that is near enough."""
         low, high = min(max(low, 0), self.end), min(max(high, 0), self.end)
+        if low == high:
+            return dist(place, self.at(low)), low
         best = min((dist(place, self.at(t)), t) for t in (low, high))
         for k in range(int(low) // self.STEP + 1, -(-int(high) // self.STEP)):
             best = min(best, (dist(place, self.table[k]), k * self.STEP))
