@@ -10,7 +10,7 @@ from typing import Any, Sequence
 from hemtoghai.flying import clock
 
 GRACE = 0.5  # real seconds after which a process that sleeps, and hasn't read all, counts as one that reads nothing
-BLINK = 0.0001  # real seconds between two looks at a process that is at work
+BLINK, LONGEST_BLINK = 0.0001, 0.002  # real seconds between two looks at a process that is at work and says nothing
 
 
 class Piped:
@@ -50,20 +50,23 @@ class Piped:
 
     def settle(self) -> bool:
         """Waits, in real time, until the process waits for more, has ended, or hangs; whether it said something."""
-        has_said = False
+        if not self.was_told or self.has_ended:
+            return False
+        has_said, blink = False, BLINK
         since = clock.REAL.now()
         while self.was_told and not self.has_ended:
             rests = self.rests()
             if self.has_output():
                 self.read()
-                has_said, since = True, clock.REAL.now()
+                has_said, since, blink = True, clock.REAL.now(), BLINK
             elif rests and not self.unread():
                 self.was_told = False
             elif rests and (self.hangs or clock.REAL.now() - since > GRACE):
                 self.hangs = True
                 break
             else:
-                clock.REAL.wait(BLINK)
+                clock.REAL.is_readable(self.output.fileno(), blink)
+                blink = min(2 * blink, LONGEST_BLINK)
         return has_said
 
     def has_output(self) -> bool:

@@ -191,8 +191,10 @@ class Drone:
 
     def since(self, fault: str, now: Optional[float] = None) -> Optional[float]:
         """The seconds since a fault came, or None where it hasn't."""
-        after, begin = self.faults.get(fault), self.rose_at if fault in self.after_rise else self.curve_began
-        seconds = -1.0 if after is None or begin is None else (now or clock.now()) - begin - after
+        if (after := self.faults.get(fault)) is None:
+            return None
+        begin = self.rose_at if fault in self.after_rise else self.curve_began
+        seconds = -1.0 if begin is None else (now or clock.now()) - begin - after
         return None if seconds < 0 else seconds
 
     def is_due(self, fault: str) -> bool:
@@ -624,8 +626,9 @@ class World:
 
     def since(self, trouble: str) -> Optional[float]:
         """For how many seconds a trouble goes on; None where it doesn't."""
-        after, starts = self.after.get(trouble), [it.starts[0] for it in self.drones.values() if it.starts]
-        if after is None or not starts:
+        if (after := self.after.get(trouble)) is None:
+            return None
+        if not (starts := [it.starts[0] for it in self.drones.values() if it.starts]):
             return None
         seconds = clock.now() - min(starts) - after
         return seconds if 0 <= seconds < TROUBLES[trouble] else None
