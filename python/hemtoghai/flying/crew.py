@@ -93,12 +93,19 @@ class Watch:
 
 
 class Teller:
-    """Writes lines to the terminal, by a thread of its own, in the order in which they come."""
+    """Writes lines to the terminal, by a thread of its own from the first one on, in the order in which they come."""
 
     def __init__(self) -> None:
         self.lines: "queue.Queue[str]" = queue.Queue()
-        self.thread = threading.Thread(target=self.run, daemon=True)
-        self.thread.start()
+        self.begins, self.has_begun = threading.RLock(), False
+
+    def put(self, text: str) -> None:
+        """Takes a line."""
+        with self.begins:
+            if not self.has_begun:
+                self.has_begun = True
+                threading.Thread(target=self.run, daemon=True).start()
+        self.lines.put(text)
 
     def run(self) -> None:
         """Writes what comes; a terminal that is gone loses it, which is noted for the status."""
@@ -122,7 +129,7 @@ atexit.register(TELLER.finish)
 
 
 def put(text: str) -> None:
-    TELLER.lines.put(text)
+    TELLER.put(text)
     for hears in HEARS:
         hears(text)
 
