@@ -2,9 +2,12 @@
 
 The simulated library and its drones are from one memory of the firmware, never compared with a radio or a drone.
 """
+import atexit
 import os
+import shutil
 import subprocess
 import sys
+import tempfile
 import unittest
 
 sys.dont_write_bytecode = True
@@ -17,6 +20,7 @@ from hemtoghai.flying import clock, own_clock
 from hemtoghai.language import choreo
 from hemtoghai.program import PROGRAM
 from cflib import air
+import forked
 
 SHOW = os.path.join(TOP, "show")
 
@@ -27,6 +31,19 @@ def wants_program(test):
     return unittest.skipUnless(os.access(PROGRAM, os.X_OK), "the program isn't built: ./show check FILE builds it")(test)
 
 
+def without_record():
+    """A copy of the proved program: it has no record, and so nothing is known of its proof. Where there is none, the
+    stand-in of CI."""
+    if not os.access(PROGRAM, os.X_OK):
+        return os.path.join(TOP, ".ci", "stand_in")
+    if not COPIES:
+        room = tempfile.mkdtemp()
+        atexit.register(shutil.rmtree, room, ignore_errors=True)
+        COPIES.append(shutil.copy(PROGRAM, room))
+    return COPIES[0]
+
+
+COPIES = []
 # `./show` with the program that is there, which CI makes without a record: nothing is proved and built for a test.
 AS_BUILT = [sys.executable, "-IS", "-c", """
 import sys
@@ -121,6 +138,6 @@ def holds(one, data, offset=0):
 
 def run(*words, text=None, env=None):
     """The status, standard output and standard error of a command."""
-    done = subprocess.run([SHOW, *words], cwd=TOP, input=text, stdout=subprocess.PIPE,
-                          stderr=subprocess.PIPE, universal_newlines=True, timeout=300, env=env)
+    done = forked.SHOWS.run(["show", *words], cwd=TOP, input=text, stdout=subprocess.PIPE,
+                            stderr=subprocess.PIPE, universal_newlines=True, timeout=300, env=env)
     return done.returncode, done.stdout, done.stderr

@@ -10,14 +10,23 @@ import tempfile
 import unittest
 
 import common
+import forked
 
 ANSWERS = tempfile.mkdtemp()  # what `check` said, for all flights of this run of tests
 atexit.register(shutil.rmtree, ANSWERS, ignore_errors=True)
+FLIES = forked.Parent(sys.executable, os.path.join(common.TOP, "tests", "flying.py"), ANSWERS)
 
 
-def words_of(*words, more=""):
-    """The words of a process that flies; `more` is a text in Python that is run before."""
-    return [sys.executable, os.path.join(common.TOP, "tests", "flying.py"), ANSWERS, more, *words]
+def flown(*words, more="", **streams):
+    """A flight that has ended, with all that it said; `more` is a text in Python that is run before."""
+    streams = {"stdin": subprocess.DEVNULL, "stdout": subprocess.PIPE, "stderr": subprocess.STDOUT, **streams}
+    return FLIES.run(["show", "fly", *words], code=more, cwd=common.TOP, universal_newlines=True, **streams)
+
+
+def begun(*words, **streams):
+    """A flight that has begun."""
+    streams = {"stdout": subprocess.PIPE, "stderr": subprocess.STDOUT, **streams}
+    return FLIES.popen(["show", "fly", *words], cwd=common.TOP, **streams)
 
 
 def judged(rows, show):

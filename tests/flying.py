@@ -1,16 +1,18 @@
 """./show fly for many flights of a run of tests: what `check` says of a text, the first flight that asks is told by the
-program, and all others are told the same by a folder. In Python's own words: FOLDER MORE WORDS, where MORE is a text in
-Python that is run before the flight."""
+program, and all others are told the same by a folder. As a program: FOLDER SOCKET. It forks a process for each flight
+that is asked for at the socket (tests/forked.py)."""
 import hashlib
 import json
 import os
 import sys
 
 import common
+import forked
 from hemtoghai import __main__
+from hemtoghai.commands import fly
 from hemtoghai.flying import stages
 
-FOLDER, MORE = sys.argv[1:3]
+FOLDER, SOCKET = sys.argv[1:3]
 said_of = stages.said_of
 
 
@@ -30,6 +32,8 @@ def remembered(text):
 
 if __name__ == "__main__":
     stages.said_of = remembered
-    sys.argv[:3] = ["show", "fly"]
-    exec(MORE)
-    __main__.run()
+    more = forked.serve(SOCKET)
+    processors = sorted(os.sched_getaffinity(0))  # one of them takes less time: a flight's threads take turns
+    os.sched_setaffinity(0, {processors[os.getpid() % len(processors)]})
+    exec(more)
+    forked.end_by(__main__.run)

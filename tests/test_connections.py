@@ -18,7 +18,7 @@ SOON = 30  # seconds, on a machine that has much else to do; a silent connection
 
 class Silent(unittest.TestCase):
     def setUp(self):
-        self.studio = Running(GOOD, before=lambda: resource.setrlimit(resource.RLIMIT_NOFILE, (FILES, FILES)))
+        self.studio = Running(GOOD, limits=[(resource.RLIMIT_NOFILE, FILES)])
         self.addCleanup(self.studio.end)
 
     def connected(self, count, said):

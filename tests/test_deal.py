@@ -4,7 +4,8 @@ import subprocess
 import tempfile
 import unittest
 
-from common import SHOW, TOP
+import forked
+from common import TOP
 from hemtoghai.language import choreo
 from hemtoghai.language.converting import converted
 from hemtoghai.geometry import separation
@@ -128,8 +129,8 @@ end
 
 def run(word, *words, text):
     """The status, standard output and standard error of a command on a show."""
-    done = subprocess.run([SHOW, word, *words, "-"], cwd=TOP, input=text, timeout=120,
-                          stdout=subprocess.PIPE, stderr=subprocess.PIPE, universal_newlines=True)
+    done = forked.SHOWS.run(["show", word, *words, "-"], cwd=TOP, input=text, timeout=120,
+                            stdout=subprocess.PIPE, stderr=subprocess.PIPE, universal_newlines=True)
     return done.returncode, done.stdout, done.stderr
 
 

@@ -2,7 +2,6 @@
 hangs or takes the ways for no flight."""
 import io
 import struct
-import subprocess
 import tempfile
 import types
 import unittest
@@ -55,9 +54,7 @@ def spoilt(what, mark, after, show, pads=None):
         if pads:
             room.write("pads", pads)
             words += ["--pads", room.path("pads")]
-        done = subprocess.run(flights.words_of(*words, more=SPOILT % (what, mark, after)), cwd=common.TOP,
-                              stdin=subprocess.DEVNULL, stdout=subprocess.PIPE, stderr=subprocess.STDOUT,
-                              universal_newlines=True, timeout=300)
+        done = flights.flown(*words, more=SPOILT % (what, mark, after), timeout=300)
         with open(room.path("log.csv")) as rows:
             return done.returncode, done.stdout, rows.read()
 

@@ -61,8 +61,9 @@ def wide_show():
     return "\n".join(rows) + "\n"
 
 
-def fly(words, show=SHOW, text="yes\nyes\nyes\nleave\n", script=()):
-    """The status, the output and the log of a simulated flight; the rows of a script say what else the crew does."""
+def fly(words, show=SHOW, text="yes\nyes\nyes\nleave\n", script=(), more=""):
+    """The status, the output and the log of a simulated flight; the rows of a script say what else the crew does, and
+    `more` is a text in Python that is run before."""
     with tempfile.TemporaryDirectory() as place:
         room = common.Folder()
         room.place, log = place, os.path.join(place, "log.csv")
@@ -74,8 +75,7 @@ def fly(words, show=SHOW, text="yes\nyes\nyes\nleave\n", script=()):
             room.write("script", flights.script(*script))
             words = [*words, "--script", room.path("script")]
         with open(room.path("typed"), "rb") as typed:
-            done = subprocess.run(flights.words_of(*WORDS, "--log", log, *words, show), cwd=common.TOP, stdin=typed,
-                                  stdout=subprocess.PIPE, stderr=subprocess.STDOUT, universal_newlines=True)
+            done = flights.flown(*WORDS, "--log", log, *words, show, stdin=typed, more=more)
         rows = ""
         if os.path.exists(log):
             with open(log) as file:
@@ -94,9 +94,8 @@ def terminal_gone():
         room.write("script", flights.script((0, "press:HUP", "started"), (0.1, "press:TERM", "")))
         reading, writing = os.pipe()
         os.close(reading)
-        done = subprocess.run(flights.words_of(*WORDS, "--yes", "--log", room.path("log.csv"), "--script",
-                                               room.path("script"), room.path("show.choreo")), cwd=common.TOP,
-                              stdin=subprocess.DEVNULL, stdout=writing, stderr=subprocess.PIPE, universal_newlines=True)
+        done = flights.flown(*WORDS, "--yes", "--log", room.path("log.csv"), "--script", room.path("script"),
+                             room.path("show.choreo"), stdout=writing, stderr=subprocess.PIPE)
         os.close(writing)
         with open(room.path("log.csv")) as file:
             return done.returncode, done.stderr, file.read()

@@ -97,8 +97,7 @@ def typed(lines, wait_for, then, show=SHOW, seconds=90):
     """A flight at a terminal of its own, where lines are typed at once when some words have come, and that is looked at
     for two seconds more after others have: the status, or None where it still waits, and the output."""
     master, slave = pty.openpty()
-    process = subprocess.Popen(flights.words_of(*WORDS, show), cwd=common.TOP, stdin=slave, stdout=subprocess.PIPE,
-                               stderr=subprocess.STDOUT)
+    process = flights.begun(*WORDS, show, stdin=slave)
     os.close(slave)
     os.set_blocking(process.stdout.fileno(), False)
     out, until, sent = "", time.monotonic() + seconds, False
@@ -121,8 +120,7 @@ def typed(lines, wait_for, then, show=SHOW, seconds=90):
 
 def piped():
     """A flight that gets three lines in one write, by a pipe that stays open: its status, and the output."""
-    process = subprocess.Popen(flights.words_of(*WORDS, SHOW), cwd=common.TOP, stdin=subprocess.PIPE,
-                               stdout=subprocess.PIPE, stderr=subprocess.STDOUT)
+    process = flights.begun(*WORDS, SHOW, stdin=subprocess.PIPE)
     os.write(process.stdin.fileno(), b"yes\nyes\nno\n")
     try:
         with process.stdout:
@@ -205,16 +203,14 @@ def while_check_is_slow(trigger, after, show, pads):
         room.write("show.choreo", show)
         room.write("script", flights.script((after, "press:INT", trigger)))
         words = [*WORDS, "--yes", "--pads", room.path("pads"), "--script", room.path("script"), room.path("show.choreo")]
-        done = subprocess.run(flights.words_of(*words, more=TOLD % (trigger, ACTS)), cwd=common.TOP, stdin=subprocess.DEVNULL,
-                              stdout=subprocess.PIPE, stderr=subprocess.STDOUT, universal_newlines=True)
+        done = flights.flown(*words, more=TOLD % (trigger, ACTS))
         found = re.search("simulated: it acts after ([0-9.]+) s", done.stdout)
         return done.returncode, done.stdout, found and float(found.group(1))
 
 
 def stays(seconds=1):
     """Whether a flight still runs where one hovers in the end and nobody answers, and the output."""
-    process = subprocess.Popen(flights.words_of(*WORDS, "--yes", *b("hovers"), SHOW), cwd=common.TOP,
-                               stdin=subprocess.DEVNULL, stdout=subprocess.PIPE, stderr=subprocess.STDOUT)
+    process = flights.begun(*WORDS, "--yes", *b("hovers"), SHOW, stdin=subprocess.DEVNULL)
     os.set_blocking(process.stdout.fileno(), False)
     out, until = "", time.monotonic() + 150
     while process.poll() is None and time.monotonic() < until:
@@ -239,9 +235,7 @@ def limited(words, size):
     """A flight in which no file gets longer than this: its status, the output, and the rows of the log."""
     with tempfile.TemporaryDirectory() as room:
         log = os.path.join(room, "log.csv")
-        done = subprocess.run(
-            flights.words_of(*WORDS, "--yes", "--log", log, *words, SHOW), cwd=common.TOP, stdin=subprocess.DEVNULL, stdout=subprocess.PIPE, stderr=subprocess.STDOUT, universal_newlines=True,
-            preexec_fn=lambda: resource.setrlimit(resource.RLIMIT_FSIZE, (size, size)))
+        done = flights.flown(*WORDS, "--yes", "--log", log, *words, SHOW, limits=[(resource.RLIMIT_FSIZE, size)])
         with open(log) as file:
             return done.returncode, done.stdout, file.read()
 

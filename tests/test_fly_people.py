@@ -1,7 +1,6 @@
 """./show fly where people err before a flight: a drone that nobody switched on, one that is on and isn't in the show, two
 on each other's pads, one drone under two names, and two of one address. Each is named before anybody is armed."""
 import re
-import subprocess
 import tempfile
 import unittest
 
@@ -37,9 +36,7 @@ def after(more, *words):
         room = common.Folder()
         room.place = place
         room.write("show.choreo", TWO)
-        done = subprocess.run(flights.words_of(*WORDS, "--yes", *words, room.path("show.choreo"), more=more), cwd=common.TOP,
-                              stdin=subprocess.DEVNULL, stdout=subprocess.PIPE, stderr=subprocess.STDOUT,
-                              universal_newlines=True)
+        done = flights.flown(*WORDS, "--yes", *words, room.path("show.choreo"), more=more)
         return done.returncode, done.stdout, ""
 
 

@@ -2,11 +2,11 @@
 import os
 import unittest
 
-from common import TOP
+from common import TOP, without_record
 from hemtoghai.language import choreo
 from hemtoghai.writing import flyable
 
-STAND_IN = os.path.join(TOP, ".ci", "stand_in")
+STAND_IN = without_record()
 
 
 def warning(*lines):

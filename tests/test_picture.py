@@ -8,10 +8,11 @@ import subprocess
 import tempfile
 import unittest
 
-from common import SHOW, TOP
+import forked
+from common import TOP, without_record
 from hemtoghai.seeing import drawing
 
-STAND_IN = ["--program", os.path.join(TOP, ".ci", "stand_in")]
+STAND_IN = ["--program", without_record()]
 # In both cues the two pass one another, in the first 100 mm apart and in the second at one place.
 TWICE = """choreo 1
 stray 30
@@ -34,8 +35,8 @@ end
 
 def picture(*words, text=None):
     """The status, standard output and standard error of the tool."""
-    done = subprocess.run([SHOW, "picture", *words], cwd=TOP, input=text, timeout=120,
-                          stdout=subprocess.PIPE, stderr=subprocess.PIPE, universal_newlines=True)
+    done = forked.SHOWS.run(["show", "picture", *words], cwd=TOP, input=text, timeout=120,
+                            stdout=subprocess.PIPE, stderr=subprocess.PIPE, universal_newlines=True)
     return done.returncode, done.stdout, done.stderr
 
 

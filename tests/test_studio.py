@@ -17,11 +17,12 @@ import unittest
 
 sys.dont_write_bytecode = True
 sys.path.insert(0, os.path.dirname(os.path.abspath(__file__)))
-from common import PROGRAM, SHOW, TOP, wants_program
+import forked
+from common import PROGRAM, SHOW, TOP, wants_program, without_record
 from hemtoghai.language import choreo
 from hemtoghai.language.converting import converted
 
-STAND_IN = os.path.join(TOP, ".ci", "stand_in")
+STAND_IN = without_record()
 GOOD = "choreo 1\ndrone a 0 0 1000000 0\ndrone b 1000000 0 1000000 0\ncue 2000\na move 0 1000000 1000000 0\nend\n"
 NEAR = "choreo 1\ndrone a 0 0 1000000 0\ndrone b 1000000 0 1000000 0\ncue 3000\na move 1000000 0 1000000 0\n" \
        "b move 0 0 1000000 0\nend\n"
@@ -77,16 +78,18 @@ def runs(number):
 
 
 class Running:
-    """A studio that runs, over a file in a folder of its own."""
+    """A studio that runs, over a file in a folder of its own. One that `begins` does so as ./show does, and its workers
+    are its children; else both are forked."""
 
-    def __init__(self, text=GOOD, words=("--program", STAND_IN), name="show.choreo", before=None):
+    def __init__(self, text=GOOD, words=("--program", STAND_IN), name="show.choreo", limits=(), begins=False):
         self.folder = tempfile.TemporaryDirectory()
         self.path = os.path.join(self.folder.name, name)
         if text is not None:
             self.write(text)
-        self.process = subprocess.Popen([SHOW, "studio", "--no-open", *words, self.path],
-                                        stdout=subprocess.PIPE, stderr=subprocess.PIPE, universal_newlines=True,
-                                        preexec_fn=before)
+        words = ["studio", "--no-open", *words, self.path]
+        pipes = {"stdout": subprocess.PIPE, "stderr": subprocess.PIPE, "universal_newlines": True}
+        self.process = subprocess.Popen([SHOW, *words], **pipes) if begins else forked.SHOWS.popen(
+            ["show", *words], code=forked.STUDIO, limits=limits, **pipes)
         self.port, self.token = re.search(r"127\.0\.0\.1:(\d+)/([\w-]+)/", self.process.stdout.readline()).groups()
         self.number = 0
 
@@ -357,7 +360,7 @@ class Newer(unittest.TestCase):
                        "mv %s.new %s; wait;; esac\nprintf '%%s\\n' \"$text\" | %s \"$@\"\n"
                        % (self.begun, self.begun, self.begun, STAND_IN))
         os.chmod(program, 0o755)
-        self.studio, self.older = Running(GOOD, ("--program", program)), {}
+        self.studio, self.older = Running(GOOD, ("--program", program), begins=True), {}
         self.addCleanup(self.studio.end)
         self.thread = threading.Thread(target=lambda: self.older.update(self.studio.stages("# slow\n", "q", 1)))
         self.thread.start()
@@ -747,8 +750,8 @@ class Program(unittest.TestCase):
 class Words(unittest.TestCase):
     def run_it(self, *words):
         """The status and standard error of the tool, where it ends by itself."""
-        done = subprocess.run([SHOW, "studio", *words], stdout=subprocess.PIPE,
-                              stderr=subprocess.PIPE, universal_newlines=True, timeout=120)
+        done = forked.SHOWS.run(["show", "studio", *words], stdout=subprocess.PIPE,
+                                stderr=subprocess.PIPE, universal_newlines=True, timeout=120)
         return done.returncode, done.stdout + done.stderr
 
     def test_words(self):
@@ -771,8 +774,8 @@ class Words(unittest.TestCase):
         """The same file has the same port, so that the browser finds the text that wasn't saved; two studios get
         two, and the second one says what it doesn't see."""
         first = Running(GOOD)
-        second = subprocess.Popen([SHOW, "studio", "--no-open", first.path],
-                                  stdout=subprocess.PIPE, stderr=subprocess.PIPE, universal_newlines=True)
+        second = forked.SHOWS.popen(["show", "studio", "--no-open", first.path],
+                                    stdout=subprocess.PIPE, stderr=subprocess.PIPE, universal_newlines=True)
         other = re.search(r":(\d+)/", second.stdout.readline())[1]
         second.send_signal(signal.SIGINT)
         _, told = second.communicate(timeout=WAIT)
@@ -782,7 +785,7 @@ class Words(unittest.TestCase):
 
     def test_signals(self):
         for number in (signal.SIGINT, signal.SIGTERM):
-            studio = Running(GOOD)
+            studio = Running(GOOD, begins=True)
             studio.stages(GOOD)
             status, said, told = studio.end(number)
             self.assertEqual((status, said.strip().split("\n")[-1], "Traceback" in told), (0, "studio: ended", False))

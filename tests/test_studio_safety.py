@@ -41,7 +41,7 @@ class Many(unittest.TestCase):
         folder = tempfile.TemporaryDirectory()
         self.addCleanup(folder.cleanup)
         program = program_in(folder.name, "#!/bin/sh\ncat > /dev/null\necho error 3 line 1 header\nexit 3\n")
-        studio = Running(GOOD, ("--program", program))
+        studio = Running(GOOD, ("--program", program), begins=True)
         self.addCleanup(studio.end)
         heads = "Host: 127.0.0.1:%s\r\nOrigin: http://127.0.0.1:%s\r\n" % (studio.port, studio.port)
         answers, most = [], 0
@@ -145,9 +145,7 @@ class File(unittest.TestCase):
 class Disk(unittest.TestCase):
     def limited(self, most):
         """A studio that can write no file beyond so many bytes."""
-        def limit():
-            resource.setrlimit(resource.RLIMIT_FSIZE, (most, most))
-        studio = Running(GOOD, before=limit)
+        studio = Running(GOOD, limits=[(resource.RLIMIT_FSIZE, most)])
         self.addCleanup(studio.end)
         return studio
 
