@@ -15,6 +15,7 @@ import tempfile
 import time
 import unittest
 
+import forked
 from common import TOP
 from hemtoghai.__main__ import COMMANDS
 from hemtoghai.dev import progress
@@ -25,8 +26,8 @@ from hemtoghai.launching.help import PURPOSES
 # proved, builds PROGRAM, and runs a try in a folder of its own below TMPDIR. It notes each call in `calls`. Where SLOW
 # names the crate, or `try`, it starts a prover, notes its process, and waits for it; with STUBBORN it takes its time to
 # end when told to. The crate that LATE names takes some seconds.
-FAKE_RT = """#!/usr/bin/env python3
-import fcntl, os, shutil, signal, subprocess, sys, tempfile, time
+FAKE_RT = """#!/usr/bin/env -S python3 -IS
+import fcntl, os, signal, sys, time
 crate, home = os.path.basename(os.getcwd()), os.environ["HOME_OF_TEST"]
 if sys.argv[1] == "version":
     print("a toolchain")
@@ -34,6 +35,7 @@ if sys.argv[1] == "version":
 with open(home + "/calls", "a") as calls:
     calls.write(sys.argv[1] + " " + crate + "\\n")
 def wait_for_prover():
+    import subprocess
     if os.environ.get("STUBBORN"):
         signal.signal(signal.SIGTERM, lambda *_: time.sleep(1.5) or sys.exit(1))
     prover = subprocess.Popen(["sleep", "300"])
@@ -43,6 +45,7 @@ def wait_for_prover():
     prover.wait()
 slow = os.environ.get("SLOW")
 if sys.argv[1] == "try":
+    import shutil, subprocess, tempfile
     if os.environ.get("UNTRIED"):
         sys.exit("no try here")
     with tempfile.TemporaryDirectory(dir=home if os.environ.get("HIDES") else None) as room:
@@ -72,12 +75,13 @@ if crate == os.environ.get("CHANGES"):
 time.sleep(6 if crate == os.environ.get("LATE") else 0.5 if crate in ("middle", "beside") else 0)
 os.makedirs("out/rlib", exist_ok=True)
 if sys.argv[1] == "run":
+    import shutil, subprocess
     shutil.copy("../../program", "out/show_cli")
     print("logic=proved functions=3 axioms=1", file=sys.stderr)
     sys.exit(subprocess.run(["out/show_cli", *sys.argv[5:]]).returncode)
 """
 # It refuses `1.5`, and words as the program does, and tells what it was given, `play` and `upload` byte for byte.
-PROGRAM = """#!/usr/bin/env python3
+PROGRAM = """#!/usr/bin/env -S python3 -IS
 import sys
 words = sys.argv[1:]
 if words[0] not in %r or not all(it.isdigit() or it.startswith("--") and "=" not in it for it in words[1:]):
@@ -138,8 +142,8 @@ class Place(unittest.TestCase):
     def show(self, *words, text="", place=None, **more):
         """The status, standard output and standard error of the launcher in its place."""
         place = place or self.place
-        done = subprocess.run(["./show", *words], cwd=place, input=text, stdout=subprocess.PIPE, stderr=subprocess.PIPE,
-                              universal_newlines=True, timeout=60, env=self.settings(place, **more))
+        done = forked.ANEW.run(["./show", *words], cwd=place, input=text, stdout=subprocess.PIPE, stderr=subprocess.PIPE,
+                               universal_newlines=True, timeout=60, env=self.settings(place, **more))
         return done.returncode, done.stdout, done.stderr
 
     def program(self, text):
@@ -170,6 +174,25 @@ class Place(unittest.TestCase):
     def leftovers(self):
         """The folders of builds that are left."""
         return [it for it in os.listdir(self.place) if it.startswith(".proving-")]
+
+
+class Built(Place):
+    """A place where the program is built already: that is done once, and copied."""
+
+    def setUp(self):
+        super().setUp()
+        if not BUILT:
+            self.show("check", "good")
+            BUILT.append(os.path.join(tempfile.mkdtemp(), "built"))
+            unittest.addModuleCleanup(shutil.rmtree, os.path.dirname(BUILT[0]))
+            unittest.addModuleCleanup(BUILT.clear)
+            shutil.copytree(self.place, BUILT[0], symlinks=True)
+            return
+        shutil.rmtree(self.place)
+        shutil.copytree(BUILT[0], self.place, symlinks=True)
+
+
+BUILT = []
 
 
 class Builds(Place):
@@ -370,10 +393,9 @@ class Signals(Processes):
         self.assertEqual((done, [self.gone(it) for it in processes], self.leftovers()), (child, [True, True], []))
 
 
-class Words(Processes):
+class Words(Built, Processes):
     def setUp(self):
         super().setUp()
-        self.show("check", "good")
         os.mkdir(self.path("folder"))
         self.file("room", "a\n%%\nb\n")
 
@@ -539,12 +561,8 @@ class Words(Processes):
         self.assertTrue(self.gone(process[0]))
 
 
-class Edges(Place):
+class Edges(Built):
     """What a hostile shell, disk or neighbour does to the launcher."""
-
-    def setUp(self):
-        super().setUp()
-        self.show("check", "good")
 
     def shell(self, line, most=None, **more):
         """The status, standard output and standard error of a line of a shell in the place; with so many bytes of
@@ -675,11 +693,10 @@ class Edges(Place):
         self.assertEqual(done.stdout, wanted)
 
 
-class Speed(Place):
+class Speed(Built):
     def test_nothing_is_read_twice(self):
         # Once files are some seconds old, what stat says of them is enough: no source is opened, nothing is hashed, and
         # no module is imported that takes long.
-        self.show("check", "good")
         self.program("#!/bin/sh\ncat\n")
         seen = self.path("crates/show_cli/out/show_cli.seen")
         for _ in range(60):
@@ -699,7 +716,6 @@ class Speed(Place):
         self.assertEqual(imported & slow, set())
 
     def test_each_change_is_seen(self):
-        self.show("check", "good")
         code = "import sys; sys.path[:0] = ['python']\nfrom hemtoghai import program\nfrom hemtoghai.launching import seen\nprint(seen.is_as_seen(program.PROGRAM))"
         note = ("import sys; sys.path[:0] = ['python']\nfrom hemtoghai import program\nfrom hemtoghai.launching import seen\nseen.SETTLED = -99\n"
                 "print(seen.is_known_current(program.PROGRAM))")
@@ -859,12 +875,11 @@ class Progresses(unittest.TestCase):
         self.assertEqual(set(progress.SECONDS), set(records.crates_below(records.LAST)))
 
 
-class Proved(Place):
+class Proved(Built):
     PROGRAM = "crates/show_cli/out/show_cli"
 
     def setUp(self):
         super().setUp()
-        self.show("check", "good")
         self.calls()
 
     def note(self, **more):
