@@ -202,16 +202,17 @@ class Processes(unittest.TestCase):
 
 @common.wants_program
 class Same(unittest.TestCase):
-    def flown(self, *words):
-        status, out, rows = fly(["--sim", "stray=30", "--sim", "late=40", "--sim", "loss=10", *words], SHOW)
+    def flown(self, *words, more=""):
+        status, out, rows = fly(["--sim", "stray=30", "--sim", "late=40", "--sim", "loss=10", *words], SHOW, more=more)
         self.assertEqual(status, 0, out)
         return out, rows
 
     def test_one_seed_is_one_flight(self):
-        # all that is said, and the log to the byte, also where the machine has other work
-        work = [subprocess.Popen([sys.executable, "-c", "while True: pass"]) for _ in range(8)]
+        # all that is said, and the log to the byte, also where the processor that flies has other work
+        busy = "import os; os.sched_setaffinity(0, {%d})\n" % max(os.sched_getaffinity(0))
+        work = [subprocess.Popen([sys.executable, "-IS", "-c", busy + "while True: pass"]) for _ in range(3)]
         try:
-            first = self.flown()
+            first = self.flown(more=busy)
         finally:
             for it in work:
                 it.kill()
