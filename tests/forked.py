@@ -325,6 +325,7 @@ class Parent:
             process.kill()
             process.wait()
             raise
+        process.link.close()
         return subprocess.CompletedProcess(words, process.returncode, out, said)
 
 
