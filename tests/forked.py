@@ -286,11 +286,22 @@ class Forked:
         self.wait()
 
 
+KEPT = []  # calls that end processes which are kept for further tests
+
+
+@atexit.register
+def end_all():
+    """Ends all that is kept; it begins anew where it is wanted."""
+    for end in KEPT:
+        end()
+
+
 class Parent:
     """A process that forks others. It is begun when the first one is asked for, and ends with the tests."""
 
     def __init__(self, *words):
         self.words, self.path, self.lock = words, None, threading.Lock()
+        KEPT.append(self.end)
 
     def socket(self):
         """The path of the socket at which it is asked."""
@@ -300,15 +311,16 @@ class Parent:
                 atexit.register(shutil.rmtree, room, ignore_errors=True)
                 path = os.path.join(room, "socket")
                 self.process = subprocess.Popen([*self.words, path], stdin=subprocess.PIPE, stdout=subprocess.PIPE)
-                atexit.register(self.end)
                 if self.process.stdout.readline() != b"ready\n":
                     raise OSError("there is no process that forks others")
                 self.path = path
             return self.path
 
     def end(self):
-        """Ends it."""
-        self.process.communicate()
+        """Ends it, if it was begun."""
+        if self.path is not None:
+            self.process.communicate()
+            self.path = None
 
     def popen(self, words, **more):
         """A command that was begun, as by `subprocess.Popen`."""

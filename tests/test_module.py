@@ -13,6 +13,7 @@ import unittest
 from unittest import mock
 
 import common
+import forked
 import hemtoghai
 from hemtoghai import answering, judging, program
 
@@ -336,6 +337,7 @@ class Proof(Case):
         def pipes():  # a temporary file of Python's own may be lost in the instant in which it is made
             found = (os.path.join("/proc/self/fd", name) for name in os.listdir("/proc/self/fd"))
             return sum(os.path.lexists(path) and os.readlink(path).startswith("pipe:") for path in found)
+        forked.end_all()
         self.answers("#!/bin/sh\nexec sleep 20\n")
         open_before, before = pipes(), signal.signal(signal.SIGALRM, stop)
         try:

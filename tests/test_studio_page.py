@@ -3,7 +3,6 @@
 The browser is led by chromedriver, over HTTP and with the standard library alone. Without Chromium and chromedriver the
 tests are skipped.
 """
-import atexit
 import http.client
 import json
 import os
@@ -18,6 +17,7 @@ import unittest
 
 sys.dont_write_bytecode = True
 sys.path.insert(0, os.path.dirname(os.path.abspath(__file__)))
+import forked
 import test_studio_quantities as same_rule
 from test_studio import GOOD, in_units, NEAR, STAND_IN, WAIT, Running, example
 
@@ -161,11 +161,13 @@ class Browser:
 BROWSERS = []  # the one of all classes
 
 
-@atexit.register
 def end_browsers():
-    """Ends what is left, after all tests."""
-    for it in BROWSERS:
-        it.end()
+    """Ends it."""
+    while BROWSERS:
+        BROWSERS.pop().end()
+
+
+forked.KEPT.append(end_browsers)
 
 
 def browser():
