@@ -3,9 +3,7 @@ pub mod Tangents
 pub mod Parts
 pub mod Segments
 pub mod Edges
-pub mod Shrinks
 pub mod Ends
-pub mod Widths
 pub mod Velocities
 pub mod Walks
 pub mod Greatest

@@ -1,12 +1,12 @@
 -- The same by the parts of a depth: what is known of both halves is known of the whole.
-use Rattle.dynamics_bound.proofs.Prelude.{common_steps, ◌≡◌, ℕ, zero, suc, ◌+◌, ◌*◌, ◌^◌, ◌≤◌, ◌<◌, ℤ, pos, ◌+ℤ◌, ◌-ℤ◌, ◌*ℤ◌, ◌≤ℤ◌, arith, refl, sym, ◌∙◌, ap, ints, by_lt_z, pow-suc, power, bernstein, ring, linear, one_mul_ℤ, bernstein-same, IsWithin, within_mul, part_value, blossom, bernstein-blossom, polar-first, part-whole, left_half, right_half, steps-half, steps, exchanged, minus_same, next_scale, polar-second, within_add, within_same, bend}
-use Rattle.halving.proofs.PartBounds.{part-half, bernstein-scaled}
+use Rattle.dynamics_bound.proofs.Prelude.{◌-◌, AreWithin, within-half, within-whole, differences-part, pow-add, common_steps, ◌≡◌, ℕ, zero, suc, ◌+◌, ◌*◌, ◌^◌, ◌≤◌, ℤ, pos, ◌+ℤ◌, ◌-ℤ◌, ◌*ℤ◌, ◌≤ℤ◌, arith, refl, sym, ◌∙◌, ap, ints, by_lt_z, power, bernstein, ring, linear, one_mul_ℤ, bernstein-same, IsWithin, within_mul, part_value, blossom, bernstein-blossom, polar-first, left_half, right_half, steps, exchanged, minus_same, next_scale, polar-second, within_add, within_same, bend}
+use Rattle.halving.proofs.PartBounds.{bernstein-scaled}
 use Rattle.dynamics_bound.proofs.Tangents.{tangent}
 
 -- ---- the speeds of a half
 speed_half : (r : ℕ) (f : ℕ → ℤ) (a c : ℤ) → bernstein 6 (steps (part_value 1 r f)) a c ≡ bernstein 6 (steps f) (pos r *ℤ (c -ℤ a) +ℤ pos (r + 1) *ℤ a) (pos 2 *ℤ c)
 speed_half r f a c =
-    bernstein-same 6 _ (blossom 6 (steps f) (pos r) (pos (r + 1)) (pos 2)) a c (λ k small. steps-half r k f small)
+    bernstein-same 6 _ (blossom 6 (steps f) (pos r) (pos (r + 1)) (pos 2)) a c (λ k small. differences-part 1 (6 - k) 1 r k f (omega arith))
     ∙ bernstein-blossom 6 (steps f) (pos r) (pos (r + 1)) (pos 2) a c
 
 left_speed : (f : ℕ → ℤ) (a c : ℤ) → bernstein 6 (steps (part_value 1 0 f)) a c ≡ bernstein 6 (steps f) a (pos 2 *ℤ c)
@@ -121,34 +121,9 @@ joined q room g v low h high left right =
     width_back x h y = omega (arith, linear)
 
 -- ---- a whole curve, and its halves
--- no part of a depth bends more than m
-abbrev pub BendsWithin : ℕ → (ℕ → ℤ) → ℤ → Type 0
-BendsWithin e f m = (index : ℕ) → index < 2 ^ e → (k : ℕ) → k ≤ 5 → IsWithin m (bend (part_value e index f) k)
-
-bends_half : (e r : ℕ) (f : ℕ → ℤ) (m : ℤ) → r ≤ 1 → BendsWithin (suc e) f m → BendsWithin e (part_value 1 r f) m
-bends_half e r f m small bends index inside k low =
-    within_same refl
-    (same_bend (sym (part-half e r index (suc (suc k)) f (omega arith))) (sym (part-half e r index (suc k) f (omega arith))) (sym (part-half e r index k f (omega arith))))
-    (bends (2 ^ e * r + index) (bound r small) k low)
-  where
-    bound : (r : ℕ) → r ≤ 1 → 2 ^ e * r + index < 2 ^ suc e
-    bound zero small = rw (pow-suc 2 e) (omega arith)
-    bound (suc zero) small = rw (pow-suc 2 e) (omega arith)
-    bound (suc (suc r)) small = absurd (omega arith)
-
-    same_bend : {x y z x' y' z' : ℤ} → x ≡ x' → y ≡ y' → z ≡ z' → (x -ℤ y) -ℤ (y -ℤ z) ≡ (x' -ℤ y') -ℤ (y' -ℤ z')
-    same_bend {x} {y} {z} {x'} {y'} {z'} p q r = cc
-
-bends_whole : (f : ℕ → ℤ) (m : ℤ) → BendsWithin 0 f m → (k : ℕ) → k ≤ 5 → IsWithin m (bend f k)
-bends_whole f m bends k low =
-    within_same refl (same_bend (part-whole f (suc (suc k))) (part-whole f (suc k)) (part-whole f k)) (bends 0 (omega arith) k low)
-  where
-    same_bend : {x y z x' y' z' : ℤ} → x ≡ x' → y ≡ y' → z ≡ z' → (x -ℤ y) -ℤ (y -ℤ z) ≡ (x' -ℤ y') -ℤ (y' -ℤ z')
-    same_bend {x} {y} {z} {x'} {y'} {z'} p q r = cc
-
 -- the room of a depth
 abbrev pub room_of : ℕ → ℤ → ℤ → ℤ
-room_of e m s = pos (4 ^ e) *ℤ (power s 5 *ℤ m)
+room_of e m s = pos (2 ^ (2 * e)) *ℤ (power s 5 *ℤ m)
 
 abbrev pub position : (ℕ → ℤ) → ℤ → ℤ → ℤ
 position f s x = bernstein 7 f x s
@@ -203,8 +178,8 @@ same_gentle : {q q' room room' : ℤ} {g v : ℤ → ℤ} {low high : ℤ} → q
 same_gentle {q} {q'} {room} {room'} {g} {v} {low} {high} qs rooms gentle = grind (arith, common_steps, within_same, pos)
 
 -- Where no part of a depth bends more than m, the whole is gentle.
-pub gentle : (e : ℕ) (f : ℕ → ℤ) (m s : ℤ) → pos 0 ≤ℤ s → BendsWithin e f m → IsGentle (pos (2 ^ (7 * e))) (room_of e m s) (position f s) (speed f s) (pos 0) s
-gentle zero f m s some bends = same_gentle refl (sym (one_mul_ℤ (power s 5 *ℤ m))) (whole_gentle f m s (bends_whole f m bends))
+pub gentle : (e : ℕ) (f : ℕ → ℤ) (m s : ℤ) → pos 0 ≤ℤ s → AreWithin 2 e f m → IsGentle (pos (2 ^ (7 * e))) (room_of e m s) (position f s) (speed f s) (pos 0) s
+gentle zero f m s some bends = same_gentle refl (sym (one_mul_ℤ (power s 5 *ℤ m))) (whole_gentle f m s (λ k low. within-whole 2 k f m bends (omega arith)))
 gentle (suc e) f m s some bends =
     let q : ℤ = pos (2 ^ (7 * e)) in
     let room : ℤ = room_of e m s in
@@ -212,14 +187,14 @@ gentle (suc e) f m s some bends =
     shifted q room (position (part_value 1 0 f) s) (speed (part_value 1 0 f) s) _ _ (pos 0) s s (omega (arith, linear))
     (λ x. left_half f (x -ℤ pos 0) s ∙ ap (λ (z : ℤ). position f (pos 2 *ℤ s) z) (minus_zero x))
     (λ x. left_speed f (x -ℤ pos 0) s ∙ ap (λ (z : ℤ). speed f (pos 2 *ℤ s) z) (minus_zero x))
-    (gentle e (part_value 1 0 f) m s some (bends_half e 0 f m (omega arith) bends)) in
+    (gentle e (part_value 1 0 f) m s some (within-half 2 e 0 f m (omega arith) bends)) in
     let right : IsGentle q room (position f (pos 2 *ℤ s)) (speed f (pos 2 *ℤ s)) s (pos 2 *ℤ s) =
     shifted q room (position (part_value 1 1 f) s) (speed (part_value 1 1 f) s) _ _ s s (pos 2 *ℤ s) (omega (arith, linear))
     (λ x. right_half f (x -ℤ s) s ∙ ap (λ (z : ℤ). position f (pos 2 *ℤ s) z) (back x s))
     (λ x. right_speed f (x -ℤ s) s ∙ ap (λ (z : ℤ). speed f (pos 2 *ℤ s) z) (back x s))
-    (gentle e (part_value 1 1 f) m s some (bends_half e 1 f m (omega arith) bends)) in
+    (gentle e (part_value 1 1 f) m s some (within-half 2 e 1 f m (omega arith) bends)) in
     same_gentle (next_scale e) (ap (λ (z : ℤ). z *ℤ (power s 5 *ℤ m)) (next_power e))
-    (halved q (pos (4 ^ e)) (power s 5 *ℤ m) f s (joined q room _ _ (pos 0) s (pos 2 *ℤ s) left right))
+    (halved q (pos (2 ^ (2 * e))) (power s 5 *ℤ m) f s (joined q room _ _ (pos 0) s (pos 2 *ℤ s) left right))
   where
     minus_zero : (x : ℤ) → x -ℤ pos 0 ≡ x
     minus_zero x = omega (arith, linear)
@@ -227,8 +202,8 @@ gentle (suc e) f m s some bends =
     back : (x s : ℤ) → (x -ℤ s) +ℤ s ≡ x
     back x s = omega (arith, linear)
 
-    next_power : (e : ℕ) → pos 2 *ℤ (pos 2 *ℤ pos (4 ^ e)) ≡ pos (4 ^ suc e)
-    next_power e = rw (pow-suc 4 e) (omega (arith, ints))
+    next_power : (e : ℕ) → pos 2 *ℤ (pos 2 *ℤ pos (2 ^ (2 * e))) ≡ pos (2 ^ (2 * suc e))
+    next_power e = let more : 2 * suc e ≡ 2 * e + 2 = omega arith in rw (more, pow-add 2 (2 * e) 2) (omega (arith, ints))
 
 -- ---- three instants
 three_value : (q x y z f g h n v : ℤ) → (y -ℤ x) *ℤ (q *ℤ ((h -ℤ g) -ℤ n *ℤ ((z -ℤ y) *ℤ v))) +ℤ (z -ℤ y) *ℤ (q *ℤ ((f -ℤ g) -ℤ n *ℤ ((x -ℤ y) *ℤ v)))
@@ -255,8 +230,8 @@ three_gentle q room g v low high x y z gentle x_low first second z_high =
 -- Between three instants x / s, y / s, z / s the mean speed changes by no more than 21 times the widest bend times the time
 -- from the first to the last: both sides are multiplied by (z - y) (y - x), and the values are numerators over s^7. A part's
 -- control values are its values times 2^(7 e), and its bends are those of a 2^e-th of the time.
-pub three_by_parts : (e : ℕ) (f : ℕ → ℤ) (m x y z s : ℤ) → pos 0 ≤ℤ x → x ≤ℤ y → y ≤ℤ z → z ≤ℤ s → BendsWithin e f m →
-    IsWithin (pos 21 *ℤ ((z -ℤ x) *ℤ ((z -ℤ y) *ℤ ((y -ℤ x) *ℤ (pos (4 ^ e) *ℤ (power s 5 *ℤ m))))))
+pub three_by_parts : (e : ℕ) (f : ℕ → ℤ) (m x y z s : ℤ) → pos 0 ≤ℤ x → x ≤ℤ y → y ≤ℤ z → z ≤ℤ s → AreWithin 2 e f m →
+    IsWithin (pos 21 *ℤ ((z -ℤ x) *ℤ ((z -ℤ y) *ℤ ((y -ℤ x) *ℤ (pos (2 ^ (2 * e)) *ℤ (power s 5 *ℤ m))))))
     (pos (2 ^ (7 * e)) *ℤ ((bernstein 7 f z s -ℤ bernstein 7 f y s) *ℤ (y -ℤ x) -ℤ (bernstein 7 f y s -ℤ bernstein 7 f x s) *ℤ (z -ℤ y)))
 three_by_parts e f m x y z s low first second high bends =
     three_gentle (pos (2 ^ (7 * e))) (room_of e m s) (position f s) (speed f s) (pos 0) s x y z (gentle e f m s (omega (arith, linear)) bends) low first second high

@@ -23,12 +23,18 @@ pub use Rattle.fleet_math.specs.Sums.{power}
 pub use Rattle.halving.proofs.PolarLemmas.{bernstein-blossom, blossom, left_half, part-whole, polar-first, right_half}
 unfoldable pub use Rattle.halving.specs.Part.{polar}
 pub use Rattle.halving.specs.Part.{part_value}
-pub use Rattle.speed_bound.proofs.Halves.{half_within, polar_step, room_of, steps-half, within_abs}
+pub use Rattle.speed_bound.proofs.Differences.{AreWithin, all_within, differences-part, within-half, within-whole}
+pub use Rattle.speed_bound.proofs.RateLemmas.{some_time}
 pub use Rattle.speed_bound.proofs.Rests.{pieces_formed}
-pub use Rattle.speed_bound.proofs.Slopes.{count_more, exchange, exchanged, minus_same, next_scale, polar-second, polar-within, steps, within_add, within_product, within_same}
-pub use Rattle.speed_bound.proofs.Speeds.{piece_value, power_low, within_cancel, within_wider}
-pub use Rattle.speed_bound.proofs.Widths.{div_ceil-least, greatest-at, greatest-most, greatest-same, parts-halves, parts-shrink, parts-whole, within_at}
+pub use Rattle.speed_bound.proofs.Slopes.{count_more, exchange, exchanged, minus_same, next_scale, polar-second, steps, within_add, within_product, within_same}
+pub use Rattle.speed_bound.proofs.Speeds.{piece_value, power_low}
+pub use Rattle.speed_bound.proofs.Units.{in_units}
+pub use Rattle.speed_bound.proofs.Walks.{duration-at, lasts-at, points-at, rate-at, value-next}
+pub use Rattle.speed_bound.proofs.Widths.{greatest-at, greatest-most, greatest-same}
+unfoldable pub use Rattle.speed_bound.specs.Differences.{rate_of, time, units, widest, widest_in}
+pub use Rattle.speed_bound.specs.Differences.{differences, limit, rate, segment_rate}
 pub use Rattle.speed_bound.specs.Speed.{duration, greatest_below}
+pub use Rattle.speed_bound.specs.Steps.{value_at}
 pub use Rattle.traj_codec.specs.Positions.{durations, element_on, piece_on, pieces_on, points, value_after}
 pub use Rattle.traj_codec.specs.Spelling.{HasDuration, stored}
 pub use Rattle.traj_codec.specs.declared.traj.Segment.{Segment}
@@ -40,7 +46,7 @@ unfoldable pub use Rattle.dynamics_bound.specs.Edges.{jump, jump_between}
 pub use Rattle.dynamics_bound.specs.Edges.{AreSame, HasVelocities, IsGreatestJump, arrival, departure, first_greatest, first_step, first_velocity, greatest_jump, is_rest_at, last_step, rest}
 pub use Rattle.dynamics_bound.specs.Excesses.{IsWithinLimits, above, excess_before, first_excess, jumps_at, sharp_at}
 pub use Rattle.dynamics_bound.specs.Motions.{cue_from, extremes, extremes_of, greater}
-pub use Rattle.dynamics_bound.specs.Steps.{greatest_before, reached_at, three, value_at, value_before, walk_at}
+pub use Rattle.dynamics_bound.specs.Steps.{greatest_before, reached_at, three, walk_at}
 pub use Rattle.dynamics_bound.specs.declared.excess.Excess.{Excess}
 pub use Rattle.dynamics_bound.specs.declared.excess.Limits.{Limits}
 pub use Rattle.dynamics_bound.specs.declared.walk.Reached.{Reached}

@@ -1,23 +1,11 @@
 -- Words of private steps: how far a walk over the segments has come. No public clause cites them.
-use Rattle.std.specs.Prelude.{ℕ, zero, suc, ℤ, List, [], ◌∷◌}
-use Rattle.fleet_math.specs.Bernstein.{at}
-use Rattle.traj_codec.specs.declared.traj.Segment.{Segment}
+use Rattle.std.specs.Prelude.{ℕ, List, [], ◌∷◌}
 use Rattle.traj_codec.specs.declared.traj.Traj.{Traj}
-use Rattle.traj_codec.specs.Positions.{element_on, value_after}
+use Rattle.speed_bound.specs.Steps.{value_at}
 use Rattle.dynamics_bound.specs.declared.jumping.Greatest.{Greatest}
 use Rattle.dynamics_bound.specs.declared.walk.Reached.{Reached}
 use Rattle.dynamics_bound.specs.declared.walk.Walk.{Walk}
 use Rattle.dynamics_bound.specs.Edges.{arrival, greatest_of, jump}
-
--- the value on an axis before the segment with this number, over segments that begin with a value
-abbrev pub value_before : ℤ → ℕ → List Segment → ℕ → ℤ
-value_before first axis segments zero = first
-value_before first axis [] (suc k) = first
-value_before first axis (s ∷ rest) (suc k) = value_before (value_after first (element_on s axis)) axis rest k
-
--- the value of a trajectory on an axis at an edge
-abbrev pub value_at : Traj → ℕ → ℕ → ℤ
-value_at t axis edge = value_before (at t.start axis) axis t.segments edge
 
 -- where a walk is on an axis at an edge, and the velocity with which it arrives
 abbrev pub reached_at : Traj → ℕ → ℕ → Reached

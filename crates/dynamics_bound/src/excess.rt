@@ -71,7 +71,7 @@ fn sharp_at(walk: &Walk, t: &Traj, k: usize, limit: Option<u64>, depth: Depth) -
     ensures { result ≡ sharp_at limit depth t.now k }
 {
     let most = limit?;
-    let values = walk.accelerations(t, k, depth, &[most.min(MOST); 3]);
+    let values = walk.accelerations(t, k, depth, most.min(MOST));
     above(Kind::Acceleration, most, k, values)
 }
 

@@ -11,12 +11,10 @@
 //! [`motion_of`] names all of that by the cues of a show, and [`put_motion`] and [`put_extremes`] write the lines that
 //! say it.
 //!
-//! The crate stands on `halving` for the parts of a curve, on `fleet_curves` for the raised curves of a segment, on
-//! lemmas of `speed_bound`, and on `fleet_io` for lines.
+//! The crate stands on `speed_bound` for the greatest rates of the second order, and on `fleet_io` for lines.
 #![tactic(auto)]
 
 mod acceleration;
-mod bends;
 mod excess;
 mod jumping;
 mod lines;

@@ -1,16 +1,16 @@
 //! A walk over the segments of a trajectory.
 
-ghost use Rattle.std.specs.Prelude.{◌≡◌, ◌+◌, ◌^◌, ◌≤◌, ◌<◌, ◌∷◌, All, length, max, slice_index_or};
+ghost use Rattle.std.specs.Prelude.{◌≡◌, ◌+◌, ◌^◌, ◌≤◌, ◌<◌, ◌∷◌, All, length, max};
 ghost use Rattle.traj_codec.specs.Spelling.{HasDuration, stored};
 ghost use Rattle.traj_codec.specs.Positions.{value_after};
 ghost use Rattle.dynamics_bound.specs.Accelerations.{acceleration_in};
 ghost use Rattle.dynamics_bound.specs.Edges.{first_step, jump, jump_between, last_step, rest};
 ghost use Rattle.dynamics_bound.specs.Steps.{three, walk_at};
 
-use crate::acceleration::segment_above;
 use crate::velocity::{Velocity, first_velocity, jump_between, last_velocity};
-use fleet_curves::{raised_segment, value_after};
+use fleet_curves::value_after;
 use fleet_math::Depth;
+use speed_bound::element_rate;
 use traj_codec::{Element, Traj};
 
 /// Where a walk is on an axis, in millimetres, and the velocity with which it arrives there.
@@ -76,21 +76,19 @@ impl Walk {
 
     /// The bounds on the acceleration in the segment with this number, by its parts of a depth, in micrometres per
     /// second squared; on each axis no less than `most`.
-    pub fn accelerations(&self, t: &Traj, k: usize, depth: Depth, most: &[u64; 3]) -> [u64; 3]
+    pub fn accelerations(&self, t: &Traj, k: usize, depth: Depth, most: u64) -> [u64; 3]
         requires here { self.now ≡ walk_at t.now k }
         requires inside { k < length t.now.segments }
         requires durations { All HasDuration t.now.segments }
-        requires most { All (λ v. v < 2 ^ 53) most.now }
-        ensures exact { result ≡ three
-            (λ axis. max (slice_index_or most.now axis 0) (acceleration_in depth t.now axis k)) }
+        requires most { most < 2 ^ 53 }
+        ensures exact { result ≡ three (λ axis. max most (acceleration_in depth t.now axis k)) }
         ensures small { All (λ v. v < 2 ^ 53) result }
     {
         let s = &t.segments.as_slice()[k];
-        let curves = raised_segment(self.x.value, self.y.value, self.z.value, s);
         [
-            segment_above(&curves[0], s.ms, depth, most[0]),
-            segment_above(&curves[1], s.ms, depth, most[1]),
-            segment_above(&curves[2], s.ms, depth, most[2]),
+            element_rate::<2>(self.x.value, s.elements[0], s.ms, depth, most),
+            element_rate::<2>(self.y.value, s.elements[1], s.ms, depth, most),
+            element_rate::<2>(self.z.value, s.elements[2], s.ms, depth, most),
         ]
     }
 }

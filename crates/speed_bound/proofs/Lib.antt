@@ -1,8 +1,13 @@
 mod Prelude
 pub mod Slopes
-pub mod Speeds
 pub mod Widths
+pub mod Differences
+pub mod Changes
+pub mod RateLemmas
+pub mod Units
+pub mod Speeds
 pub mod Halves
+pub mod Walks
 pub mod Rests
 mod Rows
 pub mod Reaches

@@ -1,6 +1,6 @@
 -- What the proofs of this crate cite from elsewhere, passed on from one place. Declares nothing.
 pub use Rattle.std.proofs.Common.{All, FitsSigned, List, [], ap, arith, drop, get_or, length, lit<, map, max, min, neg_ℤ, negsuc, pos, refl, rules, subst, suc, sum, sym, take, to_z, unsigned_abs, zero, zero-add, ℕ, ℤ, ◌*ℤ◌, ◌*◌, ◌++◌, ◌+ℤ◌, ◌+◌, ◌-ℤ◌, ◌-◌, ◌/◌, ◌<ℤ◌, ◌<◌, ◌^◌, ◌∙◌, ◌∷◌, ◌≡◌, ◌≢◌, ◌≤ℤ◌, ◌≤◌}
-pub use Rattle.std.proofs.Math.Nat.{pow-le-pow_right, pow-suc, pow-zero}
+pub use Rattle.std.proofs.Math.Nat.{mul-div-le, pow-le-pow_right, pow-suc, pow-zero}
 pub use Rattle.std.proofs.lemmas.Grind.{common_steps, div_ceil_times}
 pub use Rattle.std.proofs.lemmas.Int.{by_lt_z, ints, to_z-of_z, to_z_pos}
 pub use Rattle.std.proofs.lemmas.List.{drop_all, get_or_past, length-map, take_all}
@@ -36,7 +36,10 @@ pub use Rattle.traj_codec.specs.declared.traj.Element.TheVariants.{Constant, Cub
 pub use Rattle.traj_codec.specs.declared.traj.Segment.{Segment}
 pub use Rattle.traj_codec.specs.declared.traj.Traj.{Traj}
 pub use mir.Syntax.{w128, w16, w64}
+unfoldable pub use Rattle.speed_bound.specs.Differences.{rate_of, time, units, widest, widest_in}
+pub use Rattle.speed_bound.specs.Differences.{differences, limit, rate, segment_rate}
 unfoldable pub use Rattle.speed_bound.specs.Reach.{reach, reach_of}
 pub use Rattle.speed_bound.specs.Reach.{IsMoving, ReachLaw, StillLaw, farthest, traj_at}
 unfoldable pub use Rattle.speed_bound.specs.Speed.{segment_speed, speed, speed_of, widest_part, widest_step}
-pub use Rattle.speed_bound.specs.Speed.{KeepsSpeed, greatest_below}
+pub use Rattle.speed_bound.specs.Speed.{KeepsSpeed, duration, greatest_below}
+pub use Rattle.speed_bound.specs.Steps.{value_at, value_before}

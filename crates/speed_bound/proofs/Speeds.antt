@@ -1,24 +1,12 @@
 -- From the steps of the parts to the speed between each two instants of a trajectory.
-use Rattle.speed_bound.proofs.Prelude.{common_steps, ◌≡◌, ℕ, zero, suc, ◌+◌, ◌-◌, ◌*◌, ◌^◌, ◌≤◌, ◌<◌, ℤ, pos, negsuc, ◌+ℤ◌, ◌-ℤ◌, ◌*ℤ◌, ◌≤ℤ◌, ◌<ℤ◌, neg_ℤ, unsigned_abs, arith, refl, sym, ◌∙◌, ap, subst, List, length, get_or, All, sum, ints, by_lt_z, length-map, pow_pos, power, at, bernstein, Moment, moment, time_before, Piece, IsPiece, ring, linear, le_mul_ℤ, le_mul_pos, mul_not_negative, mul_add_ℤ, mul_assoc_ℤ, one_mul_ℤ, zero_mul_ℤ, mul_comm_ℤ, mul_neg_ℤ, by_lt, points-count, points-joined, decoded-at_start, decoded-at_end, raised, IsWithin, within_mul, raise, Lies, moment-lies, time_before-suc}
+use Rattle.speed_bound.proofs.Prelude.{rate_of, time, units, lit<, common_steps, ◌≡◌, ℕ, zero, suc, ◌+◌, ◌-◌, ◌*◌, ◌^◌, ◌≤◌, ◌<◌, ℤ, pos, negsuc, ◌+ℤ◌, ◌-ℤ◌, ◌*ℤ◌, ◌≤ℤ◌, neg_ℤ, unsigned_abs, arith, refl, sym, ◌∙◌, ap, subst, List, length, get_or, All, sum, ints, length-map, power, at, bernstein, Moment, moment, time_before, Piece, IsPiece, ring, linear, le_mul_ℤ, le_mul_pos, mul_not_negative, mul_add_ℤ, mul_assoc_ℤ, one_mul_ℤ, zero_mul_ℤ, mul_comm_ℤ, mul_neg_ℤ, by_lt, points-count, points-joined, decoded-at_start, decoded-at_end, raised, IsWithin, within_mul, raise, Lies, moment-lies, time_before-suc}
+use Rattle.fleet_math.proofs.SumLemmas.{power-mul}
 use Rattle.fleet_math.specs.Decoded.{points, durations, decoded}
-use Rattle.speed_bound.proofs.Slopes.{AreFlat, minus_same, steep_between, within_add, within_same}
-
--- ---- a positive factor cancels
--- from an order
-pub le_from_mul : (s x y : ℤ) → pos 0 <ℤ s → (s *ℤ x) ≤ℤ (s *ℤ y) → x ≤ℤ y
-le_from_mul s x y positive below = by_lt_z y x
-    (λ less. let more : (s *ℤ (y +ℤ pos 1)) ≤ℤ (s *ℤ x) = le_mul_ℤ s (y +ℤ pos 1) x (omega (arith, linear)) (omega (arith, linear)) in
-    absurd (omega (arith, linear, more, below, mul_add_ℤ s y (pos 1), mul_comm_ℤ s (pos 1), one_mul_ℤ s)))
-    (λ h. h)
-
--- from a bound
-pub within_cancel : (s m x : ℤ) → pos 0 <ℤ s → IsWithin (s *ℤ m) (s *ℤ x) → IsWithin m x
-within_cancel s m x positive within =
-    (le_from_mul s (neg_ℤ m) x positive (omega (arith, linear, within.0, mul_neg_ℤ s m)), le_from_mul s x m positive within.1)
-
--- a wider bound
-pub within_wider : (m n x : ℤ) → m ≤ℤ n → IsWithin m x → IsWithin n x
-within_wider m n x wider within = (omega (arith, linear), omega (arith, linear))
+use Rattle.speed_bound.proofs.Slopes.{minus_same, within_add, within_same}
+use Rattle.speed_bound.proofs.Differences.{AreWithin}
+use Rattle.speed_bound.proofs.Changes.{steep_between}
+use Rattle.speed_bound.proofs.RateLemmas.{some_time}
+use Rattle.speed_bound.proofs.Units.{in_units}
 
 -- two products
 same_product : {x y z w : ℤ} → x ≡ y → z ≡ w → x *ℤ z ≡ y *ℤ w
@@ -28,57 +16,31 @@ same_product {x} {y} {z} {w} p q = cc
 value_ring : (u q f k x l y : ℤ) → u *ℤ (q *ℤ (k *ℤ (f *ℤ x) -ℤ l *ℤ (f *ℤ y))) ≡ (f *ℤ q) *ℤ (u *ℤ (k *ℤ x -ℤ l *ℤ y))
 value_ring u q f k x l y = simp ring (omega (arith, linear))
 
-bound_ring : (u p t w m : ℤ) → u *ℤ (p *ℤ (t *ℤ (w *ℤ m))) ≡ ((u *ℤ p) *ℤ m) *ℤ (t *ℤ w)
-bound_ring u p t w m = simp ring refl
-
-room_ring : (f q v t : ℤ) → (v *ℤ (f *ℤ q)) *ℤ t ≡ (f *ℤ q) *ℤ (v *ℤ t)
-room_ring f q v t = simp ring refl
+room_ring : (p t w m : ℤ) → p *ℤ (t *ℤ (w *ℤ m)) ≡ (p *ℤ m) *ℤ (t *ℤ w)
+room_ring p t w m = simp ring refl
 
 -- Between two instants a / c and b / d of one curve: m bounds the steps of its parts of a depth, and v the speed.
 in_curve : (e v m ms : ℕ) (f : ℕ → ℤ) (a c b d x y : ℤ) → pos 0 ≤ℤ a → a ≤ℤ c → pos 0 ≤ℤ b → b ≤ℤ d → (d *ℤ a) ≤ℤ (c *ℤ b) → pos 0 ≤ℤ (power (c *ℤ d) 6) →
-    AreFlat e f (pos m) → 7000000 * 2 ^ e * m ≤ v * (5040 * 2 ^ (7 * e) * ms) → bernstein 7 f a c ≡ pos 5040 *ℤ x → bernstein 7 f b d ≡ pos 5040 *ℤ y →
+    AreWithin 1 e f (pos m) → 1 ≤ ms → rate_of 1 e ms m ≤ v → bernstein 7 f a c ≡ pos 5040 *ℤ x → bernstein 7 f b d ≡ pos 5040 *ℤ y →
     IsWithin (pos (v * ms) *ℤ ((c *ℤ b -ℤ d *ℤ a) *ℤ power (c *ℤ d) 6)) (pos 1000000 *ℤ (power c 7 *ℤ y -ℤ power d 7 *ℤ x))
-in_curve e v m ms f a c b d x y a_low a_high b_low b_high order even flat fast first second =
-    let t : ℤ = c *ℤ b -ℤ d *ℤ a in
-    let w : ℤ = power (c *ℤ d) 6 in
-    let passed : pos 0 ≤ℤ (t *ℤ w) = omega (arith, linear, le_mul_ℤ t (pos 0) w (omega (arith, linear)) even, mul_comm_ℤ t (pos 0), zero_mul_ℤ t) in
-    let steep : IsWithin (pos 1000000 *ℤ (pos 7 *ℤ (pos (2 ^ e) *ℤ (t *ℤ (w *ℤ pos m)))))
-    (pos 1000000 *ℤ (pos (2 ^ (7 * e)) *ℤ (power c 7 *ℤ (pos 5040 *ℤ y) -ℤ power d 7 *ℤ (pos 5040 *ℤ x)))) =
-    within_mul (pos 1000000) _ _ (omega (arith, ints))
+unfolding units time
+in_curve e v m ms f a c b d x y a_low a_high b_low b_high order even flat lasting slow first second =
+    let one : 1 * e ≡ e = omega arith in
+    in_units 1 e ms m v 1000000 7 1 5040 ms ((c *ℤ b -ℤ d *ℤ a) *ℤ power (c *ℤ d) 6) (pos (2 ^ e) *ℤ ((c *ℤ b -ℤ d *ℤ a) *ℤ (power (c *ℤ d) 6 *ℤ pos m))) _ _ (some_time 1 ms (lit< tt, lit< tt) lasting) slow refl refl refl
+    (mul_not_negative (c *ℤ b -ℤ d *ℤ a) (power (c *ℤ d) 6) (omega (arith, linear)) even)
+    (rw one (room_ring (pos (2 ^ e)) (c *ℤ b -ℤ d *ℤ a) (power (c *ℤ d) 6) (pos m)))
+    (value_ring (pos 1000000) (pos (2 ^ (7 * e))) (pos 5040) (power c 7) y (power d 7) x)
     (within_same refl (ap (λ (z : ℤ). pos (2 ^ (7 * e)) *ℤ (power c 7 *ℤ z -ℤ power d 7 *ℤ bernstein 7 f a c)) second ∙ ap (λ (z : ℤ). pos (2 ^ (7 * e)) *ℤ (power c 7 *ℤ (pos 5040 *ℤ y) -ℤ power d 7 *ℤ z)) first)
-    (steep_between e f (pos m) a c b d a_low a_high b_low b_high order flat)) in
-    let scaled : IsWithin (pos (7000000 * 2 ^ e * m) *ℤ (t *ℤ w)) ((pos 5040 *ℤ pos (2 ^ (7 * e))) *ℤ (pos 1000000 *ℤ (power c 7 *ℤ y -ℤ power d 7 *ℤ x))) =
-    within_same (sevens (2 ^ e) (t *ℤ (w *ℤ pos m)) ∙ bound_ring (pos 7000000) (pos (2 ^ e)) t w (pos m) ∙ ap (λ (z : ℤ). z *ℤ (t *ℤ w)) (product (2 ^ e) m))
-    (value_ring (pos 1000000) (pos (2 ^ (7 * e))) (pos 5040) (power c 7) y (power d 7) x) steep in
-    let room : (pos (7000000 * 2 ^ e * m) *ℤ (t *ℤ w)) ≤ℤ ((pos 5040 *ℤ pos (2 ^ (7 * e))) *ℤ (pos (v * ms) *ℤ (t *ℤ w))) =
-    at_most (7000000 * 2 ^ e * m) (v * (5040 * 2 ^ (7 * e) * ms)) (t *ℤ w) _ fast passed (spread v (2 ^ (7 * e)) ms (t *ℤ w)) in
-    within_cancel (pos 5040 *ℤ pos (2 ^ (7 * e))) _ _ (positive (2 ^ (7 * e)) (pow_pos (7 * e))) (within_wider _ _ _ room scaled)
-  where
-    sevens : (p : ℕ) (z : ℤ) → pos 1000000 *ℤ (pos 7 *ℤ (pos p *ℤ z)) ≡ pos 7000000 *ℤ (pos p *ℤ z)
-    sevens p z = omega (arith, linear)
-
-    product : (p m : ℕ) → (pos 7000000 *ℤ pos p) *ℤ pos m ≡ pos (7000000 * p * m)
-    product p m = omega (arith, ints)
-
-    positive : (q : ℕ) → 1 ≤ q → pos 0 <ℤ (pos 5040 *ℤ pos q)
-    positive q some = omega (arith, ints)
-
-    at_most : (n k : ℕ) (z y : ℤ) → n ≤ k → pos 0 ≤ℤ z → pos k *ℤ z ≡ y → (pos n *ℤ z) ≤ℤ y
-    at_most n k z y few low e = omega (arith, linear, le_mul_ℤ z (pos n) (pos k) low (omega (arith, ints)), mul_comm_ℤ z (pos n), mul_comm_ℤ z (pos k))
-
-    spread : (v q ms : ℕ) (z : ℤ) → pos (v * (5040 * q * ms)) *ℤ z ≡ (pos 5040 *ℤ pos q) *ℤ (pos (v * ms) *ℤ z)
-    spread v q ms z = ap (λ (x : ℤ). x *ℤ z) (numbers v q ms) ∙ mul_assoc_ℤ (pos 5040 *ℤ pos q) (pos (v * ms)) z
-      where
-        numbers : (v q ms : ℕ) → pos (v * (5040 * q * ms)) ≡ (pos 5040 *ℤ pos q) *ℤ pos (v * ms)
-        numbers v q ms = omega (arith, ints)
+    (steep_between e f (pos m) a c b d a_low a_high b_low b_high order flat))
 
 -- ---- a trajectory on an axis
 -- On an axis no part of a depth of a piece is faster than v.
 pub record AreSlow (e v : ℕ) (start : ℤ) (pieces : List Piece) : Type 0 where
   pub formed : All IsPiece pieces
   pub width : ℕ → ℕ
-  pub flat : (cue : ℕ) → cue < length pieces → AreFlat e (at (raised (points start pieces cue))) (pos (width cue))
-  pub fast : (cue : ℕ) → cue < length pieces → 7000000 * 2 ^ e * width cue ≤ v * (5040 * 2 ^ (7 * e) * get_or (durations pieces) cue 0)
+  pub flat : (cue : ℕ) → cue < length pieces → AreWithin 1 e (at (raised (points start pieces cue))) (pos (width cue))
+  pub lasts : (cue : ℕ) → cue < length pieces → 1 ≤ get_or (durations pieces) cue 0
+  pub slow : (cue : ℕ) → cue < length pieces → rate_of 1 e (get_or (durations pieces) cue 0) (width cue) ≤ v
 
 -- the position in a piece
 abbrev pub place : ℤ → List Piece → ℕ → ℕ → ℕ → ℤ
@@ -104,7 +66,7 @@ in_piece : (e v : ℕ) (start : ℤ) (pieces : List Piece) (cue a c b d : ℕ) �
 in_piece e v start pieces cue a c b d slow inside first second order =
     in_curve e v (slow.width cue) (get_or (durations pieces) cue 0) (at (raised (points start pieces cue))) (pos a) (pos c) (pos b) (pos d) (place start pieces cue a c) (place start pieces cue b d)
     (omega (arith, ints)) (omega (arith, ints)) (omega (arith, ints)) (omega (arith, ints)) (omega (arith, ints, order)) (power_low (pos c *ℤ pos d) 6 (omega (arith, ints)))
-    (slow.flat cue inside) (slow.fast cue inside) (piece_value start pieces cue a c slow.formed inside) (piece_value start pieces cue b d slow.formed inside)
+    (slow.flat cue inside) (slow.lasts cue inside) (slow.slow cue inside) (piece_value start pieces cue a c slow.formed inside) (piece_value start pieces cue b d slow.formed inside)
 
 -- the first and the last value of a piece
 abbrev first_of_piece : ℤ → List Piece → ℕ → ℤ
@@ -281,17 +243,10 @@ in_later_piece e v start pieces p q r s i n slow inside p_from p_to r_from r_to 
     spread q t ms = omega arith
 
 -- ---- both instants in one piece
--- over numbers alone: the piece begins at t
-power-mul : (x y : ℤ) (n : ℕ) → power (x *ℤ y) n ≡ power x n *ℤ power y n
-power-mul x y zero = refl
-power-mul x y (suc n) = rw (power-mul x y n) (regroup x y (power x n) (power y n))
-  where
-    regroup : (x y p q : ℤ) → (x *ℤ y) *ℤ (p *ℤ q) ≡ (x *ℤ p) *ℤ (y *ℤ q)
-    regroup x y p q = simp ring refl
-
 same_ring : (v ms q s a b w : ℤ) → (q *ℤ s) *ℤ ((v *ℤ ms) *ℤ (((q *ℤ ms) *ℤ b -ℤ (s *ℤ ms) *ℤ a) *ℤ w)) ≡ v *ℤ ((q *ℤ b -ℤ s *ℤ a) *ℤ (((q *ℤ ms) *ℤ (s *ℤ ms)) *ℤ w))
 same_ring v ms q s a b w = simp ring (omega (arith, linear))
 
+-- over numbers alone: the piece begins at t
 at_one_piece : (v p q r s t ms a b c d : ℕ) (x y : ℤ) → c ≡ q * ms → d ≡ s * ms → p ≡ q * t + a → r ≡ s * t + b →
     IsWithin (pos (v * ms) *ℤ ((pos c *ℤ pos b -ℤ pos d *ℤ pos a) *ℤ power (pos c *ℤ pos d) 6)) (pos 1000000 *ℤ (power (pos c) 7 *ℤ y -ℤ power (pos d) 7 *ℤ x)) →
     IsWithin (pos v *ℤ ((pos (r * q) -ℤ pos (p * s)) *ℤ (power (pos c) 7 *ℤ power (pos d) 7))) (pos (1000000 * (q * s)) *ℤ (power (pos c) 7 *ℤ y -ℤ power (pos d) 7 *ℤ x))

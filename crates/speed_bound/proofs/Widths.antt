@@ -1,5 +1,5 @@
 -- The greatest of some numbers, and the widest steps of the parts of a curve.
-use Rattle.speed_bound.proofs.Prelude.{◌≡◌, ℕ, zero, suc, ◌+◌, ◌-◌, ◌*◌, ◌^◌, ◌≤◌, ◌<◌, max, ℤ, pos, ◌-ℤ◌, ◌*ℤ◌, unsigned_abs, arith, refl, sym, ◌∙◌, ap, List, All, get_or_past, All-get_or, at, ints, pow_pos, mul-le, div_ceil_times, common_steps, pow-suc, pow-zero, div_ceil, IsWithin, part_value, by_lt, polar-same, part-whole, part-within, part-half, greatest_below, widest_step, widest_part, speed_of, segment_speed}
+use Rattle.speed_bound.proofs.Prelude.{◌≡◌, ℕ, zero, suc, ◌+◌, ◌-◌, ◌*◌, ◌^◌, ◌≤◌, ◌<◌, max, ℤ, pos, arith, refl, sym, ◌∙◌, ap, List, All, get_or_past, All-get_or, at, ints, mul-le, div_ceil_times, common_steps, pow-suc, div_ceil, IsWithin, part_value, by_lt, polar-same, part-whole, part-half, greatest_below}
 
 -- ---- the greatest of some numbers
 -- it depends on no more than the numbers
@@ -44,14 +44,9 @@ greatest-map (suc n) f g none grows = rw (greatest-map n f g none grows) (both (
         other : (x y : ℕ) → max x y ≡ max x y
         other x y = refl
 
--- ---- widest steps
 -- what bounds each number of a list bounds the one at a place
 pub within_at : (m : ℕ) (xs : List ℤ) (k : ℕ) → All (IsWithin (pos m)) xs → IsWithin (pos m) (at xs k)
 within_at m xs k all = grind (arith, common_steps, ints, by_lt, All-get_or, pos, get_or_past)
-
-pub widest_step-same : (f g : ℕ → ℤ) → ((k : ℕ) → k ≤ 7 → f k ≡ g k) → widest_step f ≡ widest_step g
-unfolding widest_step
-widest_step-same f g same = grind (arith, common_steps, greatest-same, unsigned_abs)
 
 -- ---- what is greatest over the parts of a depth, of a word that depends on eight control values alone
 module _ (word : (ℕ → ℤ) → ℕ) (same : (f g : ℕ → ℤ) → ((k : ℕ) → k ≤ 7 → f k ≡ g k) → word f ≡ word g) where
@@ -86,75 +81,6 @@ module _ (word : (ℕ → ℤ) → ℕ) (same : (f g : ℕ → ℤ) → ((k : �
   pub parts-whole : (f : ℕ → ℤ) → word f ≡ greatest_below (2 ^ 0) (λ index. word (part_value 0 index f))
   parts-whole f = same f (part_value 0 0 f) (λ k small. sym (part-whole f k)) ∙ omega arith
 
-  -- where that of a half is at most n times that of the whole, that of a part is at most n to the depth times that of the whole
-  pub parts-shrink : (n : ℕ) → ((r : ℕ) (f : ℕ → ℤ) → r ≤ 1 → word (part_value 1 r f) ≤ n * word f) → (e : ℕ) (f : ℕ → ℤ) →
-      greatest_below (2 ^ e) (λ index. word (part_value e index f)) ≤ n ^ e * word f
-  parts-shrink n shrinks zero f = rw (← parts-whole f, pow-zero n) (omega arith)
-  parts-shrink n shrinks (suc e) f =
-      rw (← parts-halves e f (part_value 1 0 f) (part_value 1 1 f) (λ k small. refl) (λ k small. refl), pow-suc n e)
-      (both (n ^ e) (word f) _ _ _ _ (parts-shrink n shrinks e (part_value 1 0 f)) (shrinks 0 f (omega arith)) (parts-shrink n shrinks e (part_value 1 1 f)) (shrinks 1 f (omega arith)))
-    where
-      both : (p w a b x y : ℕ) → a ≤ p * x → x ≤ n * w → b ≤ p * y → y ≤ n * w → max a b ≤ p * n * w
-      both p w a b x y first second third fourth =
-          let one : p * x ≤ p * (n * w) = mul-le p x p (n * w) (omega arith) second in
-          let two : p * y ≤ p * (n * w) = mul-le p y p (n * w) (omega arith) fourth in
-          let same : p * (n * w) ≡ p * n * w = omega arith in
-          omega (arith, one, two, first, third, same)
-
--- ---- widest steps of parts
-pub widest-halves : (e : ℕ) (f left right : ℕ → ℤ) → ((k : ℕ) → k ≤ 7 → left k ≡ part_value 1 0 f k) → ((k : ℕ) → k ≤ 7 → right k ≡ part_value 1 1 f k) →
-    max (widest_part e left) (widest_part e right) ≡ widest_part (suc e) f
-unfolding widest_part
-widest-halves = parts-halves widest_step widest_step-same
-
-pub widest-whole : (f : ℕ → ℤ) → widest_step f ≡ widest_part 0 f
-unfolding widest_part
-widest-whole = parts-whole widest_step widest_step-same
-
--- how wide a step is
-step_most : (b : ℕ) (x y : ℤ) → IsWithin (pos b) x → IsWithin (pos b) y → unsigned_abs (y -ℤ x) ≤ 2 * b
-step_most b x y first second = omega (arith, ints)
-
-pub widest_part-small : (e b : ℕ) (f : ℕ → ℤ) → ((k : ℕ) → k ≤ 7 → IsWithin (pos b) (f k)) → widest_part e f ≤ 2 * (2 ^ (7 * e) * b)
-unfolding widest_part widest_step
-widest_part-small e b f within =
-    greatest-most (2 ^ e) _ _ (λ index inside. greatest-most 7 _ _ (λ k small. step_most (2 ^ (7 * e) * b) (part_value e index f k) (part_value e index f (suc k)) (value index k inside (omega arith)) (value index (suc k) inside (omega arith))))
-  where
-    value : (index k : ℕ) → index < 2 ^ e → k ≤ 7 → IsWithin (pos (2 ^ (7 * e) * b)) (part_value e index f k)
-    value index k inside small = wide (2 ^ (7 * e)) b (part_value e index f k) (part-within e index k f (pos b) inside small within)
-      where
-        wide : (p b : ℕ) (x : ℤ) → IsWithin (pos p *ℤ pos b) x → IsWithin (pos (p * b)) x
-        wide p b x within = (omega (arith, ints), omega (arith, ints))
-
--- ---- speeds
--- the way of a part fits
-pub way_small : (p w : ℕ) → p ≤ 256 → w ≤ 2 ^ 85 → 7000000 * p * w < 2 ^ 128
-way_small p w few small = omega (arith, mul-le p w 256 (2 ^ 85) few small)
-
-pub speed_small : (p q w ms r : ℕ) → p ≤ 256 → 1 ≤ q → w ≤ 2 ^ 29 * q → 1 ≤ ms → r * (5040 * q * ms) < 7000000 * p * w + 5040 * q * ms → r < 2 ^ 50
-speed_small p q w ms r few some small lasting below = grind (arith, common_steps, mul-le, by_lt)
-
 -- a quotient that is rounded up is the least number that is enough
 pub div_ceil-least : (x y b : ℕ) → 0 < b → x ≤ y * b → div_ceil x b ≤ y
 div_ceil-least x y b some most = grind (arith, common_steps, by_lt, mul-le, div_ceil_times)
-
--- a positive time
-pub some_time : (q ms : ℕ) → 1 ≤ q → 1 ≤ ms → 0 < 5040 * q * ms
-some_time q ms first second = let product : 1 * 1 ≤ q * ms = mul-le 1 1 q ms first second in omega arith
-
--- The greatest speed of the parts is that of the widest step.
-pub segment_speed-is : (depth ms : ℕ) (f : ℕ → ℤ) → 1 ≤ ms → speed_of depth ms (widest_part depth f) ≡ segment_speed depth ms f
-unfolding segment_speed widest_part speed_of
-segment_speed-is depth ms f lasting =
-    let time : 0 < 5040 * 2 ^ (7 * depth) * ms = some_time (2 ^ (7 * depth)) ms (pow_pos (7 * depth)) lasting in
-    sym (greatest-map (2 ^ depth) (λ index. widest_step (part_value depth index f)) (speed_of depth ms)
-    (none (7000000 * 2 ^ depth) (5040 * 2 ^ (7 * depth) * ms) time)
-    (λ x y less. grows (7000000 * 2 ^ depth) x y (5040 * 2 ^ (7 * depth) * ms) time less))
-  where
-    none : (p b : ℕ) → 0 < b → div_ceil (p * 0) b ≡ 0
-    none p b some = let least : div_ceil (p * 0) b ≤ 0 = div_ceil-least (p * 0) 0 b some (omega arith) in omega arith
-
-    grows : (p x y b : ℕ) → 0 < b → x ≤ y → div_ceil (p * x) b ≤ div_ceil (p * y) b
-    grows p x y b some less =
-        div_ceil-least (p * x) (div_ceil (p * y) b) b some
-        (let more : p * x ≤ p * y = mul-le p x p y (omega arith) less in omega (arith, more, (div_ceil_times (p * y) b some).0))

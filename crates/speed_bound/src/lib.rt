@@ -6,14 +6,19 @@
 //! widest step between two neighbouring control values. Takes no memory. [`put_speeds`] writes the line with the three
 //! numbers.
 //!
+//! [`greatest_rate`] gives such a bound of the first or of the second order, of speeds or of accelerations; of the
+//! latter `dynamics_bound` says what they promise.
+//!
 //! The crate stands on `halving` for the parts, and on `fleet_curves` for the raised curves of a segment.
 #![tactic(auto)]
 
 mod lines;
 mod parts;
+mod rates;
 mod reaching;
 mod trajectory;
 
 pub use lines::put_speeds;
+pub use rates::{element_rate, greatest_rate};
 pub use reaching::{reach, reach_law, still_law};
 pub use trajectory::bound;

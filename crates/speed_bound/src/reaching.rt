@@ -22,15 +22,25 @@ pub fn reach(trajs: &[Traj], late: u16, depth: Depth) -> [u32; 3]
     if late == 0 {
         return [0, 0, 0];
     }
-    let mut fastest = [0; 3];
-    for t in trajs {
-        fastest = faster(t, depth, fastest);
-    }
     [
-        way_in(fastest[0], late),
-        way_in(fastest[1], late),
-        way_in(fastest[2], late),
+        reach_on(trajs, 0, late, depth),
+        reach_on(trajs, 1, late, depth),
+        reach_on(trajs, 2, late, depth),
     ]
+}
+
+// The same on one axis.
+fn reach_on(trajs: &[Traj], axis: usize, late: u16, depth: Depth) -> u32
+    requires axis { axis ≤ 2 }
+    requires moving { All IsMoving trajs.now }
+    requires late { late ≤ 1000 }
+    ensures { result ≡ reach_of depth late trajs.now axis }
+{
+    let mut fastest = 0;
+    for t in trajs {
+        fastest = faster(t, axis, depth, fastest);
+    }
+    way_in(fastest, late)
 }
 
 // How many millimetres are moved at most at this speed in so many milliseconds.

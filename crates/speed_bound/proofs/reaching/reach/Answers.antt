@@ -1,5 +1,5 @@
-use Rattle.speed_bound.proofs.Prelude.{common_steps, ◌≡◌, ℕ, zero, suc, ◌+◌, ◌*◌, ◌<◌, max, min, arith, refl, ap, ◌∙◌, List, [], ◌∷◌, length, get_or, div_ceil, Traj, farthest, reach_of, traj_at, greatest_below, speed}
-use Rattle.speed_bound.proofs.Reaches.{reach_by_speed, reach_none}
+use Rattle.speed_bound.proofs.Prelude.{common_steps, ◌≡◌, ℕ, [], ◌∷◌, List, arith}
+use Rattle.speed_bound.proofs.Reaches.{reach_none}
 use Rattle.speed_bound.proofs.reaching.reach.Goals as goal
 
 three : {x y z u v w : ℕ} → x ≡ u → y ≡ v → z ≡ w → ◌≡◌ {A = List ℕ} (x ∷ y ∷ z ∷ []) (u ∷ v ∷ w ∷ [])
@@ -7,25 +7,3 @@ three {x} {y} {z} {u} {v} {w} p q r = cc
 
 pub returns-then-late-eq0 : goal.returns-then-late-eq0
 returns-then-late-eq0 c = grind (arith, common_steps, three, reach_none)
-
--- the way at the greatest speed of all trajectories
-way_of : (depth late axis : ℕ) (trajs : List Traj) (way v i : ℕ) → way ≡ min farthest (div_ceil (late * v) 1000000) → v ≡ greatest_below i (λ drone. speed depth (traj_at trajs drone) axis) → i ≡ length trajs →
-    way ≡ reach_of depth late trajs axis
-way_of depth late axis trajs way v i way_is v_is all =
-    way_is ∙ ap (λ (n : ℕ). min farthest (div_ceil (late * n) 1000000)) (v_is ∙ ap (λ (k : ℕ). greatest_below k (λ drone. speed depth (traj_at trajs drone) axis)) all) ∙ reach_by_speed depth late trajs axis
-
-pub returns : goal.returns
-returns c = grind (arith, common_steps, three, way_of)
-
-same_item : (xs : List Traj) (i : ℕ) (d e : Traj) → i < length xs → get_or xs i d ≡ get_or xs i e
-same_item [] i d e inside = absurd (omega arith)
-same_item (x ∷ xs) zero d e inside = refl
-same_item (x ∷ xs) (suc i) d e inside = same_item xs i d e (omega arith)
-
--- one trajectory more
-next : (depth axis : ℕ) (trajs : List Traj) (t : Traj) (i v : ℕ) → i < length trajs → t ≡ get_or trajs i t → v ≡ greatest_below i (λ drone. speed depth (traj_at trajs drone) axis) →
-    max v (speed depth t axis) ≡ greatest_below (i + 1) (λ drone. speed depth (traj_at trajs drone) axis)
-next depth axis trajs t i v inside t_is v_is = grind (arith, common_steps, same_item, max)
-
-pub loop-t-preserved : goal.loop-t-preserved
-loop-t-preserved c = grind (arith, common_steps, three, next)
