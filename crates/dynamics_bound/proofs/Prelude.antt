@@ -24,12 +24,12 @@ pub use Rattle.halving.proofs.PolarLemmas.{bernstein-blossom, blossom, left_half
 unfoldable pub use Rattle.halving.specs.Part.{polar}
 pub use Rattle.halving.specs.Part.{part_value}
 pub use Rattle.speed_bound.proofs.Differences.{AreWithin, all_within, differences-part, within-half, within-whole}
-pub use Rattle.speed_bound.proofs.RateLemmas.{some_time}
+pub use Rattle.speed_bound.proofs.RateLemmas.{some_product, some_time}
 pub use Rattle.speed_bound.proofs.Rests.{pieces_formed}
 pub use Rattle.speed_bound.proofs.Slopes.{count_more, exchange, exchanged, minus_same, next_scale, polar-second, steps, within_add, within_product, within_same}
 pub use Rattle.speed_bound.proofs.Speeds.{piece_value, power_low}
 pub use Rattle.speed_bound.proofs.Units.{in_units}
-pub use Rattle.speed_bound.proofs.Walks.{duration-at, lasts-at, points-at, rate-at, value-next}
+pub use Rattle.speed_bound.proofs.Walks.{duration-at, lasts-at, points-at, rate-at, three_told, value-next}
 pub use Rattle.speed_bound.proofs.Widths.{greatest-at, greatest-most, greatest-same}
 unfoldable pub use Rattle.speed_bound.specs.Differences.{rate_of, time, units, widest, widest_in}
 pub use Rattle.speed_bound.specs.Differences.{differences, limit, rate, segment_rate}

@@ -1,5 +1,5 @@
 -- Velocities: the steps of elements, and how much two velocities differ.
-use Rattle.dynamics_bound.proofs.Prelude.{◌≡◌, ℕ, suc, ◌+◌, ◌-◌, ◌*◌, ◌^◌, ◌≤◌, ◌<◌, ℤ, pos, ◌-ℤ◌, ◌*ℤ◌, unsigned_abs, arith, sym, ◌∙◌, ap, List, ◌∷◌, length, FitsSigned, to_z, of_z, ints, to_z-of_z, w32, mul-le, div_ceil_times, common_steps, at, IsBelow, mul_comm_ℤ, one_mul_ℤ, within_mul, by_lt, IsWithin, AreSame, first_step, jump_between, last_step}
+use Rattle.dynamics_bound.proofs.Prelude.{some_product, ◌≡◌, ℕ, suc, ◌+◌, ◌-◌, ◌*◌, ◌^◌, ◌≤◌, ◌<◌, ℤ, pos, ◌-ℤ◌, ◌*ℤ◌, unsigned_abs, arith, sym, ◌∙◌, ap, List, ◌∷◌, length, FitsSigned, to_z, of_z, ints, to_z-of_z, w32, mul-le, div_ceil_times, common_steps, at, IsBelow, mul_comm_ℤ, one_mul_ℤ, within_mul, by_lt, IsWithin, AreSame, first_step, jump_between, last_step}
 use Rattle.dynamics_bound.specs.declared.velocity.Velocity.{Velocity}
 
 -- the last step of a cubic, and that of degree seven
@@ -39,9 +39,6 @@ gap_small a b x y some_a some_b first second = grind (arith, common_steps, ints,
 -- a jump fits
 pub jump_small : (gap time r : ℕ) → 1 ≤ time → gap ≤ 2 ^ 32 * time → r * time < 1000000 * gap + time → r < 2 ^ 53
 jump_small gap time r some small below = grind (arith, common_steps, mul-le, by_lt)
-
-pub some_product : (a b : ℕ) → 1 ≤ a → 1 ≤ b → 1 ≤ a * b
-some_product a b first second = let product : 1 * 1 ≤ a * b = mul-le 1 1 a b first second in omega (arith, product)
 
 -- ---- no jump
 -- where there is no jump two velocities are the same

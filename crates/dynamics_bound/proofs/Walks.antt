@@ -61,10 +61,6 @@ acceleration-at depth axis k t segments d here m v here_is inside segments_are i
     is ∙ ap (λ (n : ℕ). max m n) (rate-at 2 depth axis k t segments d here.value _ inside segments_are (ap (λ (r : Reached). r.value) here_is) refl ∙ acceleration_is depth (duration t k) (at (raised (points t k axis))))
 
 -- ---- three numbers
--- three numbers that are the same
-pub three_told : {A : Type 0} {x y z u v w : A} → x ≡ u → y ≡ v → z ≡ w → ◌≡◌ {A = List A} (x ∷ y ∷ z ∷ []) (u ∷ v ∷ w ∷ [])
-three_told {A} {x} {y} {z} {u} {v} {w} p q r = cc
-
 pub three_small : (n x y z : ℕ) → x < n → y < n → z < n → All (λ v. v < n) (x ∷ y ∷ z ∷ [])
 three_small n x y z first second third =
     All-cons (λ (v : ℕ). v < n) x (y ∷ z ∷ []) first (All-cons (λ (v : ℕ). v < n) y (z ∷ []) second (All-cons (λ (v : ℕ). v < n) z [] third (All-nil (λ (v : ℕ). v < n))))

@@ -82,12 +82,6 @@ fn product(step: i32, ms: u16) -> i64
     ensures exact { result ≡ step *ℤ pos ms }
     ensures small { IsWithin (pos (2 ^ 31 * ms)) result }
 {
-    times(step, ms)
-}
-
-fn times(step: i32, ms: u16) -> i64
-    ensures { result ≡ step *ℤ pos ms }
-{
     i64::from(step) * i64::from(ms)
 }
 

@@ -1,5 +1,5 @@
 -- The halves of a curve whose parts have room.
-use Rattle.speed_bound.proofs.Prelude.{◌≡◌, ℕ, suc, ◌+◌, ◌-◌, ◌*◌, ◌^◌, ◌≤◌, ◌<◌, ℤ, pos, ◌*ℤ◌, arith, lit<, List, All, ints, All-from_get_or, pow-add, pow-le-pow_right, at, IsBelow, IsWithin, eight, at-eight, part_value, part-within}
+use Rattle.speed_bound.proofs.Prelude.{◌≡◌, ℕ, suc, ◌+◌, ◌-◌, ◌*◌, ◌^◌, ◌≤◌, ◌<◌, ℤ, pos, ◌*ℤ◌, arith, lit<, List, All, ints, All-from_get_or, pow-add, pow-le-pow_right, at, IsWithin, eight, at-eight, part_value, part-within}
 use Rattle.speed_bound.proofs.Widths.{within_at}
 
 -- the half with this number has room
@@ -18,7 +18,7 @@ half_within b half depth below r less shallow side is within =
         (wide (2 ^ (84 - 7 * depth)) (part_value 1 r (at b) k) (part-within 1 r k (at b) (pos (2 ^ (84 - 7 * depth))) side small (λ i low. within_at (2 ^ (84 - 7 * depth)) b i within)))
 
 -- numbers that are small enough
-pub room_of : (depth : ℕ) (x : ℤ) → IsWithin (pos (2 ^ (84 - 7 * depth))) x → IsBelow (2 ^ 118) x
+pub room_of : (depth : ℕ) (x : ℤ) → IsWithin (pos (2 ^ (84 - 7 * depth))) x → IsWithin (pos (2 ^ 84)) x
 room_of depth x within =
     let more : 84 - 7 * depth ≤ 84 = omega arith in
     let room : 2 ^ (84 - 7 * depth) ≤ 2 ^ 84 = pow-le-pow_right {n = 2} (lit< tt) more in

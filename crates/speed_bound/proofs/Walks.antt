@@ -1,5 +1,6 @@
 -- How a walk goes from segment to segment.
-use Rattle.speed_bound.proofs.Prelude.{◌≡◌, ℕ, zero, suc, ◌+◌, ◌≤◌, ◌<◌, max, ℤ, arith, refl, sym, ◌∙◌, ap, List, [], ◌∷◌, length, map, get_or, All, All-head, All-tail, at, points_from, raised, Element, Segment, Traj, stored, HasDuration, durations, element_on, piece_on, points, value_after, duration, greatest_below, segment_rate, value_at, value_before}
+use Rattle.speed_bound.proofs.Prelude.{All-get_or, ◌≡◌, ℕ, zero, suc, ◌+◌, ◌≤◌, ◌<◌, max, ℤ, arith, refl, sym, ◌∙◌, ap, List, [], ◌∷◌, length, map, get_or, All, at, points_from, raised, Element, Segment, Traj, stored, HasDuration, element_on, piece_on, points, value_after, duration, greatest_below, segment_rate, value_at, value_before}
+use Rattle.std.proofs.lemmas.List.{get_or-map}
 
 -- ---- values, points and durations by the number of a segment
 points_before : (first : ℤ) (axis : ℕ) (segments : List Segment) (k : ℕ) (d : Segment) → k < length segments →
@@ -18,21 +19,11 @@ next_before first axis [] k d inside = absurd (omega arith)
 next_before first axis (s ∷ rest) zero d inside = refl
 next_before first axis (s ∷ rest) (suc k) d inside = next_before (value_after first (element_on s axis)) axis rest k d (omega arith)
 
-duration_of : (segments : List Segment) (k : ℕ) (d : Segment) → k < length segments → get_or (durations segments) k 0 ≡ (get_or segments k d).ms
-duration_of [] k d inside = absurd (omega arith)
-duration_of (s ∷ rest) zero d inside = refl
-duration_of (s ∷ rest) (suc k) d inside = duration_of rest k d (omega arith)
-
 pub duration-at : (t : Traj) (k : ℕ) (d : Segment) → k < length t.segments → duration t k ≡ (get_or t.segments k d).ms
-duration-at t k d inside = duration_of t.segments k d inside
-
-lasts_of : (segments : List Segment) (k : ℕ) → k < length segments → All HasDuration segments → 1 ≤ get_or (durations segments) k 0
-lasts_of [] k inside lasting = absurd (omega arith)
-lasts_of (s ∷ rest) zero inside lasting = All-head HasDuration s rest lasting
-lasts_of (s ∷ rest) (suc k) inside lasting = lasts_of rest k (omega arith) (All-tail HasDuration s rest lasting)
+duration-at t k d inside = get_or-map (λ (s : Segment). s.ms) t.segments k d 0 inside
 
 pub lasts-at : (t : Traj) (k : ℕ) → k < length t.segments → All HasDuration t.segments → 1 ≤ duration t k
-lasts-at t k inside lasting = lasts_of t.segments k inside lasting
+lasts-at t k inside lasting = rw (duration-at t k (record { ms = 0; elements = [] }) inside) (All-get_or HasDuration t.segments k (record { ms = 0; elements = [] }) inside lasting)
 
 -- one segment more
 pub value-next : (t : Traj) (axis k : ℕ) (segments : List Segment) (d : Segment) (first next : ℤ) (e : Element) → k < length t.segments → segments ≡ t.segments → first ≡ value_at t axis k → e ≡ element_on (get_or segments k d) axis →
@@ -58,3 +49,8 @@ pub rate-next : (order depth axis k : ℕ) (t : Traj) (least most next here : �
 rate-next order depth axis k t least most next here most_is here_is is =
     let up : k + 1 ≡ suc k = omega arith in
     rw up (omega (arith, most_is, here_is, is))
+
+-- ---- three numbers
+-- three numbers that are the same
+pub three_told : {A : Type 0} {x y z u v w : A} → x ≡ u → y ≡ v → z ≡ w → ◌≡◌ {A = List A} (x ∷ y ∷ z ∷ []) (u ∷ v ∷ w ∷ [])
+three_told {A} {x} {y} {z} {u} {v} {w} p q r = cc

@@ -25,11 +25,6 @@ pub greatest-split : (m n : ℕ) (f : ℕ → ℕ) → greatest_below (m + n) f 
 greatest-split m zero f = let e : m + 0 ≡ m = omega arith in rw e (omega arith)
 greatest-split m (suc n) f = let e : m + suc n ≡ suc (m + n) = omega arith in rw e (omega (arith, greatest-split m n f))
 
--- the first, and the greatest of the others
-pub greatest-first : (n : ℕ) (f : ℕ → ℕ) → greatest_below (suc n) f ≡ max (f 0) (greatest_below n (λ k. f (suc k)))
-greatest-first zero f = omega arith
-greatest-first (suc n) f = omega (arith, greatest-first n f)
-
 -- what keeps the order of two numbers keeps their greatest
 pub greatest-map : (n : ℕ) (f g : ℕ → ℕ) → g 0 ≡ 0 → ((x y : ℕ) → x ≤ y → g x ≤ g y) → greatest_below n (λ k. g (f k)) ≡ g (greatest_below n f)
 greatest-map zero f g none grows = sym none

@@ -5,7 +5,6 @@ ghost use Rattle.fleet_math.specs.Numbers.{IsBelow};
 ghost use Rattle.fleet_math.specs.Bernstein.{at};
 ghost use Rattle.fleet_math.specs.Limits.{most_depth};
 ghost use Rattle.bezier_core.specs.Raised.{raised};
-ghost use Rattle.traj_codec.specs.Positions.{element_on};
 ghost use Rattle.traj_codec.specs.Spelling.{HasDuration, stored};
 ghost use Rattle.speed_bound.specs.Differences.{limit, rate, rate_of, segment_rate, time, units, widest_in};
 
@@ -13,7 +12,7 @@ use crate::parts::{fall, widest, widest_part};
 use bezier_core::Bez;
 use fleet_curves::{raised, value_after};
 use fleet_math::Depth;
-use traj_codec::{Element, Segment, Traj};
+use traj_codec::{Element, Traj};
 
 /// The greatest speed (K is 1), in micrometres per second, or acceleration (K is 2), in micrometres per second squared,
 /// of a trajectory on an axis by its parts of a depth, or `least` where that is no less. What can't be above it isn't
@@ -26,28 +25,14 @@ pub fn greatest_rate<const K: usize>(t: &Traj, axis: usize, depth: Depth, least:
     ensures exact { result ≡ max least (rate K depth t.now axis) }
     ensures small { result < limit K }
 {
-    let mut value = start_on(t, axis);
+    let mut value = t.start[axis];
     let mut most = least;
     for s in t.segments.as_slice() {
-        let element = element_on(s, axis);
+        let element = s.elements[axis];
         most = element_rate::<K>(value, element, s.ms, depth, most);
         value = value_after(value, element);
     }
     most
-}
-
-fn start_on(t: &Traj, axis: usize) -> i16
-    requires { axis ≤ 2 }
-    ensures { result ≡ at t.now.start axis }
-{
-    t.start[axis]
-}
-
-fn element_on(s: &Segment, axis: usize) -> Element
-    requires { axis ≤ 2 }
-    ensures { result ≡ element_on s.now axis }
-{
-    s.elements[axis]
 }
 
 /// The same of an element that begins with this value, in millimetres, and lasts so long. One that stays at it isn't
@@ -116,12 +101,14 @@ fn rate<const K: usize>(widest: u128, ms: u16, depth: Depth) -> u64
     all.div_ceil(time::<K>(ms) * 2u128.pow(7 * levels)) as u64
 }
 
+#[tactic(auto, unfolding(crate::specs::Differences::units), using(crate::proofs::RateLemmas::not_one))]
 fn units<const K: usize>() -> u128
     ensures { result ≡ units K }
 {
     if K == 1 { 7_000_000 } else { 25_000_000 }
 }
 
+#[tactic(auto, unfolding(crate::specs::Differences::time), using(crate::proofs::RateLemmas::not_one))]
 fn time<const K: usize>(ms: u16) -> u128
     ensures { result ≡ time K ms }
 {

@@ -4,7 +4,7 @@ ghost use Rattle.std.specs.Prelude.{◌≡◌, ◌*◌, ◌^◌, ◌≤◌, ◌<
 ghost use Rattle.std.specs.Int.{div_ceil};
 ghost use Rattle.speed_bound.specs.Reach.{IsMoving, ReachLaw, StillLaw, farthest, reach_of};
 
-use crate::trajectory::faster;
+use crate::rates::greatest_rate;
 use fleet_math::Depth;
 use traj_codec::Traj;
 
@@ -38,7 +38,7 @@ fn reach_on(trajs: &[Traj], axis: usize, late: u16, depth: Depth) -> u32
 {
     let mut fastest = 0;
     for t in trajs {
-        fastest = faster(t, axis, depth, fastest);
+        fastest = greatest_rate::<1>(t, axis, depth, fastest);
     }
     way_in(fastest, late)
 }

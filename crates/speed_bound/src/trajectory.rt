@@ -1,6 +1,6 @@
 //! The bounds of a trajectory.
 
-ghost use Rattle.std.specs.Prelude.{◌≡◌, ℕ, ◌^◌, ◌≤◌, ◌<◌, ◌∷◌, [], max, pos, All, length};
+ghost use Rattle.std.specs.Prelude.{◌≡◌, ℕ, ◌^◌, ◌≤◌, ◌<◌, ◌∷◌, [], pos, All, length};
 ghost use Rattle.traj_codec.specs.Spelling.{HasDuration};
 ghost use Rattle.speed_bound.specs.Speed.{KeepsSpeed, speed};
 
@@ -25,20 +25,8 @@ pub fn bound(t: &Traj, depth: Depth) -> [i64; 3]
 {
     formed_law(t);
     [
-        faster(t, 0, depth, 0) as i64,
-        faster(t, 1, depth, 0) as i64,
-        faster(t, 2, depth, 0) as i64,
+        greatest_rate::<1>(t, 0, depth, 0) as i64,
+        greatest_rate::<1>(t, 1, depth, 0) as i64,
+        greatest_rate::<1>(t, 2, depth, 0) as i64,
     ]
-}
-
-/// The greater of a given speed and of the bound on that of a trajectory on an axis, by its parts of the depth. What
-/// can't be faster than the given speed isn't looked at more closely.
-pub fn faster(t: &Traj, axis: usize, depth: Depth, least: u64) -> u64
-    requires axis { axis ≤ 2 }
-    requires durations { All HasDuration t.now.segments }
-    requires least { least < 2 ^ 50 }
-    ensures exact { result ≡ max least (speed depth t.now axis) }
-    ensures small { result < 2 ^ 50 }
-{
-    greatest_rate::<1>(t, axis, depth, least)
 }

@@ -1,6 +1,5 @@
-use Rattle.dynamics_bound.proofs.Prelude.{common_steps, ◌≡◌, ℕ, zero, suc, ◌^◌, ◌<◌, max, pos, arith, ◌∙◌, ap, to_z, to_z_pos, w64, Traj, pieces_formed, acceleration, rate}
+use Rattle.dynamics_bound.proofs.Prelude.{three_told, common_steps, ◌≡◌, ℕ, zero, suc, ◌^◌, ◌<◌, max, pos, arith, ◌∙◌, ap, to_z, to_z_pos, w64, Traj, pieces_formed, acceleration, rate}
 use Rattle.dynamics_bound.proofs.Segments.{acceleration-is, keeps_acceleration}
-use Rattle.dynamics_bound.proofs.Walks.{three_told}
 use Rattle.dynamics_bound.proofs.acceleration.bound.Goals as goal
 
 -- above 0 the greatest rate is the acceleration

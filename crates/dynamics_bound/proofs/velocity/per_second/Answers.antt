@@ -1,5 +1,5 @@
-use Rattle.dynamics_bound.proofs.Prelude.{◌≡◌, ◌*◌, ◌^◌, ◌≤◌, ◌<◌, ℕ, arith, div_ceil, div_ceil_times}
-use Rattle.dynamics_bound.proofs.Velocities.{jump_small, some_product}
+use Rattle.dynamics_bound.proofs.Prelude.{some_product, ◌≡◌, ◌*◌, ◌^◌, ◌≤◌, ◌<◌, ℕ, arith, div_ceil, div_ceil_times}
+use Rattle.dynamics_bound.proofs.Velocities.{jump_small}
 use Rattle.dynamics_bound.proofs.velocity.per_second.Goals as goal
 
 small : (change a b r : ℕ) → 1 ≤ a → 1 ≤ b → change ≤ 2 ^ 32 * (a * b) → r ≡ div_ceil (1000000 * change) (a * b) → r < 2 ^ 53

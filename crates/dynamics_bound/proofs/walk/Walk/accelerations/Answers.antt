@@ -1,5 +1,5 @@
-use Rattle.dynamics_bound.proofs.Prelude.{◌^◌, ap, rules, FitsSigned, to_z-of_z, w16, Walk}
-use Rattle.dynamics_bound.proofs.Walks.{acceleration-at, three_small, three_told}
+use Rattle.dynamics_bound.proofs.Prelude.{three_told, ◌^◌, ap, rules, FitsSigned, to_z-of_z, w16, Walk}
+use Rattle.dynamics_bound.proofs.Walks.{acceleration-at, three_small}
 use Rattle.dynamics_bound.proofs.walk.Walk.accelerations.Goals as goal
 
 pub returns-clause-exact : goal.returns-clause-exact

@@ -1,5 +1,5 @@
-use Rattle.dynamics_bound.proofs.Prelude.{common_steps, ◌<◌, arith, ap, List, length, Segment, Walk}
-use Rattle.dynamics_bound.proofs.Walks.{jump-inside, jump-last, reached-lasts, three_told}
+use Rattle.dynamics_bound.proofs.Prelude.{three_told, common_steps, ◌<◌, arith, ap, List, length, Segment, Walk}
+use Rattle.dynamics_bound.proofs.Walks.{jump-inside, jump-last, reached-lasts}
 use Rattle.dynamics_bound.proofs.walk.Walk.jumps.Goals as goal
 
 pub stop-requires : goal.stop-requires
