@@ -1,5 +1,5 @@
--- Differences of control values, those of their parts, and the rates that they bound: of the first order, the steps from
--- one value to the next, speeds, and of the second, the steps between these, accelerations.
+-- Differences of control values, those of their parts, and the rates that they bound: of the first order, the steps
+-- from one value to the next, speeds, and of the second, the steps between these, accelerations.
 use Rattle.std.specs.Prelude.{ℕ, zero, suc, ◌-◌, ◌*◌, ◌^◌, nat_eq, if◌then◌else◌, ℤ, ◌-ℤ◌, unsigned_abs, length}
 use Rattle.std.specs.Int.{div_ceil}
 use Rattle.fleet_math.specs.Bernstein.{at}
@@ -35,8 +35,8 @@ time order ms = if nat_eq order 1 then 5040 * ms else 3 * (ms * ms)
 abbrev pub limit : ℕ → ℕ
 limit order = if nat_eq order 1 then 2 ^ 50 else 2 ^ 53
 
--- the rate, rounded up, of a part of a depth with this widest difference: its values are times 2^(7 depth), and it lasts
--- the 2^depth-th of the time
+-- the rate, rounded up, of a part of a depth with this widest difference: its values are times 2^(7 depth), and it
+-- lasts the 2^depth-th of the time
 unfoldable pub rate_of : ℕ → ℕ → ℕ → ℕ → ℕ
 rate_of order depth ms w = div_ceil (units order * 2 ^ (order * depth) * w) (time order ms * 2 ^ (7 * depth))
 
@@ -47,4 +47,5 @@ segment_rate order depth ms f = rate_of order depth ms (widest_in order depth f)
 -- the greatest of a trajectory on an axis, over all of its segments
 abbrev pub rate : ℕ → ℕ → Traj → ℕ → ℕ
 rate order depth t axis =
-    greatest_below (length t.segments) (λ cue. segment_rate order depth (duration t cue) (at (raised (points t cue axis))))
+    greatest_below (length t.segments)
+    (λ cue. segment_rate order depth (duration t cue) (at (raised (points t cue axis))))
