@@ -1,6 +1,6 @@
 -- That there is a fault exactly where there is no flight.
-use Rattle.flight_steps.proofs.Prelude.{◌≡◌, ◌<◌, ◌≤◌, ◌∷◌, ◌∙◌, [], List, Bool, false, cond, true, ◌&&◌, ◌==◌, refl, sym, ap, None, Some, Option, ℕ, zero, suc, length, map, arith, inl, inr, nat_le, length-map, ℤ, slice_get, All, bytes_eq, false≢true, All-nil, All-cons, All-head, All-tail, ArrayVec, at, stored, element_on, piece_on, Segment, Traj, Leg, Routes, RestsOn, IsWayUp, IsWayDown, IsFlight, after_segment, way_begins, way_ends, legs_of, first_move, last_move, FlightFault, routes, AreFitted, same_place, rests_on, rests_by, rests_in, restless_from, restless, first_other, other_drone, same_ellipsoid, other_ellipsoid, gap, seam_fault, seams_fault, is_straight, way_fault, up_fault, down_fault, ups_fault, downs_fault, narrow, name_fault, size_fault, crew_fault, route_fault, flight_fault, spelled, AreFlight, GivesFault}
-use Rattle.std.specs.Option.{option_or}
+use Rattle.flight_steps.proofs.Prelude.{◌≡◌, ◌<◌, ◌≤◌, ◌∷◌, ◌∙◌, [], List, Bool, false, cond, true, ◌&&◌, ◌==◌, refl, sym, ap, None, Some, Option, ℕ, zero, suc, length, map, arith, inl, inr, nat_le, length-map, ℤ, slice_get, All, bytes_eq, All-nil, All-cons, All-head, All-tail, ArrayVec, at, stored, element_on, piece_on, Segment, Traj, Leg, Routes, RestsOn, IsWayUp, IsWayDown, IsFlight, after_segment, way_begins, way_ends, legs_of, first_move, last_move, FlightFault, routes, AreFitted, same_place, rests_on, rests_by, rests_in, restless_from, restless, first_other, other_drone, same_ellipsoid, other_ellipsoid, gap, seam_fault, seams_fault, is_straight, way_fault, up_fault, down_fault, ups_fault, downs_fault, narrow, name_fault, size_fault, crew_fault, route_fault, flight_fault, spelled, AreFlight, GivesFault, option_or}
+use Rattle.std.proofs.lemmas.Bool.{false≢true}
 use Rattle.std.specs.Cmp.Lexicographic.{pointwise_decides, bytes_decides}
 use Rattle.std.proofs.lemmas.Bool.Decides.{Decides-int_eq, nat_tests}
 use Rattle.fleet_math.specs.Decoded as plain

@@ -1,5 +1,5 @@
 -- Walks over what is left of a list.
-use Rattle.flight_steps.proofs.Prelude.{◌≡◌, ◌<◌, ◌≤◌, ◌+◌, ◌∷◌, ◌++◌, ◌∙◌, [], List, Bool, false, cond, true, ◌||◌, refl, sym, ap, None, Some, Option, ℕ, zero, suc, ℤ, drop, length, map, arith, range_with_len, list_any, flat_map, append-nil, append_assoc, ArrayVec, at, Traj, Leg, Step, moves, last_move, first_other, seams_fault}
+use Rattle.flight_steps.proofs.Prelude.{◌≡◌, ◌<◌, ◌≤◌, ◌+◌, ◌∷◌, ◌++◌, ◌∙◌, [], List, Bool, false, cond, true, ◌||◌, refl, sym, ap, None, Some, Option, ℕ, zero, suc, ℤ, drop, length, map, arith, range_with_len, list_any, flat_map, append_assoc, ArrayVec, at, Traj, Leg, Step, moves, last_move, first_other, seams_fault, flat_map_more, map-id}
 use Rattle.std.proofs.lemmas.List.FromFn.{map-range_with_len_more}
 
 -- the last leg in which a drone moves, or else this one
@@ -77,32 +77,25 @@ seams_short-downs us ss ns d m e = sym (e ∙ (ap (λ (xs : List Traj). seams_fa
 
 -- ---- steps, one leg after another
 
-pub put_step : (f : ℕ → Step) (old steps new : List Step) (k : ℕ) (s : Step) → steps ≡ old ++ map f (range_with_len 0 k) → s ≡ f k → new ≡ steps ++ s ∷ [] →
-    new ≡ old ++ map f (range_with_len 0 (k + 1))
-put_step f old steps new k s before is put =
-    put ∙ (ap (λ (xs : List Step). xs ++ s ∷ []) before
-    ∙ (append_assoc old (map f (range_with_len 0 k)) (s ∷ [])
-    ∙ (ap (λ (x : Step). old ++ (map f (range_with_len 0 k) ++ x ∷ [])) is
-    ∙ ap (λ (xs : List Step). old ++ xs) (sym (map-range_with_len_more f 0 k k (omega arith))))))
+-- one step more, and the steps of one leg more
+pub put_one : (f : ℕ → Step) (old before after : List Step) (k : ℕ) → before ≡ old ++ map f (range_with_len 0 k) → after ≡ before ++ f k ∷ [] →
+    after ≡ old ++ map f (range_with_len 0 (k + 1))
+put_one f old before after k is put =
+    put ∙ (ap (λ (xs : List Step). xs ++ f k ∷ []) is
+    ∙ (append_assoc old (map f (range_with_len 0 k)) (f k ∷ [])
+    ∙ ap (λ (xs : List Step). old ++ xs) (sym (map-range_with_len_more f 0 k k (omega arith)))))
 
-flat-more : (h : ℕ → List Step) (a n : ℕ) → flat_map h (range_with_len a (suc n)) ≡ flat_map h (range_with_len a n) ++ h (a + n)
-flat-more h a zero = append-nil (h a) ∙ ap h (let e : a ≡ a + 0 = omega arith in e)
-flat-more h a (suc n) =
-    ap (λ (xs : List Step). h a ++ xs) (flat-more h (a + 1) n)
-    ∙ (sym (append_assoc (h a) (flat_map h (range_with_len (a + 1) n)) (h (a + 1 + n)))
-    ∙ ap (λ (k : ℕ). (h a ++ flat_map h (range_with_len (a + 1) n)) ++ h k) (let e : a + 1 + n ≡ a + suc n = omega arith in e))
-
-pub put_pair : (f g : ℕ → Step) (old steps mid new : List Step) (k : ℕ) (s t : Step) → steps ≡ old ++ flat_map (λ k. f k ∷ g k ∷ []) (range_with_len 0 k) →
-    s ≡ f k → t ≡ g k → mid ≡ steps ++ s ∷ [] → new ≡ mid ++ t ∷ [] → new ≡ old ++ flat_map (λ k. f k ∷ g k ∷ []) (range_with_len 0 (k + 1))
-put_pair f g old steps mid new k s t before is_s is_t put_s put_t =
-    let h = λ (k : ℕ). f k ∷ g k ∷ [] in
-    let both : new ≡ steps ++ (s ∷ t ∷ []) = put_t ∙ (ap (λ (xs : List Step). xs ++ t ∷ []) put_s ∙ append_assoc steps (s ∷ []) (t ∷ [])) in
-    let last : s ∷ t ∷ [] ≡ h k = ap (λ (x : Step). x ∷ t ∷ []) is_s ∙ ap (λ (x : Step). f k ∷ x ∷ []) is_t in
-    let more : flat_map h (range_with_len 0 (k + 1)) ≡ flat_map h (range_with_len 0 k) ++ h k = (let e : k + 1 ≡ suc k = omega arith in ap (λ (n : ℕ). flat_map h (range_with_len 0 n)) e) ∙ (flat-more h 0 k ∙ ap (λ (n : ℕ). flat_map h (range_with_len 0 k) ++ h n) (let e : 0 + k ≡ k = omega arith in e)) in
-    both ∙ (ap (λ (xs : List Step). xs ++ (s ∷ t ∷ [])) before
-    ∙ (append_assoc old (flat_map h (range_with_len 0 k)) (s ∷ t ∷ [])
-    ∙ (ap (λ (xs : List Step). old ++ (flat_map h (range_with_len 0 k) ++ xs)) last
-    ∙ ap (λ (xs : List Step). old ++ xs) (sym more))))
+pub put_more : (h : ℕ → List Step) (old before after : List Step) (k : ℕ) → before ≡ old ++ flat_map h (range_with_len 0 k) → after ≡ before ++ h k →
+    after ≡ old ++ flat_map h (range_with_len 0 (k + 1))
+put_more h old before after k is put =
+    put ∙ (ap (λ (xs : List Step). xs ++ h k) is
+    ∙ (flat_map_more h old (range_with_len 0 k) k
+    ∙ ap (λ (ks : List ℕ). old ++ flat_map h ks) (sym (next k))))
+  where
+    next : (k : ℕ) → range_with_len 0 (k + 1) ≡ range_with_len 0 k ++ k ∷ []
+    next k =
+        sym (map-id (range_with_len 0 (k + 1)))
+        ∙ (map-range_with_len_more (λ (n : ℕ). n) 0 k k (omega arith) ∙ ap (λ (ks : List ℕ). ks ++ k ∷ []) (map-id (range_with_len 0 k)))
 
 -- four values are these, if each is
 pub four-are : (f : ℕ → ℤ) (v : List ℤ) → length v ≡ 4 → ((k : ℕ) → k < 4 → at v k ≡ f k) → v ≡ f 0 ∷ f 1 ∷ f 2 ∷ f 3 ∷ []

@@ -1,6 +1,5 @@
 -- What `flight_model` calls the routes of a flight.
-use Rattle.std.specs.Prelude.{◌≡◌, List, [], ◌∷◌, length, Option, Some, None, ℤ}
-use Rattle.flight_model.specs.declared.flights.Span.{Span}
+use Rattle.std.specs.Prelude.{◌≡◌, length}
 use Rattle.flight_model.specs.Legs.{Routes, lasts}
 use Rattle.flight_steps.specs.declared.ways.Ways.{Ways}
 use Rattle.flight_steps.specs.declared.ways.Crews.{Crews}
@@ -24,12 +23,3 @@ pub record AreFitted (crews : Crews) (w : Ways) : Type 0 where
   pub show : length w.show.now ≡ length crews.show.names.now
   pub down : length w.down.now ≡ length crews.down.names.now
   pub duration : lasts w.show.now ≡ w.show_ms
-
--- from one value to itself
-abbrev pub point : ℤ → Span
-point v = record { low = v; high = v }
-
--- from the first of these values to itself, if there is one
-abbrev pub first_of : List ℤ → Option Span
-first_of [] = None
-first_of (v ∷ vs) = Some (point v)

@@ -66,10 +66,8 @@ fn name_fault(c: &Crews) -> Option<FlightFault>
     ensures { result ≡ word_names c.now }
 {
     let up = other_drone(Way::Up, first_other(c.up.names, c.show.names));
-    if up.is_some() {
-        return up;
-    }
-    other_drone(Way::Down, first_other(c.down.names, c.show.names))
+    let down = other_drone(Way::Down, first_other(c.down.names, c.show.names));
+    up.or(down)
 }
 
 fn other_ellipsoid(way: Way, a: &Ellipsoid, b: &Ellipsoid) -> Option<FlightFault>
@@ -86,22 +84,15 @@ fn other_ellipsoid(way: Way, a: &Ellipsoid, b: &Ellipsoid) -> Option<FlightFault
 fn size_fault(up: &Ellipsoid, show: &Ellipsoid, down: &Ellipsoid) -> Option<FlightFault>
     ensures { result ≡ word_sizes up.now show.now down.now }
 {
-    let first = other_ellipsoid(Way::Up, up, show);
-    if first.is_some() {
-        return first;
-    }
-    other_ellipsoid(Way::Down, down, show)
+    other_ellipsoid(Way::Up, up, show).or(other_ellipsoid(Way::Down, down, show))
 }
 
 // What is wrong with the drones.
 fn crew_fault(c: &Crews) -> Option<FlightFault>
     ensures { result ≡ word_crew c.now }
 {
-    let names = name_fault(c);
-    if names.is_some() {
-        return names;
-    }
-    size_fault(&c.up.ellipsoid, &c.show.ellipsoid, &c.down.ellipsoid)
+    let sizes = size_fault(&c.up.ellipsoid, &c.show.ellipsoid, &c.down.ellipsoid);
+    name_fault(c).or(sizes)
 }
 
 // What is wrong where a drone ends here and begins there.
@@ -120,14 +111,9 @@ fn seam_fault(drone: usize, up: &Traj, show: &Traj, down: &Traj) -> Option<Fligh
     ensures { result ≡ word_seam drone up.now show.now down.now }
 {
     let first = gap(Seam::UpToShow, drone, &way_ends(up), &show.start);
-    if first.is_some() {
-        return first;
-    }
     let second = gap(Seam::ShowToDown, drone, &way_ends(show), &down.start);
-    if second.is_some() {
-        return second;
-    }
-    gap(Seam::DownToUp, drone, &way_ends(down), &up.start)
+    let third = gap(Seam::DownToUp, drone, &way_ends(down), &up.start);
+    first.or(second.or(third))
 }
 
 // What is wrong where drones end and begin, as far as there are three ways.
@@ -275,19 +261,8 @@ fn route_fault(w: &Ways, ups: &[Listed<Leg>], downs: &[Listed<Leg>]) -> Option<F
     requires downs { downs.now ≡ map legs_of w.now.down.now }
     ensures { result ≡ word_route (routes w.now) }
 {
-    let seam = seams_fault(w.up, w.show, w.down);
-    if seam.is_some() {
-        return seam;
-    }
-    let up = ups_fault(w.up, ups);
-    if up.is_some() {
-        return up;
-    }
-    let down = downs_fault(w.down, downs);
-    if down.is_some() {
-        return down;
-    }
-    narrow(w)
+    let ways = ups_fault(w.up, ups).or(downs_fault(w.down, downs).or(narrow(w)));
+    seams_fault(w.up, w.show, w.down).or(ways)
 }
 
 /// The first cause why three shows are no flight.
@@ -301,9 +276,5 @@ pub fn flight_fault(
     requires downs { downs.now ≡ map legs_of w.now.down.now }
     ensures { result ≡ word_flight crews.now (routes w.now) }
 {
-    let crew = crew_fault(crews);
-    if crew.is_some() {
-        return crew;
-    }
-    route_fault(w, ups, downs)
+    crew_fault(crews).or(route_fault(w, ups, downs))
 }

@@ -6,14 +6,12 @@
 //! for trajectories.
 #![tactic(auto)]
 
-mod conditions;
 mod faults;
 mod judging;
 mod law;
 mod legs;
-mod lists;
 mod moves;
-mod orders;
+mod parts;
 mod room;
 mod steps;
 mod ways;

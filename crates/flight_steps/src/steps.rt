@@ -16,11 +16,8 @@ ghost use Rattle.flight_steps.specs.Ways.{routes, AreFitted};
 use crate::faults::StepsError;
 use crate::judging::flight_fault;
 use crate::legs::all_legs;
-use crate::lists::{
-    arm_conditions, arm_orders, down_conditions, down_orders, group_orders, last_conditions,
-    start_conditions, up_conditions, up_orders,
-};
 use crate::moves::leg;
+use crate::parts::{Part, conditions, group_orders, last_conditions, orders, start_conditions};
 use crate::ways::{Crews, Ways};
 use flight_model::{Hold, Leg, Order, Orders, Step, Stretch};
 use listed::Listed;
@@ -85,7 +82,7 @@ fn hold_in(stretch: Stretch, from: u32, ms: u32) -> Option<Hold>
 fn group_step(alloc: Global, all: &[Listed<Leg>]) -> Result<Step, AllocError>
     ensures { IfOk result (λ step. step ≡ word_group all.now) }
 {
-    let orders = group_orders(alloc, all)?;
+    let orders = Listed::from_vec(group_orders(alloc, all)?);
     Ok(Step {
         asked: false,
         after: 0,
@@ -101,8 +98,8 @@ fn group_step(alloc: Global, all: &[Listed<Leg>]) -> Result<Step, AllocError>
 fn arm_step(alloc: Global, w: &Ways, all: &[Listed<Leg>], k: usize) -> Result<Step, AllocError>
     ensures { IfOk result (λ step. step ≡ word_arm (routes w.now) all.now k) }
 {
-    let conditions = arm_conditions(alloc, w, k, all)?;
-    let orders = arm_orders(alloc, k, all)?;
+    let conditions = Listed::from_vec(conditions(alloc, w, Part::Arm, k, all)?);
+    let orders = Listed::from_vec(orders(alloc, Part::Arm, k, all)?);
     Ok(Step {
         asked: k == 0,
         after: ms_before(0, all, k),
@@ -118,8 +115,8 @@ fn arm_step(alloc: Global, w: &Ways, all: &[Listed<Leg>], k: usize) -> Result<St
 fn up_step(alloc: Global, w: &Ways, all: &[Listed<Leg>], k: usize) -> Result<Step, AllocError>
     ensures { IfOk result (λ step. step ≡ word_up (routes w.now) all.now k) }
 {
-    let conditions = up_conditions(alloc, w, k, all)?;
-    let orders = up_orders(alloc, k, all)?;
+    let conditions = Listed::from_vec(conditions(alloc, w, Part::Up, k, all)?);
+    let orders = Listed::from_vec(orders(alloc, Part::Up, k, all)?);
     Ok(Step {
         asked: false,
         after: 0,
@@ -134,7 +131,7 @@ fn up_step(alloc: Global, w: &Ways, all: &[Listed<Leg>], k: usize) -> Result<Ste
 fn start_step(alloc: Global, w: &Ways, ups: &[Listed<Leg>]) -> Result<Step, AllocError>
     ensures { IfOk result (λ step. step ≡ word_start (routes w.now) w.now.show_ms ups.now) }
 {
-    let conditions = start_conditions(alloc, w)?;
+    let conditions = Listed::from_vec(start_conditions(alloc, w)?);
     Ok(Step {
         asked: true,
         after: ms_before(0, ups, leg_count(ups)),
@@ -152,8 +149,8 @@ fn start_step(alloc: Global, w: &Ways, ups: &[Listed<Leg>]) -> Result<Step, Allo
 fn down_step(alloc: Global, w: &Ways, all: &[Listed<Leg>], k: usize) -> Result<Step, AllocError>
     ensures { IfOk result (λ step. step ≡ word_down (routes w.now) w.now.show_ms all.now k) }
 {
-    let conditions = down_conditions(alloc, w, k, all)?;
-    let orders = down_orders(alloc, k, all)?;
+    let conditions = Listed::from_vec(conditions(alloc, w, Part::Down, k, all)?);
+    let orders = Listed::from_vec(orders(alloc, Part::Down, k, all)?);
     Ok(Step {
         asked: false,
         after: ms_before(w.show_ms, all, k),
@@ -168,7 +165,7 @@ fn down_step(alloc: Global, w: &Ways, all: &[Listed<Leg>], k: usize) -> Result<S
 fn last_step(alloc: Global, w: &Ways, downs: &[Listed<Leg>]) -> Result<Step, AllocError>
     ensures { IfOk result (λ step. step ≡ word_last (routes w.now) downs.now) }
 {
-    let conditions = last_conditions(alloc, w)?;
+    let conditions = Listed::from_vec(last_conditions(alloc, w)?);
     Ok(Step {
         asked: false,
         after: ms_before(0, downs, leg_count(downs)),

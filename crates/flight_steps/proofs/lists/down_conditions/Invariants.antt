@@ -1,5 +1,0 @@
-use Rattle.flight_steps.proofs.Prelude.{◌≡◌, take, map, down_condition, routes}
-use Rattle.flight_steps.proofs.lists.down_conditions.Given as goal
-
-abbrev pub invariant-loop-legs : goal.invariant-loop-legs
-invariant-loop-legs l = l.out.items ≡ map (down_condition (routes l.w) l.k) (take l.legs-index l.all)
