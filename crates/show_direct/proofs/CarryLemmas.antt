@@ -1,12 +1,12 @@
 -- An exchange that is carried, from what its steps did.
-use Rattle.show_direct.proofs.Prelude.{◌≡◌, ◌⊎◌, inl, inr, ℕ, ◌+◌, ◌<◌, ◌≤◌, Bool, true, false, List, [], ◌∷◌, ◌++◌, Contains, append_assoc, append-nil, length, length-append, Option, Some, None, refl, sym, ap, subst, ◌∙◌, arith, append_cancel_left, append_cancel_right, Appends, part_of, rest_of, ShowLaw, PlainShow, Rose, buffer_bytes, has_whole_marker, MarkerLaw, AppendsFront, Told, Went, most_text, end_byte, end_frame, Refusal, accepted_outcome, refused_outcome, refused_some, IsAccepted, IsRefusedBy, Wrote, IsOfInput, show_refusal, text_refusal, cut_of, Span, outcome, Accepted, Unread, Accepts, Exchange, TextStops, text_exchange, text_verb, text_ways, HasBegun, no_flight_byte, AreMarked, Carries, EndsBy, IsCut, IsRead, IsUnread, direct_statuses}
+use Rattle.show_direct.proofs.Prelude.{◌≡◌, ◌⊎◌, inl, inr, ℕ, ◌+◌, ◌<◌, ◌≤◌, Bool, true, false, List, [], ◌∷◌, ◌++◌, Contains, append_assoc, append-nil, length, length-append, Option, Some, None, Result, Ok, Err, refl, sym, ap, subst, ◌∙◌, arith, append_cancel_left, append_cancel_right, Appends, part_of, rest_of, ShowLaw, PlainShow, Rose, buffer_bytes, has_whole_marker, MarkerLaw, AppendsFront, Held, Told, Went, most_text, end_byte, end_frame, Refusal, accepted_outcome, refused_outcome, refused_some, IsAccepted, IsRefusedBy, Wrote, IsOfInput, show_refusal, text_refusal, cut_of, IsJudged, Span, outcome, Accepted, Unflown, Accepts, Exchange, TextStops, text_exchange, text_verb, text_ways, Options, Flight, HasBegun, no_flight_byte, AreMarked, Carries, FlightRead, IsCut, IsRead, IsUnread, LeadsTo, coming, direct_statuses, left_of, since}
 use Rattle.std.proofs.lemmas.Grind.{common_steps}
 use Rattle.choreo_reader.specs.Grammar.{StandsFor}
 use Rattle.fleet_io.proofs.MarkerLaws.{whole_marker-front}
 use Rattle.refusals.specs.Refusals.{status_of}
 use Rattle.show_judge.proofs.RunLemmas.{refused_among, refused_judged}
 use Rattle.show_judge.proofs.TextLemmas.{stands_unrefused}
-use Rattle.show_direct.specs.declared.reading.Unread.TheVariants as unread
+use Rattle.show_direct.specs.declared.reading.Unflown.TheVariants as unflown
 
 -- ---- what was written
 
@@ -122,13 +122,18 @@ carried_next show marker depth next bytes left ended met a m mid status is fed b
       writes_later = c.writes_later;
     }
 
--- The same, of what a reader has read.
-pub carried_read : ShowLaw → MarkerLaw → (depth : ℕ) (next : PlainShow → Exchange) (bytes rest left : List ℕ) (ended met : Bool) (a : Accepted) (m : Span) (mid : Told) (status : ℕ) →
-    (read : IsRead depth bytes rest met a) → (met ≡ false → ended ≡ false) → m.told.faults ≤ mid.faults →
-    Carries (next read.accepted.s) rest left met (record m { told = mid }) status → Carries (text_exchange depth next) bytes left ended m status
-carried_read show marker depth next bytes rest left ended met a m mid status read back later c =
-    carried_next show marker depth next bytes left ended met a m mid status read.accepted (λ off. subst (AreMarked bytes) read.after (read.fed off)) back later
-    (subst (λ (xs : List ℕ). Carries (next read.accepted.s) xs left met (record m { told = mid }) status) read.after c)
+-- a reader that has met no end now hadn't met it before
+pub unmet_before : (met meets : Bool) (t u : Told) → Went met meets t u → meets ≡ false → met ≡ false
+unmet_before false meets t u went off = refl
+unmet_before true meets t u went off = absurd (let on = (went.stays refl).0 in let e : false ≡ true = sym off ∙ on in cc)
+
+-- Where a show was read, what it leads to goes on for the text.
+leads : ShowLaw → MarkerLaw → (depth : ℕ) (next : PlainShow → Exchange) (all : List ℕ) (held holds : Held) (t u : Told) (a : Accepted) →
+    (read : IsRead depth (coming held all t) (coming holds all u) holds.ended a) → Went held.ended holds.ended t u → LeadsTo all (text_exchange depth next) held t (next read.accepted.s) holds u
+leads show marker depth next all held holds t u a read went left m status c =
+    carried_next show marker depth next (coming held all t) left held.ended holds.ended a (since t m) u status read.accepted (λ off. subst (AreMarked (coming held all t)) read.after (read.fed off))
+    (unmet_before held.ended holds.ended t u went) went.gives.later
+    (subst (λ (xs : List ℕ). Carries (next read.accepted.s) xs left holds.ended (since u m) status) read.after c)
 
 -- ---- no show
 
@@ -142,45 +147,53 @@ refused_none show depth bytes r (inr (t, short, stands, is)) s accepts =
     unrefused (show_refusal (text_ways depth) (cut_of bytes) s) r accepts.accepted
     (subst (λ (p : PlainShow). show_refusal (text_ways depth) (cut_of bytes) p ≡ Some r) (show.one (part_of bytes) t s stands accepts.stands) is)
 
--- the end frame of a refusal was written
-carried_refusal : ShowLaw → MarkerLaw → (depth : ℕ) (next : PlainShow → Exchange) (bytes left : List ℕ) (ended : Bool) (m : Span) (r : Refusal) (status : ℕ) →
-    IsRefusedBy (text_ways depth) (cut_of bytes) r → IsOfInput r → length (rest_of bytes) ≤ length left + buffer_bytes → m.told.faults ≤ m.tells.faults →
-    Wrote (status_of r) (end_frame (status_of r)) m.written m.written_after m.writes_failed m.writes_failed_after status → Carries (text_exchange depth next) bytes left ended m status
-carried_refusal show marker depth next bytes left ended m r status is of_input few later (inl (e, appends, writes)) =
-    let judged = refused_judged r of_input in
-    record {
-      gives = λ j. (outcome (status_of r) (end_frame (status_of r)), refused_outcome (text_verb depth next) (cut_of bytes) r is, e, appends);
-      one = λ one. absurd (judged.0 (sym e ∙ one));
-      six = λ six. absurd (judged.1 (sym e ∙ six));
-      seven = λ seven. absurd (judged.2 (sym e ∙ seven));
-      prompt = λ seven. absurd (judged.2 (sym e ∙ seven));
-      ends = λ j. record { accepted = λ s accepts. absurd (refused_none show depth bytes r is s accepts); refused = λ none. few };
-      begun = elim [
-        | inl began ↦ absurd (never_end (status_of r) m.written m.written_after appends began)
-        | inr done ↦ absurd (refused_some r (sym e ∙ done))
-      ];
-      known = subst (Contains direct_statuses) (sym e) (refused_among r of_input);
-      reads_later = later;
-      writes_later = writes;
-    }
-carried_refusal show marker depth next bytes left ended m r status is of_input few later (inr (e, rose, front, writes)) = record {
+-- What these bytes lead to was written, an end frame or the frame of a cause first.
+pub carried_end : (x : Exchange) (bytes left : List ℕ) (ended : Bool) (m : Span) (n first : ℕ) (others : List ℕ) (status : ℕ) → x.gives bytes (outcome n (first ∷ others)) →
+    (first ≡ end_byte) ⊎ (first ≡ no_flight_byte) → Contains direct_statuses n → IsJudged n → (n ≡ 0 → ⊥) → x.ends bytes left →
+    ((taken sent : List ℕ) → bytes ≡ taken ++ left → x.prompt taken sent) → m.told.faults ≤ m.tells.faults →
+    Wrote n (first ∷ others) m.written m.written_after m.writes_failed m.writes_failed_after status → Carries x bytes left ended m status
+carried_end x bytes left ended m n first others status gives begins known judged some ends prompt later (inl (e, appends, writes)) = record {
+  gives = λ j. (outcome n (first ∷ others), gives, e, appends);
+  one = λ one. absurd (judged.0 (sym e ∙ one));
+  six = λ six. absurd (judged.1 (sym e ∙ six));
+  seven = λ seven. absurd (judged.2 (sym e ∙ seven));
+  prompt = λ seven taken sent before split old new. prompt taken sent split;
+  ends = λ j. ends;
+  begun = elim [
+    | inl began ↦ absurd (never_appended first others m.written m.written_after begins appends began)
+    | inr done ↦ absurd (some (sym e ∙ done))
+  ];
+  known = subst (Contains direct_statuses) (sym e) known;
+  reads_later = later;
+  writes_later = writes;
+}
+carried_end x bytes left ended m n first others status gives begins known judged some ends prompt later (inr (e, rose, front, writes)) = record {
   gives = λ j. absurd (j.2 e);
   one = λ one. absurd (omega (arith, one, e));
   six = λ six. absurd (omega (arith, six, e));
-  seven = λ seven.
-      (rose, (end_frame (status_of r), front, inl (outcome (status_of r) (end_frame (status_of r)), refused_outcome (text_verb depth next) (cut_of bytes) r is, refl)));
-  prompt = λ seven taken sent before split old new whole s accepts.
-      absurd (refused_none show depth bytes r is s
-      (accepts_as depth taken bytes s (sym (ap (λ (xs : List ℕ). part_of xs) split ∙ (marker taken left whole).0)) accepts));
-  ends = λ j. absurd (j.2 e);
+  seven = λ seven. (rose, (first ∷ others, front, inl (outcome n (first ∷ others), gives, refl)));
+  prompt = λ seven taken sent before split old new. prompt taken sent split;
+  ends = λ j. ends;
   begun = elim [
-    | inl began ↦ absurd (never_end_front (status_of r) m.written m.written_after front began)
+    | inl began ↦ absurd (never_front first others m.written m.written_after begins front began)
     | inr done ↦ absurd (omega (arith, done, e))
   ];
   known = subst (Contains direct_statuses) (sym e) (6, omega arith, refl);
   reads_later = later;
   writes_later = writes;
 }
+
+-- the end frame of a refusal was written
+carried_refusal : ShowLaw → MarkerLaw → (depth : ℕ) (next : PlainShow → Exchange) (bytes left : List ℕ) (ended : Bool) (m : Span) (r : Refusal) (status : ℕ) →
+    IsRefusedBy (text_ways depth) (cut_of bytes) r → IsOfInput r → length (rest_of bytes) ≤ length left + buffer_bytes → m.told.faults ≤ m.tells.faults →
+    Wrote (status_of r) (end_frame (status_of r)) m.written m.written_after m.writes_failed m.writes_failed_after status → Carries (text_exchange depth next) bytes left ended m status
+carried_refusal show marker depth next bytes left ended m r status is of_input few later wrote =
+    let none = refused_none show depth bytes r is in
+    carried_end (text_exchange depth next) bytes left ended m (status_of r) end_byte (status_of r ∷ []) status (refused_outcome (text_verb depth next) (cut_of bytes) r is) (inl refl)
+    (refused_among r of_input) (refused_judged r of_input) (refused_some r)
+    (record { accepted = λ s accepts. absurd (none s accepts); refused = λ unflown. few })
+    (λ taken sent split whole s accepts. absurd (none s (accepts_as depth taken bytes s (sym (ap (λ (xs : List ℕ). part_of xs) split ∙ (marker taken left whole).0)) accepts)))
+    later wrote
 
 -- the end frame of a failed read was written
 carried_failed : (depth : ℕ) (next : PlainShow → Exchange) (bytes left taken : List ℕ) (ended : Bool) (m : Span) (status : ℕ) →
@@ -250,22 +263,24 @@ carried_memory x bytes left ended m status later e same faults = record {
 }
 
 -- No show was read.
-pub carried_unread : ShowLaw → MarkerLaw → (depth : ℕ) (next : PlainShow → Exchange) (bytes left : List ℕ) (ended : Bool) (m : Span) (why : Unread) (status : ℕ) →
-    IsUnread depth bytes left ended m.told.faults m.tells.faults why → m.told.faults ≤ m.tells.faults →
-    EndsBy why m.written m.written_after m.writes_failed m.writes_failed_after status → Carries (text_exchange depth next) bytes left ended m status
-carried_unread show marker depth next bytes left ended m (unread.Refused r) status is later wrote =
-    carried_refusal show marker depth next bytes left ended m r status is.0 is.1 is.2 later wrote
-carried_unread show marker depth next bytes left ended m unread.Read status is later wrote =
-    carried_failed depth next bytes left is.2.0 ended m status is.0 is.1 is.2.1 is.2.2 later wrote
-carried_unread show marker depth next bytes left ended m unread.Memory status is later wrote =
-    carried_memory (text_exchange depth next) bytes left ended m status later wrote.0 wrote.1 wrote.2
+pub ends : ShowLaw → MarkerLaw → (depth : ℕ) (next : PlainShow → Exchange) (o : Options) (all : List ℕ) (held holds : Held) (t u : Told) (why : Unflown) →
+    IsUnread depth (coming held all t) (left_of all u) held.ended t.faults u.faults why → t.faults ≤ u.faults → FlightRead o all (text_exchange depth next) held t holds u (Err why)
+ends show marker depth next o all held holds t u (unflown.Refused r) is later m status wrote =
+    carried_refusal show marker depth next (coming held all t) (left_of all u) held.ended (since t (record m { tells = u })) r status is.0 is.1 is.2 later wrote
+ends show marker depth next o all held holds t u unflown.Read is later m status wrote =
+    carried_failed depth next (coming held all t) (left_of all u) is.2.0 held.ended (since t (record m { tells = u })) status is.0 is.1 is.2.1 is.2.2 later wrote
+ends show marker depth next o all held holds t u (unflown.NoFlight f) is later m status wrote = absurd is
+ends show marker depth next o all held holds t u unflown.Memory is later m status wrote =
+    carried_memory (text_exchange depth next) (coming held all t) (left_of all u) held.ended (since t (record m { tells = u })) status later wrote.0 wrote.1 wrote.2
 
--- ---- from one step to the next
-
--- a reader that has met no end now hadn't met it before
-pub unmet_before : (met meets : Bool) (t u : Told) → Went met meets t u → meets ≡ false → met ≡ false
-unmet_before false meets t u went off = refl
-unmet_before true meets t u went off = absurd (let on = (went.stays refl).0 in let e : false ≡ true = sym off ∙ on in cc)
+-- A show was read, and then what it leads to.
+pub read_next : ShowLaw → MarkerLaw → (depth : ℕ) (next : PlainShow → Exchange) (o : Options) (all : List ℕ) (held mid holds : Held) (t v u : Told) (a : Accepted) (result : Result Flight Unflown) →
+    (read : IsRead depth (coming held all t) (coming mid all v) mid.ended a) → Went held.ended mid.ended t v → FlightRead o all (next read.accepted.s) mid v holds u result →
+    FlightRead o all (text_exchange depth next) held t holds u result
+read_next show marker depth next o all held mid holds t v u a (Ok f) read went (up, middle, down, made, none, later) =
+    (up, middle, down, made, none, λ left m status c. leads show marker depth next all held mid t v a read went left m status (later left m status c))
+read_next show marker depth next o all held mid holds t v u a (Err why) read went later =
+    λ m status wrote. leads show marker depth next all held mid t v a read went (left_of all u) (record m { tells = u }) status (later m status wrote)
 
 -- where the text is too large no show was read
 pub little_read : (depth : ℕ) (bytes rest : List ℕ) (met : Bool) (a : Accepted) (P : Type 0) → IsRead depth bytes rest met a → most_text < length (part_of bytes) → P

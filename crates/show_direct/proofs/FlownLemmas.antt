@@ -1,8 +1,8 @@
 -- Three shows are flown, or are no flight.
-use Rattle.show_direct.proofs.Prelude.{◌≡◌, ◌≢◌, ◌⊎◌, inl, inr, ℕ, ◌+◌, ◌≤◌, Bool, false, List, [], ◌∷◌, ◌++◌, Contains, drop, length, length-append, Option, Some, None, Err, refl, sym, subst, arith, All-cons, All-contains, All-nil, Appends, PlainShow, buffer_bytes, AppendsFront, Flight, FlightFault, StepsError, RunGives, dialogue_of, Wrote, Span, outcome, Options, fault_of, flight_of, HasBegun, exchange_by, flight_exchange, no_flight_byte, no_flight_bytes, Carries, EndsFlight, FlightMade, direct_statuses}
+use Rattle.show_direct.proofs.Prelude.{◌≡◌, ◌≢◌, ◌⊎◌, inl, inr, ℕ, ◌+◌, ◌≤◌, Bool, false, List, [], ◌∷◌, ◌++◌, Contains, drop, length, length-append, Option, Some, None, Ok, Err, ap, refl, sym, subst, arith, All-cons, All-contains, All-nil, Appends, PlainShow, buffer_bytes, AppendsFront, Flight, FlightFault, StepsError, RunGives, dialogue_of, Held, Told, Wrote, Span, outcome, Options, fault_of, flight_of, HasBegun, exchange_by, flight_exchange, no_flight_byte, no_flight_bytes, Carries, FlightMade, FlightRead, coming, direct_statuses, left_of, since, unflown_by}
 use Rattle.flight_steps.specs.declared.faults.FlightFault.TheVariants as cause
 use Rattle.flight_steps.specs.declared.faults.StepsError.TheVariants as error
-use Rattle.show_direct.proofs.CarryLemmas.{carried_memory, never_appended, never_front}
+use Rattle.show_direct.proofs.CarryLemmas.{carried_end, carried_memory}
 use Rattle.show_direct.proofs.FlightLemmas.{are_flight}
 
 -- the statuses of a flight are among those of `direct`, and none is 1
@@ -72,65 +72,29 @@ frame_begins (cause.Slanted w d) = refl
 frame_begins (cause.Narrow near stray) = refl
 frame_begins (cause.OtherEllipsoid w) = refl
 
-never_cause : (f : FlightFault) (old new : Option (List ℕ)) → Appends old new (no_flight_bytes f) → HasBegun old new → ⊥
-never_cause f old new appends begun =
-    never_appended no_flight_byte (drop 1 (no_flight_bytes f)) old new (inr refl) (subst (λ (xs : List ℕ). Appends old new xs) (frame_begins f) appends) begun
-
-never_cause_front : (f : FlightFault) (old new : Option (List ℕ)) → AppendsFront old new (no_flight_bytes f) → HasBegun old new → ⊥
-never_cause_front f old new front begun =
-    never_front no_flight_byte (drop 1 (no_flight_bytes f)) old new (inr refl) (subst (λ (xs : List ℕ). AppendsFront old new xs) (frame_begins f) front) begun
-
 -- The first cause and the end frame of 19 were written, and nothing was read.
-no_flight : (o : Options) (up show down : PlainShow) (fault : FlightFault) (bytes left : List ℕ) (ended : Bool) (m : Span) (status : ℕ) → length bytes ≤ length left + buffer_bytes →
-    m.told.faults ≤ m.tells.faults → Wrote 19 (no_flight_bytes fault) m.written m.written_after m.writes_failed m.writes_failed_after status →
-    Carries (exchange_by o up show down (Some fault)) bytes left ended m status
-no_flight o up show down fault bytes left ended m status few later (inl (e, appends, writes)) = record {
-  gives = λ j. (outcome 19 (no_flight_bytes fault), refl, e, appends);
-  one = λ one. absurd (omega (arith, one, e));
-  six = λ six. absurd (omega (arith, six, e));
-  seven = λ seven. absurd (omega (arith, seven, e));
-  prompt = λ seven taken sent before split old new. tt;
-  ends = λ j. few;
-  begun = elim [
-    | inl began ↦ absurd (never_cause fault m.written m.written_after appends began)
-    | inr done ↦ absurd (omega (arith, done, e))
-  ];
-  known = subst (Contains direct_statuses) (sym e) (17, omega arith, refl);
-  reads_later = later;
-  writes_later = writes;
-}
-no_flight o up show down fault bytes left ended m status few later (inr (e, rose, front, writes)) = record {
-  gives = λ j. absurd (j.2 e);
-  one = λ one. absurd (omega (arith, one, e));
-  six = λ six. absurd (omega (arith, six, e));
-  seven = λ seven. (rose, (no_flight_bytes fault, front, inl (outcome 19 (no_flight_bytes fault), refl, refl)));
-  prompt = λ seven taken sent before split old new. tt;
-  ends = λ j. absurd (j.2 e);
-  begun = elim [
-    | inl began ↦ absurd (never_cause_front fault m.written m.written_after front began)
-    | inr done ↦ absurd (omega (arith, done, e))
-  ];
-  known = subst (Contains direct_statuses) (sym e) (6, omega arith, refl);
-  reads_later = later;
-  writes_later = writes;
-}
-
 carried_fault : (o : Options) (up show down : PlainShow) (fault : FlightFault) (bytes left : List ℕ) (ended : Bool) (m : Span) (status : ℕ) → fault_of o up show down ≡ Some fault →
     length bytes ≤ length left + buffer_bytes → m.told.faults ≤ m.tells.faults → Wrote 19 (no_flight_bytes fault) m.written m.written_after m.writes_failed m.writes_failed_after status →
     Carries (flight_exchange o up show down) bytes left ended m status
 carried_fault o up show down fault bytes left ended m status made few later wrote =
     subst (λ (why : Option FlightFault). Carries (exchange_by o up show down why) bytes left ended m status) (sym made)
-    (no_flight o up show down fault bytes left ended m status few later wrote)
+    (carried_end (exchange_by o up show down (Some fault)) bytes left ended m 19 no_flight_byte (drop 1 (no_flight_bytes fault)) status (ap (outcome 19) (sym (frame_begins fault))) (inr refl)
+    (17, omega arith, refl) ((λ e. omega (arith, e)), (λ e. omega (arith, e)), (λ e. omega (arith, e))) (λ e. omega (arith, e)) few (λ taken sent split. tt) later
+    (subst (λ (out : List ℕ). Wrote 19 out m.written m.written_after m.writes_failed m.writes_failed_after status) (frame_begins fault) wrote))
 
 -- where nothing was read, a reader holds few of the bytes that came
 pub few_unread : (waiting left : List ℕ) → length waiting ≤ buffer_bytes → length (waiting ++ left) ≤ length left + buffer_bytes
 few_unread waiting left few = omega (arith, few, length-append waiting left)
 
--- There is no flight.
-pub carried_error : (o : Options) (up show down : PlainShow) (e : StepsError) (bytes left : List ℕ) (ended : Bool) (m : Span) (status : ℕ) → FlightMade o up show down (Err e) →
-    length bytes ≤ length left + buffer_bytes → m.told.faults ≤ m.tells.faults → EndsFlight e m.written m.written_after m.writes_failed m.writes_failed_after status →
-    Carries (flight_exchange o up show down) bytes left ended m status
-carried_error o up show down (error.Fault fault) bytes left ended m status made few later wrote =
-    carried_fault o up show down fault bytes left ended m status made few later wrote
-carried_error o up show down error.Memory bytes left ended m status made few later wrote =
-    carried_memory (flight_exchange o up show down) bytes left ended m status later wrote.0 wrote.1 wrote.2
+-- Three shows are a flight, and no more was read.
+pub flight_read : (o : Options) (up show down : PlainShow) (all : List ℕ) (holds : Held) (u : Told) (f : Flight) → FlightMade o up show down (Ok f) →
+    FlightRead o all (flight_exchange o up show down) holds u holds u (Ok f)
+flight_read o up show down all holds u f made = (up, show, down, made.0, made.1, λ left m status c. c)
+
+-- They are none.
+pub no_flight_read : (o : Options) (up show down : PlainShow) (all : List ℕ) (holds : Held) (u : Told) (e : StepsError) → length holds.waiting ≤ buffer_bytes → FlightMade o up show down (Err e) →
+    FlightRead o all (flight_exchange o up show down) holds u holds u (Err (unflown_by e))
+no_flight_read o up show down all holds u (error.Fault fault) few made m status wrote =
+    carried_fault o up show down fault (coming holds all u) (left_of all u) holds.ended (since u (record m { tells = u })) status made (few_unread holds.waiting (left_of all u) few) (omega arith) wrote
+no_flight_read o up show down all holds u error.Memory few made m status wrote =
+    carried_memory (flight_exchange o up show down) (coming holds all u) (left_of all u) holds.ended (since u (record m { tells = u })) status (omega arith) wrote.0 wrote.1 wrote.2

@@ -25,11 +25,6 @@ no_fault : (c : Crews) (w : Routes) (why : Option FlightFault) → flight_fault 
 no_fault c w None is flight = refl
 no_fault c w (Some f) is flight = absurd ((fault-of c w f is).none flight)
 
--- the first cause, by names, ellipsoids and routes
-abbrev fault_by : List Name → List Name → List Name → Ellipsoid → Ellipsoid → Ellipsoid → Routes → Option FlightFault
-fault_by up show down a b c w =
-    option_or (option_or (option_or (other_drone way.Up (first_other 0 up show)) (other_drone way.Down (first_other 0 down show))) (size_fault a b c)) (route_fault w)
-
 -- a crew is the drones of a show
 pub record IsCrewOf (s : PlainShow) (c : Crew) : Type 0 where
   pub names : c.names.now ≡ names_of s
@@ -37,14 +32,7 @@ pub record IsCrewOf (s : PlainShow) (c : Crew) : Type 0 where
 
 fault_is : (o : Options) (u s d : PlainShow) (c : Crews) (w : Routes) → IsCrewOf u c.up → IsCrewOf s c.show → IsCrewOf d c.down → w ≡ routes_of o u s d →
     flight_fault c w ≡ fault_of o u s d
-fault_is o u s d c w up show down same =
-    ap (λ (xs : List Name). fault_by xs c.show.names.now c.down.names.now c.up.ellipsoid c.show.ellipsoid c.down.ellipsoid w) up.names
-    ∙ ap (λ (xs : List Name). fault_by (names_of u) xs c.down.names.now c.up.ellipsoid c.show.ellipsoid c.down.ellipsoid w) show.names
-    ∙ ap (λ (xs : List Name). fault_by (names_of u) (names_of s) xs c.up.ellipsoid c.show.ellipsoid c.down.ellipsoid w) down.names
-    ∙ ap (λ (e : Ellipsoid). fault_by (names_of u) (names_of s) (names_of d) e c.show.ellipsoid c.down.ellipsoid w) up.ellipsoid
-    ∙ ap (λ (e : Ellipsoid). fault_by (names_of u) (names_of s) (names_of d) (ellipsoid_of u) e c.down.ellipsoid w) show.ellipsoid
-    ∙ ap (λ (e : Ellipsoid). fault_by (names_of u) (names_of s) (names_of d) (ellipsoid_of u) (ellipsoid_of s) e w) down.ellipsoid
-    ∙ ap (λ (r : Routes). fault_by (names_of u) (names_of s) (names_of d) (ellipsoid_of u) (ellipsoid_of s) (ellipsoid_of d) r) same
+fault_is o u s d c w up show down same = rw (up.names, show.names, down.names, up.ellipsoid, show.ellipsoid, down.ellipsoid, same) refl
 
 -- the steps of fitted shows are those of the shows
 pub steps_made : (o : Options) (u s d : PlainShow) (c : Crews) (w : Routes) (result : Result (List Step) StepsError) → IsCrewOf u c.up → IsCrewOf s c.show → IsCrewOf d c.down →
@@ -92,19 +80,11 @@ some_trajs f valid = omega (arith, valid.some_drone, valid.trajs_counted)
 pub fitted_lasts : (f : Fitted) → IsValidFitted f → lasts f.trajs ≡ f.duration
 fitted_lasts f valid = lasts_as valid.times f.trajs (some_trajs f valid) valid.same_times ∙ valid.duration
 
-abbrev routes_from : List Traj → List Traj → List Traj → ℕ → ℕ → ℕ → Routes
-routes_from up show down stray near at_place = record { up = up; show = show; down = down; stray = stray; near = near; at_place = at_place }
-
 -- what the ways of fitted shows are
 routes_is : (o : Options) (up show down : Fitted) (u s d : PlainShow) (w : Ways) → w.up.now ≡ up.trajs → w.show.now ≡ show.trajs → w.down.now ≡ down.trajs → w.stray ≡ up.settings.stray →
     w.near ≡ o.near → w.at_place ≡ o.at_place → IsFitted up u → IsFitted show s → IsFitted down d → routes w ≡ routes_of o u s d
 routes_is o up show down u s d w e_up e_show e_down stray near at_place is_up is_show is_down =
-    ap (λ (ts : List Traj). routes_from ts w.show.now w.down.now w.stray w.near w.at_place) (e_up ∙ is_up.trajs)
-    ∙ ap (λ (ts : List Traj). routes_from (trajectories_of u) ts w.down.now w.stray w.near w.at_place) (e_show ∙ is_show.trajs)
-    ∙ ap (λ (ts : List Traj). routes_from (trajectories_of u) (trajectories_of s) ts w.stray w.near w.at_place) (e_down ∙ is_down.trajs)
-    ∙ ap (λ (n : ℕ). routes_from (trajectories_of u) (trajectories_of s) (trajectories_of d) n w.near w.at_place) (stray ∙ ap (λ (e : Settings). e.stray) is_up.settings)
-    ∙ ap (λ (n : ℕ). routes_from (trajectories_of u) (trajectories_of s) (trajectories_of d) u.settings.stray n w.at_place) near
-    ∙ ap (λ (n : ℕ). routes_from (trajectories_of u) (trajectories_of s) (trajectories_of d) u.settings.stray o.near n) at_place
+    rw (e_up, e_show, e_down, stray, near, at_place, is_up.trajs, is_show.trajs, is_down.trajs, is_up.settings) refl
 
 -- the shows' trajectories are counted as their names
 pub are_fitted : (up show down : Fitted) (c : Crews) (w : Ways) → IsValidFitted up → IsValidFitted show → IsValidFitted down → c.up.names.now ≡ up.names → c.show.names.now ≡ show.names → c.down.names.now ≡ down.names →
@@ -140,11 +120,7 @@ course_from curves ms e late = record { curves = curves; ms = ms; stray = e.stra
 
 -- those of a fitted show are the show's
 pub course_is : (f : Fitted) (s : PlainShow) (late : ℕ) → late ≡ max f.settings.late order_ms → IsValidFitted f → IsFitted f s → course_from f.sent f.duration f.settings late ≡ course_of s
-course_is f s late most valid is =
-    ap (λ (n : ℕ). course_from f.sent f.duration f.settings n) most
-    ∙ ap (λ (ts : List Traj). course_from ts f.duration f.settings (max f.settings.late order_ms)) is.sent
-    ∙ ap (λ (n : ℕ). course_from (sent_of s) n f.settings (max f.settings.late order_ms)) (sym (fitted_lasts f valid) ∙ ap lasts is.trajs)
-    ∙ ap (λ (e : Settings). course_from (sent_of s) (lasts (trajectories_of s)) e (max e.late order_ms)) is.settings
+course_is f s late most valid is = rw (most, sym (fitted_lasts f valid), is.sent, is.trajs, is.settings) refl
 
 -- and may be played
 pub course_held : JoinLaw → (f : Fitted) (late : ℕ) → IsValidFitted f → AreUploadable f.settings f.sent → IsCourse (course_from f.sent f.duration f.settings late)
@@ -180,18 +156,7 @@ made_of o floor silence steps curves ms e up down room = record {
 flight_is : (o : Options) (floor : ℤ) (silence : ℕ) (u s d : PlainShow) (f : Fitted) (steps : List Step) (up down : Course) (room : Room) → floor ≡ o.floor → silence ≡ min o.silence most_silence → IsValidFitted f → IsFitted f s →
     steps ≡ steps_of (routes_of o u s d) → up ≡ course_of u → down ≡ course_of d → room ≡ room_in u s d → made_of o floor silence steps f.sent f.duration f.settings up down room ≡ flight_of o u s d
 flight_is o floor silence u s d f steps up down room low quiet valid is same rises returns around =
-    let ms : f.duration ≡ lasts (trajectories_of s) = sym (fitted_lasts f valid) ∙ ap lasts is.trajs in
-    let most = min o.silence most_silence in
-    let ready = steps_of (routes_of o u s d) in
-    ap (λ (z : ℤ). made_of o z silence steps f.sent f.duration f.settings up down room) low
-    ∙ ap (λ (n : ℕ). made_of o o.floor n steps f.sent f.duration f.settings up down room) quiet
-    ∙ ap (λ (xs : List Step). made_of o o.floor most xs f.sent f.duration f.settings up down room) same
-    ∙ ap (λ (ts : List Traj). made_of o o.floor most ready ts f.duration f.settings up down room) is.sent
-    ∙ ap (λ (n : ℕ). made_of o o.floor most ready (sent_of s) n f.settings up down room) ms
-    ∙ ap (λ (e : Settings). made_of o o.floor most ready (sent_of s) (lasts (trajectories_of s)) e up down room) is.settings
-    ∙ ap (λ (c : Course). made_of o o.floor most ready (sent_of s) (lasts (trajectories_of s)) s.settings c down room) rises
-    ∙ ap (λ (c : Course). made_of o o.floor most ready (sent_of s) (lasts (trajectories_of s)) s.settings (course_of u) c room) returns
-    ∙ ap (λ (r : Room). made_of o o.floor most ready (sent_of s) (lasts (trajectories_of s)) s.settings (course_of u) (course_of d) r) around
+    rw (low, quiet, same, rises, returns, around, sym (fitted_lasts f valid), is.trajs, is.sent, is.settings) refl
 
 pub flight_made : (o : Options) (floor : ℤ) (silence : ℕ) (u s d : PlainShow) (f : Fitted) (steps : List Step) (up down : Course) (room : Room) → floor ≡ o.floor → silence ≡ min o.silence most_silence → IsValidFitted f →
     IsFitted f s → StepsMade o u s d (Ok steps) → up ≡ course_of u → down ≡ course_of d → room ≡ room_in u s d → FlightMade o u s d (Ok (made_of o floor silence steps f.sent f.duration f.settings up down room))
@@ -230,19 +195,9 @@ room_by a b c ups shows downs = room_of (max (max a b) c + room_mm) (ups ++ (sho
 
 pub room_from : (margin a b c : ℕ) (us vs ws ups shows downs : List Traj) → margin ≡ max (max a b) c + room_mm → us ≡ ups → vs ≡ shows → ws ≡ downs →
     room_of margin (us ++ (vs ++ ws)) ≡ room_by a b c ups shows downs
-room_from margin a b c us vs ws ups shows downs wide rises flown returns =
-    ap (λ (n : ℕ). room_of n (us ++ (vs ++ ws))) wide
-    ∙ ap (λ (ts : List Traj). room_by a b c ts vs ws) rises
-    ∙ ap (λ (ts : List Traj). room_by a b c ups ts ws) flown
-    ∙ ap (λ (ts : List Traj). room_by a b c ups shows ts) returns
+room_from margin a b c us vs ws ups shows downs wide rises flown returns = rw (wide, rises, flown, returns) refl
 
 -- that of fitted shows is the shows'
 pub room_is : (up show down : Fitted) (u s d : PlainShow) → IsFitted up u → IsFitted show s → IsFitted down d →
     room_by up.settings.stray show.settings.stray down.settings.stray up.sent show.sent down.sent ≡ room_in u s d
-room_is up show down u s d is_up is_show is_down =
-    ap (λ (e : Settings). room_by e.stray show.settings.stray down.settings.stray up.sent show.sent down.sent) is_up.settings
-    ∙ ap (λ (e : Settings). room_by u.settings.stray e.stray down.settings.stray up.sent show.sent down.sent) is_show.settings
-    ∙ ap (λ (e : Settings). room_by u.settings.stray s.settings.stray e.stray up.sent show.sent down.sent) is_down.settings
-    ∙ ap (λ (ts : List Traj). room_by u.settings.stray s.settings.stray d.settings.stray ts show.sent down.sent) is_up.sent
-    ∙ ap (λ (ts : List Traj). room_by u.settings.stray s.settings.stray d.settings.stray (sent_of u) ts down.sent) is_show.sent
-    ∙ ap (λ (ts : List Traj). room_by u.settings.stray s.settings.stray d.settings.stray (sent_of u) (sent_of s) ts) is_down.sent
+room_is up show down u s d is_up is_show is_down = rw (is_up.settings, is_show.settings, is_down.settings, is_up.sent, is_show.sent, is_down.sent) refl

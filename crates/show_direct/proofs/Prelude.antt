@@ -61,6 +61,6 @@ pub use Rattle.show_direct.specs.Direct.{DirectLaw, FliesWhole, FlyAsOne, HasBeg
 pub use Rattle.show_direct.specs.Exchanges.{Accepts, Exchange, IsExchange, TextStops, text_exchange, text_verb, text_ways}
 pub use Rattle.show_direct.specs.Flights.{AreFlight, course_of, ellipsoid_in, ellipsoid_of, fault_of, flight_of, most_silence, order_ms, room_in, room_mm, routes_of}
 pub use Rattle.show_direct.specs.Frames.{FaultFrameLaw, IsNamed, fault_frame, fault_in, no_flight_byte, no_flight_bytes}
-pub use Rattle.show_direct.specs.Steps.{AreMarked, Carries, EndsBy, EndsFlight, FlightMade, IsCut, IsRead, IsUnread, JudgeGives, ReadGives, StepsMade, coming, direct_statuses, left_of}
+pub use Rattle.show_direct.specs.Steps.{AreMarked, Carries, FlightMade, FlightRead, IsCut, IsRead, IsUnread, JudgeGives, LeadsTo, ReadGives, StepsMade, coming, direct_statuses, left_of, since, unflown_by}
 pub use Rattle.show_direct.specs.declared.options.Options.{Options}
-pub use Rattle.show_direct.specs.declared.reading.Unread.{Unread}
+pub use Rattle.show_direct.specs.declared.reading.Unflown.{Unflown}

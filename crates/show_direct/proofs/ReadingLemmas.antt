@@ -1,12 +1,12 @@
 -- What the reading of a text gives.
-use Rattle.show_direct.proofs.Prelude.{◌≡◌, ◌⊎◌, inl, inr, ℕ, ◌<◌, ◌≤◌, Bool, true, false, cond, nat_lt, List, [], length, Some, Result, Ok, Err, refl, sym, ap, ◌∙◌, arith, option_map, IsTrue, part_of, rest_of, consumed, Rose, Asked, Held, has_whole_marker, stream, TakesFewAfter, TakesPart, TookMarked, MayGive, Told, Took, to_come, most_text, Accepted, faulty, text_refusal, Cut, cut_of, Unread, JudgeGives, ReadGives, coming}
+use Rattle.show_direct.proofs.Prelude.{◌≡◌, ◌⊎◌, inl, inr, ℕ, ◌<◌, ◌≤◌, Bool, true, false, cond, nat_lt, List, [], length, Some, Result, Ok, Err, refl, sym, ap, ◌∙◌, arith, option_map, IsTrue, part_of, rest_of, consumed, Rose, Asked, Held, has_whole_marker, stream, TakesFewAfter, TakesPart, TookMarked, MayGive, Told, Took, to_come, most_text, Accepted, faulty, text_refusal, Cut, cut_of, Unflown, JudgeGives, ReadGives, coming}
 use Rattle.std.proofs.lemmas.Bool.Decides.{nat_tests}
 use Rattle.choreo_reader.specs.Context.{fault}
 use Rattle.fleet_io.specs.declared.parts.Part.{Part}
 use Rattle.refusals.specs.declared.refusal.Refusal.TheVariants as refusal
 use Rattle.show_judge.specs.declared.input.Text.TheVariants.{Whole}
 use Rattle.show_judge.specs.Input.{IsShowText}
-use Rattle.show_direct.specs.declared.reading.Unread.TheVariants as unread
+use Rattle.show_direct.specs.declared.reading.Unflown.TheVariants as unflown
 use Rattle.show_direct.proofs.FewLemmas.{few_asked}
 
 -- where the end wasn't met, a marker line ended the text
@@ -18,11 +18,11 @@ fed_before true met P to_end fed off = elim (fed refl) [
 ]
 
 -- known bytes are one
-of_some : (xs ys : List ℕ) → Some xs ≡ Some ys → xs ≡ ys
+pub of_some : (xs ys : List ℕ) → Some xs ≡ Some ys → xs ≡ ys
 of_some xs ys e = cc
 
 -- a text was read whole, and judged
-pub read_whole : (depth : ℕ) (held holds : Held) (old new : Told) (all : List ℕ) (part : Part) (result : Result Accepted Unread) →
+pub read_whole : (depth : ℕ) (held holds : Held) (old new : Told) (all : List ℕ) (part : Part) (result : Result Accepted Unflown) →
     TakesPart (stream held (to_come all old)) (stream holds (to_come all new)) part.bytes.items part.marker → length part.bytes.items ≤ most_text →
     (part.marker ≡ false → IsTrue holds.ended) → (part.marker ≡ true → IsTrue holds.ended ⊎ TookMarked held.waiting holds.waiting old new) → MayGive holds.ended new all →
     TakesFewAfter (stream held (to_come all old)) (to_come all new) → ((cut : Cut) → IsShowText (Whole part) cut → JudgeGives depth cut result) → ReadGives depth held holds old new all result
@@ -33,12 +33,14 @@ read_whole depth held holds old new all part (Ok a) takes short to_end fed may f
       (let it = fed_before part.marker holds.ended (TookMarked held.waiting holds.waiting old new) to_end fed off in
       (it.0, consumed holds.ended old new all held.waiting holds.waiting it.0 it.1 may, it.2));
 }
-read_whole depth held holds old new all part (Err (unread.Refused r)) takes short to_end fed may few gives =
+read_whole depth held holds old new all part (Err (unflown.Refused r)) takes short to_end fed may few gives =
     let it = gives (cut_of (coming held all old)) (takes.part, takes.marker, omega (arith, short, ap (λ (xs : List ℕ). length xs) takes.part)) in
     (it.0, it.1, few)
-read_whole depth held holds old new all part (Err unread.Read) takes short to_end fed may few gives =
+read_whole depth held holds old new all part (Err unflown.Read) takes short to_end fed may few gives =
     absurd (gives (cut_of (coming held all old)) (takes.part, takes.marker, omega (arith, short, ap (λ (xs : List ℕ). length xs) takes.part)))
-read_whole depth held holds old new all part (Err unread.Memory) takes short to_end fed may few gives = tt
+read_whole depth held holds old new all part (Err (unflown.NoFlight f)) takes short to_end fed may few gives =
+    absurd (gives (cut_of (coming held all old)) (takes.part, takes.marker, omega (arith, short, ap (λ (xs : List ℕ). length xs) takes.part)))
+read_whole depth held holds old new all part (Err unflown.Memory) takes short to_end fed may few gives = tt
 
 -- a text that is too large is refused for that
 too_large : (text : List ℕ) → most_text < length text → text_refusal text ≡ Some refusal.TooLarge
@@ -48,7 +50,7 @@ too_large text long =
 
 -- a text was too large
 pub read_too_large : (depth : ℕ) (held holds : Held) (old new : Told) (all : List ℕ) → MayGive holds.ended new all → most_text < length (part_of (coming held all old)) →
-    (new ≡ old) ⊎ Asked held.waiting old new → length held.waiting ≤ 4096 → ReadGives depth held holds old new all (Err (unread.Refused refusal.TooLarge))
+    (new ≡ old) ⊎ Asked held.waiting old new → length held.waiting ≤ 4096 → ReadGives depth held holds old new all (Err (unflown.Refused refusal.TooLarge))
 read_too_large depth held holds old new all may long asks few = (
   inl (too_large (part_of (coming held all old)) long),
   record { sayable = tt; command = λ e. omega (arith, e); read = λ e. omega (arith, e) },
@@ -58,6 +60,6 @@ read_too_large depth held holds old new all may long asks few = (
 -- a read failed
 pub read_failed : (depth : ℕ) (held holds : Held) (old new : Told) (all : List ℕ) → MayGive holds.ended new all → Rose old.faults new.faults →
     (held.ended ≡ false) × (holds.waiting ≡ []) × ((taken : List ℕ) × Took held.waiting [] old new taken × (has_whole_marker taken ≡ false)) →
-    ReadGives depth held holds old new all (Err unread.Read)
+    ReadGives depth held holds old new all (Err unflown.Read)
 read_failed depth held holds old new all may rose (unmet, none, (taken, took, unmarked)) =
     (unmet, rose, (taken, consumed holds.ended old new all held.waiting [] taken took may, unmarked))

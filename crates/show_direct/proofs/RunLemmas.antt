@@ -2,6 +2,7 @@
 use Rattle.show_direct.proofs.Prelude.{◌≡◌, ◌⊎◌, inl, inr, ℕ, zero, suc, ◌+◌, ◌<◌, ◌≤◌, Bool, true, false, List, [], ◌++◌, length, Option, Some, None, refl, sym, ap, subst, ◌∙◌, arith, Appends, part_of, rest_of, ShowLaw, PlainShow, IsInput-now, comes, of_source, takes_at_most, takes_front, Held, buffer_bytes, TakesFront, Gives, MayGive, Told, Went, most_text, behaves_of, outcomes, IsOutcomeOf, IsSafe, IsVerb, OutcomeLaw, cut_of, IsJudged, IsSafeShow, Outcome, Run, Span, run_of, Options, FlightFault, AreFlight, fault_of, Exchange, FlyAsOne, HasBegun, direct_verb, exchange_by, show_exchange, up_exchange, Carries, IsCut, coming, left_of}
 use Rattle.show_judge.specs.Runs.{Behaves, Does, IsStopped, Runs, TakesLittle}
 use Rattle.show_direct.proofs.ExchangeLemmas.{led_on}
+use Rattle.show_direct.proofs.ReadingLemmas.{of_some}
 
 -- the run in which these bytes came, and these are left
 abbrev pub run_over : List ℕ → List ℕ → Span → Run
@@ -32,10 +33,6 @@ safe_direct law o bytes p gives done begun =
 
 stopped : (o : Options) (bytes left : List ℕ) (m : Span) (output : List ℕ) → IsCut (up_exchange o) bytes left false m output → IsStopped (direct_verb o) (run_over bytes left m) output
 stopped o bytes left m output cut = (cut.taken, left, cut.is, refl, cut.stops)
-
--- known bytes are one
-of_some : (xs ys : List ℕ) → Some xs ≡ Some ys → xs ≡ ys
-of_some xs ys e = cc
 
 -- a status that is no failure is judged, or the program was out of memory
 judged_or : (n : ℕ) → (n ≡ 6 → ⊥) → (n ≡ 7 → ⊥) → (n ≡ 1) ⊎ IsJudged n

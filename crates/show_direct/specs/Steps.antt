@@ -8,6 +8,7 @@ use Rattle.fleet_io.specs.Causes.{Rose}
 use Rattle.fleet_io.specs.Held.{Held, buffer_bytes, has_whole_marker}
 use Rattle.fleet_io.specs.Taken.{AppendsFront}
 use Rattle.fleet_io.specs.Told.{Told}
+use Rattle.fleet_math.specs.Limits.{most_text}
 use Rattle.link_frames.specs.Frames.{end_frame}
 use Rattle.refusals.specs.Refusals.{status_of}
 use Rattle.flight_model.specs.declared.flights.Flight.{Flight}
@@ -21,12 +22,12 @@ use Rattle.show_judge.specs.Shows.{Cut, cut_of}
 use Rattle.show_judge.specs.Verb.{IsJudged, Outcome, Span}
 use Rattle.show_judge.specs.declared.judging.Accepted.{Accepted}
 use Rattle.show_direct.specs.declared.options.Options.{Options}
-use Rattle.show_direct.specs.declared.reading.Unread.{Unread}
-use Rattle.show_direct.specs.declared.reading.Unread.TheVariants as unread
+use Rattle.show_direct.specs.declared.reading.Unflown.{Unflown}
+use Rattle.show_direct.specs.declared.reading.Unflown.TheVariants as unflown
 use Rattle.show_direct.specs.Flights.{fault_of, flight_of, routes_of}
 use Rattle.show_direct.specs.Frames.{no_flight_bytes}
 use Rattle.show_direct.specs.Exchanges.{Exchange, text_ways}
-use Rattle.show_direct.specs.Direct.{HasBegun}
+use Rattle.show_direct.specs.Direct.{HasBegun, flight_exchange}
 
 -- ---- a text is read
 
@@ -51,35 +52,40 @@ pub record IsRead (depth : ℕ) (bytes rest : List ℕ) (met : Bool) (a : Accept
 
 -- Why there is no show. A refusal is that of the text, of which at most 4,096 bytes after its marker line were taken;
 -- where a read failed, no whole marker line was.
-abbrev pub IsUnread : ℕ → List ℕ → List ℕ → Bool → ℕ → ℕ → Unread → Type 0
-IsUnread depth bytes left ended faults faults_after (unread.Refused r) =
+abbrev pub IsUnread : ℕ → List ℕ → List ℕ → Bool → ℕ → ℕ → Unflown → Type 0
+IsUnread depth bytes left ended faults faults_after (unflown.Refused r) =
     IsRefusedBy (text_ways depth) (cut_of bytes) r × IsOfInput r × (length (rest_of bytes) ≤ length left + buffer_bytes)
-IsUnread depth bytes left ended faults faults_after unread.Read =
+IsUnread depth bytes left ended faults faults_after unflown.Read =
     (ended ≡ false) × Rose faults faults_after
     × ((taken : List ℕ) × (bytes ≡ taken ++ left) × (has_whole_marker taken ≡ false))
-IsUnread depth bytes left ended faults faults_after unread.Memory = Unit {0}
+IsUnread depth bytes left ended faults faults_after (unflown.NoFlight f) = ⊥
+IsUnread depth bytes left ended faults faults_after unflown.Memory = Unit {0}
 
 -- what a text gives that was read whole
-abbrev pub JudgeGives : ℕ → Cut → Result Accepted Unread → Type 0
+abbrev pub JudgeGives : ℕ → Cut → Result Accepted Unflown → Type 0
 JudgeGives depth cut (Ok a) = IsAccepted (text_ways depth) depth cut a
-JudgeGives depth cut (Err (unread.Refused r)) = IsRefusedBy (text_ways depth) cut r × IsOfInput r
-JudgeGives depth cut (Err unread.Read) = ⊥
-JudgeGives depth cut (Err unread.Memory) = Unit {0}
+JudgeGives depth cut (Err (unflown.Refused r)) = IsRefusedBy (text_ways depth) cut r × IsOfInput r
+JudgeGives depth cut (Err unflown.Read) = ⊥
+JudgeGives depth cut (Err (unflown.NoFlight f)) = ⊥
+JudgeGives depth cut (Err unflown.Memory) = Unit {0}
 
 -- a show was read, or this is why not
-abbrev pub ReadGives : ℕ → Held → Held → Told → Told → List ℕ → Result Accepted Unread → Type 0
+abbrev pub ReadGives : ℕ → Held → Held → Told → Told → List ℕ → Result Accepted Unflown → Type 0
 ReadGives depth held holds old new all (Ok a) = IsRead depth (coming held all old) (coming holds all new) holds.ended a
 ReadGives depth held holds old new all (Err why) =
     IsUnread depth (coming held all old) (left_of all new) held.ended old.faults new.faults why
 
 -- ---- an exchange is carried
 
--- What is written where there is no show: the end frame with a status, or nothing for want of memory.
-abbrev pub EndsBy : Unread → Option (List ℕ) → Option (List ℕ) → ℕ → ℕ → ℕ → Type 0
-EndsBy (unread.Refused r) old new before after status =
+-- What is written where nothing is flown: the end frame with a status, the first cause and the end frame of 19, or
+-- nothing for want of memory.
+abbrev pub EndsBy : Unflown → Option (List ℕ) → Option (List ℕ) → ℕ → ℕ → ℕ → Type 0
+EndsBy (unflown.Refused r) old new before after status =
     Wrote (status_of r) (end_frame (status_of r)) old new before after status
-EndsBy unread.Read old new before after status = Wrote 6 (end_frame 6) old new before after status
-EndsBy unread.Memory old new before after status = (status ≡ 1) × (new ≡ old) × (after ≡ before)
+EndsBy unflown.Read old new before after status = Wrote 6 (end_frame 6) old new before after status
+EndsBy (unflown.NoFlight fault) old new before after status =
+    Wrote 19 (no_flight_bytes fault) old new before after status
+EndsBy unflown.Memory old new before after status = (status ≡ 1) × (new ≡ old) × (after ≡ before)
 
 -- the statuses with which `direct` ends
 abbrev pub direct_statuses : List ℕ
@@ -126,8 +132,34 @@ FlightMade o up show down (Ok f) = (f ≡ flight_of o up show down) × (fault_of
 FlightMade o up show down (Err (error.Fault fault)) = fault_of o up show down ≡ Some fault
 FlightMade o up show down (Err error.Memory) = Unit {0}
 
--- What is written where there is no flight: the first cause and the end frame of 19, or nothing for want of memory.
-abbrev pub EndsFlight : StepsError → Option (List ℕ) → Option (List ℕ) → ℕ → ℕ → ℕ → Type 0
-EndsFlight (error.Fault fault) old new before after status =
-    Wrote 19 (no_flight_bytes fault) old new before after status
-EndsFlight error.Memory old new before after status = (status ≡ 1) × (new ≡ old) × (after ≡ before)
+-- why nothing is flown where there are no steps
+abbrev pub unflown_by : StepsError → Unflown
+unflown_by (error.Fault fault) = unflown.NoFlight fault
+unflown_by error.Memory = unflown.Memory
+
+-- ---- texts are read, one after the other
+
+-- the same, from another state of the source on
+abbrev pub since : Told → Span → Span
+since t m = record m { told = t }
+
+-- What carries an exchange from one state of a reader and its source on carries another from an earlier state on.
+abbrev pub LeadsTo : List ℕ → Exchange → Held → Told → Exchange → Held → Told → Type 0
+LeadsTo all x held t y holds u = (left : List ℕ) (m : Span) (status : ℕ) →
+    Carries y (coming holds all u) left holds.ended (since u m) status →
+    Carries x (coming held all t) left held.ended (since t m) status
+
+-- What was read of an exchange: a flight, from which on it is that flight's; or why there is none, and how the exchange
+-- ends for that.
+abbrev pub FlightRead : Options → List ℕ → Exchange → Held → Told → Held → Told → Result Flight Unflown → Type 0
+FlightRead o all x held t holds u (Ok f) =
+    (up show down : PlainShow) × (f ≡ flight_of o up show down) × (fault_of o up show down ≡ None)
+    × LeadsTo all x held t (flight_exchange o up show down) holds u
+FlightRead o all x held t holds u (Err why) = (m : Span) (status : ℕ) →
+    EndsBy why m.written m.written_after m.writes_failed m.writes_failed_after status →
+    Carries x (coming held all t) (left_of all u) held.ended (since t (record m { tells = u })) status
+
+-- There is no flight, and little was read.
+abbrev pub TookLittle : Told → Told → Result Flight Unflown → Type 0
+TookLittle old new (Ok f) = ⊥
+TookLittle old new (Err why) = length new.given ≤ length old.given + (most_text + 4 + buffer_bytes)

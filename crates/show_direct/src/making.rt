@@ -18,13 +18,6 @@ use show_plan::{Fitted, uploadable_law};
 use std::alloc::Global;
 use traj_codec::join_law;
 
-/// The way up and the show of a flight.
-#[derive(Drop)]
-pub struct Shows {
-    pub up: Fitted,
-    pub show: Fitted,
-}
-
 // The drones of a show.
 fn crew_of<'a>(show: &'a Fitted) -> Crew<'a>
     ensures names { result.names.now ≡ show.now.names }
@@ -141,23 +134,23 @@ fn room_in(up: &Fitted, show: &Fitted, down: &Fitted) -> Room
 pub fn make_flight(
     alloc: Global,
     options: &Options,
-    shows: Shows,
+    up: Fitted,
+    show: Fitted,
     down: Fitted,
 ) -> Result<Flight, StepsError>
-    requires up { IsValidFitted shows.up }
-    requires show { IsValidFitted shows.show }
+    requires up { IsValidFitted up }
+    requires show { IsValidFitted show }
     requires down { IsValidFitted down }
-    ensures made { (rise middle return : PlainShow) → IsFitted shows.up rise → IsFitted shows.show middle
+    ensures made { (rise middle return : PlainShow) → IsFitted up rise → IsFitted show middle
         → IsFitted down return → FlightMade options.now rise middle return result }
     ensures held { IfOk result IsHeld }
 {
     join_law();
-    uploadable_law(&shows.show);
-    let steps = make_steps(alloc, options, &shows.up, &shows.show, &down)?;
-    let room = room_in(&shows.up, &shows.show, &down);
-    let up = course_of(shows.up);
+    uploadable_law(&show);
+    let steps = make_steps(alloc, options, &up, &show, &down)?;
+    let room = room_in(&up, &show, &down);
+    let up = course_of(up);
     let down = course_of(down);
-    let show = shows.show;
     Ok(Flight {
         steps,
         curves: show.sent,

@@ -11,38 +11,56 @@ ghost use Rattle.show_judge.specs.Input.{IsShowText, IsWithin};
 ghost use Rattle.show_judge.specs.Shows.{Cut};
 ghost use Rattle.show_direct.specs.Steps.{EndsBy, JudgeGives, ReadGives};
 
+use crate::fault_frame::{NO_FLIGHT, no_flight_bytes};
 use fleet_io::status::{NO_MEMORY, READ_FAILED};
 use fleet_io::{IoFault, Parts, Sink, Source};
 use fleet_math::{Depth, MOST_TEXT};
 use link_frames::END_BYTE;
+use flight_steps::{FlightFault, StepsError};
 use refusals::Refusal;
 use show_judge::{Accepted, Judged, Text, Ways, accept, finish};
 use std::alloc::{AllocError, Global};
 
-/// Why there is no show.
+/// Why nothing is flown.
 #[derive(Drop)]
-pub enum Unread {
-    /// Its text is refused.
+pub enum Unflown {
+    /// A text is refused.
     Refused { refusal: Refusal },
     /// A read failed.
     Read,
+    /// The three shows are no flight.
+    NoFlight { fault: FlightFault },
     /// Out of memory.
     Memory,
 }
 
-impl From<AllocError> for Unread {
+impl From<AllocError> for Unflown {
     ghost use Rattle.std.specs.Prelude.{◌≡◌};
-    ghost use Rattle.show_direct.specs.declared.reading.Unread.TheVariants.{Memory};
+    ghost use Rattle.show_direct.specs.declared.reading.Unflown.TheVariants.{Memory};
 
     ghost from_gives = { λ _ e. e ≡ Memory };
 
     fn from(_: AllocError) -> Self {
-        Unread::Memory
+        Unflown::Memory
+    }
+}
+
+impl From<StepsError> for Unflown {
+    ghost use Rattle.std.specs.Prelude.{◌≡◌};
+    ghost use Rattle.show_direct.specs.Steps.{unflown_by};
+
+    ghost from_gives = { λ e why. why ≡ unflown_by e };
+
+    fn from(error: StepsError) -> Self {
+        match error {
+            StepsError::Fault { fault } => Unflown::NoFlight { fault },
+            StepsError::Memory => Unflown::Memory,
+        }
     }
 }
 
 // The show that a text stands for, where nothing refuses it.
-fn judge(alloc: Global, depth: Depth, text: &Text) -> Result<Accepted, Unread>
+fn judge(alloc: Global, depth: Depth, text: &Text) -> Result<Accepted, Unflown>
     requires short { IsWithin most_text text.now }
     ensures gives { (cut : Cut) → IsShowText text.now cut → JudgeGives depth cut result }
     ensures valid { IfOk result (λ a. IsValidFitted a.fitted) }
@@ -55,7 +73,7 @@ fn judge(alloc: Global, depth: Depth, text: &Text) -> Result<Accepted, Unread>
     };
     match accept(alloc, &ways, depth, text)? {
         Judged::Accepted { accepted } => Ok(accepted),
-        Judged::Refused { refusal } => Err(Unread::Refused { refusal }),
+        Judged::Refused { refusal } => Err(Unflown::Refused { refusal }),
     }
 }
 
@@ -65,7 +83,7 @@ pub fn read_show<S: Source>(
     depth: Depth,
     parts: &mut Parts,
     source: &mut S,
-) -> Result<Accepted, Unread>
+) -> Result<Accepted, Unflown>
     requires sound { IsTrue parts.old.sound }
     requires lines { IsTrue parts.old.lines }
     requires at_end { IsTrue parts.old.ended → IsTrue (S.told source.old).ended }
@@ -81,11 +99,11 @@ pub fn read_show<S: Source>(
 {
     match parts.text(alloc, source, MOST_TEXT) {
         Ok(part) => judge(alloc, depth, &Text::Whole { part }),
-        Err(IoFault::TooLong) => Err(Unread::Refused {
+        Err(IoFault::TooLong) => Err(Unflown::Refused {
             refusal: Refusal::TooLarge,
         }),
-        Err(IoFault::Read) => Err(Unread::Read),
-        Err(IoFault::Memory) => Err(Unread::Memory),
+        Err(IoFault::Read) => Err(Unflown::Read),
+        Err(IoFault::Memory) => Err(Unflown::Memory),
     }
 }
 
@@ -97,14 +115,16 @@ fn write_end<K: Sink>(sink: &mut K, status: u8) -> u8
     finish(sink, &[END_BYTE, status], status)
 }
 
-/// Ends where there is no show: with the end frame of a refusal's status or of a failed read's, or with nothing written
-/// for want of memory. Returns the status, or 7 where the sink failed.
-pub fn end_unread<K: Sink>(sink: &mut K, why: &Unread) -> u8
+/// Ends where nothing is flown: with the end frame of a refusal's status or of a failed read's, with the first cause why
+/// the three are no flight and the end frame of 19, or with nothing written for want of memory. Returns the status, or 7
+/// where the sink failed.
+pub fn end_unflown<K: Sink>(sink: &mut K, why: &Unflown) -> u8
     ensures { EndsBy why.now (K.written sink.old) (K.written sink.new) (K.faults sink.old) (K.faults sink.new) result }
 {
     match why {
-        Unread::Refused { refusal } => write_end(sink, refusal.status()),
-        Unread::Read => write_end(sink, READ_FAILED),
-        Unread::Memory => NO_MEMORY,
+        Unflown::Refused { refusal } => write_end(sink, refusal.status()),
+        Unflown::Read => write_end(sink, READ_FAILED),
+        Unflown::NoFlight { fault } => finish(sink, &no_flight_bytes(fault), NO_FLIGHT),
+        Unflown::Memory => NO_MEMORY,
     }
 }
