@@ -1,5 +1,5 @@
 -- The laws of exchanges, and of the commands that they are.
-use Rattle.show_direct.proofs.Prelude.{◌≡◌, ◌==◌, inl, inr, ℕ, List, [], ◌++◌, length, Option, Some, None, refl, sym, ap, subst, ◌∙◌, arith, All-nil, option_map, part_of, rest_of, ShowLaw, PlainShow, end_frame, Refusal, drones, FlightFault, EndsWith, item_limit, FlightGives, FlightLinkLaw, dialogue_of, ended, sent_over, refused_some, flies_text, outcomes, IsOutcomeOf, IsVerb, OutcomeLaw, ShowGives, said, show_refusal, text_refusal, cut_of, Outcome, outcome, Options, flight_of, no_flight_bytes, Accepts, Exchange, IsExchange, text_exchange, text_verb, text_ways, exchange_by}
+use Rattle.show_direct.proofs.Prelude.{◌≡◌, ◌==◌, inl, inr, ℕ, List, [], ◌++◌, length, Option, Some, None, refl, sym, ap, subst, ◌∙◌, arith, All-nil, option_map, part_of, rest_of, ShowLaw, PlainShow, end_frame, Refusal, FlightFault, EndsWith, item_limit, FlightGives, FlightLinkLaw, dialogue_of, ended, sent_over, refused_some, flies_text, outcomes, IsOutcomeOf, IsVerb, OutcomeLaw, ShowGives, said, show_refusal, text_refusal, cut_of, Outcome, outcome, Options, flight_of, no_flight_bytes, Accepts, Exchange, IsExchange, text_exchange, text_verb, text_ways, exchange_by}
 
 -- outcomes of one status and one output are one
 outcome_by : (o p : Outcome) → o.status ≡ p.status → o.output ≡ p.output → o ≡ p

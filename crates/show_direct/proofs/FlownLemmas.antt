@@ -1,5 +1,5 @@
 -- Three shows are flown, or are no flight.
-use Rattle.show_direct.proofs.Prelude.{◌≡◌, ◌≢◌, ◌⊎◌, inl, inr, ℕ, ◌+◌, ◌≤◌, Bool, false, List, [], ◌∷◌, ◌++◌, Contains, drop, length, length-append, Option, Some, None, Ok, Err, ap, refl, sym, subst, arith, All-cons, All-contains, All-nil, Appends, PlainShow, buffer_bytes, AppendsFront, Flight, FlightFault, StepsError, RunGives, dialogue_of, Held, Told, Wrote, Span, outcome, Options, fault_of, flight_of, HasBegun, exchange_by, flight_exchange, no_flight_byte, no_flight_bytes, Carries, FlightMade, FlightRead, coming, direct_statuses, left_of, since, unflown_by}
+use Rattle.show_direct.proofs.Prelude.{◌≡◌, ◌≢◌, inl, inr, ℕ, ◌+◌, ◌≤◌, Bool, List, [], ◌∷◌, ◌++◌, Contains, drop, length, length-append, Option, Some, None, Ok, Err, ap, refl, sym, subst, arith, All-cons, All-contains, All-nil, PlainShow, buffer_bytes, Flight, FlightFault, StepsError, RunGives, dialogue_of, Held, Told, Wrote, Span, outcome, Options, fault_of, flight_of, exchange_by, flight_exchange, no_flight_byte, no_flight_bytes, Carries, FlightMade, FlightRead, coming, direct_statuses, left_of, since, unflown_by}
 use Rattle.flight_steps.specs.declared.faults.FlightFault.TheVariants as cause
 use Rattle.flight_steps.specs.declared.faults.StepsError.TheVariants as error
 use Rattle.show_direct.proofs.CarryLemmas.{carried_end, carried_memory}

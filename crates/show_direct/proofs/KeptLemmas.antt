@@ -1,13 +1,11 @@
 -- A flight that ended with 0 was flown to its last step, and its show was kept.
-use Rattle.show_direct.proofs.Prelude.{◌≡◌, ℕ, suc, ◌*◌, ◌<◌, ◌≤◌, ◌==◌, Bool, true, false, List, [], ◌∷◌, Contains, get_or, length, map, min, Option, Some, None, refl, sym, ap, ◌∙◌, arith, length-map, sum_by-cons, sum, option_map, option_or, Name, ShowLaw, PlainShow, grid_of, FitCues, IsGrid, joined, durations, Traj, drones, most_ms, sent, start, HasShow, KeptLaw, lasts, Flight, item_limit, FlightGives, dialogue_of, end_in, Refusal, flight_lasts, in_order, no_plan, trajectories_of, Options, AreFlight, flight_of, most_silence, routes_of, Accepts}
+use Rattle.show_direct.proofs.Prelude.{◌≡◌, ℕ, ◌*◌, ◌<◌, ◌≤◌, ◌==◌, true, List, [], ◌∷◌, Contains, get_or, length, map, min, Option, Some, None, refl, sym, ap, ◌∙◌, arith, length-map, sum_by-cons, sum, option_map, option_or, Name, ShowLaw, PlainShow, grid_of, FitCues, IsGrid, joined, durations, Traj, most_ms, sent, start, HasShow, KeptLaw, lasts, Flight, item_limit, FlightGives, dialogue_of, Refusal, flight_lasts, in_order, no_plan, trajectories_of, Options, AreFlight, flight_of, most_silence, routes_of, Accepts}
 use Rattle.std.proofs.Math.Nat.{min-le_right}
 use Rattle.cue_grid.proofs.Fits.{fit_grid}
 use Rattle.cue_grid.specs.declared.grid.Cue.{Cue}
 use Rattle.cue_grid.specs.declared.grid.GridFault.{GridFault}
 use Rattle.figure_expand.specs.declared.fault.AxisValue.{AxisValue}
-use Rattle.flight_model.specs.declared.events.Event.{Event}
-use Rattle.flight_model.specs.declared.events.Frame.{Frame}
-use Rattle.flight_model.specs.declared.events.Frame.TheVariants.{To, ToAll, Noted, Over}
+use Rattle.flight_model.specs.declared.events.Frame.TheVariants.{Over}
 use Rattle.link_dialogue.proofs.EndLemmas.{ends_zero}
 use Rattle.flight_link.proofs.OrderLemmas.{zero_said}
 unfoldable use Rattle.flight_link.specs.Sends.{ended}

@@ -1,5 +1,5 @@
 -- A flight that is made of three shows that fit.
-use Rattle.show_direct.proofs.Prelude.{◌≡◌, ℕ, ◌*◌, ◌≤◌, ℤ, min, max, not, List, [], ◌∷◌, ◌++◌, ◌+◌, length, map, Option, Some, None, Result, Ok, Err, refl, sym, ap, subst, inl, inr, ◌∙◌, arith, length-map, All-cons, All-head, All-nil, All-tail, All-weaker, sum_by-cons, sum, option_or, All, Name, PlainShow, JoinLaw, joined, durations, Segment, Traj, Flight, Routes, lasts, steps_of, fault-of, FlightFault, StepsError, Crew, Crews, Ellipsoid, Ways, StepsGive, first_other, flight_fault, other_drone, route_fault, size_fault, AreFitted, routes, IsFitted, IsValidFitted, names_of, sent_of, trajectories_of, Options, course_of, ellipsoid_in, ellipsoid_of, fault_of, flight_of, most_silence, order_ms, room_in, room_mm, routes_of, FlightMade, StepsMade}
+use Rattle.show_direct.proofs.Prelude.{◌≡◌, ℕ, ◌*◌, ◌≤◌, ℤ, min, max, not, List, [], ◌∷◌, ◌++◌, ◌+◌, length, map, Option, Some, None, Result, Ok, Err, refl, sym, ap, subst, inl, inr, ◌∙◌, arith, length-map, All-cons, All-head, All-nil, All-tail, All-weaker, sum_by-cons, sum, All, Name, PlainShow, JoinLaw, joined, durations, Segment, Traj, Flight, Routes, lasts, steps_of, fault-of, FlightFault, StepsError, Crew, Crews, Ways, StepsGive, flight_fault, AreFitted, routes, IsFitted, IsValidFitted, names_of, Options, course_of, ellipsoid_in, ellipsoid_of, fault_of, flight_of, most_silence, order_ms, room_in, room_mm, routes_of, FlightMade, StepsMade}
 use Rattle.choreo_show.specs.declared.show.Settings.{Settings}
 use Rattle.integer_player.specs.Played.{duration_of}
 use Rattle.traj_codec.specs.Spelling.{IsSegment, IsTrajectory}
@@ -12,7 +12,6 @@ use Rattle.flight_model.specs.declared.flights.Step.{Step}
 use Rattle.flight_model.specs.Rooms.{room_of}
 use Rattle.flight_director.specs.Held.{AreFew, IsCourse, IsHeld}
 use Rattle.flight_steps.specs.declared.faults.StepsError.TheVariants as error
-use Rattle.flight_steps.specs.declared.faults.Way.TheVariants as way
 use Rattle.flight_steps.specs.Faults as faults
 use Rattle.flight_steps.specs.Sizes.{AreConditionsOf, AreOrdersOf, IsStepOf}
 use Rattle.show_plan.specs.declared.fitted.Fitted.{Fitted}
