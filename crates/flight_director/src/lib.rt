@@ -5,12 +5,15 @@
 #![tactic(auto)]
 
 mod answers;
+mod covered;
 mod curve;
 mod director;
 mod distance;
 mod down;
 mod fit;
+mod holds;
 mod notes;
+mod risen;
 mod room;
 mod state;
 mod tracks;
@@ -18,7 +21,7 @@ mod tracks;
 pub use director::Director;
 pub use flight_model::{
     Condition, Event, Fault, Flight, Frame, Note, Order, Orders, Phase, Position, Sample, Signal,
-    Step, Track,
+    Step, Track, Window,
 };
 pub use notes::{MOST_NOTES, Notes};
 pub use state::{MOST_OUT, Out, State};

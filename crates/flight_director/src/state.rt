@@ -9,7 +9,7 @@ ghost use Rattle.flight_model.specs.declared.events.Frame.TheVariants.{Noted, Ov
 ghost use Rattle.flight_model.specs.declared.states.Choice.TheVariants.{Begin};
 ghost use Rattle.flight_model.specs.Directors.{start, drones, in_show, is_off as word_off, track_with as word_track};
 ghost use Rattle.flight_model.specs.Directors.{is_doubtful as word_doubtful, is_off_hold as word_off_hold};
-ghost use Rattle.flight_model.specs.Directors.{keeps_hold as word_keeps, last_hold as word_hold, renewed};
+ghost use Rattle.flight_model.specs.Directors.{renewed};
 ghost use Rattle.flight_model.specs.Directors.{tracks_after, harms as word_harms, heard, fits, next_step};
 ghost use Rattle.flight_model.specs.Directors.{noticed as word_noticed, overdue as word_overdue, notes as word_notes};
 ghost use Rattle.flight_model.specs.Directors.{is_due as word_due, is_due_step, is_late_step, is_grave as word_grave};
@@ -17,26 +17,29 @@ ghost use Rattle.flight_model.specs.Directors.{has_landed as word_landed};
 ghost use Rattle.flight_model.specs.Directors.{is_over as word_over, chosen, has_risen as word_risen, frames_of};
 ghost use Rattle.flight_model.specs.Directors.{landings, done, led, happens, says, is_fault, is_go as word_go};
 ghost use Rattle.flight_model.specs.Directors.{is_land as word_land, is_stop as word_stop, passed as word_passed};
-ghost use Rattle.flight_model.specs.Directors.{is_rise as word_rise, order_in, frames_of_step, frames_from, into};
+ghost use Rattle.flight_model.specs.Directors.{frames_of_step, frames_from, into, on_the_way};
 ghost use Rattle.flight_model.specs.Directors.{starts_with, unfit_in, is_flying as word_flying, land_order, is_flown};
 ghost use Rattle.flight_model.specs.Directors.{State as StateWord};
-ghost use Rattle.flight_model.specs.Directors.{answered_after, unanswered, any_risen as word_any_risen};
+ghost use Rattle.flight_model.specs.Directors.{answered_after, unanswered, awaits as word_awaits};
+ghost use Rattle.flight_model.specs.Directors.{covers as word_covers, awaited as word_awaited, may_land as word_may};
 ghost use Rattle.flight_model.specs.Directors.{are_aloft as word_aloft, is_airborne as word_airborne};
 ghost use Rattle.flight_model.specs.Directors.{is_outside as word_outside};
 ghost use Rattle.flight_director.specs.Held.{IsHeld, AreFew, with_answered, with_tracks};
 
 use crate::answers::{all_answered, forget, put_answer};
-use crate::curve::{is_in_stretch, is_kept};
+use crate::covered::{Deaf, are_listed, is_covered, put_deaf};
+use crate::curve::is_kept;
 use crate::down::are_down;
 use crate::fit::{all_fit, first_unfit};
+use crate::holds::{keeps_hold, last_hold};
 use crate::notes::{MOST_NOTES, Notes, note_if, note_sample, note_silent};
+use crate::risen::{any_risen, has_risen};
 use crate::room::is_in_room;
 use crate::tracks::{age, all_disarmed, any_silent, later, off_with, renew};
 use arrayvec::ArrayVec;
 use fleet_math::MOST_DRONES;
 use flight_model::{
-    Choice, Event, Fault, Flight, Frame, Hold, Note, Order, Orders, Phase, Sample, Signal, Step,
-    Track,
+    Choice, Event, Fault, Flight, Frame, Note, Order, Orders, Phase, Sample, Signal, Step, Track,
 };
 use std::marker::Model;
 
@@ -64,6 +67,7 @@ pub struct State {
     stood: u32,
     showing: bool,
     kept: bool,
+    wanted: bool,
     tracks: ArrayVec<Track, MOST_DRONES>,
     answered: ArrayVec<bool, MOST_DRONES>,
 }
@@ -81,6 +85,7 @@ impl Model for State {
       stood = s.stood;
       showing = s.showing;
       kept = s.kept;
+      wanted = s.wanted;
       tracks = s.tracks.items;
       answered = s.answered.items;
     } };
@@ -122,51 +127,6 @@ fn passed(e: &Event) -> u32
         Event::Clock { ms } => *ms,
         _ => 0,
     }
-}
-
-fn is_rise_order(order: &Order) -> bool
-    ensures { result ≡ word_rise (Some (Some order.now)) }
-{
-    matches!(order, Order::Rise { .. })
-}
-
-// Whether these orders have drone d rise.
-fn is_rise(orders: &Orders, d: usize) -> bool
-    ensures { result ≡ word_rise (order_in orders.now d) }
-{
-    match orders {
-        Orders::All { order } => is_rise_order(order),
-        Orders::Each { orders } => match orders.as_slice().get(d) {
-            None => false,
-            Some(None) => false,
-            Some(Some(order)) => is_rise_order(order),
-        },
-    }
-}
-
-// Whether a drone was told to rise in the first n steps.
-fn has_risen(f: &Flight, n: usize, d: usize) -> bool
-    ensures { result ≡ word_risen f.now n d }
-{
-    let steps = f.steps.as_slice();
-    for k in 0..n.min(steps.len()) {
-        if is_rise(&steps[k].orders, d) {
-            return true;
-        }
-    }
-    false
-}
-
-// Whether some drone was told to rise in the first n steps.
-fn any_risen(f: &Flight, n: usize) -> bool
-    ensures { result ≡ word_any_risen f.now n }
-{
-    for d in 0..f.curves.as_slice().len() {
-        if has_risen(f, n, d) {
-            return true;
-        }
-    }
-    false
 }
 
 // The landing of a drone, where it has risen.
@@ -255,6 +215,19 @@ fn put_one(out: &mut Out, frame: Frame)
     out.push(frame);
 }
 
+// People are told that a landing is waited for.
+fn awaited(f: &Flight) -> Frame
+    requires { drones f.now ≤ MOST_DRONES }
+    ensures { result ≡ Noted (word_awaited f.now) }
+{
+    Frame::Noted {
+        note: Note {
+            drone: f.curves.as_slice().len() as u8,
+            fault: Fault::Uncovered,
+        },
+    }
+}
+
 fn put_notes(out: &mut Out, notes: &[Note])
     requires few { length notes.now ≤ MOST_NOTES }
     requires empty { out.old.items ≡ [] }
@@ -270,30 +243,6 @@ fn put_track(tracks: &mut [Track], d: usize, track: Track)
     ensures { tracks.new ≡ slice_set tracks.old d track }
 {
     tracks[d] = track;
-}
-
-// Where drones are told to be after n steps, if anywhere.
-fn last_hold(f: &Flight, n: usize) -> Option<Hold>
-    ensures { result ≡ word_hold f.now n }
-{
-    if n == 0 {
-        return None;
-    }
-    match f.steps.as_slice().get(n - 1) {
-        None => None,
-        Some(step) => step.holds,
-    }
-}
-
-// Whether a sample, taken `ms` after the last step, is where its drone is told to be.
-fn keeps_hold(f: &Flight, d: usize, hold: &Option<Hold>, ms: u32, x: &Sample) -> bool
-    requires { IsHeld f.now }
-    ensures { result ≡ word_keeps f.now d hold.now ms x.now }
-{
-    match hold {
-        None => true,
-        Some(h) => is_in_stretch(f, d, h.stretch, later(h.from, ms.min(h.ms)), x),
-    }
 }
 
 fn is_start(orders: &Orders) -> bool
@@ -330,6 +279,7 @@ impl State {
             stood: 0,
             showing: false,
             kept: true,
+            wanted: false,
             tracks,
             answered,
         }
@@ -579,6 +529,35 @@ impl State {
         matches!(self.phase, Phase::Steps)
     }
 
+    // Whether a landing waits for a window.
+    fn awaits(&self, f: &Flight) -> bool
+        ensures { result ≡ word_awaits f.now self.now }
+    {
+        self.wanted && are_listed(f)
+    }
+
+    // Whether the windows cover a landing, if any are listed.
+    fn covers(&self, f: &Flight) -> bool
+        ensures { result ≡ word_covers f.now.windows f.now self.now }
+    {
+        match &f.windows {
+            None => true,
+            Some(windows) => {
+                let mut deaf = Deaf::new();
+                put_deaf(&mut deaf, f, self.next, self.tracks.as_slice());
+                is_covered(windows.as_slice(), self.next, self.waited, deaf.as_slice())
+            }
+        }
+    }
+
+    // Whether all that have risen may land.
+    #[tactic(auto, unfolding(flight_model::specs::Directors::may_land))]
+    fn may_land(&self, f: &Flight) -> bool
+        ensures { result ≡ word_may f.now self.now }
+    {
+        !any_risen(f, self.next) || self.covers(f)
+    }
+
     // Puts a note where the next step is due no more, in a state that has heard an event.
     fn overdue(&self, f: &Flight, e: &Event, out: &mut Notes)
         requires held { IsHeld f.now }
@@ -586,7 +565,10 @@ impl State {
         ensures noted { out.new.items ≡ out.old.items ++ word_overdue f.now self.now e.now }
         ensures few { length out.new.items ≤ length out.old.items + 1 }
     {
-        let late = self.is_flying() && !self.is_due(f, e) && self.is_next_late(f);
+        let late = self.is_flying()
+            && !self.awaits(f)
+            && !self.is_due(f, e)
+            && self.is_next_late(f);
         note_if(out, late, self.unfit(f), Fault::Late);
     }
 
@@ -600,6 +582,7 @@ impl State {
                 !(self.showing && f.flies_on)
             }
             Fault::Refused | Fault::Late => true,
+            Fault::Uncovered => false,
         }
     }
 
@@ -626,23 +609,35 @@ impl State {
         are_down(f, true, self.tracks.as_slice()) || STOOD_MS <= self.stood
     }
 
+    // What is done on the way. While a landing is wanted no step begins.
+    fn choose_on_way(&self, f: &Flight, e: &Event, fault: bool) -> Choice
+        ensures value { result ≡ on_the_way f.now self.now e.now fault }
+        ensures begins { result ≡ Begin → self.now.next < length f.now.steps }
+    {
+        if is_stop(e) {
+            Choice::Cut
+        } else if self.wanted || (is_land(e) || fault) {
+            if self.may_land(f) {
+                Choice::Descend
+            } else if self.wanted {
+                Choice::Rest
+            } else {
+                Choice::Wait
+            }
+        } else if self.is_due(f, e) {
+            Choice::Begin
+        } else {
+            Choice::Rest
+        }
+    }
+
     // What is done, in a state that has heard an event.
     fn choose(&self, f: &Flight, e: &Event, fault: bool) -> Choice
         ensures value { result ≡ chosen f.now self.now e.now fault self.now.phase }
         ensures begins { result ≡ Begin → self.now.next < length f.now.steps }
     {
         match self.phase {
-            Phase::Steps => {
-                if is_stop(e) {
-                    Choice::Cut
-                } else if is_land(e) || fault {
-                    Choice::Descend
-                } else if self.is_due(f, e) {
-                    Choice::Begin
-                } else {
-                    Choice::Rest
-                }
-            }
+            Phase::Steps => self.choose_on_way(f, e, fault),
             Phase::Landing => {
                 if is_stop(e) {
                     Choice::Cut
@@ -701,6 +696,7 @@ impl State {
             Choice::Rest => {}
             Choice::Begin => self.put_step(f, out),
             Choice::Descend => put_landings(out, f, self.next),
+            Choice::Wait => put_one(out, awaited(f)),
             Choice::Cut => put_one(out, Frame::ToAll { order: Order::Halt }),
             Choice::Quit => put_one(
                 out,
@@ -720,6 +716,7 @@ impl State {
         self.steady = 0;
         self.stood = 0;
         self.showing = false;
+        self.wanted = false;
     }
 
     // What is off or unsure is counted anew.
@@ -767,6 +764,7 @@ impl State {
             Choice::Rest => {}
             Choice::Begin => self.begin(f),
             Choice::Descend => self.to_phase(Phase::Landing),
+            Choice::Wait => self.wanted = true,
             Choice::Cut => self.to_phase(Phase::Halted),
             Choice::Quit => self.to_phase(Phase::Off),
             Choice::Finish => self.to_phase(Phase::Ended),

@@ -14,7 +14,7 @@ use Rattle.flight_model.specs.declared.events.Signal.TheVariants as signal
 use Rattle.flight_model.specs.declared.events.Event.{Event}
 use Rattle.flight_model.specs.declared.events.Event.TheVariants.{Clock, Seen, Answered, Said}
 use Rattle.flight_model.specs.declared.events.Fault.{Fault}
-use Rattle.flight_model.specs.declared.events.Fault.TheVariants.{Silent, Astray, Lost, Refused, Late, Unsure, Outside}
+use Rattle.flight_model.specs.declared.events.Fault.TheVariants.{Silent, Astray, Lost, Refused, Late, Unsure, Outside, Uncovered}
 use Rattle.flight_model.specs.declared.events.Frame.{Frame}
 use Rattle.flight_model.specs.declared.events.Frame.TheVariants.{To, ToAll, Noted, Over}
 use Rattle.flight_frames.specs.declared.events.FrameFault.{FrameFault}
@@ -304,6 +304,7 @@ said (Noted n) is = by_fault n.fault where
   by_fault Late = refl
   by_fault Unsure = refl
   by_fault Outside = refl
+  by_fault Uncovered = refl
 said (Over true true) is = refl
 said (Over true false) is = refl
 said (Over false true) is = refl

@@ -13,6 +13,7 @@ use Rattle.flight_model.specs.declared.events.Event.{Event}
 use Rattle.flight_model.specs.declared.events.Event.TheVariants.{Clock, Seen, Answered, Said}
 use Rattle.flight_model.specs.declared.events.Fault.{Fault}
 use Rattle.flight_model.specs.declared.events.Fault.TheVariants.{Silent, Astray, Lost, Refused, Late, Unsure, Outside}
+use Rattle.flight_model.specs.declared.events.Fault.TheVariants.{Uncovered}
 use Rattle.flight_model.specs.declared.events.Frame.{Frame}
 use Rattle.flight_model.specs.declared.events.Frame.TheVariants.{To, ToAll, Noted, Over}
 use Rattle.flight_model.specs.Ours.{flight_group}
@@ -158,6 +159,7 @@ fault_byte Refused = 3
 fault_byte Late = 4
 fault_byte Unsure = 5
 fault_byte Outside = 6
+fault_byte Uncovered = 7
 
 abbrev pub over_byte : Bool → Bool → ℕ
 over_byte flown kept = bit flown + 2 * bit kept
@@ -209,7 +211,8 @@ fault_in byte =
     else (if byte == 2 then Lost
     else (if byte == 3 then Refused
     else (if byte == 4 then Late
-    else (if byte == 5 then Unsure else Outside)))))
+    else (if byte == 5 then Unsure
+    else (if byte == 6 then Outside else Uncovered))))))
 
 -- what the director said, where the numbers fit their bytes
 abbrev pub IsOutput : Frame → Type 0

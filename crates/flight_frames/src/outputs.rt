@@ -120,6 +120,7 @@ fn fault_byte(fault: Fault) -> u8
         Fault::Late => 4,
         Fault::Unsure => 5,
         Fault::Outside => 6,
+        Fault::Uncovered => 7,
     }
 }
 

@@ -1,5 +1,5 @@
 -- What is wrong is told, and lands all.
-use Rattle.flight_model.proofs.Prelude.{◌≡◌, ◌≢◌, ◌<◌, ◌≤◌, ◌+◌, ◌-◌, ◌∷◌, ◌∙◌, ◌||◌, ◌&&◌, [], List, Bool, true, false, cond, not, refl, sym, ap, subst, None, Some, Option, ℕ, zero, suc, leb, ltb, eqb, arith, le-leb, lt-leb, le-ltb, lt-ltb, ne_eqb, All-nil, All-cons, All-contains, Contains-append_left, Contains-append_right, All, Contains, slice_get, list_any, Sample, Event, Clock, Seen, Answered, Said, Fault, Silent, Astray, Lost, Refused, Late, Unsure, Outside, Note, Step, Flight, Track, State, Steps, is_due, next_step, is_off_hold, is_outside, is_lost, is_astray, is_late_step, is_flying, falls_silent, silent_from, later, off_with, note_if, sample_notes, seen_notes, track_with, noticed, overdue, unfit_in, is_grave, Lands, note_of, HasLasted, Alarms, IsToLand, AlarmLaw}
+use Rattle.flight_model.proofs.Prelude.{◌≡◌, ◌≢◌, ◌<◌, ◌≤◌, ◌+◌, ◌-◌, ◌∷◌, ◌∙◌, ◌||◌, ◌&&◌, [], List, Bool, true, false, cond, not, refl, sym, ap, subst, None, Some, Option, ℕ, zero, suc, leb, ltb, eqb, arith, le-leb, lt-leb, le-ltb, lt-ltb, ne_eqb, All-nil, All-cons, All-contains, Contains-append_left, Contains-append_right, All, Contains, slice_get, list_any, Sample, Event, Clock, Seen, Answered, Said, Fault, Silent, Astray, Lost, Refused, Late, Unsure, Outside, Note, Step, Flight, Track, State, Steps, is_due, next_step, is_off_hold, is_outside, is_lost, is_astray, is_late_step, is_flying, falls_silent, silent_from, later, off_with, note_if, sample_notes, seen_notes, track_with, noticed, overdue, unfit_in, is_grave, Lands, note_of, HasLasted, Alarms, IsToLand, AlarmLaw, ◌⊎◌, inl, inr, awaits, are_listed, and-false, LandsOrWaits}
 use Rattle.flight_model.specs.declared.events.Signal.TheVariants as signal
 unfoldable use Rattle.flight_model.specs.Directors.{heard, notes, is_fault}
 use Rattle.flight_model.proofs.Ending.{fault_law}
@@ -20,7 +20,7 @@ any-of p ns n has is = by_any (list_any p ns) refl where
   by_any true e = e
   by_any false e = let no : p n ≡ false = All-contains (λ m. p m ≡ false) ns n (none-of p ns e) has in absurd (cc)
 
-alarm-lands : (f : Flight) (s : State) (e : Event) (n : Note) → e ≢ Said signal.Stop → Contains (notes f s e) n → is_grave f s n.fault ≡ true → s.phase ≡ Steps → Lands f s e
+alarm-lands : (f : Flight) (s : State) (e : Event) (n : Note) → e ≢ Said signal.Stop → Contains (notes f s e) n → is_grave f s n.fault ≡ true → s.phase ≡ Steps → LandsOrWaits f s e
 unfolding is_fault
 alarm-lands f s e n go has grave p = fault_law f s e p go (any-of (λ (m : Note). is_grave f s m.fault) (notes f s e) n has grave)
 
@@ -134,19 +134,23 @@ outside f s d x t at before now =
 
 -- ---- time
 
-all-three : (a b c : Bool) → a ≡ true → b ≡ false → c ≡ true → a && not b && c ≡ true
-all-three a b c x y z = rw (x, y, z) refl
+all-four : (a w b c : Bool) → a ≡ true → w ≡ false → b ≡ false → c ≡ true → a && not w && not b && c ≡ true
+all-four a w b c v x y z = rw (v, x, y, z) refl
 
-late : (f : Flight) (s : State) (e : Event) (step : Step) → e ≢ Said signal.Stop → s.phase ≡ Steps → next_step f s ≡ Some step → step.asked ≡ false →
+none-awaits : (f : Flight) (s : State) → (f.windows ≡ None) ⊎ (s.wanted ≡ false) → awaits f s ≡ false
+none-awaits f s (inl none) = ap (λ o. s.wanted && are_listed o) none ∙ and-false s.wanted
+none-awaits f s (inr calm) = ap (λ b. b && are_listed f.windows) calm
+
+late : (f : Flight) (s : State) (e : Event) (step : Step) → e ≢ Said signal.Stop → s.phase ≡ Steps → (f.windows ≡ None) ⊎ (s.wanted ≡ false) → next_step f s ≡ Some step → step.asked ≡ false →
     step.after + step.settle + 8000 ≤ (heard f s e).waited → is_due f (heard f s e) e ≡ false → (d : ℕ) × Alarms f s e (note_of d Late) (Unit {0})
 unfolding notes heard
-late f s e step go p is asked over idle =
+late f s e step go p calm is asked over idle =
     let h = heard f s e in
     let d = unfit_in f h (next_step f s) in
     let overdue_is : is_late_step h (next_step f s) ≡ true = ap (λ o. is_late_step h o) is ∙ both-true step.asked (leb (step.after + step.settle + 8000) h.waited) asked (le-leb (step.after + step.settle + 8000) h.waited over) in
     let told : Contains (overdue f h e) (note_of d Late) =
-    noted-if (is_flying s.phase && not (is_due f h e) && is_late_step h (next_step f s)) d Late
-    (all-three (is_flying s.phase) (is_due f h e) (is_late_step h (next_step f s)) (ap is_flying p) idle overdue_is) in
+    noted-if (is_flying s.phase && not (awaits f s) && not (is_due f h e) && is_late_step h (next_step f s)) d Late
+    (all-four (is_flying s.phase) (awaits f s) (is_due f h e) (is_late_step h (next_step f s)) (ap is_flying p) (none-awaits f s calm) idle overdue_is) in
     let has : Contains (notes f s e) (note_of d Late) = Contains-append_right (noticed f s e) (overdue f h e) (note_of d Late) told in
     (d, record { noted = has; lands = λ q g. alarm-lands f s e (note_of d Late) go has refl q })
 

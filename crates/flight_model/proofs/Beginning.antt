@@ -1,5 +1,5 @@
 -- When a step begins, and what it may order.
-use Rattle.flight_model.proofs.Prelude.{◌≡◌, ◌∙◌, ◌⊎◌, ◌<◌, ◌∷◌, ◌||◌, ◌&&◌, [], List, Bool, true, false, not, refl, sym, subst, None, Some, Option, ℕ, zero, suc, inl, inr, leb, ltb, arith, ℤ, pos, int_le, slice_get, Contains, ◌≤ℤ◌, ◌+ℤ◌, ◌-ℤ◌, and_parts, not-true, leb-true, ltb-true, ltb-false, ints, Order, Sample, Event, Clock, Seen, Answered, Said, Condition, Step, Flight, square, is_short, is_fit, is_at, stands_at, Phase, Steps, Landing, Off, Halted, Ended, Track, State, Choice, Rest, Begin, Descend, Cut, Quit, Finish, chosen, is_fault, is_go, land_order, has_risen, drones, next_step, is_due_step, all_fit, all_answered, orders_to, only_if, IsFit, StandsAt, MayBegin, IsOnward, DueLaw}
+use Rattle.flight_model.proofs.Prelude.{◌≡◌, ◌∙◌, ◌⊎◌, ◌<◌, ◌∷◌, ◌||◌, ◌&&◌, [], List, Bool, true, false, not, refl, sym, subst, None, Some, Option, ℕ, zero, suc, inl, inr, leb, ltb, arith, ℤ, pos, int_le, slice_get, Contains, ◌≤ℤ◌, ◌+ℤ◌, ◌-ℤ◌, and_parts, not-true, leb-true, ltb-true, ltb-false, ints, Order, Sample, Event, Clock, Seen, Answered, Said, Condition, Step, Flight, square, is_short, is_fit, is_at, stands_at, Phase, Steps, Landing, Off, Halted, Ended, Track, State, Choice, Rest, Begin, Descend, Cut, Quit, Finish, chosen, is_fault, is_go, land_order, has_risen, drones, next_step, is_due_step, all_fit, all_answered, orders_to, only_if, IsFit, StandsAt, MayBegin, IsOnward, DueLaw, Wait}
 use Rattle.flight_model.specs.declared.events.Order.TheVariants as order
 use Rattle.flight_model.specs.declared.events.Signal.TheVariants as signal
 unfoldable use Rattle.flight_model.specs.Samples.{is_fit_by}
@@ -149,6 +149,7 @@ onward-begins f h d o Descend on has = by_drone (ltb d (drones f)) refl where
   by_drone true e = by_told (has_risen f h.next d) (subst (λ xs. Contains xs o) (orders_to-landing f h.next d (ltb-true d (drones f) e)) has)
   by_drone false e = absurd (contains-nil o (subst (λ xs. Contains xs o) (orders_to-no_landing f h.next d (ltb-false d (drones f) e)) has))
 onward-begins f h d o Cut on has = absurd (not_halt (subst IsOnward (sym (contains-one order.Halt o has)) on))
+onward-begins f h d o Wait on has = absurd (contains-nil o has)
 onward-begins f h d o Quit on has = absurd (not_disarm (subst IsOnward (sym (contains-one order.Disarm o has)) on))
 onward-begins f h d o Finish on has = absurd (contains-nil o has)
 
@@ -156,7 +157,7 @@ onward-begins f h d o Finish on has = absurd (contains-nil o has)
 chosen-begin : (f : Flight) (h : State) (e : Event) (fault : Bool) (p : Phase) → chosen f h e fault p ≡ Begin → (p ≡ Steps) × (is_due f h e ≡ true)
 chosen-begin f h e fault Steps same =
     steps-has (λ c. c ≡ Begin → (Steps ≡ Steps) × (is_due f h e ≡ true)) f h e fault
-    (λ stop b. absurd (cc)) (λ go land b. absurd (cc)) (λ go on due b. (refl, due)) (λ b. absurd (cc)) same
+    (λ stop b. absurd (cc)) (λ go land may b. absurd (cc)) (λ go land no first b. absurd (cc)) (λ go on due b. (refl, due)) (λ b. absurd (cc)) same
 chosen-begin f h e fault Landing same =
     landing-has (λ c. c ≡ Begin → (Landing ≡ Steps) × (is_due f h e ≡ true)) f h e fault
     (λ stop b. absurd (cc)) (λ go b. absurd (cc)) (λ go b. absurd (cc)) same
@@ -183,6 +184,7 @@ unfolding led
 next-same f h Rest = inl refl
 next-same f h Begin = inr refl
 next-same f h Descend = inl refl
+next-same f h Wait = inl refl
 next-same f h Cut = inl refl
 next-same f h Quit = inl refl
 next-same f h Finish = inl refl

@@ -1,11 +1,12 @@
 -- Land, fault and stop; and what is said of the show.
-use Rattle.flight_model.proofs.Prelude.{◌≡◌, ◌≢◌, ◌⊎◌, ◌<◌, ◌∷◌, ◌∙◌, ◌||◌, ◌&&◌, [], List, Bool, true, false, not, refl, sym, ap, subst, ℕ, inl, inr, All-append, All-nil, All-cons, and_assoc, All, Order, Event, Clock, Seen, Answered, Said, Flight, Phase, Steps, Landing, Off, Halted, Ended, State, Choice, Rest, Begin, Descend, Cut, Quit, Finish, sent, after, chosen, is_fault, is_stop, is_land, harms, frames_from, landings, land_order, has_risen, drones, orders_to, only_if, Lands, IsLast, LandLaw, FaultLaw, HaltLaw}
+use Rattle.flight_model.proofs.Prelude.{arith, ◌≡◌, ◌≢◌, ◌⊎◌, ◌<◌, ◌∷◌, ◌∙◌, ◌||◌, ◌&&◌, [], List, Bool, true, false, not, refl, sym, ap, subst, ℕ, inl, inr, All-append, All-nil, All-cons, and_assoc, All, Order, Event, Clock, Seen, Answered, Said, Flight, Phase, Steps, Landing, Off, Halted, Ended, State, Choice, Rest, Begin, Descend, Cut, Quit, Finish, sent, after, chosen, is_fault, is_stop, is_land, harms, frames_from, landings, land_order, has_risen, drones, orders_to, only_if, Lands, IsLast, LandLaw, FaultLaw, HaltLaw, cond, Wait, Noted, awaited, on_landing, notes, map, Contains, Contains-append_right, MayLand, Waits, LandsOrWaits}
 use Rattle.flight_model.specs.declared.events.Order.TheVariants as order
 use Rattle.flight_model.specs.declared.events.Signal.TheVariants as signal
 unfoldable use Rattle.flight_model.specs.Directors.{heard, is_due, choice, done, led, happens, says}
 use Rattle.flight_model.proofs.OrdersTo.{orders_to-append, orders_to-landing}
 use Rattle.flight_model.proofs.Choices.{landing-has, off-has, halted-has}
 use Rattle.flight_model.proofs.Telling.{orders_to-says}
+use Rattle.flight_model.proofs.Hears.{may-is, not-may}
 
 -- ---- at once
 
@@ -13,17 +14,101 @@ lands-where : (f : Flight) (s : State) (e : Event) → choice f s e ≡ Descend 
 unfolding says happens done led heard
 lands-where f s e same = rw same (refl, refl)
 
-descends-in : (f : Flight) (h : State) (e : Event) (fault : Bool) (p : Phase) → p ≡ Steps → is_stop e ≡ false → is_land e || fault ≡ true → chosen f h e fault p ≡ Descend
-descends-in f h e fault p same go land = subst (λ q. chosen f h e fault q ≡ Descend) (sym same) (rw (go, land) refl)
+pub wanted-heard : (f : Flight) (s : State) (e : Event) → (heard f s e).wanted ≡ s.wanted
+unfolding heard
+wanted-heard f s e = refl
 
-descends : (f : Flight) (s : State) (e : Event) → s.phase ≡ Steps → is_stop e ≡ false → is_land e || is_fault f s e ≡ true → choice f s e ≡ Descend
+pub phase-heard : (f : Flight) (s : State) (e : Event) → (heard f s e).phase ≡ s.phase
+unfolding heard
+phase-heard f s e = refl
+
+pub next-heard : (f : Flight) (s : State) (e : Event) → (heard f s e).next ≡ s.next
+unfolding heard
+next-heard f s e = refl
+
+wants-in : (f : Flight) (h : State) (e : Event) (fault : Bool) (p : Phase) → p ≡ Steps → is_stop e ≡ false → h.wanted || (is_land e || fault) ≡ true → chosen f h e fault p ≡ on_landing f h
+wants-in f h e fault p same go land = subst (λ q. chosen f h e fault q ≡ on_landing f h) (sym same) (rw (go, land) refl)
+
+wants : (f : Flight) (s : State) (e : Event) → s.phase ≡ Steps → is_stop e ≡ false → s.wanted || (is_land e || is_fault f s e) ≡ true → choice f s e ≡ on_landing f (heard f s e)
 unfolding choice
-descends f s e p go land = descends-in f (heard f s e) e (is_fault f s e) s.phase p go land
+wants f s e p go land =
+    wants-in f (heard f s e) e (is_fault f s e) s.phase p go (ap (λ b. b || (is_land e || is_fault f s e)) (wanted-heard f s e) ∙ land)
 
-land-now : (f : Flight) (s : State) → s.phase ≡ Steps → Lands f s (Said signal.Land)
-land-now f s p = lands-where f s (Said signal.Land) (descends f s (Said signal.Land) p refl refl)
+-- where nothing is done, and where a landing is waited for
+pub rest-leads : (f : Flight) (s : State) (e : Event) → choice f s e ≡ Rest → happens f s e ≡ record (heard f s e) { wanted = s.wanted }
+unfolding happens led heard
+rest-leads f s e same = rw same refl
 
-no_stop : (e : Event) → e ≢ Said signal.Stop → is_stop e ≡ false
+pub wait-leads : (f : Flight) (s : State) (e : Event) → choice f s e ≡ Wait → happens f s e ≡ record (heard f s e) { wanted = true }
+unfolding happens led
+wait-leads f s e same = rw same refl
+
+pub rest-told : (f : Flight) (s : State) (e : Event) (d : ℕ) → choice f s e ≡ Rest → orders_to d (says f s e) ≡ []
+unfolding done
+rest-told f s e d same = orders_to-says d f s e ∙ rw same refl
+
+pub wait-told : (f : Flight) (s : State) (e : Event) (d : ℕ) → choice f s e ≡ Wait → orders_to d (says f s e) ≡ []
+unfolding done
+wait-told f s e d same = orders_to-says d f s e ∙ rw same refl
+
+wait-noted : (f : Flight) (s : State) (e : Event) → choice f s e ≡ Wait → Contains (says f s e) (Noted (awaited f))
+unfolding says done
+wait-noted f s e same =
+    Contains-append_right (map Noted (notes f s e)) (done f (heard f s e) (choice f s e)) (Noted (awaited f))
+    (subst (λ c. Contains (done f (heard f s e) c) (Noted (awaited f))) (sym same) (0, omega arith, refl))
+
+rest-waits : (f : Flight) (s : State) (e : Event) → s.phase ≡ Steps → s.wanted ≡ true → choice f s e ≡ Rest → Waits f s e
+rest-waits f s e p w same =
+    let is = rest-leads f s e same in
+    record {
+      nothing = λ d. rest-told f s e d same;
+      phase = ap (λ (t : State). t.phase) is ∙ (phase-heard f s e ∙ p);
+      next = ap (λ (t : State). t.next) is ∙ next-heard f s e;
+      wanted = ap (λ (t : State). t.wanted) is ∙ w;
+      noted = λ first. (let no : true ≡ false = sym w ∙ first in absurd (cc));
+    }
+
+wait-waits : (f : Flight) (s : State) (e : Event) → s.phase ≡ Steps → choice f s e ≡ Wait → Waits f s e
+wait-waits f s e p same =
+    let is = wait-leads f s e same in
+    record {
+      nothing = λ d. wait-told f s e d same;
+      phase = ap (λ (t : State). t.phase) is ∙ (phase-heard f s e ∙ p);
+      next = ap (λ (t : State). t.next) is ∙ next-heard f s e;
+      wanted = ap (λ (t : State). t.wanted) is;
+      noted = λ first. wait-noted f s e same;
+    }
+
+-- a landing that is wanted goes out, or is waited for
+pub lands-or-waits : (f : Flight) (s : State) (e : Event) → s.phase ≡ Steps → is_stop e ≡ false → s.wanted || (is_land e || is_fault f s e) ≡ true → LandsOrWaits f s e
+lands-or-waits f s e p go land = record {
+  lands = λ may. lands-where f s e (is ∙ ap (λ b. cond b Descend (cond (heard f s e).wanted Rest Wait)) (may-is f (heard f s e) may));
+  waits = λ no. by_wanted s.wanted refl
+      (is ∙ (ap (λ b. cond b Descend (cond (heard f s e).wanted Rest Wait)) (not-may f (heard f s e) no) ∙ ap (λ b. cond b Rest Wait) (wanted-heard f s e)));
+} where
+  is : choice f s e ≡ on_landing f (heard f s e)
+  is = wants f s e p go land
+
+  by_wanted : (b : Bool) → s.wanted ≡ b → choice f s e ≡ cond s.wanted Rest Wait → Waits f s e
+  by_wanted true w same = rest-waits f s e p w (same ∙ ap (λ b. cond b Rest Wait) w)
+  by_wanted false w same = wait-waits f s e p (same ∙ ap (λ b. cond b Rest Wait) w)
+
+or-right : (a b : Bool) → b ≡ true → a || b ≡ true
+or-right true b e = refl
+or-right false b e = e
+
+or-left : (a b : Bool) → a ≡ true → a || b ≡ true
+or-left true b e = refl
+or-left false b e = absurd (cc)
+
+-- one that was wanted before
+pub still-wanted : (f : Flight) (s : State) (e : Event) → s.phase ≡ Steps → is_stop e ≡ false → s.wanted ≡ true → LandsOrWaits f s e
+still-wanted f s e p go w = lands-or-waits f s e p go (or-left s.wanted (is_land e || is_fault f s e) w)
+
+land-now : (f : Flight) (s : State) → s.phase ≡ Steps → LandsOrWaits f s (Said signal.Land)
+land-now f s p = lands-or-waits f s (Said signal.Land) p refl (or-right s.wanted (true || is_fault f s (Said signal.Land)) refl)
+
+pub no_stop : (e : Event) → e ≢ Said signal.Stop → is_stop e ≡ false
 no_stop (Said signal.Go) h = refl
 no_stop (Said signal.Land) h = refl
 no_stop (Said signal.Stop) h = absurd (h refl)
@@ -33,10 +118,7 @@ no_stop (Answered d status) h = refl
 
 pub fault_law : FaultLaw
 fault_law f s e p h fault =
-    lands-where f s e (descends f s e p (no_stop e h) (by_fault (is_land e) (is_fault f s e) fault)) where
-      by_fault : (a b : Bool) → b ≡ true → a || b ≡ true
-      by_fault true b e = refl
-      by_fault false b e = e
+    lands-or-waits f s e p (no_stop e h) (or-right s.wanted (is_land e || is_fault f s e) (or-right (is_land e) (is_fault f s e) fault))
 
 -- ---- off the way
 
@@ -163,6 +245,7 @@ unfolding led
 kept-led f h Rest = refl
 kept-led f h Begin = refl
 kept-led f h Descend = refl
+kept-led f h Wait = refl
 kept-led f h Cut = refl
 kept-led f h Quit = refl
 kept-led f h Finish = refl

@@ -3,7 +3,7 @@ use Rattle.flight_model.proofs.Prelude.{◌≡◌, ◌≢◌, ◌≤◌, ◌+◌
 use Rattle.flight_model.specs.declared.events.Signal.TheVariants as signal
 unfoldable use Rattle.flight_model.specs.Legs.{steps_of}
 unfoldable use Rattle.flight_model.specs.Samples.{is_fit_by, is_kept, is_on_course}
-unfoldable use Rattle.flight_model.specs.Directors.{tracks_after, heard, is_due, notes, is_fault, choice, done, led, happens, says}
+unfoldable use Rattle.flight_model.specs.Directors.{tracks_after, heard, may_land, is_due, notes, is_fault, choice, done, led, happens, says}
 unfoldable use Rattle.fleet_math.specs.Decoded.{decoded}
 unfoldable use Rattle.fleet_math.specs.Moments.{moment}
 unfoldable use Rattle.fleet_math.specs.Bernstein.{bernstein}
@@ -168,11 +168,11 @@ unfolding flight
 has = has_show (flight true) routes is_flight refl refl refl (omega arith) (omega arith)
 
 quiet-computed : are_quiet (flight true) 100 (start (flight true)) whole ≡ true
-unfolding are_quiet is_quiet is_calm is_good is_prompt steps_of is_fit_by is_kept is_on_course tracks_after heard is_due notes is_fault choice done led happens says flight decoded moment bernstein
+unfolding are_quiet is_quiet is_calm is_good is_prompt steps_of is_fit_by is_kept is_on_course tracks_after heard may_land is_due notes is_fault choice done led happens says flight decoded moment bernstein
 quiet-computed = refl
 
 says-computed : sent (flight true) (start (flight true)) whole ≡ said
-unfolding steps_of is_fit_by is_kept is_on_course tracks_after heard is_due notes is_fault choice done led happens says flight decoded moment bernstein
+unfolding steps_of is_fit_by is_kept is_on_course tracks_after heard may_land is_due notes is_fault choice done led happens says flight decoded moment bernstein
 says-computed = refl
 
 last-said : Contains said (Over true true)

@@ -1,5 +1,5 @@
 -- A flight that is said to be flown was flown.
-use Rattle.flight_model.proofs.Prelude.{◌≡◌, ◌⊎◌, ◌<◌, ◌&&◌, ◌∷◌, ◌++◌, ◌∙◌, [], List, Bool, true, false, cond, refl, sym, ap, subst, None, Some, Option, ℕ, suc, inl, inr, take, length, eqb, arith, eqb-true, eqb-false, and_parts, append-nil, append_assoc, take_all, All-nil, All-cons, All-contains, Contains-append_cases, slice_get_within, map, slice_get, All, Contains, Order, Note, Event, Frame, To, ToAll, Noted, Over, Orders, Each, Step, Flight, Phase, Steps, Landing, Off, Halted, Ended, State, Choice, Rest, Begin, Descend, Cut, Quit, Finish, start, sent, chosen, is_fault, notes, order_in, frames_from, frames_of, frames_of_step, landings, next_step, is_due_step, is_flown, is_off_phase, orders_to, in_step, ordered, OverLaw}
+use Rattle.flight_model.proofs.Prelude.{◌≡◌, ◌⊎◌, ◌<◌, ◌&&◌, ◌∷◌, ◌++◌, ◌∙◌, [], List, Bool, true, false, cond, refl, sym, ap, subst, None, Some, Option, ℕ, suc, inl, inr, take, length, eqb, arith, eqb-true, eqb-false, and_parts, append-nil, append_assoc, take_all, All-nil, All-cons, All-contains, Contains-append_cases, slice_get_within, map, slice_get, All, Contains, Order, Note, Event, Frame, To, ToAll, Noted, Over, Orders, Each, Step, Flight, Phase, Steps, Landing, Off, Halted, Ended, State, Choice, Rest, Begin, Descend, Cut, Quit, Finish, start, sent, chosen, is_fault, notes, order_in, frames_from, frames_of, frames_of_step, landings, next_step, is_due_step, is_flown, is_off_phase, orders_to, in_step, ordered, OverLaw, Wait, awaited}
 use Rattle.flight_model.specs.declared.events.Order.TheVariants as order
 use Rattle.flight_model.specs.declared.flights.Orders.TheVariants.{All as ToEach}
 unfoldable use Rattle.flight_model.specs.Directors.{heard, is_due, choice, done, led, happens, says}
@@ -42,6 +42,7 @@ unfolding done
 over-finish f h Rest kept has = absurd (over-not [] true kept (All-nil NoOver) has)
 over-finish f h Begin kept has = absurd (over-not (frames_of_step (next_step f h)) true kept (no_over-step (next_step f h)) has)
 over-finish f h Descend kept has = absurd (over-not (frames_from 0 (landings f h.next)) true kept (no_over-from 0 (landings f h.next)) has)
+over-finish f h Wait kept has = absurd (over-not (Noted (awaited f) ∷ []) true kept (no_over-notes (awaited f ∷ [])) has)
 over-finish f h Cut kept has = absurd (over-not (ToAll order.Halt ∷ []) true kept (no_over-all order.Halt) has)
 over-finish f h Quit kept has = absurd (over-not (ToAll order.Disarm ∷ []) true kept (no_over-all order.Disarm) has)
 over-finish f h Finish kept has = (refl, by_flown (is_flown f h) has) where
@@ -92,7 +93,7 @@ flown-chosen : (f : Flight) (d : ℕ) (h : State) (e : Event) (fault : Bool) (os
 unfolding led done
 flown-chosen f d h e fault os Steps t =
     steps-has (NextFlown f d h os Steps) f (as_phase h Steps) e fault
-    (λ stop. tt) (λ go land. t.0) (λ go on due. flown-begin f d (as_phase h Steps) e os t due) (flown-rest f d h os Steps t)
+    (λ stop. tt) (λ go land may. t.0) (λ go land no first. flown-rest f d h os Steps t) (λ go on due. flown-begin f d (as_phase h Steps) e os t due) (flown-rest f d h os Steps t)
 flown-chosen f d h e fault os Landing t =
     landing-has (NextFlown f d h os Landing) f (as_phase h Landing) e fault (λ stop. tt) (λ go. inl t) (λ go. t)
 flown-chosen f d h e fault os Off t =

@@ -2,7 +2,7 @@
 use Rattle.flight_model.proofs.Prelude.{refl, GroupRows}
 unfoldable use Rattle.flight_model.specs.Legs.{steps_of}
 unfoldable use Rattle.flight_model.specs.Samples.{is_fit_by, is_kept, is_on_course}
-unfoldable use Rattle.flight_model.specs.Directors.{tracks_after, heard, is_due, notes, is_fault, choice, done, led, happens, says}
+unfoldable use Rattle.flight_model.specs.Directors.{tracks_after, heard, may_land, is_due, notes, is_fault, choice, done, led, happens, says}
 unfoldable use Rattle.fleet_math.specs.Decoded.{decoded}
 unfoldable use Rattle.fleet_math.specs.Moments.{moment}
 unfoldable use Rattle.fleet_math.specs.Bernstein.{bernstein}
@@ -10,7 +10,7 @@ unfoldable use Rattle.flight_model.specs.Example.{flight}
 unfoldable use Rattle.flight_model.specs.Ours.{said_at}
 
 pub group_rows : GroupRows
-unfolding steps_of is_fit_by is_kept is_on_course tracks_after heard is_due notes is_fault choice done led happens says flight said_at decoded moment bernstein
+unfolding steps_of is_fit_by is_kept is_on_course tracks_after heard may_land is_due notes is_fault choice done led happens says flight said_at decoded moment bernstein
 group_rows = record {
   to_all = refl;
   to_everybody = refl;

@@ -1,12 +1,12 @@
 -- Who is off where it is told to be for 300 ms has all land.
-use Rattle.flight_model.proofs.Prelude.{◌≡◌, ◌≢◌, ◌<◌, ◌≤◌, ◌+◌, ◌-◌, ◌∷◌, ◌++◌, ◌∙◌, ◌&&◌, [], List, Bool, true, false, cond, not, min, refl, sym, ap, subst, None, Some, Option, ℕ, zero, suc, length, leb, eqb, arith, and_parts, eqb-true, eqb-false, leb-false, map, replicate, slice_get, slice_set, flat_map, range_with_len, Sample, Event, Clock, Seen, Answered, Said, Step, Flight, Routes, legs_of, leg_count, leg_ms, ms_until, hold_in, lasts, arm_step, up_step, start_step, down_step, Phase, Steps, Landing, Off, Halted, Ended, Track, State, Choice, Rest, Begin, Descend, Cut, Quit, Finish, start, after, drones, most_ms, passed, older, aged, renewed, tracked, track_with, off_with, is_astray, is_flying, is_fault, is_off_hold, keeps_hold, held_by, last_hold, later, Lands, IsToLand, HasLasted, time, twice}
+use Rattle.flight_model.proofs.Prelude.{◌≡◌, ◌≢◌, ◌<◌, ◌≤◌, ◌+◌, ◌-◌, ◌∷◌, ◌++◌, ◌∙◌, ◌&&◌, [], List, Bool, true, false, cond, not, min, refl, sym, ap, subst, None, Some, Option, ℕ, zero, suc, length, leb, eqb, arith, and_parts, eqb-true, eqb-false, leb-false, map, replicate, slice_get, slice_set, flat_map, range_with_len, Sample, Event, Clock, Seen, Answered, Said, Step, Flight, Routes, legs_of, leg_count, leg_ms, ms_until, hold_in, lasts, arm_step, up_step, start_step, down_step, Phase, Steps, Landing, Off, Halted, Ended, Track, State, Choice, Rest, Begin, Descend, Cut, Quit, Finish, start, after, drones, most_ms, passed, older, aged, renewed, tracked, track_with, off_with, is_astray, is_flying, is_fault, is_off_hold, keeps_hold, held_by, last_hold, later, Lands, IsToLand, HasLasted, time, twice, Wait, LandsOrWaits}
 use Rattle.flight_model.specs.declared.events.Signal.TheVariants as signal
 use Rattle.flight_model.specs.declared.flights.Stretch.TheVariants as stretch
 unfoldable use Rattle.flight_model.specs.Legs.{steps_of}
 unfoldable use Rattle.flight_model.specs.Directors.{tracks_after, heard, choice, led, happens}
 use Rattle.flight_model.specs.Holds.{StaysOff, IsOffFor, HoldLaw}
 use Rattle.flight_model.proofs.Alarms.{astray-fault, alarm_law}
-use Rattle.flight_model.proofs.Ending.{fault_law, off-event}
+use Rattle.flight_model.proofs.Ending.{fault_law, off-event, still-wanted, wanted-heard}
 use Rattle.flight_model.proofs.Turns.{pair-at, pair-past, down-step}
 use Rattle.flight_model.proofs.Kept.{after-append, rest-heard, happens-next}
 
@@ -100,27 +100,46 @@ pub data IsOn : Choice → Type 0 where
   Rests : IsOn Rest
   Begins : IsOn Begin
 
-led-on : (f : Flight) (h : State) (c : Choice) → (led f h c).phase ≡ Steps → IsOn c
+led-on : (f : Flight) (h : State) (c : Choice) → (led f h c).phase ≡ Steps → (led f h c).wanted ≡ false → IsOn c
 unfolding led
-led-on f h Rest e = Rests
-led-on f h Begin e = Begins
-led-on f h Descend e = absurd (cc)
-led-on f h Cut e = absurd (cc)
-led-on f h Quit e = absurd (cc)
-led-on f h Finish e = absurd (cc)
+led-on f h Rest e w = Rests
+led-on f h Begin e w = Begins
+led-on f h Descend e w = absurd (cc)
+led-on f h Wait e w = absurd (cc)
+led-on f h Cut e w = absurd (cc)
+led-on f h Quit e w = absurd (cc)
+led-on f h Finish e w = absurd (cc)
 
-pub on-choice : (f : Flight) (s : State) (e : Event) → (happens f s e).phase ≡ Steps → IsOn (choice f s e)
+pub on-choice : (f : Flight) (s : State) (e : Event) → (happens f s e).phase ≡ Steps → (happens f s e).wanted ≡ false → IsOn (choice f s e)
 unfolding happens
-on-choice f s e p = led-on f (heard f s e) (choice f s e) p
+on-choice f s e p w = led-on f (heard f s e) (choice f s e) p w
+
+-- on the way a landing that was wanted is wanted
+led-calm : (f : Flight) (h : State) (c : Choice) → (led f h c).phase ≡ Steps → (led f h c).wanted ≡ false → h.wanted ≡ false
+unfolding led
+led-calm f h Rest e w = w
+led-calm f h Begin e w = w
+led-calm f h Descend e w = absurd (cc)
+led-calm f h Wait e w = absurd (cc)
+led-calm f h Cut e w = absurd (cc)
+led-calm f h Quit e w = absurd (cc)
+led-calm f h Finish e w = absurd (cc)
+
+pub was-calm : (f : Flight) (s : State) (e : Event) → (happens f s e).phase ≡ Steps → (happens f s e).wanted ≡ false → s.wanted ≡ false
+unfolding happens
+was-calm f s e p w = sym (wanted-heard f s e) ∙ led-calm f (heard f s e) (choice f s e) p w
 
 -- a sample at which nothing is done has no fault
-pub rest-calm : (f : Flight) (s : State) (e : Event) (k : ℕ) (x : Sample) → s.phase ≡ Steps → (happens f s e).phase ≡ Steps → e ≡ Seen k x → is_fault f s e ≡ false
-rest-calm f s e k x p q is = by_fault (is_fault f s e) refl where
+pub rest-calm : (f : Flight) (s : State) (e : Event) (k : ℕ) (x : Sample) → s.phase ≡ Steps → (happens f s e).phase ≡ Steps → (happens f s e).wanted ≡ false → e ≡ Seen k x → is_fault f s e ≡ false
+rest-calm f s e k x p q calm is = by_fault (is_fault f s e) refl where
   by_fault : (b : Bool) → is_fault f s e ≡ b → is_fault f s e ≡ false
   by_fault false h = h
   by_fault true h =
       let lands = fault_law f s e p (λ stop. absurd (other k x (sym is ∙ stop))) h in
-      absurd (no_landing (sym q ∙ lands.1)) where
+      absurd (no_waiting (sym ((lands.waits (λ may. absurd (no_landing (sym q ∙ (lands.lands may).1)))).wanted) ∙ calm)) where
+        no_waiting : true ≡ false → ⊥
+        no_waiting e = cc
+
         no_landing : Steps ≡ Landing → ⊥
         no_landing e = cc
 
@@ -129,24 +148,24 @@ rest-calm f s e k x p q is = by_fault (is_fault f s e) refl where
 
 -- ---- in every state of a flight
 
--- on the way, but in a show that flies on
+-- on the way, where no landing is wanted, but in a show that flies on
 abbrev IsNear : Flight → State → Type 0
-IsNear f s = s.phase ≡ Steps → IsToLand f s → Near s.tracks
+IsNear f s = s.phase ≡ Steps → s.wanted ≡ false → IsToLand f s → Near s.tracks
 
 led-near : (f : Flight) (h : State) (c : Choice) → c ≡ Begin → Near (led f h c).tracks
 unfolding led
 led-near f h c same = rw same (near-renewed h.tracks)
 
-heard-near : (f : Flight) (s : State) (e : Event) → IsNear f s → s.phase ≡ Steps → (happens f s e).phase ≡ Steps → IsToLand f (heard f s e) → Near (heard f s e).tracks
+heard-near : (f : Flight) (s : State) (e : Event) → IsNear f s → s.phase ≡ Steps → (happens f s e).phase ≡ Steps → (happens f s e).wanted ≡ false → IsToLand f (heard f s e) → Near (heard f s e).tracks
 unfolding heard
-heard-near f s e near p q land = near-after f s e (near p land) land (λ k x is. rest-calm f s e k x p q is)
+heard-near f s e near p q calm land = near-after f s e (near p (was-calm f s e q calm) land) land (λ k x is. rest-calm f s e k x p q calm is)
 
 begun-near : (f : Flight) (s : State) (e : Event) → choice f s e ≡ Begin → Near (happens f s e).tracks
 unfolding happens
 begun-near f s e same = led-near f (heard f s e) (choice f s e) same
 
 event-near : (f : Flight) (s : State) (e : Event) → IsNear f s → IsNear f (happens f s e)
-event-near f s e near q land = by_choice (choice f s e) refl (on-choice f s e q) where
+event-near f s e near q calm land = by_choice (choice f s e) refl (on-choice f s e q calm) where
   phase : s.phase ≡ Steps
   phase = by_phase s.phase refl where
     by_phase : (p : Phase) → s.phase ≡ p → s.phase ≡ Steps
@@ -167,7 +186,7 @@ event-near f s e near q land = by_choice (choice f s e) refl (on-choice f s e q)
   by_choice : (c : Choice) → choice f s e ≡ c → IsOn c → Near (happens f s e).tracks
   by_choice c same Rests =
       let is = rest-heard f s e same in
-      subst (λ (t : State). Near t.tracks) (sym is) (heard-near f s e near phase q (subst (λ t. IsToLand f t) is land))
+      subst (λ (t : State). Near t.tracks) (sym is) (heard-near f s e near phase q calm (subst (λ t. IsToLand f t) is land))
   by_choice c same Begins = begun-near f s e same
 
 near-all : (f : Flight) (s : State) (es : List Event) → IsNear f s → IsNear f (after f s es)
@@ -175,7 +194,7 @@ near-all f s [] near = near
 near-all f s (e ∷ es) near = near-all f (happens f s e) es (event-near f s e near)
 
 near-start : (f : Flight) → IsNear f (start f)
-near-start f p land = none (drones f) where
+near-start f p calm land = none (drones f) where
   none : (n : ℕ) → Near (replicate n (record { seen = None; off = None; unsure = None; outside = false }))
   none zero d t e = absurd (cc)
   none (suc n) zero t e = astray_in e where
@@ -289,7 +308,7 @@ off-heard f d s (Seen k x) total o near off = by_drone (eqb k d) refl where
       }
 
 -- the sample that is taken 300 ms after the first
-off-last : (f : Flight) (d : ℕ) (s : State) (total : ℕ) (x : Sample) → IsOff f d s total → is_off_hold f s d x ≡ true → 300 + x.age ≤ total → 300 + x.age ≤ most_ms → Lands f s (Seen d x)
+off-last : (f : Flight) (d : ℕ) (s : State) (total : ℕ) (x : Sample) → IsOff f d s total → is_off_hold f s d x ≡ true → 300 + x.age ≤ total → 300 + x.age ≤ most_ms → LandsOrWaits f s (Seen d x)
 off-last f d s total x o off long counted =
     let enough = o.enough in
     let short : o.ms < 300 = leb-false 300 o.ms (sym (ap is_astray o.is_off) ∙ o.near d o.track o.is_track) in
@@ -330,25 +349,33 @@ module _ (f : Flight) (d : ℕ) (x : Sample) where
       other : Steps ≡ Ended → ⊥
       other e = cc
 
-  run : (es : List Event) (s : State) (total : ℕ) → IsOff f d s total → StaysOff f d s es → is_off_hold f (after f s es) d x ≡ true → 300 + x.age ≤ total + time es → 300 + x.age ≤ most_ms →
-      Lands f (after f s es) (Seen d x)
-  run [] s total o off last long counted = off-last f d s total x o last (omega (arith, long)) counted
-  run (e ∷ es) s total o off last long counted =
-      by_choice (λ more. run es (happens f s e) (total + passed e) more off.2 last (omega (arith, long)) counted) (choice f s e) refl (on-choice f s e on) where
+  -- nor was a landing wanted before it
+  calm-before : (s : State) (es : List Event) → is_off_hold f (after f s es) d x ≡ true → (after f s es).wanted ≡ false → s.wanted ≡ false
+  calm-before s [] off calm = calm
+  calm-before s (e ∷ es) off calm = was-calm f s e (stays (happens f s e) es off) (calm-before (happens f s e) es off calm)
+
+  run : (es : List Event) (s : State) (total : ℕ) → IsOff f d s total → StaysOff f d s es → is_off_hold f (after f s es) d x ≡ true → (after f s es).wanted ≡ false →
+      300 + x.age ≤ total + time es → 300 + x.age ≤ most_ms → LandsOrWaits f (after f s es) (Seen d x)
+  run [] s total o off last calm long counted = off-last f d s total x o last (omega (arith, long)) counted
+  run (e ∷ es) s total o off last calm long counted =
+      by_choice (λ more. run es (happens f s e) (total + passed e) more off.2 last calm (omega (arith, long)) counted) (choice f s e) refl (on-choice f s e on still) where
         on : (happens f s e).phase ≡ Steps
         on = stays (happens f s e) es last
 
-        near : Near (tracks_after f s e)
-        near = near-after f s e o.near o.land (λ k y is. rest-calm f s e k y o.phase on is)
+        still : (happens f s e).wanted ≡ false
+        still = calm-before (happens f s e) es last calm
 
-        by_choice : (IsOff f d (happens f s e) (total + passed e) → Lands f (after f (happens f s e) es) (Seen d x)) →
-            (c : Choice) → choice f s e ≡ c → IsOn c → Lands f (after f (happens f s e) es) (Seen d x)
+        near : Near (tracks_after f s e)
+        near = near-after f s e o.near o.land (λ k y is. rest-calm f s e k y o.phase on still is)
+
+        by_choice : (IsOff f d (happens f s e) (total + passed e) → LandsOrWaits f (after f (happens f s e) es) (Seen d x)) →
+            (c : Choice) → choice f s e ≡ c → IsOn c → LandsOrWaits f (after f (happens f s e) es) (Seen d x)
         by_choice again c same Rests = again (subst (λ t. IsOff f d t (total + passed e)) (sym (rest-heard f s e same)) (off-heard f d s e total o near off.0))
         by_choice again c same Begins = absurd (next-same f s e same off.1)
 
   begin : (s : State) (y : Sample) (es : List Event) → IsNear f s → IsToLand f s → d < length s.tracks → StaysOff f d s (Seen d y ∷ es) → is_off_hold f (after f (happens f s (Seen d y)) es) d x ≡ true →
-      300 + x.age ≤ y.age + time es → 300 + x.age ≤ most_ms → Lands f (after f (happens f s (Seen d y)) es) (Seen d x)
-  begin s y es near land l off last long counted = by_choice (choice f s first) refl (on-choice f s first on) where
+      (after f (happens f s (Seen d y)) es).wanted ≡ false → 300 + x.age ≤ y.age + time es → 300 + x.age ≤ most_ms → LandsOrWaits f (after f (happens f s (Seen d y)) es) (Seen d x)
+  begin s y es near land l off last calm long counted = by_choice (choice f s first) refl (on-choice f s first on still) where
     first : Event
     first = Seen d y
 
@@ -361,22 +388,36 @@ module _ (f : Flight) (d : ℕ) (x : Sample) where
     on : (happens f s first).phase ≡ Steps
     on = stays (happens f s first) es last
 
-    after_it : Near (tracks_after f s first)
-    after_it = near-after f s first (near phase land) land (λ k z is. rest-calm f s first k z phase on is)
+    still : (happens f s first).wanted ≡ false
+    still = calm-before (happens f s first) es last calm
 
-    by_choice : (c : Choice) → choice f s first ≡ c → IsOn c → Lands f (after f (happens f s first) es) (Seen d x)
+    after_it : Near (tracks_after f s first)
+    after_it = near-after f s first (near phase (was-calm f s first on still) land) land (λ k z is. rest-calm f s first k z phase on still is)
+
+    by_choice : (c : Choice) → choice f s first ≡ c → IsOn c → LandsOrWaits f (after f (happens f s first) es) (Seen d x)
     by_choice c same Rests =
         run es (happens f s first) y.age
-        (subst (λ t. IsOff f d t y.age) (sym (rest-heard f s first same)) (off-first f d s y phase land after_it l off_now)) off.2 last long counted
+        (subst (λ t. IsOff f d t y.age) (sym (rest-heard f s first same)) (off-first f d s y phase land after_it l off_now)) off.2 last calm long counted
     by_choice c same Begins = absurd (next-same f s first same off.1)
 
 lands : (f : Flight) (d : ℕ) (earlier between : List Event) (first last : Sample) → IsOffFor f d earlier between first last →
-    Lands f (after f (start f) (earlier ++ Seen d first ∷ between)) (Seen d last)
-lands f d earlier between first last o =
-    let s = after f (start f) earlier in
-    let is = after-append f (start f) earlier (Seen d first ∷ between) in
-    subst (λ t. Lands f t (Seen d last)) (sym is)
-    (begin f d last s first between (near-all f (start f) earlier (near-start f)) o.to_land o.known o.stays (subst (λ t. is_off_hold f t d last ≡ true) is o.still) o.long o.counted)
+    LandsOrWaits f (after f (start f) (earlier ++ Seen d first ∷ between)) (Seen d last)
+lands f d earlier between first last o = subst (λ t. LandsOrWaits f t (Seen d last)) (sym is) (by_wanted t.wanted refl) where
+  s : State
+  s = after f (start f) earlier
+
+  t : State
+  t = after f s (Seen d first ∷ between)
+
+  is : after f (start f) (earlier ++ Seen d first ∷ between) ≡ t
+  is = after-append f (start f) earlier (Seen d first ∷ between)
+
+  off : is_off_hold f t d last ≡ true
+  off = subst (λ u. is_off_hold f u d last ≡ true) is o.still
+
+  by_wanted : (b : Bool) → t.wanted ≡ b → LandsOrWaits f t (Seen d last)
+  by_wanted true wanted = still-wanted f t (Seen d last) (off-steps f t d last off) refl wanted
+  by_wanted false calm = begin f d last s first between (near-all f (start f) earlier (near-start f)) o.to_land o.known o.stays off calm o.long o.counted
 
 -- ---- what each step holds
 

@@ -1,5 +1,5 @@
 -- Where the end says that the show was kept, it was.
-use Rattle.flight_model.proofs.Prelude.{◌≡◌, ◌⊎◌, ◌<◌, ◌≤◌, ◌+◌, ◌-◌, ◌∷◌, ◌++◌, ◌∙◌, ◌||◌, ◌&&◌, [], List, Bool, true, false, not, min, refl, sym, ap, subst, Some, ℕ, zero, suc, inl, inr, length, leb, ltb, eqb, arith, and_parts, not-true, leb-true, leb-false, le-leb, ltb-true, ltb-false, lt-ltb, eqb-true, ne_eqb, append-nil, append_assoc, All-nil, All-cons, All-contains, Contains-append_cases, slice_get_within, map, slice_get, Contains, list_any, Sample, Event, Clock, Seen, Answered, Said, Frame, ToAll, Noted, Over, Condition, Step, Flight, Phase, Steps, Landing, Off, Halted, Ended, Track, State, Choice, Rest, Begin, Descend, Cut, Quit, Finish, start, sent, after, chosen, is_fault, notes, drones, most_ms, later, passed, older, is_silent, harms, tracks_after, renewed, next_step, starts, starts_with, frames_of_step, frames_from, landings, is_flown, is_off_phase, orders_to, MayBegin, time, IsHeard, IsKeptShow, HasShow, KeptLaw}
+use Rattle.flight_model.proofs.Prelude.{◌≡◌, ◌⊎◌, ◌<◌, ◌≤◌, ◌+◌, ◌-◌, ◌∷◌, ◌++◌, ◌∙◌, ◌||◌, ◌&&◌, [], List, Bool, true, false, not, min, refl, sym, ap, subst, Some, ℕ, zero, suc, inl, inr, length, leb, ltb, eqb, arith, and_parts, not-true, leb-true, leb-false, le-leb, ltb-true, ltb-false, lt-ltb, eqb-true, ne_eqb, append-nil, append_assoc, All-nil, All-cons, All-contains, Contains-append_cases, slice_get_within, map, slice_get, Contains, list_any, Sample, Event, Clock, Seen, Answered, Said, Frame, ToAll, Noted, Over, Condition, Step, Flight, Phase, Steps, Landing, Off, Halted, Ended, Track, State, Choice, Rest, Begin, Descend, Cut, Quit, Finish, start, sent, after, chosen, is_fault, notes, drones, most_ms, later, passed, older, is_silent, harms, tracks_after, renewed, next_step, starts, starts_with, frames_of_step, frames_from, landings, is_flown, is_off_phase, orders_to, MayBegin, time, IsHeard, IsKeptShow, HasShow, KeptLaw, Wait, awaited}
 use Rattle.flight_model.specs.declared.events.Order.TheVariants as order
 use Rattle.flight_model.specs.declared.events.Signal.TheVariants as signal
 use Rattle.flight_model.specs.declared.flights.Orders.TheVariants.{All as ToEach}
@@ -9,7 +9,7 @@ use Rattle.flight_model.proofs.OrdersTo.{orders_to-append}
 use Rattle.flight_model.proofs.Choices.{steps-has, landing-has, off-has, halted-has}
 use Rattle.flight_model.proofs.Telling.{orders_to-says, as_phase}
 use Rattle.flight_model.proofs.Beginning.{begin-may}
-use Rattle.flight_model.proofs.Ending.{kept-event}
+use Rattle.flight_model.proofs.Ending.{kept-event, rest-leads, rest-told, wait-leads, wait-told}
 use Rattle.flight_model.proofs.Flown.{NoOver, no_over-notes, no_over-step, no_over-from, no_over-all, over-not, over-finish}
 use Rattle.flight_model.proofs.Shows.{has_show}
 use Rattle.flight_model.proofs.Sightings.{time-append, time-snoc, seen_of, seen_of-get, AreSighted, none_sighted, sighted-event, AreKnown, known-event, none-silent, heard-by, heard-on}
@@ -78,6 +78,7 @@ unfolding led
 led-kept f h Rest = refl
 led-kept f h Begin = refl
 led-kept f h Descend = refl
+led-kept f h Wait = refl
 led-kept f h Cut = refl
 led-kept f h Quit = refl
 led-kept f h Finish = refl
@@ -160,6 +161,7 @@ abbrev IsOnWay : Choice → Type 0
 IsOnWay Rest = Unit {0}
 IsOnWay Begin = Unit {0}
 IsOnWay Descend = Unit {0}
+IsOnWay Wait = Unit {0}
 IsOnWay Cut = Unit {0}
 IsOnWay Quit = ⊥
 IsOnWay Finish = ⊥
@@ -167,7 +169,7 @@ IsOnWay Finish = ⊥
 on_way-chosen : (f : Flight) (h : State) (e : Event) (fault : Bool) (p : Phase) → p ≡ Steps → IsOnWay (chosen f h e fault p)
 on_way-chosen f h e fault p same =
     subst (λ q. IsOnWay (chosen f h e fault q)) (sym same)
-    (steps-has IsOnWay f h e fault (λ stop. tt) (λ go land. tt) (λ go on due. tt) tt)
+    (steps-has IsOnWay f h e fault (λ stop. tt) (λ go land may. tt) (λ go land no first. tt) (λ go on due. tt) tt)
 
 on_way : (f : Flight) (s : State) (e : Event) → s.phase ≡ Steps → IsOnWay (choice f s e)
 unfolding choice
@@ -203,10 +205,6 @@ broken f s e es same l has = never f (happens f s e) es true (led-broken f (hear
 pub rest-heard : (f : Flight) (s : State) (e : Event) → choice f s e ≡ Rest → happens f s e ≡ heard f s e
 unfolding happens led
 rest-heard f s e same = rw same refl
-
-rest-told : (f : Flight) (s : State) (e : Event) (d : ℕ) → choice f s e ≡ Rest → orders_to d (says f s e) ≡ []
-unfolding done
-rest-told f s e d same = orders_to-says d f s e ∙ rw same refl
 
 -- ---- the show
 
@@ -322,10 +320,12 @@ module _ (f : Flight) (has : HasShow f) (before : List Event) where
         | inr p ↦ sh.at_curve earlier p.0 d x p.1 short old inside
       ]
 
-  showing-heard : (during : List Event) (s : State) (e : Event) → Showing f has.number before during s → choice f s e ≡ Rest → harms f s e ≡ false →
-      Showing f has.number before (during ++ e ∷ []) (heard f s e)
+  -- at an event at which no step begins the show goes on, whether a landing is wanted or not
+  showing-heard : (during : List Event) (s : State) (e : Event) (wanted : Bool) → Showing f has.number before during s → ((d : ℕ) → orders_to d (says f s e) ≡ []) →
+      happens f s e ≡ record (heard f s e) { wanted = wanted } → harms f s e ≡ false →
+      Showing f has.number before (during ++ e ∷ []) (record (heard f s e) { wanted = wanted })
   unfolding heard
-  showing-heard during s e sh same harmless = record {
+  showing-heard during s e wanted sh nothing leads harmless = record {
     on = sh.on;
     phase = sh.phase;
     next = sh.next;
@@ -337,9 +337,9 @@ module _ (f : Flight) (has : HasShow f) (before : List Event) where
         (heard-on f.silence (so_far during) d (time before + ms) e
         (heard-to during s e d ms sh harmless l (let t = time-snoc during e in omega (arith, t, upto)) inside));
     told = λ d. subst (λ xs. orders_to d (sent f (start f) xs) ≡ orders_to d (sent f (start f) before) ++ order.Start ∷ []) (so_far-snoc during e)
-        (told-snoc f (so_far during) s e d sh.is ∙ (ap (λ os. orders_to d (sent f (start f) (so_far during)) ++ os) (rest-told f s e d same)
+        (told-snoc f (so_far during) s e d sh.is ∙ (ap (λ os. orders_to d (sent f (start f) (so_far during)) ++ os) (nothing d)
         ∙ (append-nil (orders_to d (sent f (start f) (so_far during))) ∙ sh.told d)));
-    is = subst (λ xs. after f (start f) xs ≡ heard f s e) (so_far-snoc during e) (after-snoc f (so_far during) s e sh.is ∙ rest-heard f s e same);
+    is = subst (λ xs. after f (start f) xs ≡ record (heard f s e) { wanted = wanted }) (so_far-snoc during e) (after-snoc f (so_far during) s e sh.is ∙ leads);
   }
 
   -- the step after the start begins
@@ -383,8 +383,13 @@ module _ (f : Flight) (has : HasShow f) (before : List Event) where
       (Showing f has.number before (during ++ e ∷ []) (happens f s e) → IsKeptShow f (so_far ((during ++ e ∷ []) ++ es))) →
       (c : Choice) → choice f s e ≡ c → IsKeptShow f (so_far (during ++ e ∷ es))
   during-choice during s e es sh then harmless again Rest same =
+      let is = rest-leads f s e same in
       subst (λ xs. IsKeptShow f (so_far xs)) (append_assoc during (e ∷ []) es)
-      (again (subst (λ t. Showing f has.number before (during ++ e ∷ []) t) (sym (rest-heard f s e same)) (showing-heard during s e sh same harmless)))
+      (again (subst (λ t. Showing f has.number before (during ++ e ∷ []) t) (sym is) (showing-heard during s e s.wanted sh (λ d. rest-told f s e d same) is harmless)))
+  during-choice during s e es sh then harmless again Wait same =
+      let is = wait-leads f s e same in
+      subst (λ xs. IsKeptShow f (so_far xs)) (append_assoc during (e ∷ []) es)
+      (again (subst (λ t. Showing f has.number before (during ++ e ∷ []) t) (sym is) (showing-heard during s e true sh (λ d. wait-told f s e d same) is harmless)))
   during-choice during s e es sh then harmless again Begin same = ended during s e es sh same harmless
   during-choice during s e es sh then harmless again Descend same =
       absurd (broken f s e es (inl same) (let n = sh.next in let l = slice_get_within f.steps (suc has.number) has.next has.is_next in omega (arith, n, l)) then)
@@ -417,6 +422,7 @@ unfolding led
 seen-led f h Rest d = refl
 seen-led f h Begin d = seen_of-renewed h.tracks d
 seen-led f h Descend d = refl
+seen-led f h Wait d = refl
 seen-led f h Cut d = refl
 seen-led f h Quit d = refl
 seen-led f h Finish d = refl
@@ -574,6 +580,9 @@ module _ (f : Flight) (has : HasShow f) where
     before-choice Rest same =
         on (ap (λ (t : State). t.phase) (rest-heard f s e same) ∙ (phase-heard f s e ∙ p))
         (let k = ap (λ (t : State). t.next) (rest-heard f s e same) ∙ next-heard f s e in omega (arith, k, n))
+    before-choice Wait same =
+        on (ap (λ (t : State). t.phase) (wait-leads f s e same) ∙ (phase-heard f s e ∙ p))
+        (let k = ap (λ (t : State). t.next) (wait-leads f s e same) ∙ next-heard f s e in omega (arith, k, n))
     before-choice Begin same = by_number (ltb s.next has.number) refl same
     before-choice Descend same = absurd (broken f s e es (inl same) (let i = inside in omega (arith, n, i)) then)
     before-choice Cut same = absurd (broken f s e es (inr same) (let i = inside in omega (arith, n, i)) then)
@@ -598,6 +607,7 @@ unfolding done
 done-flown f h Rest flown has = absurd (over-not [] flown true (All-nil NoOver) has)
 done-flown f h Begin flown has = absurd (over-not (frames_of_step (next_step f h)) flown true (no_over-step (next_step f h)) has)
 done-flown f h Descend flown has = absurd (over-not (frames_from 0 (landings f h.next)) flown true (no_over-from 0 (landings f h.next)) has)
+done-flown f h Wait flown has = absurd (over-not (Noted (awaited f) ∷ []) flown true (no_over-notes (awaited f ∷ [])) has)
 done-flown f h Cut flown has = absurd (over-not (ToAll order.Halt ∷ []) flown true (no_over-all order.Halt) has)
 done-flown f h Quit flown has = absurd (over-not (ToAll order.Disarm ∷ []) flown true (no_over-all order.Disarm) has)
 done-flown f h Finish flown has = by_end (is_flown f h) flown (contains-one (Over (is_flown f h) (is_flown f h && h.kept)) (Over flown true) has) where

@@ -25,3 +25,6 @@ mod RoomRows
 mod Ours
 mod Rooms
 mod Outside
+mod Hears
+mod Wanted
+mod CoveredRows

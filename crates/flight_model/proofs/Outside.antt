@@ -1,10 +1,11 @@
 -- Who is heard outside of the room while drones are in the air has all land.
-use Rattle.flight_model.proofs.Prelude.{◌≡◌, ◌⊎◌, ◌<◌, ◌+◌, ◌∷◌, ◌++◌, ◌∙◌, ◌||◌, ◌&&◌, [], List, Bool, true, false, not, refl, sym, ap, subst, None, Some, Option, ℕ, zero, suc, take, length, eqb, inl, inr, arith, eqb-true, eqb-false, length-set, length-map, Contains-append_cases, ℤ, map, replicate, slice_get, slice_set, Contains, list_any, range_with_len, Order, Sample, Event, Clock, Seen, Answered, Said, Outside, Step, Flight, Phase, Steps, Landing, Off, Halted, Ended, Track, State, Choice, Rest, Begin, Descend, Cut, Quit, Finish, start, sent, after, drones, aged, renewed, tracked, track_with, is_fault, is_rise, order_in, has_risen, any_risen, is_airborne, is_outside, notes, land_order, is_in_room, Lands, orders_to, in_step, ordered, only_if, IsToLand, note_of, HasRisen, IsHeardOutside, OutsideLaw}
+use Rattle.flight_model.proofs.Prelude.{◌≡◌, ◌⊎◌, ◌<◌, ◌+◌, ◌∷◌, ◌++◌, ◌∙◌, ◌||◌, ◌&&◌, [], List, Bool, true, false, not, refl, sym, ap, subst, None, Some, Option, ℕ, zero, suc, take, length, eqb, inl, inr, arith, eqb-true, eqb-false, length-set, length-map, Contains-append_cases, ℤ, map, replicate, slice_get, slice_set, Contains, list_any, range_with_len, Order, Sample, Event, Clock, Seen, Answered, Said, Outside, Step, Flight, Phase, Steps, Landing, Off, Halted, Ended, Track, State, Choice, Rest, Begin, Descend, Cut, Quit, Finish, start, sent, after, drones, aged, renewed, tracked, track_with, is_fault, is_rise, order_in, has_risen, any_risen, is_airborne, is_outside, notes, land_order, is_in_room, Lands, orders_to, in_step, ordered, only_if, IsToLand, note_of, HasRisen, IsHeardOutside, OutsideLaw, Wait, LandsOrWaits}
 use Rattle.flight_model.specs.declared.events.Order.TheVariants as order
 unfoldable use Rattle.flight_model.specs.Directors.{tracks_after, heard, choice, led, happens}
 use Rattle.flight_model.proofs.Alarms.{alarm_law, outside-fault}
 use Rattle.flight_model.proofs.Beginning.{contains-nil, contains-one}
-use Rattle.flight_model.proofs.Holds.{got-back, put-here, put-other, some-track, left, IsOn, Rests, Begins, on-choice, rest-calm}
+use Rattle.flight_model.proofs.Holds.{got-back, put-here, put-other, some-track, left, IsOn, Rests, Begins, on-choice, rest-calm, was-calm}
+use Rattle.flight_model.proofs.Ending.{still-wanted}
 use Rattle.flight_model.proofs.Kept.{rest-heard}
 use Rattle.flight_model.proofs.Rises.{told-in}
 use Rattle.flight_model.proofs.Rooms.{not-in-room}
@@ -27,6 +28,7 @@ unfolding led
 long-led f h Rest = refl
 long-led f h Begin = length-map h.tracks renewed
 long-led f h Descend = refl
+long-led f h Wait = refl
 long-led f h Cut = refl
 long-led f h Quit = refl
 long-led f h Finish = refl
@@ -158,17 +160,17 @@ inside-after f s (Seen k x) inside land calm = by_track (slice_get s.tracks k) r
 inside-renewed : (ts : List Track) → AllInside (map renewed ts)
 inside-renewed ts d v e = let b = got-back ts renewed d v e in ap (λ (w : Track). w.outside) b.2
 
--- on the way, but in a show that flies on
+-- on the way, where no landing is wanted, but in a show that flies on
 abbrev IsInside : Flight → State → Type 0
-IsInside f s = s.phase ≡ Steps → IsToLand f s → AllInside s.tracks
+IsInside f s = s.phase ≡ Steps → s.wanted ≡ false → IsToLand f s → AllInside s.tracks
 
 led-inside : (f : Flight) (h : State) (c : Choice) → c ≡ Begin → AllInside (led f h c).tracks
 unfolding led
 led-inside f h c same = rw same (inside-renewed h.tracks)
 
-heard-inside : (f : Flight) (s : State) (e : Event) → IsInside f s → s.phase ≡ Steps → (happens f s e).phase ≡ Steps → IsToLand f (heard f s e) → AllInside (heard f s e).tracks
+heard-inside : (f : Flight) (s : State) (e : Event) → IsInside f s → s.phase ≡ Steps → (happens f s e).phase ≡ Steps → (happens f s e).wanted ≡ false → IsToLand f (heard f s e) → AllInside (heard f s e).tracks
 unfolding heard
-heard-inside f s e inside p q land = inside-after f s e (inside p land) land (λ k x is. rest-calm f s e k x p q is)
+heard-inside f s e inside p q calm land = inside-after f s e (inside p (was-calm f s e q calm) land) land (λ k x is. rest-calm f s e k x p q calm is)
 
 begun-inside : (f : Flight) (s : State) (e : Event) → choice f s e ≡ Begin → AllInside (happens f s e).tracks
 unfolding happens
@@ -188,11 +190,11 @@ was-on f s e q = by_phase s.phase refl where
   by_phase Ended is = by_other Ended is (λ e. cc)
 
 event-inside : (f : Flight) (s : State) (e : Event) → IsInside f s → IsInside f (happens f s e)
-event-inside f s e inside q land = by_choice (choice f s e) refl (on-choice f s e q) where
+event-inside f s e inside q calm land = by_choice (choice f s e) refl (on-choice f s e q calm) where
   by_choice : (c : Choice) → choice f s e ≡ c → IsOn c → AllInside (happens f s e).tracks
   by_choice c same Rests =
       let is = rest-heard f s e same in
-      subst (λ (t : State). AllInside t.tracks) (sym is) (heard-inside f s e inside (was-on f s e q) q (subst (λ t. IsToLand f t) is land))
+      subst (λ (t : State). AllInside t.tracks) (sym is) (heard-inside f s e inside (was-on f s e q) q calm (subst (λ t. IsToLand f t) is land))
   by_choice c same Begins = begun-inside f s e same
 
 inside-all : (f : Flight) (s : State) (es : List Event) → IsInside f s → IsInside f (after f s es)
@@ -200,7 +202,7 @@ inside-all f s [] inside = inside
 inside-all f s (e ∷ es) inside = inside-all f (happens f s e) es (event-inside f s e inside)
 
 inside-start : (f : Flight) → IsInside f (start f)
-inside-start f p land = none (drones f) where
+inside-start f p calm land = none (drones f) where
   outside_in : Option Track → Bool
   outside_in None = false
   outside_in (Some t) = t.outside
@@ -216,16 +218,19 @@ track-of : (f : Flight) (es : List Event) (d : ℕ) → d < drones f → (t : Tr
 track-of f es d l = let n = long f es in some-track (after f (start f) es).tracks d (omega (arith, n, l))
 
 told : (f : Flight) (es : List Event) (d : ℕ) (x : Sample) → IsHeardOutside f es d x → (after f (start f) es).phase ≡ Steps → IsToLand f (after f (start f) es) →
-    Contains (notes f (after f (start f) es) (Seen d x)) (note_of d Outside)
-told f es d x h p land =
+    (after f (start f) es).wanted ≡ false → Contains (notes f (after f (start f) es) (Seen d x)) (note_of d Outside)
+told f es d x h p land calm =
     let t = track-of f es d h.known in
-    (alarm_law.outside f (after f (start f) es) d x t.0 t.1 (inside-all f (start f) es (inside-start f) p land d t.0 t.1) (heard-outside f es d x h (ap is_airborne p))).noted
+    (alarm_law.outside f (after f (start f) es) d x t.0 t.1 (inside-all f (start f) es (inside-start f) p calm land d t.0 t.1) (heard-outside f es d x h (ap is_airborne p))).noted
 
 lands : (f : Flight) (es : List Event) (d : ℕ) (x : Sample) → IsHeardOutside f es d x → (after f (start f) es).phase ≡ Steps → IsToLand f (after f (start f) es) →
-    Lands f (after f (start f) es) (Seen d x)
-lands f es d x h p land =
-    let t = track-of f es d h.known in
-    (alarm_law.outside f (after f (start f) es) d x t.0 t.1 (inside-all f (start f) es (inside-start f) p land d t.0 t.1) (heard-outside f es d x h (ap is_airborne p))).lands p land
+    LandsOrWaits f (after f (start f) es) (Seen d x)
+lands f es d x h p land = by_wanted (after f (start f) es).wanted refl where
+  by_wanted : (b : Bool) → (after f (start f) es).wanted ≡ b → LandsOrWaits f (after f (start f) es) (Seen d x)
+  by_wanted true wanted = still-wanted f (after f (start f) es) (Seen d x) p refl wanted
+  by_wanted false calm =
+      let t = track-of f es d h.known in
+      (alarm_law.outside f (after f (start f) es) d x t.0 t.1 (inside-all f (start f) es (inside-start f) p calm land d t.0 t.1) (heard-outside f es d x h (ap is_airborne p))).lands p land
 
 once : (f : Flight) (es : List Event) (d : ℕ) (x : Sample) (t : Track) → IsHeardOutside f es d x → ((after f (start f) es).phase ≡ Steps) ⊎ ((after f (start f) es).phase ≡ Landing) →
     slice_get (after f (start f) es).tracks d ≡ Some t → t.outside ≡ false → Contains (notes f (after f (start f) es) (Seen d x)) (note_of d Outside)

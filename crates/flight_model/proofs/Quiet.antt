@@ -1,11 +1,11 @@
 -- No false alarm.
-use Rattle.flight_model.proofs.Prelude.{◌-◌, min, ltb, ◌≡◌, ◌≤◌, ◌+◌, ◌∷◌, ◌++◌, ◌∙◌, ◌||◌, ◌&&◌, [], List, Bool, true, false, cond, not, refl, sym, ap, subst, None, Some, Option, ℕ, suc, leb, eqb, length, arith, ltb-false, le-ltb, not-true, and_parts, leb-true, le-leb, leb-false, and-false, map, slice_get, list_any, Order, Sample, Event, Clock, Seen, Answered, Said, Late, Frame, Orders, Each, Step, Flight, Phase, Steps, Landing, Off, Halted, Ended, Track, State, Choice, Rest, Begin, Descend, Cut, Quit, Finish, start, sent, after, chosen, is_go, is_land, is_stop, is_off_hold, are_aloft, is_outside, is_silent, is_lost, is_astray, older, aged, later, passed, fits, next_step, harms, in_show, noticed, overdue, note_if, silent_from, sample_notes, seen_notes, track_with, off_with, is_flying, is_due_step, is_late_step, unfit_in, all_fit, all_answered, frames_from, frames_of, frames_of_step, landings, IsQuiet, AllQuiet, is_on_course, noted_by, notes_in, QuietLaw, IsInRoom, is_in_room, flat_map-append}
+use Rattle.flight_model.proofs.Prelude.{◌-◌, min, ltb, ◌≡◌, ◌≤◌, ◌+◌, ◌∷◌, ◌++◌, ◌∙◌, ◌||◌, ◌&&◌, [], List, Bool, true, false, cond, not, refl, sym, ap, subst, None, Some, Option, ℕ, suc, leb, eqb, length, arith, ltb-false, le-ltb, not-true, and_parts, leb-true, le-leb, leb-false, and-false, map, slice_get, list_any, Order, Sample, Event, Clock, Seen, Answered, Said, Late, Frame, Orders, Each, Step, Flight, Phase, Steps, Landing, Off, Halted, Ended, Track, State, Choice, Rest, Begin, Descend, Cut, Quit, Finish, start, sent, after, chosen, is_go, is_land, is_stop, is_off_hold, are_aloft, is_outside, is_silent, is_lost, is_astray, older, aged, later, passed, fits, next_step, harms, in_show, noticed, overdue, note_if, silent_from, sample_notes, seen_notes, track_with, off_with, is_flying, is_due_step, is_late_step, unfit_in, all_fit, all_answered, frames_from, frames_of, frames_of_step, landings, IsQuiet, AllQuiet, is_on_course, noted_by, notes_in, QuietLaw, IsInRoom, is_in_room, flat_map-append, Wait, awaits}
 use Rattle.flight_model.specs.declared.events.Signal.TheVariants as signal
 use Rattle.flight_model.specs.declared.flights.Orders.TheVariants.{All as ToEach}
 unfoldable use Rattle.flight_model.specs.Directors.{tracks_after, heard, is_due, notes, is_fault, choice, done, led, happens, says}
 use Rattle.flight_model.proofs.Rooms.{is-in-room}
-use Rattle.flight_model.proofs.Ending.{kept-all, none_harms}
-use Rattle.flight_model.proofs.Choices.{steps-has, off-has}
+use Rattle.flight_model.proofs.Ending.{kept-all, none_harms, wanted-heard}
+use Rattle.flight_model.proofs.Choices.{steps-has, landing-has, off-has, halted-has}
 
 -- ---- nothing is noted
 
@@ -95,7 +95,7 @@ module _ (slack : ℕ) (few : slack ≤ 8000) where
 
   none_overdue : (f : Flight) (s : State) (e : Event) → IsQuiet f slack s e → InTime f s → overdue f (heard f s e) e ≡ []
   unfolding heard
-  none_overdue f s e q i = by_late (is_flying s.phase) (is_due f (heard f s e) e) (is_late_step (heard f s e) (next_step f s)) refl refl where
+  none_overdue f s e q i = by_late (is_flying s.phase) (awaits f s) (is_due f (heard f s e) e) (is_late_step (heard f s e) (next_step f s)) refl refl where
     due-late : (o : Option Step) → next_step f s ≡ o → is_late_step (heard f s e) o ≡ true → is_due f (heard f s e) e ≡ true
     due-late None same late = absurd (cc)
     due-late (Some step) same late =
@@ -103,11 +103,13 @@ module _ (slack : ℕ) (few : slack ≤ 8000) where
         let l = leb-true (step.after + step.settle + 8000) (heard f s e).waited p.1 in
         due-in_time f s e step q i same (not-true step.asked p.0) (omega arith)
 
-    by_late : (a b c : Bool) → is_due f (heard f s e) e ≡ b → is_late_step (heard f s e) (next_step f s) ≡ c → note_if (a && not b && c) (unfit_in f (heard f s e) (next_step f s)) Late ≡ []
-    by_late false b c due late = refl
-    by_late true true c due late = refl
-    by_late true false false due late = refl
-    by_late true false true due late = let d = due-late (next_step f s) refl late in absurd (cc)
+    by_late : (a w b c : Bool) → is_due f (heard f s e) e ≡ b → is_late_step (heard f s e) (next_step f s) ≡ c →
+        note_if (a && not w && not b && c) (unfit_in f (heard f s e) (next_step f s)) Late ≡ []
+    by_late false w b c due late = refl
+    by_late true true b c due late = refl
+    by_late true false true c due late = refl
+    by_late true false false false due late = refl
+    by_late true false false true due late = let d = due-late (next_step f s) refl late in absurd (cc)
 
   quiet-notes : (f : Flight) (s : State) (e : Event) → IsQuiet f slack s e → InTime f s → notes f s e ≡ []
   unfolding notes
@@ -131,21 +133,18 @@ module _ (slack : ℕ) (few : slack ≤ 8000) where
   notes_in-orders (Each os) = notes_in-from 0 os
   notes_in-orders (ToEach o) = refl
 
-  notes_in-done : (f : Flight) (h : State) (c : Choice) → notes_in (done f h c) ≡ []
+  notes_in-done : (f : Flight) (h : State) (c : Choice) → (c ≡ Wait → ⊥) → notes_in (done f h c) ≡ []
   unfolding done
-  notes_in-done f h Rest = refl
-  notes_in-done f h Begin = by_step (next_step f h) where
+  notes_in-done f h Rest n = refl
+  notes_in-done f h Begin n = by_step (next_step f h) where
     by_step : (o : Option Step) → notes_in (frames_of_step o) ≡ []
     by_step None = refl
     by_step (Some step) = notes_in-orders step.orders
-  notes_in-done f h Descend = notes_in-from 0 (landings f h.next)
-  notes_in-done f h Cut = refl
-  notes_in-done f h Quit = refl
-  notes_in-done f h Finish = refl
-
-  quiet-says : (f : Flight) (s : State) (e : Event) → IsQuiet f slack s e → InTime f s → notes_in (says f s e) ≡ []
-  unfolding says
-  quiet-says f s e q i = rw (quiet-notes f s e q i) (notes_in-done f (heard f s e) (choice f s e))
+  notes_in-done f h Descend n = notes_in-from 0 (landings f h.next)
+  notes_in-done f h Wait n = absurd (n refl)
+  notes_in-done f h Cut n = refl
+  notes_in-done f h Quit n = refl
+  notes_in-done f h Finish n = refl
 
   -- ---- where it leads
 
@@ -169,30 +168,42 @@ module _ (slack : ℕ) (few : slack ≤ 8000) where
   record OnCourse (f : Flight) (s : State) : Type 0 where
     course : is_on_course s.phase ≡ true
     in_time : InTime f s
+    calm : s.wanted ≡ false
 
-  led-begin : (f : Flight) (h : State) → OnCourse f (led f h Begin)
+  led-begin : (f : Flight) (h : State) → h.wanted ≡ false → OnCourse f (led f h Begin)
   unfolding led
-  led-begin f h = record { course = by_last (eqb (suc h.next) (length f.steps)); in_time = λ step same asked. omega arith } where
+  led-begin f h calm = record { course = by_last (eqb (suc h.next) (length f.steps)); in_time = λ step same asked. omega arith; calm = calm } where
     by_last : (b : Bool) → is_on_course (cond b Off Steps) ≡ true
     by_last true = refl
     by_last false = refl
 
   led-finish : (f : Flight) (h : State) → OnCourse f (led f h Finish)
   unfolding led
-  led-finish f h = record { course = refl; in_time = λ step same asked. omega arith }
+  led-finish f h = record { course = refl; in_time = λ step same asked. omega arith; calm = refl }
 
   led-rest : (f : Flight) (h : State) → OnCourse f h → OnCourse f (led f h Rest)
   unfolding led
   led-rest f h i = i
 
+  no_or : (w a b : Bool) → w ≡ false → a ≡ false → b ≡ false → w || (a || b) ≡ true → ⊥
+  no_or true a b v x y z = cc
+  no_or false true b v x y z = cc
+  no_or false false b v x y z = cc
+
+  never-waits : (f : Flight) (h : State) (e : Event) (fault : Bool) (p : Phase) → h.wanted ≡ false → is_land e ≡ false → fault ≡ false → chosen f h e fault p ≡ Wait → ⊥
+  never-waits f h e fault Steps calm on well =
+      steps-has (λ c. c ≡ Wait → ⊥) f h e fault (λ stop is. cc) (λ g land may is. cc) (λ g land no first is. no_or h.wanted (is_land e) fault calm on well land) (λ g o due is. cc) (λ is. cc)
+  never-waits f h e fault Landing calm on well = landing-has (λ c. c ≡ Wait → ⊥) f h e fault (λ stop is. cc) (λ g is. cc) (λ g is. cc)
+  never-waits f h e fault Off calm on well = off-has (λ c. c ≡ Wait → ⊥) f h e fault (λ stop is. cc) (λ g is. cc) (λ g is. cc)
+  never-waits f h e fault Halted calm on well = halted-has (λ c. c ≡ Wait → ⊥) f h e fault (λ is. cc) (λ is. cc)
+  never-waits f h e fault Ended calm on well = λ is. cc
+
   course-chosen : (f : Flight) (h : State) (e : Event) (fault : Bool) (p : Phase) → h.phase ≡ p → OnCourse f h →
       is_stop e ≡ false → is_land e ≡ false → fault ≡ false → OnCourse f (led f h (chosen f h e fault p))
   course-chosen f h e fault Steps same i go on well =
       steps-has (λ c. OnCourse f (led f h c)) f h e fault
-      (λ stop. absurd (cc)) (λ g land. absurd (no_or (is_land e) fault on well land)) (λ g o due. led-begin f h) (led-rest f h i) where
-        no_or : (a b : Bool) → a ≡ false → b ≡ false → a || b ≡ true → ⊥
-        no_or true b x y z = cc
-        no_or false b x y z = cc
+      (λ stop. absurd (cc)) (λ g land may. absurd (no_or h.wanted (is_land e) fault i.calm on well land))
+      (λ g land no first. absurd (no_or h.wanted (is_land e) fault i.calm on well land)) (λ g o due. led-begin f h i.calm) (led-rest f h i)
   course-chosen f h e fault Landing same i go on well = let c = i.course in let d : is_on_course h.phase ≡ false = ap is_on_course same in absurd (cc)
   course-chosen f h e fault Off same i go on well =
       off-has (λ c. OnCourse f (led f h c)) f h e fault (λ stop. absurd (cc)) (λ g. led-finish f h) (λ g. led-rest f h i)
@@ -204,12 +215,20 @@ module _ (slack : ℕ) (few : slack ≤ 8000) where
   phase-heard f s e = refl
 
   heard-course : (f : Flight) (s : State) (e : Event) → IsQuiet f slack s e → OnCourse f s → OnCourse f (heard f s e)
-  heard-course f s e q i = record { course = ap is_on_course (phase-heard f s e) ∙ i.course; in_time = heard-in_time f s e q i.in_time }
+  heard-course f s e q i = record { course = ap is_on_course (phase-heard f s e) ∙ i.course; in_time = heard-in_time f s e q i.in_time; calm = wanted-heard f s e ∙ i.calm }
 
   course-event : (f : Flight) (s : State) (e : Event) → IsQuiet f slack s e → OnCourse f s → OnCourse f (happens f s e)
   unfolding happens choice
   course-event f s e q i =
       course-chosen f (heard f s e) e (is_fault f s e) s.phase (phase-heard f s e) (heard-course f s e q i) (no_stop f s e q) (no_land f s e q) (quiet-fault f s e q i.in_time)
+
+  no-wait : (f : Flight) (s : State) (e : Event) → IsQuiet f slack s e → OnCourse f s → choice f s e ≡ Wait → ⊥
+  unfolding choice
+  no-wait f s e q i = never-waits f (heard f s e) e (is_fault f s e) s.phase (wanted-heard f s e ∙ i.calm) (no_land f s e q) (quiet-fault f s e q i.in_time)
+
+  quiet-says : (f : Flight) (s : State) (e : Event) → IsQuiet f slack s e → OnCourse f s → notes_in (says f s e) ≡ []
+  unfolding says
+  quiet-says f s e q i = rw (quiet-notes f s e q i.in_time) (notes_in-done f (heard f s e) (choice f s e) (no-wait f s e q i))
 
   course-all : (f : Flight) (s : State) (events : List Event) → AllQuiet f slack s events → OnCourse f s → OnCourse f (after f s events)
   course-all f s [] q i = i
@@ -253,17 +272,17 @@ module _ (slack : ℕ) (few : slack ≤ 8000) where
   -- ---- the law
 
   course-start : (f : Flight) → OnCourse f (start f)
-  course-start f = record { course = refl; in_time = λ step same asked. omega arith }
+  course-start f = record { course = refl; in_time = λ step same asked. omega arith; calm = refl }
 
   noted-all : (f : Flight) (s : State) (events : List Event) → AllQuiet f slack s events → OnCourse f s → notes_in (sent f s events) ≡ []
   noted-all f s [] q i = refl
   noted-all f s (e ∷ es) q i =
       notes_in-append (says f s e) (sent f (happens f s e) es)
-      ∙ rw (quiet-says f s e q.0 i.in_time, noted-all f (happens f s e) es q.1 (course-event f s e q.0 i)) refl
+      ∙ rw (quiet-says f s e q.0 i, noted-all f (happens f s e) es q.1 (course-event f s e q.0 i)) refl
 
-  begins : (f : Flight) (h : State) (e : Event) (fault : Bool) (p : Phase) → p ≡ Steps → is_stop e ≡ false → is_land e ≡ false → fault ≡ false → is_due f h e ≡ true →
+  begins : (f : Flight) (h : State) (e : Event) (fault : Bool) (p : Phase) → p ≡ Steps → is_stop e ≡ false → h.wanted ≡ false → is_land e ≡ false → fault ≡ false → is_due f h e ≡ true →
       chosen f h e fault p ≡ Begin
-  begins f h e fault p same go on well due = subst (λ q. chosen f h e fault q ≡ Begin) (sym same) (rw (go, on, well, due) refl)
+  begins f h e fault p same go calm on well due = subst (λ q. chosen f h e fault q ≡ Begin) (sym same) (rw (go, due, calm, on, well) refl)
 
   led-next : (f : Flight) (h : State) (c : Choice) → c ≡ Begin → (led f h c).next ≡ suc h.next
   unfolding led
@@ -274,7 +293,7 @@ module _ (slack : ℕ) (few : slack ≤ 8000) where
   unfolding happens choice heard
   prompt-event f s e step q i p same asked over =
       led-next f (heard f s e) (choice f s e)
-      (begins f (heard f s e) e (is_fault f s e) s.phase p (no_stop f s e q) (no_land f s e q) (quiet-fault f s e q i.in_time)
+      (begins f (heard f s e) e (is_fault f s e) s.phase p (no_stop f s e q) (wanted-heard f s e ∙ i.calm) (no_land f s e q) (quiet-fault f s e q i.in_time)
       (due-in_time f s e step q i.in_time same asked over))
 
   -- the last event of a list

@@ -5,7 +5,7 @@ use Rattle.flight_model.specs.declared.events.Signal.TheVariants as signal
 use Rattle.flight_model.specs.declared.events.Fault.TheVariants as fault
 unfoldable use Rattle.flight_model.specs.Legs.{steps_of}
 unfoldable use Rattle.flight_model.specs.Samples.{is_fit_by, is_kept, is_on_course}
-unfoldable use Rattle.flight_model.specs.Directors.{tracks_after, heard, is_due, notes, is_fault, choice, done, led, happens, says}
+unfoldable use Rattle.flight_model.specs.Directors.{tracks_after, heard, may_land, is_due, notes, is_fault, choice, done, led, happens, says}
 unfoldable use Rattle.fleet_math.specs.Decoded.{decoded}
 unfoldable use Rattle.fleet_math.specs.Moments.{moment}
 unfoldable use Rattle.fleet_math.specs.Bernstein.{bernstein}
@@ -33,6 +33,7 @@ at_ready = record {
   stood = 0;
   showing = false;
   kept = true;
+  wanted = false;
   tracks = seen_at (pos 0) (pos 1000) ∷ seen_at (pos 2000) (pos 1000) ∷ [];
   answered = false ∷ false ∷ [];
 }
@@ -164,7 +165,7 @@ pub record Rows : Type 0 where
   corner : fits (pos 60) (negsuc 59) (pos 0) ≡ false
 
 pub rows : Rows
-unfolding steps_of is_fit_by is_kept is_on_course tracks_after heard is_due notes is_fault choice done led happens says flight says_all comes_to begun plan fits decoded moment bernstein
+unfolding steps_of is_fit_by is_kept is_on_course tracks_after heard may_land is_due notes is_fault choice done led happens says flight says_all comes_to begun plan fits decoded moment bernstein
 rows = record {
   planned = refl;
   rises = refl;

@@ -1,5 +1,5 @@
 -- The orders to a drone are those of the first steps, then possibly the landing, disarm and halt.
-use Rattle.flight_model.proofs.Prelude.{◌≡◌, ◌∷◌, ◌++◌, ◌∙◌, [], List, Bool, true, false, cond, refl, sym, ap, subst, None, Some, Option, ℕ, suc, take, length, eqb, append-nil, append_assoc, ltb-true, ltb-false, ltb, map, slice_get, Order, Event, Noted, Step, Flight, Phase, Steps, Landing, Off, Halted, Ended, State, Choice, Rest, Begin, Descend, start, sent, after, chosen, is_fault, notes, order_in, frames_from, landings, land_order, has_risen, drones, next_step, is_due_step, orders_to, in_step, ordered, only_if, OnlyOrders, OnlyLaw}
+use Rattle.flight_model.proofs.Prelude.{◌≡◌, ◌∷◌, ◌++◌, ◌∙◌, [], List, Bool, true, false, cond, refl, sym, ap, subst, None, Some, Option, ℕ, suc, take, length, eqb, append-nil, append_assoc, ltb-true, ltb-false, ltb, map, slice_get, Order, Event, Noted, Step, Flight, Phase, Steps, Landing, Off, Halted, Ended, State, Choice, Rest, Begin, Descend, start, sent, after, chosen, is_fault, notes, order_in, frames_from, landings, land_order, has_risen, drones, next_step, is_due_step, orders_to, in_step, ordered, only_if, OnlyOrders, OnlyLaw, Wait}
 use Rattle.flight_model.specs.declared.events.Order.TheVariants as order
 unfoldable use Rattle.flight_model.specs.Directors.{heard, is_due, choice, done, led, happens, says}
 use Rattle.flight_model.proofs.OrdersTo.{orders_to-append, orders_to-notes, orders_to-of_step, orders_to-landing, orders_to-no_landing, ordered-next}
@@ -158,7 +158,7 @@ next-chosen : (f : Flight) (d : ℕ) (h : State) (e : Event) (fault : Bool) (os 
 unfolding led done
 next-chosen f d h e fault os Steps t =
     steps-has (Next f d h os Steps) f (as_phase h Steps) e fault
-    (λ stop. told-halt f d h.next os false false t) (λ go land. next-descend f d h os t)
+    (λ stop. told-halt f d h.next os false false t) (λ go land may. next-descend f d h os t) (λ go land no first. next-rest f d h os Steps t)
     (λ go on due. next-begin f d (as_phase h Steps) e os t due) (next-rest f d h os Steps t)
 next-chosen f d h e fault os Landing t =
     landing-has (Next f d h os Landing) f (as_phase h Landing) e fault

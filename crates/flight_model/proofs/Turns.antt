@@ -1,5 +1,5 @@
 -- In whose turn each order goes out.
-use Rattle.flight_model.proofs.Prelude.{◌≡◌, ◌⊎◌, ◌≤◌, ◌∷◌, ◌∙◌, ◌||◌, ◌&&◌, [], List, Bool, true, false, not, cond, refl, sym, ap, subst, None, Some, Option, ℕ, zero, suc, inl, inr, ◌-◌, ◌+◌, ◌<◌, ◌++◌, length, leb, ltb, eqb, arith, ℤ, map, slice_get, Contains, All, option_map, append_assoc, flat_map, range_with_len, stands_at, and_parts, not-true, leb-true, ltb-true, ltb-false, ne_eqb, eqb-true, eqb-false, Traj, Order, Sample, Event, Clock, Seen, Answered, Said, Position, Condition, Step, Flight, Routes, Leg, legs_of, leg, moves, has_moved, will_move, arm_order, up_order, down_order, way_begins, position_of, leg_count, leg_ms, ms_before, up_bound, down_bound, arm_condition, group_step, arm_step, down_condition, up_condition, start_condition, start_step, up_step, down_step, lasts, last_condition, last_step, Phase, Steps, Landing, Off, Halted, Ended, Track, State, Choice, Rest, Begin, Descend, Cut, Quit, Finish, chosen, is_fault, is_stop, is_down, all_down, are_down, end_step, has_landed, order_in, says, later, passed, land_order, has_risen, drones, orders_to, only_if, IsNear, StandsAt, MayBegin, IsOnward, Arms, Rises, Starts, twice, MayGoOn, MayArm, MayRise, MayStart, AtPads, IsSeenDown, AllDown, TurnLaw}
+use Rattle.flight_model.proofs.Prelude.{◌≡◌, ◌⊎◌, ◌≤◌, ◌∷◌, ◌∙◌, ◌||◌, ◌&&◌, [], List, Bool, true, false, not, cond, refl, sym, ap, subst, None, Some, Option, ℕ, zero, suc, inl, inr, ◌-◌, ◌+◌, ◌<◌, ◌++◌, length, leb, ltb, eqb, arith, ℤ, map, slice_get, Contains, All, option_map, append_assoc, flat_map, range_with_len, stands_at, and_parts, not-true, leb-true, ltb-true, ltb-false, ne_eqb, eqb-true, eqb-false, Traj, Order, Sample, Event, Clock, Seen, Answered, Said, Position, Condition, Step, Flight, Routes, Leg, legs_of, leg, moves, has_moved, will_move, arm_order, up_order, down_order, way_begins, position_of, leg_count, leg_ms, ms_before, up_bound, down_bound, arm_condition, group_step, arm_step, down_condition, up_condition, start_condition, start_step, up_step, down_step, lasts, last_condition, last_step, Phase, Steps, Landing, Off, Halted, Ended, Track, State, Choice, Rest, Begin, Descend, Cut, Quit, Finish, chosen, is_fault, is_stop, is_down, all_down, are_down, end_step, has_landed, order_in, says, later, passed, land_order, has_risen, drones, orders_to, only_if, IsNear, StandsAt, MayBegin, IsOnward, Arms, Rises, Starts, twice, MayGoOn, MayArm, MayRise, MayStart, AtPads, IsSeenDown, AllDown, TurnLaw, Wait}
 use Rattle.flight_model.specs.declared.events.Order.TheVariants as order
 use Rattle.flight_model.specs.declared.events.Signal.TheVariants as signal
 unfoldable use Rattle.flight_model.specs.Legs.{steps_of}
@@ -87,6 +87,7 @@ unfolding led
 led-most f h Rest = omega arith
 led-most f h Begin = omega arith
 led-most f h Descend = omega arith
+led-most f h Wait = omega arith
 led-most f h Cut = omega arith
 led-most f h Quit = omega arith
 led-most f h Finish = omega arith
@@ -327,6 +328,7 @@ ends-by f s e d o Rest has other = absurd (contains-nil o has)
 ends-by f s e d o Begin has other = inl refl
 ends-by f s e d o Cut has other = inr (inr (refl, sym (contains-one order.Halt o has)))
 ends-by f s e d o Quit has other = inr (inl (refl, sym (contains-one order.Disarm o has)))
+ends-by f s e d o Wait has other = absurd (contains-nil o has)
 ends-by f s e d o Finish has other = absurd (contains-nil o has)
 ends-by f s e d o Descend has other = absurd (by_drone (ltb d (drones f)) refl) where
   by_told : (b : Bool) → Contains (only_if b (land_order f)) o → ⊥
@@ -348,7 +350,7 @@ stop-true (Answered d status) h = absurd (cc)
 -- all is cut off at the operator's stop alone
 cut-stops : (f : Flight) (h : State) (e : Event) (fault : Bool) (p : Phase) → chosen f h e fault p ≡ Cut → e ≡ Said signal.Stop
 cut-stops f h e fault Steps same =
-    steps-has (λ c. c ≡ Cut → e ≡ Said signal.Stop) f h e fault (λ stop is. stop-true e stop) (λ go land is. absurd (cc)) (λ go on due is. absurd (cc)) (λ is. absurd (cc)) same
+    steps-has (λ c. c ≡ Cut → e ≡ Said signal.Stop) f h e fault (λ stop is. stop-true e stop) (λ go land may is. absurd (cc)) (λ go land no first is. absurd (cc)) (λ go on due is. absurd (cc)) (λ is. absurd (cc)) same
 cut-stops f h e fault Landing same = landing-has (λ c. c ≡ Cut → e ≡ Said signal.Stop) f h e fault (λ stop is. stop-true e stop) (λ go is. absurd (cc)) (λ go is. absurd (cc)) same
 cut-stops f h e fault Off same = off-has (λ c. c ≡ Cut → e ≡ Said signal.Stop) f h e fault (λ stop is. stop-true e stop) (λ go is. absurd (cc)) (λ go is. absurd (cc)) same
 cut-stops f h e fault Halted same = halted-has (λ c. c ≡ Cut → e ≡ Said signal.Stop) f h e fault (λ is. absurd (cc)) (λ is. absurd (cc)) same
@@ -362,8 +364,8 @@ landed false false e = absurd (cc)
 
 quit-lands : (f : Flight) (h : State) (e : Event) (fault : Bool) (p : Phase) → chosen f h e fault p ≡ Quit → (p ≡ Landing) × (has_landed f h ≡ true)
 quit-lands f h e fault Steps same =
-    steps-has (λ c. c ≡ Quit → (Steps ≡ Landing) × (has_landed f h ≡ true)) f h e fault (λ stop is. absurd (cc)) (λ go land is. absurd (cc)) (λ go on due is. absurd (cc))
-    (λ is. absurd (cc)) same
+    steps-has (λ c. c ≡ Quit → (Steps ≡ Landing) × (has_landed f h ≡ true)) f h e fault (λ stop is. absurd (cc)) (λ go land may is. absurd (cc)) (λ go land no first is. absurd (cc))
+    (λ go on due is. absurd (cc)) (λ is. absurd (cc)) same
 quit-lands f h e fault Landing same = (refl, landed (is_stop e) (has_landed f h) same)
 quit-lands f h e fault Off same =
     off-has (λ c. c ≡ Quit → (Off ≡ Landing) × (has_landed f h ≡ true)) f h e fault (λ stop is. absurd (cc)) (λ go is. absurd (cc)) (λ go is. absurd (cc)) same

@@ -12,6 +12,7 @@ use Rattle.flight_model.specs.declared.events.Event.{Event}
 use Rattle.flight_model.specs.declared.events.Event.TheVariants.{Clock, Seen, Answered, Said}
 use Rattle.flight_model.specs.declared.events.Fault.{Fault}
 use Rattle.flight_model.specs.declared.events.Fault.TheVariants.{Silent, Astray, Lost, Refused, Late, Unsure, Outside}
+use Rattle.flight_model.specs.declared.events.Fault.TheVariants.{Uncovered}
 use Rattle.flight_model.specs.declared.events.Note.{Note}
 use Rattle.flight_model.specs.declared.events.Frame.{Frame}
 use Rattle.flight_model.specs.declared.events.Frame.TheVariants.{To, ToAll, Noted, Over}
@@ -20,6 +21,7 @@ use Rattle.flight_model.specs.declared.flights.Orders.{Orders}
 use Rattle.flight_model.specs.declared.flights.Orders.TheVariants.{Each, All as ToEach}
 use Rattle.flight_model.specs.declared.flights.Hold.{Hold}
 use Rattle.flight_model.specs.declared.flights.Step.{Step}
+use Rattle.flight_model.specs.declared.flights.Window.{Window}
 use Rattle.flight_model.specs.declared.flights.Flight.{Flight}
 use Rattle.flight_model.specs.Samples.{is_fit, is_in_stretch, is_kept, stands_at}
 use Rattle.flight_model.specs.Rooms.{is_in_room}
@@ -27,7 +29,7 @@ pub use Rattle.flight_model.specs.declared.states.Phase.{Phase}
 pub use Rattle.flight_model.specs.declared.states.Phase.TheVariants.{Steps, Landing, Off, Halted, Ended}
 pub use Rattle.flight_model.specs.declared.states.Track.{Track}
 pub use Rattle.flight_model.specs.declared.states.Choice.{Choice}
-pub use Rattle.flight_model.specs.declared.states.Choice.TheVariants.{Rest, Begin, Descend, Cut, Quit, Finish}
+pub use Rattle.flight_model.specs.declared.states.Choice.TheVariants.{Rest, Begin, Descend, Wait, Cut, Quit, Finish}
 
 -- ---- the state
 
@@ -46,6 +48,8 @@ pub record State : Type 0 where
   pub showing : Bool
   -- nothing has harmed the show
   pub kept : Bool
+  -- all that have risen are to land, and no window has covered that yet
+  pub wanted : Bool
   pub tracks : List Track
   -- by drone, whether it has answered with 0 since the last step began
   pub answered : List Bool
@@ -64,6 +68,7 @@ start f = record {
   stood = 0;
   showing = false;
   kept = true;
+  wanted = false;
   tracks = replicate (drones f) (record { seen = None; off = None; unsure = None; outside = false });
   answered = replicate (drones f) false;
 }
@@ -107,6 +112,58 @@ are_aloft f s = is_airborne s.phase && any_risen f s.next
 -- the sample comes while drones are in the air, and is outside of the flight's room
 abbrev pub is_outside : Flight → State → Sample → Bool
 is_outside f s x = are_aloft f s && not (is_in_room f.room x)
+
+-- ---- who hears of a landing, and when it is covered
+
+-- A drone may be deaf to an order if its last sample is older than 300 ms, or if there is none.
+abbrev pub may_be_deaf : Option Sample → Bool
+may_be_deaf None = true
+may_be_deaf (Some x) = nat_lt 300 x.age
+
+abbrev pub one_if : Bool → ℕ → List ℕ
+one_if b d = if b then d ∷ [] else []
+
+-- the drones that were told to rise in the first n steps and may be deaf, from drone d on
+abbrev pub deaf_from : Flight → (n d : ℕ) → List Track → List ℕ
+deaf_from f n d [] = []
+deaf_from f n d (t ∷ ts) = one_if (has_risen f n d && may_be_deaf t.seen) d ++ deaf_from f n (suc d) ts
+
+-- the same drone, or none both times
+abbrev pub is_same : Option ℕ → Option ℕ → Bool
+is_same None None = true
+is_same None (Some k) = false
+is_same (Some d) None = false
+is_same (Some d) (Some k) = d == k
+
+-- the window covers a landing `ms` after step n, with this drone deaf or none
+abbrev pub is_window : ℕ → ℕ → Option ℕ → Window → Bool
+is_window n ms deaf w = w.step == n && nat_le w.from ms && nat_le ms w.to && is_same w.deaf deaf
+
+abbrev pub has_window : List Window → ℕ → ℕ → Option ℕ → Bool
+has_window ws n ms deaf = list_any (λ (w : Window). is_window n ms deaf w) ws
+
+-- Who may be deaf may also hear: a window has to cover that all do, and another one that this drone doesn't. No window
+-- has two drones deaf.
+abbrev pub is_covered : List Window → ℕ → ℕ → List ℕ → Bool
+is_covered ws n ms [] = has_window ws n ms None
+is_covered ws n ms (d ∷ []) = has_window ws n ms None && has_window ws n ms (Some d)
+is_covered ws n ms (d ∷ k ∷ ds) = false
+
+abbrev pub covers : Option (List Window) → Flight → State → Bool
+covers None f s = true
+covers (Some ws) f s = is_covered ws s.next s.waited (deaf_from f s.next 0 s.tracks)
+
+-- All that have risen may land now: nobody has, or no windows are listed, or they cover it.
+unfoldable pub may_land : Flight → State → Bool
+may_land f s = not (any_risen f s.next) || covers f.windows f s
+
+abbrev pub are_listed : Option (List Window) → Bool
+are_listed None = false
+are_listed (Some ws) = true
+
+-- a landing waits for a window
+abbrev pub awaits : Flight → State → Bool
+awaits f s = s.wanted && are_listed f.windows
 
 -- ---- an event is heard
 
@@ -344,11 +401,11 @@ abbrev pub unfit_in : Flight → State → Option Step → ℕ
 unfit_in f s None = 0
 unfit_in f s (Some step) = first_unfit f.silence 0 step.conditions s.tracks
 
--- the next step is late, for the sake of this drone
+-- the next step is late, for the sake of this drone; none is where a landing waits
 abbrev pub overdue : Flight → State → Event → List Note
 overdue f s e =
-    note_if (is_flying s.phase && not (is_due f s e) && is_late_step s (next_step f s)) (unfit_in f s (next_step f s))
-    Late
+    note_if (is_flying s.phase && not (awaits f s) && not (is_due f s e) && is_late_step s (next_step f s))
+    (unfit_in f s (next_step f s)) Late
 
 -- all notes of an event
 unfoldable pub notes : Flight → State → Event → List Note
@@ -364,6 +421,7 @@ is_grave f s Refused = true
 is_grave f s Late = true
 is_grave f s Unsure = not (s.showing && f.flies_on)
 is_grave f s Outside = not (s.showing && f.flies_on)
+is_grave f s Uncovered = false
 
 unfoldable pub is_fault : Flight → State → Event → Bool
 is_fault f s e = list_any (λ (n : Note). is_grave f s n.fault) (notes f s e)
@@ -387,11 +445,16 @@ has_landed f s = are_down f true (end_step f) s.tracks || nat_le 5000 s.stood
 abbrev pub is_over : Flight → State → Bool
 is_over f s = all_seen f.silence is_disarmed s.tracks || nat_le 5000 s.waited
 
--- on the way, in a state that has heard e; `fault` says whether there was a grave fault
+-- a landing is wanted: it goes out where it is covered, and else is waited for
+abbrev pub on_landing : Flight → State → Choice
+on_landing f s = if may_land f s then Descend else (if s.wanted then Rest else Wait)
+
+-- On the way, in a state that has heard e; `fault` says whether there was a grave fault. While a landing is wanted no
+-- step begins: the one that is flown is flown to its end.
 abbrev pub on_the_way : Flight → State → Event → Bool → Choice
 on_the_way f s e fault =
     if is_stop e then Cut
-    else (if is_land e || fault then Descend
+    else (if s.wanted || (is_land e || fault) then on_landing f s
     else (if is_due f s e then Begin else Rest))
 
 -- and in each phase
@@ -406,6 +469,10 @@ unfoldable pub choice : Flight → State → Event → Choice
 choice f s e = chosen f (heard f s e) e (is_fault f s e) s.phase
 
 -- ---- what is said
+
+-- people are told that a landing is waited for: a note of no drone
+abbrev pub awaited : Flight → Note
+awaited f = record { drone = drones f; fault = Uncovered }
 
 -- orders by drone, from drone d on
 abbrev pub frames_from : ℕ → List (Option Order) → List Frame
@@ -440,6 +507,7 @@ unfoldable pub done : Flight → State → Choice → List Frame
 done f s Rest = []
 done f s Begin = frames_of_step (next_step f s)
 done f s Descend = frames_from 0 (landings f s.next)
+done f s Wait = Noted (awaited f) ∷ []
 done f s Cut = ToAll order.Halt ∷ []
 done f s Quit = ToAll order.Disarm ∷ []
 done f s Finish = Over (is_flown f s) (is_flown f s && s.kept) ∷ []
@@ -457,7 +525,7 @@ starts (Some step) = starts_with step.orders
 
 -- a new phase
 abbrev pub into : State → Phase → State
-into s p = record s { phase = p; waited = 0; steady = 0; stood = 0; showing = false }
+into s p = record s { phase = p; waited = 0; steady = 0; stood = 0; showing = false; wanted = false }
 
 -- from a step on answers are waited for anew
 abbrev pub unanswered : List Bool → List Bool
@@ -479,6 +547,7 @@ led f s Begin = record s {
   answered = unanswered s.answered;
 }
 led f s Descend = into s Landing
+led f s Wait = record s { wanted = true }
 led f s Cut = into s Halted
 led f s Quit = into s Off
 led f s Finish = into s Ended

@@ -1,6 +1,6 @@
 -- A small flight from pad to pad: two drones, one leg up, a show of one cue, one leg down. The laws' premises hold of
 -- it.
-use Rattle.std.specs.Prelude.{◌≡◌, ℕ, Bool, true, false, not, List, [], ◌∷◌, ◌++◌, ℤ, pos}
+use Rattle.std.specs.Prelude.{◌≡◌, ℕ, Bool, true, false, not, List, [], ◌∷◌, ◌++◌, ℤ, pos, None}
 use Rattle.traj_codec.specs.declared.traj.Traj.{Traj}
 use Rattle.traj_codec.specs.declared.traj.Element.{Element}
 use Rattle.traj_codec.specs.declared.traj.Element.TheVariants.{Constant, Cubic, Seven}
@@ -83,6 +83,7 @@ flight flies_on = record {
   flies_on = flies_on;
   floor = pos 0;
   descent = 4000;
+  windows = None;
 }
 
 -- ---- its events

@@ -7,7 +7,7 @@ use Rattle.flight_model.specs.declared.flights.Stretch.TheVariants as stretch
 use Rattle.flight_model.specs.declared.flights.Flight.{Flight}
 use Rattle.flight_model.specs.Legs.{Routes, hold_in, lasts, leg_count, leg_ms, legs_of, ms_until, steps_of}
 use Rattle.flight_model.specs.Directors.{State, is_off_hold, last_hold, most_ms, start, happens, after}
-use Rattle.flight_model.specs.Law.{Lands}
+use Rattle.flight_model.specs.Law.{LandsOrWaits}
 use Rattle.flight_model.specs.Alarms.{IsToLand}
 use Rattle.flight_model.specs.Kept.{time}
 use Rattle.flight_model.specs.Turns.{twice}
@@ -44,7 +44,7 @@ pub record HoldLaw : Type 0 where
   pub down : (f : Flight) (w : Routes) → f.steps ≡ steps_of w → (k : ℕ) → k < leg_count (map legs_of w.down) →
       last_hold f (suc (suc (twice (leg_count (map legs_of w.up)) + suc k)))
       ≡ hold_in stretch.Down (ms_until (map legs_of w.down) k) (leg_ms (map legs_of w.down) k)
-  -- Who is off there for 300 ms has all land, in the very event of the sample that shows it.
+  -- Who is off there for 300 ms has all land, in the very event of the sample that shows it, or as soon as they may.
   pub lands : (f : Flight) (d : ℕ) (earlier between : List Event) (first last : Sample) →
       IsOffFor f d earlier between first last →
-      Lands f (after f (start f) (earlier ++ Seen d first ∷ between)) (Seen d last)
+      LandsOrWaits f (after f (start f) (earlier ++ Seen d first ∷ between)) (Seen d last)

@@ -18,7 +18,8 @@ use Rattle.flight_model.specs.declared.flights.Step.{Step}
 use Rattle.flight_model.specs.declared.flights.Flight.{Flight}
 use Rattle.flight_model.specs.Samples.{square}
 use Rattle.flight_model.specs.Directors.{Phase, is_off, is_off_hold, next_step, is_silent, all_fit, Steps, Landing, Off, Halted}
-use Rattle.flight_model.specs.Directors.{all_answered, are_aloft}
+use Rattle.flight_model.specs.Directors.{all_answered, are_aloft, awaited}
+use Rattle.flight_model.specs.Hears.{MayLand}
 use Rattle.flight_model.specs.Rooms.{IsInRoom}
 use Rattle.flight_model.specs.Directors.{Ended, Track, State, start, drones, order_in, land_order, landings}
 use Rattle.flight_model.specs.Directors.{frames_from, has_risen, heard, notes, is_fault, happens, says, after, sent}
@@ -115,20 +116,35 @@ pub record DueLaw : Type 0 where
       Contains (orders_to d (says f s e)) o → MayBegin f s e
   pub steps : (f : Flight) (s : State) (e : Event) → ((happens f s e).next ≡ s.next) ⊎ MayBegin f s e
 
--- ---- land, fault and halt: at once
+-- ---- land, fault and halt: at once, or as soon as a landing is covered
 
--- The operator's land, and a fault that lands, at once: in every state on the way, what goes out at the event ends with
--- the landing of each drone that has risen, and the director has left the way.
+-- All land: what goes out at the event ends with the landing of each drone that has risen, and the director has left
+-- the way.
 abbrev pub Lands : Flight → State → Event → Type 0
 Lands f s e =
     (says f s e ≡ map Noted (notes f s e) ++ frames_from 0 (landings f s.next)) × ((happens f s e).phase ≡ Landing)
+
+-- Nobody is told anything at the event: the step that began last is flown on, and a landing is wanted from then on. At
+-- the first such event people are told so.
+pub record Waits (f : Flight) (s : State) (e : Event) : Type 0 where
+  pub nothing : (d : ℕ) → orders_to d (says f s e) ≡ []
+  pub phase : (happens f s e).phase ≡ Steps
+  pub next : (happens f s e).next ≡ s.next
+  pub wanted : (happens f s e).wanted ≡ true
+  pub noted : s.wanted ≡ false → Contains (says f s e) (Noted (awaited f))
+
+-- All land where they may, in the state that has heard the event, and else it is waited for. Where no windows are
+-- listed they always may.
+pub record LandsOrWaits (f : Flight) (s : State) (e : Event) : Type 0 where
+  pub lands : MayLand f (heard f s e) → Lands f s e
+  pub waits : (MayLand f (heard f s e) → ⊥) → Waits f s e
 
 -- disarm or halt
 abbrev pub IsLast : Order → Type 0
 IsLast o = (o ≡ order.Disarm) ⊎ (o ≡ order.Halt)
 
 pub record LandLaw : Type 0 where
-  pub now : (f : Flight) (s : State) → s.phase ≡ Steps → Lands f s (Said signal.Land)
+  pub now : (f : Flight) (s : State) → s.phase ≡ Steps → LandsOrWaits f s (Said signal.Land)
   -- off the way a drone is told nothing but disarm and halt, whatever comes
   pub afterwards : (f : Flight) (s : State) → s.phase ≢ Steps → (events : List Event) (d : ℕ) →
       All IsLast (orders_to d (sent f s events))
@@ -138,7 +154,8 @@ pub record LandLaw : Type 0 where
 
 abbrev pub FaultLaw : Type 0
 FaultLaw =
-    (f : Flight) (s : State) (e : Event) → s.phase ≡ Steps → e ≢ Said signal.Stop → is_fault f s e ≡ true → Lands f s e
+    (f : Flight) (s : State) (e : Event) → s.phase ≡ Steps → e ≢ Said signal.Stop → is_fault f s e ≡ true →
+    LandsOrWaits f s e
 
 -- The operator's stop goes out at once, in every phase before a halt or the end; and after it nothing does.
 pub record HaltLaw : Type 0 where

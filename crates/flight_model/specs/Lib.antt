@@ -2,6 +2,7 @@ pub mod Legs
 pub mod Samples
 pub mod Rooms
 pub mod Directors
+pub mod Hears
 pub mod Law
 pub mod Alarms
 pub mod Rises
@@ -15,3 +16,4 @@ pub mod Holds
 pub mod Watched
 pub mod Ours
 pub mod Outside
+pub mod Wanted

@@ -1,4 +1,5 @@
--- Who is heard outside of the flight's room while drones are in the air is told of, and all land in that very event.
+-- Who is heard outside of the flight's room while drones are in the air is told of, and all land in that very event, or
+-- as soon as they may.
 use Rattle.std.specs.Prelude.{◌≡◌, ◌⊎◌, ℕ, ◌<◌, true, false, List, ◌++◌, ℤ, pos, negsuc, slice_get, Some}
 use Rattle.std.specs.Prelude.{Contains}
 use Rattle.flight_model.specs.declared.events.Order.TheVariants as order
@@ -9,7 +10,7 @@ use Rattle.flight_model.specs.declared.events.Fault.TheVariants.{Outside}
 use Rattle.flight_model.specs.declared.flights.Flight.{Flight}
 use Rattle.flight_model.specs.Rooms.{IsInRoom, is_in_room, room_of}
 use Rattle.flight_model.specs.Directors.{Track, Steps, Landing, drones, start, notes, after, sent}
-use Rattle.flight_model.specs.Law.{Lands, orders_to}
+use Rattle.flight_model.specs.Law.{LandsOrWaits, orders_to}
 use Rattle.flight_model.specs.Alarms.{IsToLand, note_of}
 use Rattle.flight_model.specs.Example.{down_at, room, sample, show_at, two, up_at}
 
@@ -29,14 +30,17 @@ pub record IsHeardOutside (f : Flight) (events : List Event) (d : ℕ) (x : Samp
 
 -- Of every flight and every list of events.
 pub record OutsideLaw : Type 0 where
-  -- On the way people are told of it, and all land, in that very event, but in a show that flies on.
+  -- On the way people are told of it, unless a landing waits; and all land, in that very event, or as soon as they may,
+  -- but in a show that flies on.
   pub told : (f : Flight) (events : List Event) (d : ℕ) (x : Sample) → IsHeardOutside f events d x →
       (after f (start f) events).phase ≡ Steps → IsToLand f (after f (start f) events) →
+      (after f (start f) events).wanted ≡ false →
       Contains (notes f (after f (start f) events) (Seen d x)) (note_of d Outside)
   pub lands : (f : Flight) (events : List Event) (d : ℕ) (x : Sample) → IsHeardOutside f events d x →
       (after f (start f) events).phase ≡ Steps → IsToLand f (after f (start f) events) →
-      Lands f (after f (start f) events) (Seen d x)
-  -- In such a show, and while all land, people are told of it, unless its last sample was outside too.
+      LandsOrWaits f (after f (start f) events) (Seen d x)
+  -- In such a show, while a landing waits, and while all land, people are told of it, unless its last sample was
+  -- outside too.
   pub once : (f : Flight) (events : List Event) (d : ℕ) (x : Sample) (t : Track) → IsHeardOutside f events d x →
       ((after f (start f) events).phase ≡ Steps) ⊎ ((after f (start f) events).phase ≡ Landing) →
       slice_get (after f (start f) events).tracks d ≡ Some t → t.outside ≡ false →

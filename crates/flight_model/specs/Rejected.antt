@@ -149,6 +149,7 @@ brief = record {
   flies_on = true;
   floor = pos 0;
   descent = 4000;
+  windows = None;
 }
 
 -- the drone y mm aside

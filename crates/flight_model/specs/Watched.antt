@@ -14,6 +14,7 @@ since n waited = record {
   stood = 0;
   showing = false;
   kept = true;
+  wanted = false;
   tracks = [];
   answered = [];
 }

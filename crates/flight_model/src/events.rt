@@ -99,6 +99,8 @@ pub enum Fault {
     Unsure,
     /// While drones are in the air, it is outside of the flight's room.
     Outside,
+    /// A landing is wanted, and waits for a window that covers it. Its note names no drone: the number after the last.
+    Uncovered,
 }
 
 /// A fault of a drone, as people are told of it.

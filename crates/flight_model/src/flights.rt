@@ -85,6 +85,18 @@ pub struct Room {
     pub margin: u32,
 }
 
+/// When a landing is covered: a show was accepted in which all that have risen land where they are, from an instant of
+/// this window on. Its ends are included, in milliseconds after the last step.
+#[derive(Clone, Copy, Debug, PartialEq, Eq)]
+pub struct Window {
+    /// How many steps have begun.
+    pub step: u32,
+    pub from: u32,
+    pub to: u32,
+    /// A drone that doesn't hear of the landing, and flies on in that show.
+    pub deaf: Option<u8>,
+}
+
 /// A step of a flight: when it begins, the condition of each drone for that, and its orders. Times in milliseconds.
 #[derive(Debug, Drop)]
 pub struct Step {
@@ -125,4 +137,6 @@ pub struct Flight {
     /// Where all land that have risen: to this height, in this time.
     pub floor: i16,
     pub descent: u32,
+    /// When they may: in these windows alone; or at any time, where no windows are listed.
+    pub windows: Option<Listed<Window>>,
 }

@@ -15,6 +15,7 @@ ghost use Rattle.flight_model.specs.Watched.{WatchedRows};
 ghost use Rattle.flight_model.specs.Ours.{GroupRows, OursLaw};
 ghost use Rattle.flight_model.specs.Rooms.{RoomOfLaw};
 ghost use Rattle.flight_model.specs.Outside.{OutsideLaw, RoomRows};
+ghost use Rattle.flight_model.specs.Wanted.{CoveredLaw, CoveredRows, WantedLaw};
 
 /// The steps of three ways order of each drone: leg by leg up, the start, leg by leg down, and disarm. A drone that
 /// obeys the order of a leg from where the leg begins flies along the leg.
@@ -34,6 +35,8 @@ pub fn director_law()
     ensures alarm { AlarmLaw }
     ensures hold { HoldLaw }
     ensures outside { OutsideLaw }
+    ensures covered { CoveredLaw }
+    ensures wanted { WantedLaw }
     ensures ours { OursLaw }
     ensures halt { HaltLaw }
     ensures over { OverLaw }
@@ -61,6 +64,11 @@ pub fn watched_law()
 pub fn room_law()
     ensures room { RoomOfLaw }
     ensures rows { RoomRows }
+{}
+
+/// When a landing is covered, and whom it may not reach: each value beside one that differs.
+pub fn hears_law()
+    ensures { CoveredRows }
 {}
 
 /// Whom packets for a group reach, and when drones are armed: each value beside one that differs.

@@ -37,6 +37,8 @@ pub enum Choice {
     Begin,
     /// All that have risen land.
     Descend,
+    /// From now on all that have risen are to land, as soon as a window covers that.
+    Wait,
     /// All motors stop.
     Cut,
     /// All disarm.

@@ -1,7 +1,8 @@
 //! Whole flights by the director. The values are those that `flight_model`'s rows compute from the definitions.
 
-use crate::flights::{TOP, flight};
-use flight_director::{Director, Event, Fault, Frame, Note, Order, Out, Sample, Signal};
+use crate::flights::{TOP, flight, flight_with};
+use flight_director::{Director, Event, Fault, Frame, Note, Order, Out, Sample, Signal, Window};
+use listed::Listed;
 use std::alloc::{AllocError, Global};
 use std::test::Fail;
 
@@ -424,6 +425,69 @@ fn lands_who_is_outside(rt: HostRuntime) -> Result<(), Fail> {
         let said = said_at(rt.alloc(), x, y, z)?;
         assert_eq!(rt; said.len(), 3, "{x} {y} {z}");
         assert!(rt; said.as_slice().first() == Some(&OUTSIDE), "{x} {y} {z}");
+    }
+    Ok(())
+}
+
+// How much goes out at the operator's land, and a millisecond later, 3.5 s after both were told to rise. So long ago
+// the second drone was heard.
+fn said_in(
+    alloc: Global,
+    from: u32,
+    to: u32,
+    deaf: Option<u8>,
+    age: u32,
+) -> Result<(usize, usize), AllocError> {
+    let mut windows = Vec::new(alloc);
+    for deaf in [None, deaf] {
+        windows.push(Window {
+            step: 3,
+            from,
+            to,
+            deaf,
+        })?;
+    }
+    let mut d = Director::make(flight_with(alloc, Some(Listed::from_vec(windows)))?);
+    let mut all = Vec::new(alloc);
+    go_up(&mut d, &mut all)?;
+    let late = Sample {
+        age,
+        ..sample(2000, 0, TOP, true, false)
+    };
+    hear(
+        &mut d,
+        Event::Seen {
+            drone: 1,
+            sample: late,
+        },
+        &mut all,
+    )?;
+    all.clear();
+    say(&mut d, Signal::Land, &mut all)?;
+    let now = all.len();
+    all.clear();
+    hear(&mut d, Event::Clock { ms: 1 }, &mut all)?;
+    Ok((now, all.len()))
+}
+
+// Both land in the window, which a note says is waited for. Who was heard more than 300 ms ago may be deaf.
+#[test]
+fn lands_in_a_window(rt: HostRuntime) -> Result<(), Fail> {
+    for (from, to, deaf, age, wanted) in [
+        (3500, 3500, None, 0, (2, 0)),
+        (3501, 9000, None, 0, (1, 2)),
+        (3502, 9000, None, 0, (1, 0)),
+        (0, 3499, None, 0, (1, 0)),
+        (0, 9000, None, 300, (2, 0)),
+        (0, 9000, None, 301, (1, 0)),
+        (0, 9000, Some(1), 301, (2, 0)),
+        (0, 9000, Some(0), 301, (1, 0)),
+    ] {
+        assert_eq!(rt;
+            said_in(rt.alloc(), from, to, deaf, age)?,
+            wanted,
+            "{from} {to} {age}"
+        );
     }
     Ok(())
 }

@@ -7,7 +7,7 @@ ghost use Rattle.flight_model.specs.declared.flights.Step.{Step as StepWord};
 ghost use Rattle.flight_director.specs.Held.{AreFew, IsCourse, IsHeld};
 
 use flight_model::{
-    Condition, Course, Flight, Hold, Order, Orders, Position, Room, Span, Step, Stretch,
+    Condition, Course, Flight, Hold, Order, Orders, Position, Room, Span, Step, Stretch, Window,
 };
 use listed::Listed;
 use std::alloc::{AllocError, Global};
@@ -207,7 +207,15 @@ fn room() -> Room {
     }
 }
 
+// Its drones may land at any time.
 pub fn flight(alloc: Global) -> Result<Flight, AllocError>
+    ensures { IfOk result (λ f. IsHeld f) }
+{
+    flight_with(alloc, None)
+}
+
+// They may land in these windows alone, if any are listed.
+pub fn flight_with(alloc: Global, windows: Option<Listed<Window>>) -> Result<Flight, AllocError>
     ensures { IfOk result (λ f. IsHeld f) }
 {
     let steps = steps(alloc)?;
@@ -227,5 +235,6 @@ pub fn flight(alloc: Global) -> Result<Flight, AllocError>
         flies_on: true,
         floor: 0,
         descent: 4000,
+        windows,
     })
 }

@@ -129,7 +129,7 @@ macro_rules! over {
     };
 }
 
-const WRITTEN: [(Frame, &[u8]); 18] = [
+const WRITTEN: [(Frame, &[u8]); 19] = [
     (to_one!(3, RISE), &[1, 3, 1, 0xE8, 0x03, 0xD0, 0x07, 0, 0]),
     (
         to_one!(31, GO),
@@ -150,6 +150,7 @@ const WRITTEN: [(Frame, &[u8]); 18] = [
     (noted!(Fault::Late), &[3, 7, 4]),
     (noted!(Fault::Unsure), &[3, 7, 5]),
     (noted!(Fault::Outside), &[3, 7, 6]),
+    (noted!(Fault::Uncovered), &[3, 7, 7]),
     (over!(false, false), &[4, 0]),
     (over!(true, false), &[4, 1]),
     (over!(true, true), &[4, 3]),

@@ -6,6 +6,7 @@ use Rattle.flight_model.proofs.Ending as ending
 use Rattle.flight_model.proofs.Alarms as alarms
 use Rattle.flight_model.proofs.Holds as holds
 use Rattle.flight_model.proofs.Outside as outside
+use Rattle.flight_model.proofs.Wanted as wanted
 use Rattle.flight_model.proofs.Ours as ours
 use Rattle.flight_model.proofs.Flown as flown
 use Rattle.flight_model.proofs.Kept as kept
@@ -38,6 +39,12 @@ returns-clause-hold c = holds.hold_law
 
 pub returns-clause-outside : goal.returns-clause-outside
 returns-clause-outside c = outside.outside_law
+
+pub returns-clause-covered : goal.returns-clause-covered
+returns-clause-covered c = wanted.covered_law
+
+pub returns-clause-wanted : goal.returns-clause-wanted
+returns-clause-wanted c = wanted.wanted_law
 
 pub returns-clause-ours : goal.returns-clause-ours
 returns-clause-ours c = ours.ours_law

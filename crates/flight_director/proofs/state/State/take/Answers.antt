@@ -13,6 +13,7 @@ returns-then-d-len c =
       stood = c.self.inside.stood;
       showing = c.self.inside.showing;
       kept = c.self.inside.kept;
+      wanted = c.self.inside.wanted;
       tracks = c.self.inside.tracks.items;
       answered = c.self.inside.answered.items;
     } in

@@ -1,7 +1,7 @@
 use Rattle.flight_director.proofs.Prelude.{◌≡◌, ◌∙◌, ◌||◌, ◌+◌, ◌-◌, ℕ, List, Bool, false, length, sym, ap, arith, list_any, range_with_len, drones, has_risen}
 use Rattle.traj_codec.specs.declared.traj.Traj.{Traj}
 use Rattle.flight_director.proofs.Walks.{any-step}
-use Rattle.flight_director.proofs.state.any_risen.Goals as goal
+use Rattle.flight_director.proofs.risen.any_risen.Goals as goal
 
 pub loop-d-preserved : goal.loop-d-preserved
 loop-d-preserved c =
