@@ -7,7 +7,7 @@ use Rattle.flight_model.specs.declared.flights.Orders.TheVariants.{Each, All as 
 use Rattle.flight_model.specs.declared.flights.Step.{Step}
 unfoldable use Rattle.flight_model.specs.Directors.{choice, done, heard, happens as happens_word, led, says as says_word}
 use Rattle.flight_model.specs.declared.states.Choice.{Choice}
-use Rattle.flight_model.specs.declared.states.Choice.TheVariants.{Begin, Cut, Descend, Finish, Quit, Rest}
+use Rattle.flight_model.specs.declared.states.Choice.TheVariants.{Begin, Cut, Descend, Finish, Quit, Rest, Wait}
 use Rattle.flight_model.specs.declared.states.Phase.{Phase}
 use Rattle.flight_model.specs.declared.states.Phase.TheVariants.{Ended, Off, Steps}
 use Rattle.flight_link.proofs.SendLemmas.{end-append}
@@ -46,6 +46,7 @@ unfolding done led
 agrees-led f h Rest n = inl (refl, n)
 agrees-led f h Begin n = inl (step_says (next_step f h), not_ended (suc h.next == length f.steps))
 agrees-led f h Descend n = inl (orders_say 0 (landings f h.next), λ e. cc)
+agrees-led f h Wait n = inl (refl, n)
 agrees-led f h Cut n = inl (refl, λ e. cc)
 agrees-led f h Quit n = inl (refl, λ e. cc)
 agrees-led f h Finish n = inr ((λ e. cc), refl)
