@@ -1,5 +1,5 @@
 -- What is wrong is told, and lands all.
-use Rattle.flight_model.proofs.Prelude.{◌≡◌, ◌≢◌, ◌<◌, ◌≤◌, ◌+◌, ◌-◌, ◌∷◌, ◌∙◌, ◌||◌, ◌&&◌, [], List, Bool, true, false, cond, not, refl, sym, ap, subst, None, Some, Option, ℕ, zero, suc, leb, ltb, eqb, arith, le-leb, lt-leb, le-ltb, lt-ltb, ne_eqb, All-nil, All-cons, All-contains, Contains-append_left, Contains-append_right, All, Contains, slice_get, list_any, Sample, Event, Clock, Seen, Answered, Said, Fault, Silent, Astray, Lost, Refused, Late, Unsure, Outside, Note, Step, Flight, Track, State, Steps, is_due, next_step, is_off_hold, is_outside, is_lost, is_astray, is_late_step, is_flying, falls_silent, silent_from, later, off_with, note_if, sample_notes, seen_notes, track_with, noticed, overdue, unfit_in, is_grave, Lands, note_of, HasLasted, Alarms, IsToLand, AlarmLaw, ◌⊎◌, inl, inr, awaits, are_listed, and-false, LandsOrWaits}
+use Rattle.flight_model.proofs.Prelude.{◌≡◌, ◌≢◌, ◌<◌, ◌≤◌, ◌+◌, ◌-◌, ◌∷◌, ◌∙◌, ◌||◌, ◌&&◌, [], List, Bool, true, false, cond, not, refl, sym, ap, subst, None, Some, Option, ℕ, zero, suc, leb, ltb, eqb, arith, le-leb, lt-leb, le-ltb, lt-ltb, ne_eqb, All-nil, All-cons, All-contains, Contains-append_left, Contains-append_right, All, Contains, slice_get, list_any, Sample, Event, Clock, Seen, Answered, Said, Fault, Silent, Astray, Lost, Refused, Late, Unsure, Outside, Note, Step, Flight, Track, State, Steps, is_due, next_step, is_off_hold, is_outside, is_lost, is_astray, is_late_step, is_flying, falls_silent, silent_from, later, off_with, note_if, sample_notes, seen_notes, track_with, noticed, overdue, unfit_in, is_grave, note_of, HasLasted, Alarms, IsToLand, AlarmLaw, ◌⊎◌, inl, inr, awaits, are_listed, and-false, LandsOrWaits}
 use Rattle.flight_model.specs.declared.events.Signal.TheVariants as signal
 unfoldable use Rattle.flight_model.specs.Directors.{heard, notes, is_fault}
 use Rattle.flight_model.proofs.Ending.{fault_law}

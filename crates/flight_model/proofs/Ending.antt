@@ -1,5 +1,5 @@
 -- Land, fault and stop; and what is said of the show.
-use Rattle.flight_model.proofs.Prelude.{arith, ◌≡◌, ◌≢◌, ◌⊎◌, ◌<◌, ◌∷◌, ◌∙◌, ◌||◌, ◌&&◌, [], List, Bool, true, false, not, refl, sym, ap, subst, ℕ, inl, inr, All-append, All-nil, All-cons, and_assoc, All, Order, Event, Clock, Seen, Answered, Said, Flight, Phase, Steps, Landing, Off, Halted, Ended, State, Choice, Rest, Begin, Descend, Cut, Quit, Finish, sent, after, chosen, is_fault, is_stop, is_land, harms, frames_from, landings, land_order, has_risen, drones, orders_to, only_if, Lands, IsLast, LandLaw, FaultLaw, HaltLaw, cond, Wait, Noted, awaited, on_landing, notes, map, Contains, Contains-append_right, MayLand, Waits, LandsOrWaits}
+use Rattle.flight_model.proofs.Prelude.{arith, ◌≡◌, ◌≢◌, ◌⊎◌, ◌<◌, ◌∷◌, ◌∙◌, ◌||◌, ◌&&◌, [], List, Bool, true, false, not, refl, sym, ap, subst, ℕ, inl, inr, All-append, All-nil, All-cons, and_assoc, All, Order, Event, Clock, Seen, Answered, Said, Flight, Phase, Steps, Landing, Off, Halted, Ended, State, Choice, Rest, Begin, Descend, Cut, Quit, Finish, sent, after, chosen, is_fault, is_stop, is_land, harms, frames_from, landings, land_order, has_risen, drones, orders_to, only_if, Lands, IsLast, LandLaw, FaultLaw, HaltLaw, cond, Wait, Noted, awaited, on_landing, notes, map, Contains, Contains-append_right, Waits, LandsOrWaits}
 use Rattle.flight_model.specs.declared.events.Order.TheVariants as order
 use Rattle.flight_model.specs.declared.events.Signal.TheVariants as signal
 unfoldable use Rattle.flight_model.specs.Directors.{heard, is_due, choice, done, led, happens, says}

@@ -1,5 +1,5 @@
 -- What the director looks at is whether all may land.
-use Rattle.flight_model.proofs.Prelude.{◌≡◌, ◌⊎◌, ◌≤◌, ◌<◌, ◌+◌, ◌∷◌, ◌++◌, ◌∙◌, ◌||◌, ◌&&◌, [], List, Bool, true, false, cond, not, refl, sym, ap, subst, None, Some, Option, ℕ, zero, suc, inl, inr, leb, ltb, eqb, arith, and_parts, not-true, leb-true, le-leb, ltb-true, lt-ltb, eqb-true, eq-eqb, slice_get, list_any, Contains, Contains-append_left, Contains-append_right, Contains-append_cases, Sample, Flight, Window, Track, State, any_risen, has_risen, may_be_deaf, one_if, deaf_from, is_same, is_window, has_window, is_covered, covers, MayBeDeaf, HasWindow, IsCovered, MayLand}
+use Rattle.flight_model.proofs.Prelude.{◌≡◌, ◌⊎◌, ◌<◌, ◌+◌, ◌∷◌, ◌++◌, ◌∙◌, ◌||◌, ◌&&◌, [], List, Bool, true, false, not, refl, sym, ap, subst, None, Some, Option, ℕ, zero, suc, inl, inr, leb, eqb, arith, and_parts, leb-true, le-leb, ltb-true, lt-ltb, eqb-true, eq-eqb, slice_get, list_any, Contains, Contains-append_left, Contains-append_right, Contains-append_cases, Sample, Flight, Window, Track, State, any_risen, has_risen, may_be_deaf, one_if, deaf_from, is_same, is_window, has_window, is_covered, covers, MayBeDeaf, HasWindow, IsCovered, MayLand}
 unfoldable use Rattle.flight_model.specs.Directors.{may_land}
 
 both : (a b : Bool) → a ≡ true → b ≡ true → a && b ≡ true

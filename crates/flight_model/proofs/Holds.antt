@@ -1,5 +1,5 @@
 -- Who is off where it is told to be for 300 ms has all land.
-use Rattle.flight_model.proofs.Prelude.{◌≡◌, ◌≢◌, ◌<◌, ◌≤◌, ◌+◌, ◌-◌, ◌∷◌, ◌++◌, ◌∙◌, ◌&&◌, [], List, Bool, true, false, cond, not, min, refl, sym, ap, subst, None, Some, Option, ℕ, zero, suc, length, leb, eqb, arith, and_parts, eqb-true, eqb-false, leb-false, map, replicate, slice_get, slice_set, flat_map, range_with_len, Sample, Event, Clock, Seen, Answered, Said, Step, Flight, Routes, legs_of, leg_count, leg_ms, ms_until, hold_in, lasts, arm_step, up_step, start_step, down_step, Phase, Steps, Landing, Off, Halted, Ended, Track, State, Choice, Rest, Begin, Descend, Cut, Quit, Finish, start, after, drones, most_ms, passed, older, aged, renewed, tracked, track_with, off_with, is_astray, is_flying, is_fault, is_off_hold, keeps_hold, held_by, last_hold, later, Lands, IsToLand, HasLasted, time, twice, Wait, LandsOrWaits}
+use Rattle.flight_model.proofs.Prelude.{◌≡◌, ◌≢◌, ◌<◌, ◌≤◌, ◌+◌, ◌-◌, ◌∷◌, ◌++◌, ◌∙◌, ◌&&◌, [], List, Bool, true, false, cond, not, min, refl, sym, ap, subst, None, Some, Option, ℕ, zero, suc, length, leb, eqb, arith, and_parts, eqb-true, eqb-false, leb-false, map, replicate, slice_get, slice_set, flat_map, range_with_len, Sample, Event, Clock, Seen, Answered, Said, Step, Flight, Routes, legs_of, leg_count, leg_ms, ms_until, hold_in, lasts, arm_step, up_step, start_step, down_step, Phase, Steps, Landing, Off, Halted, Ended, Track, State, Choice, Rest, Begin, Descend, Cut, Quit, Finish, start, after, drones, most_ms, passed, older, aged, renewed, tracked, track_with, off_with, is_astray, is_flying, is_fault, is_off_hold, keeps_hold, held_by, last_hold, later, IsToLand, HasLasted, time, twice, Wait, LandsOrWaits}
 use Rattle.flight_model.specs.declared.events.Signal.TheVariants as signal
 use Rattle.flight_model.specs.declared.flights.Stretch.TheVariants as stretch
 unfoldable use Rattle.flight_model.specs.Legs.{steps_of}

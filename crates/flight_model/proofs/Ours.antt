@@ -1,5 +1,5 @@
 -- Whom the orders of a flight reach, and that each of its drones is in the group before anybody is armed.
-use Rattle.flight_model.proofs.Prelude.{◌≡◌, ◌⊎◌, ◌<◌, ◌≤◌, ◌∷◌, ◌++◌, ◌∙◌, [], List, Bool, true, false, cond, refl, sym, ap, subst, None, Some, Option, ℕ, zero, suc, inl, inr, take, drop, length, eqb, arith, eqb-true, eqb-false, append_assoc, length-set, length-map, All-head, Contains-append_cases, Contains-append_left, Contains-append_right, Contains-push, slice_get_within, map, replicate, slice_get, slice_set, Contains, flat_map, range_with_len, Traj, Order, Event, Clock, Seen, Answered, Said, Frame, To, ToAll, Noted, Over, Step, Flight, Routes, IsFlight, IsWayUp, Leg, legs_of, leg_count, first_move, group_step, arm_step, State, Choice, Rest, Begin, Descend, Cut, Quit, Finish, start, sent, after, says, drones, order_in, frames_of_step, land_order, answered_after, unanswered, orders_to, in_step, ordered, only_if, OnlyOrders, MayBegin, IsOnward, flight_group, is_for, Drone, does, obeys, obeys_all, overheard_by, overheard, HasJoined, OursLaw, Wait}
+use Rattle.flight_model.proofs.Prelude.{◌≡◌, ◌⊎◌, ◌<◌, ◌≤◌, ◌∷◌, ◌++◌, ◌∙◌, [], List, Bool, true, false, cond, refl, sym, ap, subst, None, Some, Option, ℕ, zero, suc, inl, inr, take, drop, length, eqb, arith, eqb-true, eqb-false, append_assoc, length-set, length-map, All-head, Contains-append_cases, Contains-append_left, Contains-append_right, Contains-push, slice_get_within, map, replicate, slice_get, slice_set, Contains, Traj, Order, Event, Clock, Seen, Answered, Said, Frame, To, ToAll, Noted, Over, Step, Flight, Routes, IsFlight, IsWayUp, Leg, legs_of, leg_count, first_move, group_step, arm_step, State, Choice, Rest, Begin, Descend, Cut, Quit, Finish, start, sent, after, says, drones, order_in, frames_of_step, land_order, answered_after, unanswered, orders_to, in_step, ordered, only_if, OnlyOrders, MayBegin, IsOnward, flight_group, is_for, Drone, does, obeys, obeys_all, overheard_by, overheard, HasJoined, OursLaw, Wait}
 use Rattle.flight_model.specs.declared.events.Order.TheVariants as order
 unfoldable use Rattle.flight_model.specs.Legs.{steps_of}
 unfoldable use Rattle.flight_model.specs.Directors.{heard, choice, done, led, happens}

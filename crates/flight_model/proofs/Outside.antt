@@ -1,5 +1,5 @@
 -- Who is heard outside of the room while drones are in the air has all land.
-use Rattle.flight_model.proofs.Prelude.{◌≡◌, ◌⊎◌, ◌<◌, ◌+◌, ◌∷◌, ◌++◌, ◌∙◌, ◌||◌, ◌&&◌, [], List, Bool, true, false, not, refl, sym, ap, subst, None, Some, Option, ℕ, zero, suc, take, length, eqb, inl, inr, arith, eqb-true, eqb-false, length-set, length-map, Contains-append_cases, ℤ, map, replicate, slice_get, slice_set, Contains, list_any, range_with_len, Order, Sample, Event, Clock, Seen, Answered, Said, Outside, Step, Flight, Phase, Steps, Landing, Off, Halted, Ended, Track, State, Choice, Rest, Begin, Descend, Cut, Quit, Finish, start, sent, after, drones, aged, renewed, tracked, track_with, is_fault, is_rise, order_in, has_risen, any_risen, is_airborne, is_outside, notes, land_order, is_in_room, Lands, orders_to, in_step, ordered, only_if, IsToLand, note_of, HasRisen, IsHeardOutside, OutsideLaw, Wait, LandsOrWaits}
+use Rattle.flight_model.proofs.Prelude.{◌≡◌, ◌⊎◌, ◌<◌, ◌+◌, ◌∷◌, ◌++◌, ◌∙◌, ◌||◌, ◌&&◌, [], List, Bool, true, false, not, refl, sym, ap, subst, None, Some, Option, ℕ, zero, suc, take, length, eqb, inl, inr, arith, eqb-true, eqb-false, length-set, length-map, Contains-append_cases, ℤ, map, replicate, slice_get, slice_set, Contains, list_any, range_with_len, Order, Sample, Event, Clock, Seen, Answered, Said, Outside, Step, Flight, Phase, Steps, Landing, Off, Halted, Ended, Track, State, Choice, Rest, Begin, Descend, Cut, Quit, Finish, start, sent, after, drones, aged, renewed, tracked, track_with, is_fault, is_rise, order_in, has_risen, any_risen, is_airborne, is_outside, notes, land_order, is_in_room, orders_to, in_step, ordered, only_if, IsToLand, note_of, HasRisen, IsHeardOutside, OutsideLaw, Wait, LandsOrWaits}
 use Rattle.flight_model.specs.declared.events.Order.TheVariants as order
 unfoldable use Rattle.flight_model.specs.Directors.{tracks_after, heard, choice, led, happens}
 use Rattle.flight_model.proofs.Alarms.{alarm_law, outside-fault}

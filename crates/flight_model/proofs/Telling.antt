@@ -1,5 +1,5 @@
 -- The orders to a drone are those of the first steps, then possibly the landing, disarm and halt.
-use Rattle.flight_model.proofs.Prelude.{◌≡◌, ◌∷◌, ◌++◌, ◌∙◌, [], List, Bool, true, false, cond, refl, sym, ap, subst, None, Some, Option, ℕ, suc, take, length, eqb, append-nil, append_assoc, ltb-true, ltb-false, ltb, map, slice_get, Order, Event, Noted, Step, Flight, Phase, Steps, Landing, Off, Halted, Ended, State, Choice, Rest, Begin, Descend, start, sent, after, chosen, is_fault, notes, order_in, frames_from, landings, land_order, has_risen, drones, next_step, is_due_step, orders_to, in_step, ordered, only_if, OnlyOrders, OnlyLaw, Wait}
+use Rattle.flight_model.proofs.Prelude.{◌≡◌, ◌∷◌, ◌++◌, ◌∙◌, [], List, Bool, true, false, cond, refl, sym, ap, subst, None, Some, Option, ℕ, suc, take, length, eqb, append-nil, append_assoc, ltb-true, ltb-false, ltb, map, slice_get, Order, Event, Noted, Step, Flight, Phase, Steps, Landing, Off, Halted, Ended, State, Choice, Rest, Begin, Descend, start, sent, after, chosen, is_fault, notes, order_in, frames_from, landings, land_order, has_risen, drones, next_step, is_due_step, orders_to, in_step, ordered, only_if, OnlyOrders, OnlyLaw}
 use Rattle.flight_model.specs.declared.events.Order.TheVariants as order
 unfoldable use Rattle.flight_model.specs.Directors.{heard, is_due, choice, done, led, happens, says}
 use Rattle.flight_model.proofs.OrdersTo.{orders_to-append, orders_to-notes, orders_to-of_step, orders_to-landing, orders_to-no_landing, ordered-next}

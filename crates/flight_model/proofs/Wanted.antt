@@ -1,5 +1,5 @@
 -- Each landing is covered, and one that is wanted goes out at the first event at which all may land.
-use Rattle.flight_model.proofs.Prelude.{◌≡◌, ◌≢◌, ◌⊎◌, ◌∷◌, ◌++◌, ◌∙◌, ◌||◌, ◌&&◌, [], List, Bool, true, false, cond, refl, sym, ap, subst, None, ℕ, suc, inl, inr, ltb, eqb, length, ltb-true, ltb-false, ℤ, Contains, Order, Event, Clock, Seen, Answered, Said, Flight, Phase, Steps, Landing, Off, Halted, Ended, State, Choice, Rest, Begin, Descend, Wait, Cut, Quit, Finish, start, sent, after, chosen, is_stop, is_land, is_fault, says, orders_to, Lands, LandsOrWaits, MayBegin, MayLand}
+use Rattle.flight_model.proofs.Prelude.{◌≡◌, ◌≢◌, ◌⊎◌, ◌∷◌, ◌∙◌, ◌||◌, [], List, Bool, true, false, cond, refl, sym, subst, None, ℕ, suc, inl, inr, eqb, length, ℤ, Contains, Event, Clock, Seen, Answered, Said, Flight, Phase, Steps, Landing, Off, Halted, Ended, State, Choice, Rest, Begin, Descend, Wait, Cut, Quit, Finish, start, sent, after, chosen, is_land, is_fault, says, orders_to, Lands, LandsOrWaits, MayBegin, MayLand}
 use Rattle.flight_model.specs.declared.events.Order.TheVariants as order
 use Rattle.flight_model.specs.declared.events.Signal.TheVariants as signal
 unfoldable use Rattle.flight_model.specs.Directors.{heard, may_land, choice, done, led, happens}
