@@ -1,432 +1,450 @@
 //! Whole flights by the director. The values are those that `flight_model`'s rows compute from the definitions.
 
 use crate::flights::{TOP, flight, flight_with};
+use arrayvec::ArrayVec;
 use flight_director::{Director, Event, Fault, Frame, Note, Order, Out, Sample, Signal, Window};
 use listed::Listed;
 use std::alloc::{AllocError, Global};
 use std::test::Fail;
 
-fn sample(x: i16, y: i16, z: i16, armed: bool, down: bool) -> Sample {
-    Sample {
-        age: 0,
-        x,
-        y,
-        z,
-        ready: true,
-        armed,
-        lost: false,
-        down,
-        flying: !down,
-        sure: true,
-    }
-}
+// ---- what happens
 
-// What one event sends, put after the others.
-fn hear(d: &mut Director, e: Event, all: &mut Vec<Frame>) -> Result<(), AllocError> {
-    let mut out = Out::new();
-    d.event(&e, &mut out);
-    for frame in out.as_slice() {
-        all.push(*frame)?;
-    }
-    Ok(())
-}
-
-fn hear_both(
-    d: &mut Director,
-    y: i16,
-    z: i16,
-    armed: bool,
-    down: bool,
-    all: &mut Vec<Frame>,
-) -> Result<(), AllocError> {
-    hear(
-        d,
+// A drone is heard: its number, its position, and whether it is armed, is down, flies and is sure.
+macro_rules! seen {
+    ($drone:expr, [$x:expr, $y:expr, $z:expr], $armed:expr, $down:expr, $flying:expr, $sure:expr) => {
         Event::Seen {
-            drone: 0,
-            sample: sample(0, y, z, armed, down),
-        },
-        all,
-    )?;
-    hear(
-        d,
-        Event::Seen {
-            drone: 1,
-            sample: sample(2000, y, z, armed, down),
-        },
-        all,
-    )
+            drone: $drone,
+            sample: Sample {
+                age: 0,
+                x: $x,
+                y: $y,
+                z: $z,
+                ready: true,
+                armed: $armed,
+                lost: false,
+                down: $down,
+                flying: $flying,
+                sure: $sure,
+            },
+        }
+    };
 }
 
-fn half(
-    d: &mut Director,
-    y: i16,
-    z: i16,
-    armed: bool,
-    down: bool,
-    all: &mut Vec<Frame>,
-) -> Result<(), AllocError> {
-    hear(d, Event::Clock { ms: 500 }, all)?;
-    hear_both(d, y, z, armed, down, all)
+// The first drone is heard in the air, and standing.
+macro_rules! flies {
+    ($x:expr, $y:expr, $z:expr) => {
+        &[seen!(0, [$x, $y, $z], true, false, true, true)]
+    };
 }
 
-fn say(d: &mut Director, signal: Signal, all: &mut Vec<Frame>) -> Result<(), AllocError> {
-    hear(d, Event::Said { signal }, all)
+macro_rules! stands {
+    ($x:expr, $y:expr, $z:expr) => {
+        &[seen!(0, [$x, $y, $z], false, true, false, true)]
+    };
 }
 
-fn answer(d: &mut Director, drone: u8, all: &mut Vec<Frame>) -> Result<(), AllocError> {
-    hear(d, Event::Answered { drone, status: 0 }, all)
+macro_rules! later {
+    ($ms:expr) => {
+        &[Event::Clock { ms: $ms }]
+    };
 }
 
-// Both stand on their pads, and are in the flight's group.
-fn join(d: &mut Director, all: &mut Vec<Frame>) -> Result<(), AllocError> {
-    hear_both(d, 0, 0, false, true, all)?;
-    answer(d, 0, all)?;
-    answer(d, 1, all)
+// Half a second later both are heard in the air, the second two metres aside.
+macro_rules! half {
+    ($y:expr, $z:expr) => {
+        &[
+            Event::Clock { ms: 500 },
+            seen!(0, [0, $y, $z], true, false, true, true),
+            seen!(1, [2000, $y, $z], true, false, true, true),
+        ]
+    };
 }
+
+macro_rules! answered {
+    ($drone:expr) => {
+        &[Event::Answered {
+            drone: $drone,
+            status: 0,
+        }]
+    };
+}
+
+macro_rules! signal {
+    ($signal:expr) => {
+        &[Event::Said { signal: $signal }]
+    };
+}
+
+// Lists of events, one after the other.
+type Heard<'a> = &'a [&'a [Event]];
+
+const GO: &[Event] = signal!(Signal::Go);
+
+const LAND: &[Event] = signal!(Signal::Land);
+
+const STOP: &[Event] = signal!(Signal::Stop);
+
+// Both stand on their pads, disarmed and armed.
+const ON_PADS: &[Event] = &[
+    seen!(0, [0, 0, 0], false, true, false, true),
+    seen!(1, [2000, 0, 0], false, true, false, true),
+];
+
+const ARMED: &[Event] = &[
+    seen!(0, [0, 0, 0], true, true, false, true),
+    seen!(1, [2000, 0, 0], true, true, false, true),
+];
+
+const AT_TOP: &[Event] = half!(0, TOP);
+
+// Half a second later both stand on their pads, armed.
+const LANDED: &[Event] = &[
+    Event::Clock { ms: 500 },
+    seen!(0, [0, 0, 0], true, true, false, true),
+    seen!(1, [2000, 0, 0], true, true, false, true),
+];
+
+// Both are on their pads, and in the flight's group; and then told to rise.
+const JOINED: Heard = &[ON_PADS, answered!(0), answered!(1)];
+
+const RISING: Heard = &[ON_PADS, answered!(0), answered!(1), GO, ARMED];
 
 // From the pads to the first places.
-fn go_up(d: &mut Director, all: &mut Vec<Frame>) -> Result<(), AllocError> {
-    join(d, all)?;
-    say(d, Signal::Go, all)?;
-    hear_both(d, 0, 0, true, true, all)?;
-    for z in [71, 500, 929] {
-        half(d, 0, z, true, false, all)?;
-    }
-    for _ in 0..4 {
-        half(d, 0, TOP, true, false, all)?;
-    }
-    Ok(())
-}
+const UP: Heard = &[
+    ON_PADS,
+    answered!(0),
+    answered!(1),
+    GO,
+    ARMED,
+    half!(0, 71),
+    half!(0, 500),
+    half!(0, 929),
+    AT_TOP,
+    AT_TOP,
+    AT_TOP,
+    AT_TOP,
+];
 
 // The show, and down to the pads.
-fn fly_and_land(d: &mut Director, all: &mut Vec<Frame>) -> Result<(), AllocError> {
-    say(d, Signal::Go, all)?;
-    half(d, 225, TOP, true, false, all)?;
-    for _ in 0..3 {
-        half(d, 0, TOP, true, false, all)?;
-    }
-    for z in [967, 710, 290, 33] {
-        half(d, 0, z, true, false, all)?;
-    }
-    for _ in 0..3 {
-        half(d, 0, 0, true, true, all)?;
-    }
-    hear_both(d, 0, 0, false, true, all)
+const SHOW_AND_DOWN: Heard = &[
+    GO,
+    half!(225, TOP),
+    AT_TOP,
+    AT_TOP,
+    AT_TOP,
+    half!(0, 967),
+    half!(0, 710),
+    half!(0, 290),
+    half!(0, 33),
+    LANDED,
+    LANDED,
+    LANDED,
+    ON_PADS,
+];
+
+// ---- what goes out
+
+macro_rules! to {
+    ($drone:expr, $order:expr) => {
+        Frame::To {
+            drone: $drone,
+            order: $order,
+        }
+    };
 }
 
-fn to(drone: u8, order: Order) -> Frame {
-    Frame::To { drone, order }
+macro_rules! to_all {
+    ($order:expr) => {
+        Frame::ToAll { order: $order }
+    };
 }
 
-fn told_all(order: Order) -> Frame {
-    Frame::ToAll { order }
+macro_rules! noted {
+    ($drone:expr, $fault:expr) => {
+        Frame::Noted {
+            note: Note {
+                drone: $drone,
+                fault: $fault,
+            },
+        }
+    };
 }
+
+const RISE: Order = Order::Rise { z: TOP, ms: 2000 };
+
+// At the end of the way down, and where all land early.
+const DOWN: Order = Order::Land { z: 0, ms: 2500 };
+
+const EARLY: Order = Order::Land { z: 0, ms: 4000 };
+
+// What the first events lead to, the events after those and before the last ones, the last ones, and what goes out at
+// these.
+type Row<'a> = (Heard<'a>, Heard<'a>, Heard<'a>, &'a [Frame]);
+
+// What goes out at these events.
+fn hear(d: &mut Director, events: Heard) -> ArrayVec<Frame, 40> {
+    let mut all = ArrayVec::new();
+    let mut out = Out::new();
+    for some in events {
+        for e in some.iter() {
+            d.event(e, &mut out);
+            let _ = all.try_extend_from_slice(out.as_slice());
+        }
+    }
+    all
+}
+
+fn says(alloc: Global, row: &Row) -> bool {
+    let (start, before, last, wanted) = *row;
+    let Ok(flight) = flight(alloc) else {
+        return false;
+    };
+    let mut d = Director::make(flight);
+    hear(&mut d, start);
+    hear(&mut d, before);
+    hear(&mut d, last).as_slice() == wanted
+}
+
+fn all_say(alloc: Global, rows: &[Row]) -> bool {
+    for row in rows {
+        if !says(alloc, row) {
+            return false;
+        }
+    }
+    true
+}
+
+const WHOLE: &[Row] = &[
+    (
+        &[],
+        &[],
+        UP,
+        &[
+            to!(0, Order::Group),
+            to!(1, Order::Group),
+            to!(0, Order::Arm),
+            to!(1, Order::Arm),
+            to!(0, RISE),
+            to!(1, RISE),
+        ],
+    ),
+    (
+        UP,
+        &[],
+        SHOW_AND_DOWN,
+        &[
+            to_all!(Order::Start),
+            to!(0, DOWN),
+            to!(1, DOWN),
+            to_all!(Order::Disarm),
+            Frame::Over {
+                flown: true,
+                kept: true,
+            },
+        ],
+    ),
+];
 
 #[test]
-fn flies_a_whole_flight(rt: HostRuntime) -> Result<(), Fail> {
-    let alloc = rt.alloc();
-    let mut d = Director::make(flight(alloc)?);
-    let mut all = Vec::new(alloc);
-    go_up(&mut d, &mut all)?;
-    fly_and_land(&mut d, &mut all)?;
-    let rise = Order::Rise { z: TOP, ms: 2000 };
-    let land = Order::Land { z: 0, ms: 2500 };
-    let end = Frame::Over {
-        flown: true,
-        kept: true,
-    };
-    assert_eq!(rt;
-        all.as_slice(),
-        [
-            to(0, Order::Group),
-            to(1, Order::Group),
-            to(0, Order::Arm),
-            to(1, Order::Arm),
-            to(0, rise),
-            to(1, rise),
-            told_all(Order::Start),
-            to(0, land),
-            to(1, land),
-            told_all(Order::Disarm),
-            end,
-        ]
-        .as_slice()
-    );
-    Ok(())
+fn flies_a_whole_flight(rt: HostRuntime) {
+    assert!(rt; all_say(rt.alloc(), WHOLE));
 }
 
-// How many orders go out at the operator's go, where these drones have answered one after the other.
-fn orders_answered(alloc: Global, before: &[u8], after: &[u8]) -> Result<usize, AllocError> {
-    let mut d = Director::make(flight(alloc)?);
-    let mut all = Vec::new(alloc);
-    for drone in before {
-        answer(&mut d, *drone, &mut all)?;
-    }
-    hear_both(&mut d, 0, 0, false, true, &mut all)?;
-    for drone in after {
-        answer(&mut d, *drone, &mut all)?;
-    }
-    all.clear();
-    say(&mut d, Signal::Go, &mut all)?;
-    Ok(all.len())
-}
+const ARM_BOTH: &[Frame] = &[to!(0, Order::Arm), to!(1, Order::Arm)];
 
 // Nobody is armed before each drone has answered that it is in the group. The first event is before that order.
-#[test]
-fn waits_for_each_answer(rt: HostRuntime) -> Result<(), Fail> {
-    let rows: [(&[u8], &[u8], usize); 8] = [
-        (&[], &[0, 1], 2),
-        (&[], &[1, 0], 2),
-        (&[], &[], 0),
-        (&[], &[0], 0),
-        (&[], &[1, 1], 0),
-        (&[], &[0, 2, 31, 32, 255], 0),
-        (&[0], &[1], 0),
-        (&[0], &[0, 1], 2),
-    ];
-    for (before, after, wanted) in rows {
-        assert_eq!(rt;
-            orders_answered(rt.alloc(), before, after)?,
-            wanted,
-            "{before:?} {after:?}"
-        );
-    }
-    Ok(())
-}
-
-// How many orders go out at the operator's go, with the first drone so far aside of its pad. 100 mm are allowed.
-fn orders_aside(alloc: Global, x: i16, y: i16, z: i16) -> Result<usize, AllocError> {
-    let mut d = Director::make(flight(alloc)?);
-    let mut all = Vec::new(alloc);
-    join(&mut d, &mut all)?;
-    all.clear();
-    hear(
-        &mut d,
-        Event::Seen {
-            drone: 0,
-            sample: sample(x, y, z, false, true),
-        },
-        &mut all,
-    )?;
-    say(&mut d, Signal::Go, &mut all)?;
-    Ok(all.len())
-}
+const ANSWERS: &[Row] = &[
+    (&[], &[ON_PADS, answered!(0), answered!(1)], &[GO], ARM_BOTH),
+    (&[], &[ON_PADS, answered!(1), answered!(0)], &[GO], ARM_BOTH),
+    (&[], &[ON_PADS], &[GO], &[]),
+    (&[], &[ON_PADS, answered!(0)], &[GO], &[]),
+    (&[], &[ON_PADS, answered!(1), answered!(1)], &[GO], &[]),
+    (
+        &[],
+        &[
+            ON_PADS,
+            answered!(0),
+            answered!(2),
+            answered!(31),
+            answered!(32),
+            answered!(255),
+        ],
+        &[GO],
+        &[],
+    ),
+    (&[answered!(0)], &[ON_PADS, answered!(1)], &[GO], &[]),
+    (
+        &[answered!(0)],
+        &[ON_PADS, answered!(0), answered!(1)],
+        &[GO],
+        ARM_BOTH,
+    ),
+];
 
 #[test]
-fn measures_in_a_straight_line(rt: HostRuntime) -> Result<(), Fail> {
-    for (x, y, z) in [(0, -100, 0), (60, 80, 0), (-48, 64, -60), (57, -57, 57)] {
-        assert_eq!(rt; orders_aside(rt.alloc(), x, y, z)?, 2, "{x} {y} {z}");
-    }
-    for (x, y, z) in [
-        (1, -100, 0),
-        (60, 81, 0),
-        (-48, 64, -61),
-        (58, -58, 58),
-        (100, 100, 100),
-    ] {
-        assert_eq!(rt; orders_aside(rt.alloc(), x, y, z)?, 0, "{x} {y} {z}");
-    }
-    Ok(())
+fn waits_for_each_answer(rt: HostRuntime) {
+    assert!(rt; all_say(rt.alloc(), ANSWERS));
 }
+
+// The first drone stands so far aside of its pad, of which 100 mm are allowed.
+const ASIDE_OF_PADS: &[Row] = &[
+    (JOINED, &[stands!(0, -100, 0)], &[GO], ARM_BOTH),
+    (JOINED, &[stands!(60, 80, 0)], &[GO], ARM_BOTH),
+    (JOINED, &[stands!(-48, 64, -60)], &[GO], ARM_BOTH),
+    (JOINED, &[stands!(57, -57, 57)], &[GO], ARM_BOTH),
+    (JOINED, &[stands!(1, -100, 0)], &[GO], &[]),
+    (JOINED, &[stands!(60, 81, 0)], &[GO], &[]),
+    (JOINED, &[stands!(-48, 64, -61)], &[GO], &[]),
+    (JOINED, &[stands!(58, -58, 58)], &[GO], &[]),
+    (JOINED, &[stands!(100, 100, 100)], &[GO], &[]),
+];
 
 #[test]
-fn lands_and_halts_at_the_word(rt: HostRuntime) -> Result<(), Fail> {
-    let alloc = rt.alloc();
-    let mut d = Director::make(flight(alloc)?);
-    let mut all = Vec::new(alloc);
-    go_up(&mut d, &mut all)?;
-    all.clear();
-    for signal in [
-        Signal::Land,
-        Signal::Go,
-        Signal::Stop,
-        Signal::Land,
-        Signal::Go,
-    ] {
-        say(&mut d, signal, &mut all)?;
-    }
-    let land = Order::Land { z: 0, ms: 4000 };
-    assert_eq!(rt;
-        all.as_slice(),
-        [to(0, land), to(1, land), told_all(Order::Halt)].as_slice()
-    );
-    Ok(())
+fn measures_in_a_straight_line(rt: HostRuntime) {
+    assert!(rt; all_say(rt.alloc(), ASIDE_OF_PADS));
 }
+
+const SIGNALS: &[Row] = &[(
+    UP,
+    &[],
+    &[LAND, GO, STOP, LAND, GO],
+    &[to!(0, EARLY), to!(1, EARLY), to_all!(Order::Halt)],
+)];
 
 #[test]
-fn flies_on_past_a_silent_drone(rt: HostRuntime) -> Result<(), Fail> {
-    let alloc = rt.alloc();
-    let mut d = Director::make(flight(alloc)?);
-    let mut all = Vec::new(alloc);
-    go_up(&mut d, &mut all)?;
-    say(&mut d, Signal::Go, &mut all)?;
-    all.clear();
-    hear(&mut d, Event::Clock { ms: 400 }, &mut all)?;
-    hear(
-        &mut d,
-        Event::Seen {
-            drone: 0,
-            sample: sample(0, 216, TOP, true, false),
-        },
-        &mut all,
-    )?;
-    hear(&mut d, Event::Clock { ms: 200 }, &mut all)?;
-    hear(&mut d, Event::Clock { ms: 100 }, &mut all)?;
-    assert_eq!(rt;
-        all.as_slice(),
-        [Frame::Noted {
-            note: Note {
-                drone: 1,
-                fault: Fault::Silent
-            }
-        }]
-        .as_slice()
-    );
-    Ok(())
+fn lands_and_halts_at_the_word(rt: HostRuntime) {
+    assert!(rt; all_say(rt.alloc(), SIGNALS));
 }
 
-// What goes out where both land and are heard so high, both armed.
-fn said_down(alloc: Global, z: i16, flying: bool, times: usize) -> Result<usize, AllocError> {
-    let mut d = Director::make(flight(alloc)?);
-    let mut all = Vec::new(alloc);
-    go_up(&mut d, &mut all)?;
-    say(&mut d, Signal::Land, &mut all)?;
-    all.clear();
-    for _ in 0..times {
-        for drone in 0..2u8 {
-            let sample = Sample {
-                flying,
-                ..sample(0, 0, z, true, true)
-            };
-            hear(&mut d, Event::Seen { drone, sample }, &mut all)?;
-        }
-        hear(&mut d, Event::Clock { ms: 500 }, &mut all)?;
-    }
-    Ok(all.len())
+const SILENT: &[Row] = &[(
+    UP,
+    &[GO],
+    &[later!(400), flies!(0, 216, TOP), later!(200), later!(100)],
+    &[noted!(1, Fault::Silent)],
+)];
+
+#[test]
+fn flies_on_past_a_silent_drone(rt: HostRuntime) {
+    assert!(rt; all_say(rt.alloc(), SILENT));
 }
+
+// Both are heard so high, armed and standing, whether or not they say that they fly; half a second passes.
+macro_rules! down {
+    ($z:expr, $flying:expr) => {
+        &[
+            seen!(0, [0, 0, $z], true, true, $flying, true),
+            seen!(1, [0, 0, $z], true, true, $flying, true),
+            Event::Clock { ms: 500 },
+        ]
+    };
+}
+
+const FLYING: &[Event] = down!(0, true);
+
+const DISARMED: &[Frame] = &[to_all!(Order::Disarm)];
 
 // Motors stop up to 120 mm above or below the floor; where a drone says that it flies, 5 s after all stood.
+const STANDING: &[Row] = &[
+    (UP, &[LAND], &[down!(120, false)], DISARMED),
+    (UP, &[LAND], &[down!(121, false)], &[]),
+    (UP, &[LAND], &[down!(-120, false)], DISARMED),
+    (UP, &[LAND], &[down!(-121, false)], &[]),
+    (UP, &[LAND], &[FLYING; 9], &[]),
+    (UP, &[LAND], &[FLYING; 10], DISARMED),
+];
+
 #[test]
-fn disarms_who_is_down(rt: HostRuntime) -> Result<(), Fail> {
-    for (z, flying, times, wanted) in [
-        (120, false, 1, 1),
-        (121, false, 1, 0),
-        (-120, false, 1, 1),
-        (-121, false, 1, 0),
-        (0, true, 9, 0),
-        (0, true, 10, 1),
-    ] {
-        assert_eq!(rt;
-            said_down(rt.alloc(), z, flying, times)?,
-            wanted,
-            "{z} {flying} {times}"
-        );
-    }
-    Ok(())
+fn disarms_who_is_down(rt: HostRuntime) {
+    assert!(rt; all_say(rt.alloc(), STANDING));
 }
 
-// What goes out where one drone hovers before the show and isn't sure, for so long.
-fn said_unsure(alloc: Global, ms: u32) -> Result<usize, AllocError> {
-    let mut d = Director::make(flight(alloc)?);
-    let mut all = Vec::new(alloc);
-    go_up(&mut d, &mut all)?;
-    all.clear();
-    let unsure = Event::Seen {
-        drone: 0,
-        sample: Sample {
-            sure: false,
-            ..sample(0, 0, TOP, true, false)
-        },
-    };
-    hear(&mut d, unsure, &mut all)?;
-    say(&mut d, Signal::Go, &mut all)?;
-    hear(&mut d, Event::Clock { ms }, &mut all)?;
-    hear(&mut d, unsure, &mut all)?;
-    Ok(all.len())
-}
+// One drone hovers before the show and isn't sure.
+const UNSURE: &[Event] = &[seen!(0, [0, 0, TOP], true, false, true, false)];
 
 // It doesn't start, and after 300 ms a note goes out, and all land.
+const NOT_SURE: &[Row] = &[
+    (UP, &[], &[UNSURE, GO, later!(0), UNSURE], &[]),
+    (UP, &[], &[UNSURE, GO, later!(299), UNSURE], &[]),
+    (
+        UP,
+        &[],
+        &[UNSURE, GO, later!(300), UNSURE],
+        &[noted!(0, Fault::Unsure), to!(0, EARLY), to!(1, EARLY)],
+    ),
+];
+
 #[test]
-fn waits_for_who_is_sure(rt: HostRuntime) -> Result<(), Fail> {
-    for (ms, wanted) in [(0, 0), (299, 0), (300, 3)] {
-        assert_eq!(rt; said_unsure(rt.alloc(), ms)?, wanted, "{ms}");
-    }
-    Ok(())
+fn waits_for_who_is_sure(rt: HostRuntime) {
+    assert!(rt; all_say(rt.alloc(), NOT_SURE));
 }
 
-// What goes out where the first drone stays so far aside of its way up, 100 mm of which are allowed, for so long.
-fn said_aside(alloc: Global, x: i16, ms: u32) -> Result<usize, AllocError> {
-    let mut d = Director::make(flight(alloc)?);
-    let mut all = Vec::new(alloc);
-    join(&mut d, &mut all)?;
-    say(&mut d, Signal::Go, &mut all)?;
-    hear_both(&mut d, 0, 0, true, true, &mut all)?;
-    half(&mut d, 0, 71, true, false, &mut all)?;
-    half(&mut d, 0, 500, true, false, &mut all)?;
-    all.clear();
-    let aside = Event::Seen {
-        drone: 0,
-        sample: sample(x, 0, 500, true, false),
-    };
-    hear(&mut d, aside, &mut all)?;
-    hear(&mut d, Event::Clock { ms }, &mut all)?;
-    hear(&mut d, aside, &mut all)?;
-    Ok(all.len())
-}
+const HALFWAY: Heard = &[half!(0, 71), half!(0, 500)];
 
-// After 300 ms a note goes out, and both land.
+const ASTRAY: &[Event] = flies!(101, 0, 500);
+
+const AT_THE_BOUND: &[Event] = flies!(100, 0, 500);
+
+// The first drone stays so far aside of its way up, 100 mm of which are allowed: after 300 ms a note goes out, and both
+// land.
+const WAY_UP: &[Row] = &[
+    (RISING, HALFWAY, &[ASTRAY, later!(299), ASTRAY], &[]),
+    (
+        RISING,
+        HALFWAY,
+        &[ASTRAY, later!(300), ASTRAY],
+        &[noted!(0, Fault::Astray), to!(0, EARLY), to!(1, EARLY)],
+    ),
+    (
+        RISING,
+        HALFWAY,
+        &[AT_THE_BOUND, later!(300), AT_THE_BOUND],
+        &[],
+    ),
+];
+
 #[test]
-fn watches_the_way_up(rt: HostRuntime) -> Result<(), Fail> {
-    for (x, ms, wanted) in [(101, 299, 0), (101, 300, 3), (100, 300, 0)] {
-        assert_eq!(rt; said_aside(rt.alloc(), x, ms)?, wanted, "{x} {ms}");
-    }
-    Ok(())
+fn watches_the_way_up(rt: HostRuntime) {
+    assert!(rt; all_say(rt.alloc(), WAY_UP));
 }
 
-// What goes out where the first drone is heard there, 20 ms after both were told to rise.
-fn said_at(alloc: Global, x: i16, y: i16, z: i16) -> Result<Vec<Frame>, AllocError> {
-    let mut d = Director::make(flight(alloc)?);
-    let mut all = Vec::new(alloc);
-    join(&mut d, &mut all)?;
-    say(&mut d, Signal::Go, &mut all)?;
-    hear_both(&mut d, 0, 0, true, true, &mut all)?;
-    all.clear();
-    hear(&mut d, Event::Clock { ms: 20 }, &mut all)?;
-    let there = Event::Seen {
-        drone: 0,
-        sample: sample(x, y, z, true, false),
-    };
-    hear(&mut d, there, &mut all)?;
-    Ok(all)
-}
+const OUTSIDE: &[Frame] = &[noted!(0, Fault::Outside), to!(0, EARLY), to!(1, EARLY)];
 
-const OUTSIDE: Frame = Frame::Noted {
-    note: Note {
-        drone: 0,
-        fault: Fault::Outside,
-    },
-};
+// The first drone is heard there, 20 ms after both were told to rise. In the room nothing goes out. A millimetre
+// outside a note does, and both land, in that event.
+const ROOM: &[Row] = &[
+    (RISING, &[], &[later!(20), flies!(2300, 0, 0)], &[]),
+    (RISING, &[], &[later!(20), flies!(0, -300, 1300)], &[]),
+    (RISING, &[], &[later!(20), flies!(-300, 600, -300)], &[]),
+    (RISING, &[], &[later!(20), flies!(2301, 0, 0)], OUTSIDE),
+    (RISING, &[], &[later!(20), flies!(-301, 0, 0)], OUTSIDE),
+    (RISING, &[], &[later!(20), flies!(0, -301, 0)], OUTSIDE),
+    (RISING, &[], &[later!(20), flies!(0, 601, 0)], OUTSIDE),
+    (RISING, &[], &[later!(20), flies!(0, 0, 1301)], OUTSIDE),
+    (RISING, &[], &[later!(20), flies!(0, 0, -301)], OUTSIDE),
+];
 
-// In the room nothing goes out. A millimetre outside a note does, and both land, in that event.
 #[test]
-fn lands_who_is_outside(rt: HostRuntime) -> Result<(), Fail> {
-    for (x, y, z) in [(2300, 0, 0), (0, -300, 1300), (-300, 600, -300)] {
-        let said = said_at(rt.alloc(), x, y, z)?;
-        assert!(rt; said.is_empty(), "{x} {y} {z}");
+fn lands_who_is_outside(rt: HostRuntime) {
+    assert!(rt; all_say(rt.alloc(), ROOM));
+}
+
+// The second drone was heard so long ago, armed, at its first place.
+fn heard_ago(age: u32) -> Event {
+    Event::Seen {
+        drone: 1,
+        sample: Sample {
+            age,
+            x: 2000,
+            y: 0,
+            z: TOP,
+            ready: true,
+            armed: true,
+            lost: false,
+            down: false,
+            flying: true,
+            sure: true,
+        },
     }
-    for (x, y, z) in [
-        (2301, 0, 0),
-        (-301, 0, 0),
-        (0, -301, 0),
-        (0, 601, 0),
-        (0, 0, 1301),
-        (0, 0, -301),
-    ] {
-        let said = said_at(rt.alloc(), x, y, z)?;
-        assert_eq!(rt; said.len(), 3, "{x} {y} {z}");
-        assert!(rt; said.as_slice().first() == Some(&OUTSIDE), "{x} {y} {z}");
-    }
-    Ok(())
 }
 
 // How much goes out at the operator's land, and a millisecond later, 3.5 s after both were told to rise. So long ago
@@ -448,26 +466,10 @@ fn said_in(
         })?;
     }
     let mut d = Director::make(flight_with(alloc, Some(Listed::from_vec(windows)))?);
-    let mut all = Vec::new(alloc);
-    go_up(&mut d, &mut all)?;
-    let late = Sample {
-        age,
-        ..sample(2000, 0, TOP, true, false)
-    };
-    hear(
-        &mut d,
-        Event::Seen {
-            drone: 1,
-            sample: late,
-        },
-        &mut all,
-    )?;
-    all.clear();
-    say(&mut d, Signal::Land, &mut all)?;
-    let now = all.len();
-    all.clear();
-    hear(&mut d, Event::Clock { ms: 1 }, &mut all)?;
-    Ok((now, all.len()))
+    hear(&mut d, UP);
+    hear(&mut d, &[&[heard_ago(age)]]);
+    let now = hear(&mut d, &[LAND]).len();
+    Ok((now, hear(&mut d, &[later!(1)]).len()))
 }
 
 // Both land in the window, which a note says is waited for. Who was heard more than 300 ms ago may be deaf.
@@ -483,11 +485,7 @@ fn lands_in_a_window(rt: HostRuntime) -> Result<(), Fail> {
         (0, 9000, Some(1), 301, (2, 0)),
         (0, 9000, Some(0), 301, (1, 0)),
     ] {
-        assert_eq!(rt;
-            said_in(rt.alloc(), from, to, deaf, age)?,
-            wanted,
-            "{from} {to} {age}"
-        );
+        assert!(rt; said_in(rt.alloc(), from, to, deaf, age)? == wanted);
     }
     Ok(())
 }

@@ -2,7 +2,6 @@
 
 use flight_frames::{FrameFault, event_length, frame_bytes, read_event};
 use flight_model::{Event, Fault, Frame, Note, Order, Sample, Signal};
-use std::test::Fail;
 
 const SEEN: Sample = Sample {
     age: 300,
@@ -23,7 +22,7 @@ const ANSWERED: Event = Event::Answered {
 };
 
 // Frames that come in where there are two drones, and what is read.
-const READ: [(&[u8], Result<Event, FrameFault>); 15] = [
+const READ: &[(&[u8], Result<Event, FrameFault>)] = &[
     (&[1, 0xF4, 0x01], Ok(Event::Clock { ms: 500 })),
     (
         &[2, 1, 0x2C, 0x01, 0xD0, 0x07, 0xFF, 0xFF, 0x00, 0x80, 57],
@@ -58,14 +57,13 @@ const READ: [(&[u8], Result<Event, FrameFault>); 15] = [
 ];
 
 #[test]
-fn reads_each_frame(rt: HostRuntime) -> Result<(), Fail> {
+fn reads_each_frame(rt: HostRuntime) {
     for (bytes, wanted) in READ {
-        assert!(rt; read_event(bytes, 2) == wanted, "{bytes:?}");
+        assert!(rt; read_event(bytes, 2) == *wanted);
     }
-    Ok(())
 }
 
-const LENGTHS: [(u8, Option<usize>); 6] = [
+const LENGTHS: &[(u8, Option<usize>)] = &[
     (1, Some(3)),
     (2, Some(11)),
     (3, Some(3)),
@@ -75,11 +73,10 @@ const LENGTHS: [(u8, Option<usize>); 6] = [
 ];
 
 #[test]
-fn knows_each_length(rt: HostRuntime) -> Result<(), Fail> {
+fn knows_each_length(rt: HostRuntime) {
     for (kind, wanted) in LENGTHS {
-        assert!(rt; event_length(kind) == wanted, "{kind}");
+        assert!(rt; event_length(*kind) == *wanted);
     }
-    Ok(())
 }
 
 const RISE: Order = Order::Rise { z: 1000, ms: 2000 };
@@ -129,7 +126,7 @@ macro_rules! over {
     };
 }
 
-const WRITTEN: [(Frame, &[u8]); 19] = [
+const WRITTEN: &[(Frame, &[u8])] = &[
     (to_one!(3, RISE), &[1, 3, 1, 0xE8, 0x03, 0xD0, 0x07, 0, 0]),
     (
         to_one!(31, GO),
@@ -157,9 +154,8 @@ const WRITTEN: [(Frame, &[u8]); 19] = [
 ];
 
 #[test]
-fn writes_each_frame(rt: HostRuntime) -> Result<(), Fail> {
+fn writes_each_frame(rt: HostRuntime) {
     for (frame, wanted) in WRITTEN {
-        assert!(rt; frame_bytes(&frame).as_slice() == wanted, "{wanted:?}");
+        assert!(rt; frame_bytes(frame).as_slice() == *wanted);
     }
-    Ok(())
 }

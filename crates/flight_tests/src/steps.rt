@@ -135,83 +135,120 @@ fn said(
     steps_of(alloc, crews, &ways)
 }
 
-const BODY: Ellipsoid = Ellipsoid { r: 120, h: 300 };
+// The letters of two drones and the half axes, for the way up, the show and the way down; and what is refused.
+type Row = ([[u8; 2]; 3], [[u16; 2]; 3], Option<StepsError>);
 
-// The letters of two drones in each of the three, and the first that is another.
-const CREWS: [([u8; 2], [u8; 2], [u8; 2], Option<(Way, usize)>); 5] = [
-    (*b"ab", *b"ab", *b"ab", None),
-    (*b"cb", *b"ab", *b"cb", Some((Way::Up, 0))),
-    (*b"ac", *b"ab", *b"cb", Some((Way::Up, 1))),
-    (*b"ab", *b"ab", *b"ba", Some((Way::Down, 0))),
-    (*b"ab", *b"ab", *b"aa", Some((Way::Down, 1))),
-];
-
-#[test]
-fn first_faults_of_names(rt: HostRuntime) -> Result<(), Fail> {
-    let alloc = rt.alloc();
-    let ups = two(alloc, UP, UP)?;
-    let shows = hovers(alloc, 0, 1000)?;
-    let downs = two(alloc, DOWN, DOWN)?;
-    let (ups, shows, downs) = (ups.as_slice(), shows.as_slice(), downs.as_slice());
-    for (up, show, down, other) in CREWS {
-        let up = [name(up[0]), name(up[1])];
-        let show = [name(show[0]), name(show[1])];
-        let down = [name(down[0]), name(down[1])];
-        let crews = Crews {
-            up: crew(&up, BODY),
-            show: crew(&show, BODY),
-            down: crew(&down, BODY),
-        };
-        let wanted = other.map(|(way, drone)| StepsError::Fault {
-            fault: FlightFault::OtherDrone { way, drone },
-        });
-        assert_eq!(rt; said(alloc, &crews, 100, ups, shows, downs).err(), wanted);
+fn body(axes: [u16; 2]) -> Ellipsoid {
+    Ellipsoid {
+        r: axes[0],
+        h: axes[1],
     }
-    Ok(())
 }
 
-// The half axes of the way up, the show and the way down, and the first way with other ones than the show.
-const BODIES: [([u16; 2], [u16; 2], [u16; 2], Option<Way>); 6] = [
-    ([120, 300], [120, 300], [120, 300], None),
-    ([119, 300], [120, 300], [119, 300], Some(Way::Up)),
-    ([120, 301], [120, 300], [120, 300], Some(Way::Up)),
-    ([120, 300], [120, 300], [121, 300], Some(Way::Down)),
-    ([120, 300], [120, 300], [120, 299], Some(Way::Down)),
-    ([120, 300], [300, 120], [120, 300], Some(Way::Up)),
-];
+fn is_refused(alloc: Global, ups: &[Traj], shows: &[Traj], downs: &[Traj], row: &Row) -> bool
+    requires ups { length ups.now ≡ 2 }
+    requires shows { length shows.now ≡ 2 }
+    requires downs { length downs.now ≡ 2 }
+    requires lasting { lasts shows.now ≡ 2500 }
+{
+    let ([up, show, down], bodies, wanted) = *row;
+    let up = [name(up[0]), name(up[1])];
+    let show = [name(show[0]), name(show[1])];
+    let down = [name(down[0]), name(down[1])];
+    let crews = Crews {
+        up: crew(&up, body(bodies[0])),
+        show: crew(&show, body(bodies[1])),
+        down: crew(&down, body(bodies[2])),
+    };
+    said(alloc, &crews, 100, ups, shows, downs).err() == wanted
+}
 
-#[test]
-fn first_faults_of_ellipsoids(rt: HostRuntime) -> Result<(), Fail> {
-    let alloc = rt.alloc();
+fn are_refused(alloc: Global, rows: &[Row]) -> Result<bool, AllocError> {
     let ups = two(alloc, UP, UP)?;
     let shows = hovers(alloc, 0, 1000)?;
     let downs = two(alloc, DOWN, DOWN)?;
-    let (ups, shows, downs) = (ups.as_slice(), shows.as_slice(), downs.as_slice());
-    let names = [name(97), name(98)];
-    for (up, show, down, other) in BODIES {
-        let crews = Crews {
-            up: crew(&names, Ellipsoid { r: up[0], h: up[1] }),
-            show: crew(
-                &names,
-                Ellipsoid {
-                    r: show[0],
-                    h: show[1],
-                },
-            ),
-            down: crew(
-                &names,
-                Ellipsoid {
-                    r: down[0],
-                    h: down[1],
-                },
-            ),
-        };
-        let wanted = other.map(|way| StepsError::Fault {
-            fault: FlightFault::OtherEllipsoid { way },
-        });
-        assert_eq!(rt; said(alloc, &crews, 100, ups, shows, downs).err(), wanted);
+    for row in rows {
+        if !is_refused(
+            alloc,
+            ups.as_slice(),
+            shows.as_slice(),
+            downs.as_slice(),
+            row,
+        ) {
+            return Ok(false);
+        }
     }
-    Ok(())
+    Ok(true)
+}
+
+const SAME: [[u16; 2]; 3] = [[120, 300]; 3];
+
+macro_rules! other_drone {
+    ($way:expr, $drone:expr) => {
+        Some(StepsError::Fault {
+            fault: FlightFault::OtherDrone {
+                way: $way,
+                drone: $drone,
+            },
+        })
+    };
+}
+
+const CREWS: &[Row] = &[
+    ([*b"ab", *b"ab", *b"ab"], SAME, None),
+    ([*b"cb", *b"ab", *b"cb"], SAME, other_drone!(Way::Up, 0)),
+    ([*b"ac", *b"ab", *b"cb"], SAME, other_drone!(Way::Up, 1)),
+    ([*b"ab", *b"ab", *b"ba"], SAME, other_drone!(Way::Down, 0)),
+    ([*b"ab", *b"ab", *b"aa"], SAME, other_drone!(Way::Down, 1)),
+];
+
+#[test]
+fn first_faults_of_names(rt: HostRuntime) {
+    assert!(rt; matches!(are_refused(rt.alloc(), CREWS), Ok(true)));
+}
+
+const NAMES: [[u8; 2]; 3] = [*b"ab"; 3];
+
+macro_rules! other_body {
+    ($way:expr) => {
+        Some(StepsError::Fault {
+            fault: FlightFault::OtherEllipsoid { way: $way },
+        })
+    };
+}
+
+const BODIES: &[Row] = &[
+    (NAMES, SAME, None),
+    (
+        NAMES,
+        [[119, 300], [120, 300], [119, 300]],
+        other_body!(Way::Up),
+    ),
+    (
+        NAMES,
+        [[120, 301], [120, 300], [120, 300]],
+        other_body!(Way::Up),
+    ),
+    (
+        NAMES,
+        [[120, 300], [120, 300], [121, 300]],
+        other_body!(Way::Down),
+    ),
+    (
+        NAMES,
+        [[120, 300], [120, 300], [120, 299]],
+        other_body!(Way::Down),
+    ),
+    (
+        NAMES,
+        [[120, 300], [300, 120], [120, 300]],
+        other_body!(Way::Up),
+    ),
+];
+
+#[test]
+fn first_faults_of_ellipsoids(rt: HostRuntime) {
+    assert!(rt; matches!(are_refused(rt.alloc(), BODIES), Ok(true)));
 }
 
 const ARM: Option<Order> = Some(Order::Arm);
@@ -302,7 +339,9 @@ fn is_step(s: &Step, wanted: &Wanted) -> bool {
         Orders::All { order } => all == Some(*order),
         Orders::Each { orders } => all.is_none() && orders.as_slice() == each.as_slice(),
     };
-    (s.asked, s.after, s.settle) == (asked, after, settle)
+    s.asked == asked
+        && s.after == after
+        && s.settle == settle
         && s.answered == (asked && ready)
         && s.conditions.as_slice().get(1) == Some(&second)
         && ordered
@@ -316,41 +355,55 @@ fn is_group(s: &Step) -> bool {
             orders.as_slice() == [Some(Order::Group), Some(Order::Group)].as_slice()
         }
     };
-    (s.asked, s.after, s.settle, s.answered) == (false, 0, 0, false)
+    !s.asked
+        && s.after == 0
+        && s.settle == 0
+        && !s.answered
         && s.conditions.as_slice().is_empty()
         && orders
 }
 
-#[test]
-fn steps_of_two_drones(rt: HostRuntime) -> Result<(), Fail> {
-    let alloc = rt.alloc();
+fn are_steps(steps: &[Step]) -> bool {
+    let Some(first) = steps.first() else {
+        return false;
+    };
+    if !is_group(first) || steps.len() != STEPS.len() + 1 {
+        return false;
+    }
+    for (s, wanted) in steps[1..].iter().zip(STEPS.iter()) {
+        if !is_step(s, wanted) {
+            return false;
+        }
+    }
+    true
+}
+
+fn steps_of_two(alloc: Global) -> Result<bool, AllocError> {
     let names = [name(97), name(98)];
     let crews = Crews {
-        up: crew(&names, BODY),
-        show: crew(&names, BODY),
-        down: crew(&names, BODY),
+        up: crew(&names, body([120, 300])),
+        show: crew(&names, body([120, 300])),
+        down: crew(&names, body([120, 300])),
     };
     let ups = two(alloc, RISES[0], RISES[1])?;
     let shows = hovers(alloc, 500, 1000)?;
     let downs = two(alloc, LANDS[0], LANDS[1])?;
-    let said = said(
+    match said(
         alloc,
         &crews,
         100,
         ups.as_slice(),
         shows.as_slice(),
         downs.as_slice(),
-    );
-    let Ok(steps) = said else {
-        assert!(rt; false);
-        return Ok(());
-    };
-    assert_eq!(rt; steps.as_slice().len(), STEPS.len() + 1);
-    assert!(rt; steps.as_slice().first().is_some_and(is_group));
-    for (s, wanted) in steps.as_slice().iter().skip(1).zip(STEPS.iter()) {
-        assert!(rt; is_step(s, wanted));
+    ) {
+        Ok(steps) => Ok(are_steps(steps.as_slice())),
+        Err(_) => Ok(false),
     }
-    Ok(())
+}
+
+#[test]
+fn steps_of_two_drones(rt: HostRuntime) {
+    assert!(rt; matches!(steps_of_two(rt.alloc()), Ok(true)));
 }
 
 // Each way alone makes the room larger: the one up by its low end, the show by x, and the one down by its high end.
