@@ -150,6 +150,7 @@ made_of o floor silence steps curves ms e up down room = record {
   flies_on = not o.then_land;
   floor = floor;
   descent = o.descent;
+  windows = None;
 }
 
 flight_is : (o : Options) (floor : ℤ) (silence : ℕ) (u s d : PlainShow) (f : Fitted) (steps : List Step) (up down : Course) (room : Room) → floor ≡ o.floor → silence ≡ min o.silence most_silence → IsValidFitted f → IsFitted f s →

@@ -1,5 +1,5 @@
 -- What three shows are as a flight: their routes, the first cause why they are none, and the flight.
-use Rattle.std.specs.Prelude.{◌≡◌, ℕ, ◌+◌, ◌++◌, min, max, not, Option}
+use Rattle.std.specs.Prelude.{◌≡◌, ℕ, ◌+◌, ◌++◌, min, max, not, Option, None}
 use Rattle.std.specs.Option.{option_or}
 use Rattle.choreo_show.specs.Plain.{PlainShow}
 use Rattle.choreo_show.specs.declared.show.Settings.{Settings}
@@ -95,4 +95,5 @@ flight_of o up show down = record {
   flies_on = not o.then_land;
   floor = o.floor;
   descent = o.descent;
+  windows = None;
 }

@@ -164,5 +164,6 @@ pub fn make_flight(
         flies_on: !options.then_land,
         floor: floor_of(options),
         descent: options.descent,
+        windows: None,
     })
 }
