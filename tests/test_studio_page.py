@@ -17,9 +17,8 @@ import unittest
 
 sys.dont_write_bytecode = True
 sys.path.insert(0, os.path.dirname(os.path.abspath(__file__)))
-import forked
 import test_studio_quantities as same_rule
-from test_studio import GOOD, in_units, NEAR, STAND_IN, WAIT, Running, example
+from test_studio import GOOD, in_units, NEAR, STAND_IN, WAIT, PROGRAM, Running, example
 
 CHROMIUM = shutil.which("chromium") or shutil.which("chromium-browser") or shutil.which("google-chrome")
 DRIVER = shutil.which("chromedriver")
@@ -88,14 +87,6 @@ class Browser:
         self.path = "/session/" + made["sessionId"]
         self.ask("POST", "/timeouts", {"script": 1000 * WAIT})
 
-    def renew(self):
-        """Has a new tab, and no other."""
-        old, new = self.ask("GET", "/window/handles"), self.ask("POST", "/window/new", {"type": "tab"})["handle"]
-        for tab in old:
-            self.ask("POST", "/window", {"handle": tab})
-            self.ask("DELETE", "/window")
-        self.ask("POST", "/window", {"handle": new})
-
     def ask(self, method, path, body=None):
         """The value of an answer."""
         link = http.client.HTTPConnection("127.0.0.1", self.port, timeout=180)
@@ -158,30 +149,6 @@ class Browser:
             self.driver.communicate(timeout=WAIT)
 
 
-BROWSERS = []  # the one of all classes
-
-
-def end_browsers():
-    """Ends it."""
-    while BROWSERS:
-        BROWSERS.pop().end()
-
-
-forked.KEPT.append(end_browsers)
-
-
-def browser():
-    """Chromium with a new tab alone: the same for all classes, and another one where that is gone."""
-    if BROWSERS:
-        try:
-            BROWSERS[0].renew()
-        except (AssertionError, OSError, ValueError):
-            BROWSERS.pop().driver.kill()
-    if not BROWSERS:
-        BROWSERS.append(Browser())
-    return BROWSERS[0]
-
-
 @unittest.skipUnless(CHROMIUM and DRIVER, "no Chromium with chromedriver")
 class Led(unittest.TestCase):
     """A page that is led, and what is asked of it; without a test."""
@@ -189,10 +156,15 @@ class Led(unittest.TestCase):
     @classmethod
     def setUpClass(cls):
         try:
-            cls.browser = browser()
+            cls.browser = Browser()
         except NoBrowser as error:
             raise unittest.SkipTest(str(error))
+        cls.addClassCleanup(cls.browser.end)
         cls.program = STAND_IN
+        if os.access(PROGRAM, os.X_OK):  # a copy has no record, and so the page says the same of both
+            folder = tempfile.TemporaryDirectory()
+            cls.addClassCleanup(folder.cleanup)
+            cls.program = shutil.copy(PROGRAM, folder.name)
 
     def open(self, text, *words, size=(1280, 800)):
         """A studio, whose page is open."""

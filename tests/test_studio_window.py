@@ -29,6 +29,11 @@ DRAWN = """const [number] = arguments, row = [...document.querySelectorAll('#pap
 
 
 class Window(page.Led):
+    @classmethod
+    def setUpClass(cls):
+        super().setUpClass()
+        cls.program = page.STAND_IN
+
     def begin(self, text=TEXT):
         """A page with a long text."""
         self.open(text)
