@@ -3,8 +3,8 @@
 //!
 //! A [`Machine`] takes items and says what each leads to; `run` carries its dialogue to the end frame, which `finish`
 //! writes. `specs/Dialogues.antt` says which status and which output any bytes lead to (`DialogueGives`), what was sent
-//! where a read or a write failed, and that no answer waits. The crate stands on `fleet_io` for bytes in and out, and on
-//! `link_frames` for the end frame.
+//! where a read or a write failed, and that no answer waits. The crate stands on `fleet_io` for bytes in and out, and
+//! on `link_frames` for the end frame.
 #![tactic(auto)]
 
 ghost use Rattle.std.specs.Prelude.{◌≡◌, ◌≢◌, ◌⊎◌, ◌≤◌};

@@ -8,7 +8,8 @@ ghost use Rattle.sep_parts.specs.declared.stack.Level.{Level};
 ghost use Rattle.pair_search.specs.declared.ends.Ends.{Ends};
 ghost use Rattle.pair_search.specs.declared.opposites.Opposites.{Opposites};
 ghost use Rattle.pair_search.specs.Lanes.{AreSmallLanes, IsSmallPoint};
-ghost use Rattle.pair_search.specs.Marks.{AreEnds, AreWeighed, IsMarked, IsMarkedIn, IsWeighed, MarkTells, MarksAt, TellAll};
+ghost use Rattle.pair_search.specs.Marks.{AreEnds, AreWeighed, IsMarked, IsMarkedIn, IsWeighed, MarkTells};
+ghost use Rattle.pair_search.specs.Marks.{MarksAt, TellAll};
 ghost use Rattle.pair_search.specs.Opposites.{AreOpposites, AreSmallHighs};
 
 use crate::lanes::{Point, point_at, whole_point_at};

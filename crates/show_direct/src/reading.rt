@@ -115,9 +115,9 @@ fn write_end<K: Sink>(sink: &mut K, status: u8) -> u8
     finish(sink, &[END_BYTE, status], status)
 }
 
-/// Ends where nothing is flown: with the end frame of a refusal's status or of a failed read's, with the first cause why
-/// the three are no flight and the end frame of 19, or with nothing written for want of memory. Returns the status, or 7
-/// where the sink failed.
+/// Ends where nothing is flown: with the end frame of a refusal's status or of a failed read's, with the first cause
+/// why the three are no flight and the end frame of 19, or with nothing written for want of memory. Returns the status,
+/// or 7 where the sink failed.
 pub fn end_unflown<K: Sink>(sink: &mut K, why: &Unflown) -> u8
     ensures { EndsBy why.now (K.written sink.old) (K.written sink.new) (K.faults sink.old) (K.faults sink.new) result }
 {

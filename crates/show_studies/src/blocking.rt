@@ -21,7 +21,8 @@ use touch_witness::{Axes, Part, closest_in, put_blocked_closest, put_more_blocke
 // How many pairs and cues have a line at most.
 const MOST_BLOCKED: u16 = 200;
 
-/// A law. The blocked parts of a show are what their name says: one for each pair and cue that has one, the first in it.
+/// A law. The blocked parts of a show are what their name says: one for each pair and cue that has one, the first in
+/// it.
 #[tactic(auto, using(crate::proofs::BlockedLemmas::law))]
 pub fn blocked_law()
     ensures { BlockedLaw }

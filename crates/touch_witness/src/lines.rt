@@ -55,8 +55,8 @@ pub fn put_blocked<'a>(
     )
 }
 
-/// Adds the line of two drones and the part of a cue in which no direction separates them, and where the two are closest
-/// in that cue.
+/// Adds the line of two drones and the part of a cue in which no direction separates them, and where the two are
+/// closest in that cue.
 pub fn put_blocked_closest<'a>(
     text: &mut Lines,
     first: &'a [u8],
