@@ -102,9 +102,9 @@ pub fn point_at(diff: &Difference, level: &Level, k: usize) -> Point
     level_law(diff, level);
     let depth = Depth::make(level.place.depth);
     Point {
-        x: stepped(level.part[0].b[k], depth),
-        y: stepped(level.part[1].b[k], depth),
-        z: stepped(level.part[2].b[k], depth),
+        x: stepped(level.part.value(0, k), depth),
+        y: stepped(level.part.value(1, k), depth),
+        z: stepped(level.part.value(2, k), depth),
     }
 }
 

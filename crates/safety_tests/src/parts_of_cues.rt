@@ -163,7 +163,7 @@ fn is_at(waiting: &Waiting, depth: u8, index: u16, x: [i128; 8]) -> bool {
     let Some(level) = waiting.next() else {
         return false;
     };
-    level.place.depth == depth && level.place.index == index && level.part[0].b == x
+    level.place.depth == depth && level.place.index == index && level.part.curves()[0].b == x
 }
 
 // control values of the step in its third quarter and in its last, times 2 to the 14

@@ -20,3 +20,4 @@ pub mod Rulers
 pub mod Entries
 pub mod NarrowLemmas
 pub mod Cuts
+pub mod Halved

@@ -45,32 +45,29 @@ narrow_least t (suc (suc (suc depth))) some small few = absurd (omega arith)
 pub reach_told : (least sum along : ℤ) → sum ≡ along → (le_z least sum ≡ true → least ≤ℤ along) × (least ≤ℤ along → le_z least sum ≡ true)
 reach_told least sum along is = grind (arith, common_steps, ints)
 
--- ---- parts that are halved at most four times
-pub short_product : (w x : ℤ) → IsBelow 4001 w → IsBelow (2 ^ 58) x → IsBelow (2 ^ 70) (w *ℤ x)
-short_product w x small below =
-    let m : unsigned_abs (w *ℤ x) ≤ 4000 * (2 ^ 58) = rw (unsigned_abs-mul w x) (mul-le (unsigned_abs w) (unsigned_abs x) 4000 (2 ^ 58) (omega (arith, ints)) (omega (arith, ints))) in
+-- ---- values of 64 bits, weighed in 128
+pub long_product : (w x : ℤ) → IsBelow 4001 w → FitsSigned w64 x → IsBelow (2 ^ 76) (w *ℤ x)
+long_product w x small fits =
+    let m : unsigned_abs (w *ℤ x) ≤ 4000 * (2 ^ 63) = rw (unsigned_abs-mul w x) (mul-le (unsigned_abs w) (unsigned_abs x) 4000 (2 ^ 63) (omega (arith, ints)) (omega (arith, ints))) in
     (omega (arith, ints), omega (arith, ints))
 
-pub short_value : (x : ℤ) → IsBelow (2 ^ 58) x → FitsSigned w64 x
-short_value x below = omega (arith, ints)
+pub wide_value : (x : ℤ) → FitsSigned w64 x → FitsSigned w128 x
+wide_value x fits = omega (arith, ints)
 
-pub short_value_fits : (x : ℤ) → IsBelow (2 ^ 58) x → FitsSigned w128 x
-short_value_fits x below = omega (arith, ints)
-
-pub short_fits : (x : ℤ) → IsBelow (2 ^ 70) x → FitsSigned w128 x
-short_fits x below = omega (arith, ints)
+pub long_fits : (x : ℤ) → IsBelow (2 ^ 76) x → FitsSigned w128 x
+long_fits x below = omega (arith, ints)
 
 -- a product of two numbers of 64 bits
-pub short_told : (p q w x : ℤ) → p ≡ w → q ≡ x → IsBelow 4001 w → IsBelow (2 ^ 58) x → to_z w128 (of_z w128 (to_z w128 (of_z w128 p) *ℤ to_z w128 (of_z w128 q))) ≡ w *ℤ x
-short_told p q w x p_is q_is small below =
+pub long_told : (p q w x : ℤ) → p ≡ w → q ≡ x → IsBelow 4001 w → FitsSigned w64 x → to_z w128 (of_z w128 (to_z w128 (of_z w128 p) *ℤ to_z w128 (of_z w128 q))) ≡ w *ℤ x
+long_told p q w x p_is q_is small below =
     let w_fits : FitsSigned w128 w = omega (arith, ints) in
-    let x_fits : FitsSigned w128 x = short_value_fits x below in
-    let fits : FitsSigned w128 (w *ℤ x) = short_fits (w *ℤ x) (short_product w x small below) in
+    let x_fits : FitsSigned w128 x = wide_value x below in
+    let fits : FitsSigned w128 (w *ℤ x) = long_fits (w *ℤ x) (long_product w x small below) in
     rw (p_is, q_is, to_z-of_z w128 w w_fits, to_z-of_z w128 x x_fits) (to_z-of_z w128 (w *ℤ x) fits)
 
 -- three such products and their sum fit
-pub short_sum : (x y z : ℤ) → IsBelow (2 ^ 70) x → IsBelow (2 ^ 70) y → IsBelow (2 ^ 70) z → FitsSigned w128 (x +ℤ y) × FitsSigned w128 (x +ℤ y +ℤ z)
-short_sum x y z p q r = (omega (arith, ints), omega (arith, ints))
+pub long_sum : (x y z : ℤ) → IsBelow (2 ^ 76) x → IsBelow (2 ^ 76) y → IsBelow (2 ^ 76) z → FitsSigned w128 (x +ℤ y) × FitsSigned w128 (x +ℤ y +ℤ z)
+long_sum x y z p q r = (omega (arith, ints), omega (arith, ints))
 
 -- ---- a weight: an entry of a direction times a half axis
 pub entry_product : (entry : ℤ) (axis : ℕ) → IsBelow 3 entry → IsAxis axis → IsBelow 4001 (entry *ℤ pos axis)
@@ -88,11 +85,11 @@ entry_told p q entry axis p_is q_is small is_axis =
     rw (p_is, q_is, to_z-of_z w8 entry entry_8, to_z-of_z w64 entry entry_64, to_z-of_z w64 (pos axis) axis_64) refl
 
 -- the product before it is read back fits as well
-pub short_product_fits : (p q w x : ℤ) → p ≡ w → q ≡ x → IsBelow 4001 w → IsBelow (2 ^ 58) x → FitsSigned w128 (to_z w128 (of_z w128 p) *ℤ to_z w128 (of_z w128 q))
-short_product_fits p q w x p_is q_is small below =
+pub long_product_fits : (p q w x : ℤ) → p ≡ w → q ≡ x → IsBelow 4001 w → FitsSigned w64 x → FitsSigned w128 (to_z w128 (of_z w128 p) *ℤ to_z w128 (of_z w128 q))
+long_product_fits p q w x p_is q_is small below =
     let w_fits : FitsSigned w128 w = omega (arith, ints) in
-    rw (p_is, q_is, to_z-of_z w128 w w_fits, to_z-of_z w128 x (short_value_fits x below)) (short_fits (w *ℤ x) (short_product w x small below))
+    rw (p_is, q_is, to_z-of_z w128 w w_fits, to_z-of_z w128 x (wide_value x below)) (long_fits (w *ℤ x) (long_product w x small below))
 
--- a value of 64 bits, told by 128
-pub value_told : (x : ℤ) → IsBelow (2 ^ 58) x → to_z w64 (of_z w64 (to_z w128 (of_z w128 x))) ≡ x
-value_told x below = rw (to_z-of_z w128 x (short_value_fits x below)) (to_z-of_z w64 x (short_value x below))
+-- ---- rows of 64 bits
+pub half_fits : (x : ℤ) → IsBelow (2 ^ 62) x → FitsSigned w64 x
+half_fits x below = omega (arith, ints)

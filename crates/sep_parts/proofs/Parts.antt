@@ -57,6 +57,11 @@ pub level_short : (diff : List (Bez 8)) (level : Level) → level.place.depth �
     All (λ (curve : Bez 8). All (IsBelow (2 ^ 58)) curve.b) level.part
 level_short diff level shallow is small = level_below 4 (2 ^ 58) diff level shallow (omega arith) (lit< tt) is small
 
+-- each curve of a level has eight control values
+pub level_sizes : (diff : List (Bez 8)) (level : Level) → IsLevel diff level → All (λ (curve : Bez 8). length curve.b ≡ 8) level.part
+level_sizes diff level is =
+    All-from_get_or (λ (curve : Bez 8). length curve.b ≡ 8) level.part (record { b = [] }) (λ axis inside. ap (λ (xs : List ℤ). length xs) (is.part axis (omega (arith, is.axes, inside))))
+
 -- ---- halves
 half-part : (e m r : ℕ) (f : ℕ → ℤ) (b : List ℤ) → r ≤ 1 → b ≡ eight (part_value e m f) → eight (part_value 1 r (at b)) ≡ eight (part_value (e + 1) (2 * m + r) f)
 half-part e m r f b small is =

@@ -4,6 +4,7 @@ pub mod Separates
 pub mod Sizes
 pub mod Apart
 pub mod Slots
+pub mod Kept
 pub mod Levels
 pub mod Trees
 pub mod Rulers

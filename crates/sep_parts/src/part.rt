@@ -14,7 +14,7 @@ ghost use Rattle.sep_parts.specs.Sizes.{SizeLaw};
 use crate::short::weights;
 use bezier_core::{Bez, along, along_at};
 use fleet_math::Depth;
-use halving::{halve, halve_short};
+use halving::halve;
 
 /// Whether the direction `n` separates a part of the given depth: whether each control value of n_x h dx + n_y h dy +
 /// n_z r dz is at least the threshold, at the scale of raised curves and of the depth. `diff` has the part's control
@@ -174,22 +174,6 @@ pub fn halves(part: &[Bez<8>; 3]) -> ([Bez<8>; 3], [Bez<8>; 3])
     let (x_left, x_right) = halve(&part[0]);
     let (y_left, y_right) = halve(&part[1]);
     let (z_left, z_right) = halve(&part[2]);
-    ([x_left, y_left, z_left], [x_right, y_right, z_right])
-}
-
-/// As [`halves`], in numbers of 64 bits.
-#[inline(always)]
-pub fn halves_short(part: &[Bez<8>; 3]) -> ([Bez<8>; 3], [Bez<8>; 3])
-    requires { All (λ curve. All (IsBelow (2 ^ 54)) curve.b) part.now }
-    ensures sizes { (length result.0 ≡ 3) × (length result.1 ≡ 3) }
-    ensures left { (axis : ℕ) → axis ≤ 2
-        → controls result.0 axis ≡ eight (part_value 1 0 (at (controls part.now axis))) }
-    ensures right { (axis : ℕ) → axis ≤ 2
-        → controls result.1 axis ≡ eight (part_value 1 1 (at (controls part.now axis))) }
-{
-    let (x_left, x_right) = halve_short(&part[0]);
-    let (y_left, y_right) = halve_short(&part[1]);
-    let (z_left, z_right) = halve_short(&part[2]);
     ([x_left, y_left, z_left], [x_right, y_right, z_right])
 }
 

@@ -9,11 +9,8 @@ ghost use Rattle.sep_parts.specs.Separates.{low_value};
 
 use crate::clearance::Clearance;
 use crate::directions::{Dirs, thresholds};
-use crate::part::{low_control, separates};
-use crate::short::{
-    SHORT_SUMS_DEPTH, SHORT_VALUES_DEPTH, separates_by_long_sums, separates_by_short_sums,
-    separates_rows, weights,
-};
+use crate::part::low_control;
+use crate::short::{separates_rows, weights};
 use crate::stack::Level;
 use fleet_curves::Difference;
 use fleet_math::Depth;
@@ -118,28 +115,13 @@ impl<const M: usize> Ruler<M> {
         let directions = self.directions.n.as_slice();
         let thresholds = self.thresholds.as_slice();
         let Clearance { r, h, .. } = self.clearance;
-        let depth = Depth::make(level.place.depth);
-        if level.place.depth <= SHORT_SUMS_DEPTH {
-            return separates_by_short_sums(
-                &level.part,
-                directions[dir],
-                r,
-                h,
-                thresholds[dir],
-                depth,
-            );
-        }
-        if level.place.depth <= SHORT_VALUES_DEPTH {
-            return separates_by_long_sums(
-                &level.part,
-                directions[dir],
-                r,
-                h,
-                thresholds[dir],
-                depth,
-            );
-        }
-        separates(&level.part, directions[dir], r, h, thresholds[dir], depth)
+        level.part.are_apart(
+            directions[dir],
+            r,
+            h,
+            thresholds[dir],
+            Depth::make(level.place.depth),
+        )
     }
 
     /// Whether the direction with the number `dir` separates the whole cue: what [`Ruler::separates`] returns of it.
@@ -168,7 +150,7 @@ impl<const M: usize> Ruler<M> {
         let directions = self.directions.n.as_slice();
         let thresholds = self.thresholds.as_slice();
         low_control(
-            &level.part,
+            &level.part.curves(),
             directions[dir],
             self.clearance.r,
             self.clearance.h,

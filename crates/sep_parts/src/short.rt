@@ -9,7 +9,6 @@ ghost use Rattle.sep_parts.specs.Directions.{AreSmall, IsAxis, weights};
 ghost use Rattle.sep_parts.specs.Separates.{least_value};
 
 use crate::part::{all_places, scaled};
-use bezier_core::Bez;
 use fleet_math::Depth;
 
 /// The greatest depth of a part whose weighted sums have 64 bits.
@@ -22,14 +21,14 @@ pub(crate) const SHORT_VALUES_DEPTH: u8 = 4;
 /// hold each weighted sum.
 #[inline(always)]
 pub(crate) fn separates_by_short_sums(
-    diff: &[Bez<8>; 3],
+    rows: &[[i64; 8]; 3],
     n: [i8; 3],
     r: u16,
     h: u16,
     threshold: i128,
     depth: Depth,
 ) -> bool
-    requires values { All (λ curve. All (IsBelow (2 ^ 46)) curve.b) diff.now }
+    requires values { All (λ curve. All (IsBelow (2 ^ 46)) curve.b) (curves_of rows.now) }
     requires entries { AreSmall n }
     requires r { IsAxis r }
     requires h { IsAxis h }
@@ -37,11 +36,11 @@ pub(crate) fn separates_by_short_sums(
     requires small { threshold <ℤ pos (2 ^ 30) }
     requires depth { depth ≤ SHORT_SUMS_DEPTH }
     ensures { IsTrue result
-        ↔ ((k : ℕ) → k ≤ 7 → least_value threshold depth ≤ℤ along_value diff.now (weights n r h) k) }
+        ↔ ((k : ℕ) → k ≤ 7 → least_value threshold depth ≤ℤ along_value (curves_of rows.now) (weights n r h) k) }
 {
     let w = weights(n, r, h);
     let least = scaled(threshold, depth) as i64;
-    all_places(|k| reaches_by_short_sum(diff, w, least, k))
+    all_places(|k| reaches_by_short_sum(rows, w, least, k))
 }
 
 /// The weights of the three curves along a direction.
@@ -65,19 +64,13 @@ fn weight(entry: i8, axis: u16) -> i64
 }
 
 // Whether one weighted sum is at least so much.
-fn reaches_by_short_sum(diff: &[Bez<8>; 3], w: [i64; 3], least: i64, k: usize) -> bool
+fn reaches_by_short_sum(rows: &[[i64; 8]; 3], w: [i64; 3], least: i64, k: usize) -> bool
     requires place { k < 8 }
-    requires values { All (λ curve. All (IsBelow (2 ^ 46)) curve.b) diff.now }
+    requires values { All (λ curve. All (IsBelow (2 ^ 46)) curve.b) (curves_of rows.now) }
     requires weights { All (IsBelow 4001) w }
-    ensures { IsTrue result ↔ (least ≤ℤ along_value diff.now w k) }
+    ensures { IsTrue result ↔ (least ≤ℤ along_value (curves_of rows.now) w k) }
 {
-    sum_reaches(
-        w,
-        diff[0].b[k] as i64,
-        diff[1].b[k] as i64,
-        diff[2].b[k] as i64,
-        least,
-    )
+    sum_reaches(w, rows[0][k], rows[1][k], rows[2][k], least)
 }
 
 // Whether the weighted sum of three numbers is at least so much.
@@ -103,52 +96,49 @@ fn short_product(weight: i64, value: i64) -> i64
     weight * value
 }
 
-/// What `separates` returns, of a part that is halved at most four times. Its control values are below 2^58, so that 64
-/// bits hold each, and a weighted sum is that of three products of numbers of 64 bits.
+/// What `separates` returns, of a part whose control values have 64 bits: a weighted sum is that of three products of
+/// numbers of 64 bits.
 #[inline(always)]
 pub(crate) fn separates_by_long_sums(
-    diff: &[Bez<8>; 3],
+    rows: &[[i64; 8]; 3],
     n: [i8; 3],
     r: u16,
     h: u16,
     threshold: i128,
     depth: Depth,
 ) -> bool
-    requires values { All (λ curve. All (IsBelow (2 ^ 58)) curve.b) diff.now }
     requires entries { AreSmall n }
     requires r { IsAxis r }
     requires h { IsAxis h }
     requires positive { pos 0 ≤ℤ threshold }
     requires small { threshold <ℤ pos (2 ^ 30) }
     ensures { IsTrue result
-        ↔ ((k : ℕ) → k ≤ 7 → least_value threshold depth ≤ℤ along_value diff.now (weights n r h) k) }
+        ↔ ((k : ℕ) → k ≤ 7 → least_value threshold depth ≤ℤ along_value (curves_of rows.now) (weights n r h) k) }
 {
     let w = weights(n, r, h);
     let least = scaled(threshold, depth);
-    all_places(|k| reaches_by_long_sum(diff, w, least, k))
+    all_places(|k| reaches_by_long_sum(rows, w, least, k))
 }
 
 // Whether one weighted sum is at least so much.
-fn reaches_by_long_sum(diff: &[Bez<8>; 3], w: [i64; 3], least: i128, k: usize) -> bool
+fn reaches_by_long_sum(rows: &[[i64; 8]; 3], w: [i64; 3], least: i128, k: usize) -> bool
     requires place { k < 8 }
-    requires values { All (λ curve. All (IsBelow (2 ^ 58)) curve.b) diff.now }
     requires weights { All (IsBelow 4001) w }
-    ensures { IsTrue result ↔ (least ≤ℤ along_value diff.now w k) }
+    ensures { IsTrue result ↔ (least ≤ℤ along_value (curves_of rows.now) w k) }
 {
-    let x = long_product(w[0], diff[0].b[k]);
-    let y = long_product(w[1], diff[1].b[k]);
-    let z = long_product(w[2], diff[2].b[k]);
+    let x = long_product(w[0], rows[0][k]);
+    let y = long_product(w[1], rows[1][k]);
+    let z = long_product(w[2], rows[2][k]);
     least <= x + y + z
 }
 
 // A value times a weight, both in 64 bits.
-fn long_product(weight: i64, value: i128) -> i128
+fn long_product(weight: i64, value: i64) -> i128
     requires weight { IsBelow 4001 weight }
-    requires value { IsBelow (2 ^ 58) value }
     ensures product { result ≡ weight *ℤ value }
-    ensures small { IsBelow (2 ^ 70) result }
+    ensures small { IsBelow (2 ^ 76) result }
 {
-    i128::from(weight) * i128::from(value as i64)
+    i128::from(weight) * i128::from(value)
 }
 
 /// What `separates` returns of three whole curves, whose control values are these rows.

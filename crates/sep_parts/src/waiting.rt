@@ -6,11 +6,8 @@ ghost use Rattle.sep_parts.specs.Trees.{IsShallow, places_below};
 ghost use Rattle.sep_parts.specs.declared.stack.Level.{Level};
 
 use crate::node::Node;
-use crate::short::SHORT_VALUES_DEPTH;
-use crate::stack::{Level, parts_below, short_parts_below};
-use bezier_core::Bez;
+use crate::stack::Level;
 use fleet_curves::Difference;
-use halving::Place;
 use std::marker::Model;
 
 /// At most nine parts, the next one first: one for each depth from 0 to 8. It takes no memory.
@@ -36,12 +33,18 @@ impl Waiting {
     pub fn none() -> Waiting
         ensures { result ≡ [] }
     {
-        let level = Level {
-            place: Place { depth: 0, index: 0 },
-            part: [Bez { b: [0; 8] }; 3],
-        };
         Waiting {
-            levels: [level; 9],
+            levels: [
+                Level::zero(),
+                Level::zero(),
+                Level::zero(),
+                Level::zero(),
+                Level::zero(),
+                Level::zero(),
+                Level::zero(),
+                Level::zero(),
+                Level::zero(),
+            ],
             top: 9,
         }
     }
@@ -58,7 +61,17 @@ impl Waiting {
         ensures { result ≡ level.now ∷ [] }
     {
         Waiting {
-            levels: [*level; 9],
+            levels: [
+                Level::zero(),
+                Level::zero(),
+                Level::zero(),
+                Level::zero(),
+                Level::zero(),
+                Level::zero(),
+                Level::zero(),
+                Level::zero(),
+                level.copied(),
+            ],
             top: 8,
         }
     }
@@ -68,7 +81,9 @@ impl Waiting {
         requires { self.old ≡ [] }
         ensures { self.new ≡ record { place = root; part = diff.now } ∷ [] }
     {
-        self.push(Place { depth: 0, index: 0 }, &diff.curves());
+        self.top = 8;
+        let (_, from) = self.levels.split_at_mut(8);
+        from[0].begin(diff);
     }
 
     /// The next part; none where none waits.
@@ -114,34 +129,11 @@ impl Waiting {
         ensures places { (level : Level) (rest : List Level) → self.old ≡ level ∷ rest
             → places_of self.new ≡ left_half level.place ∷ right_half level.place ∷ places_of rest }
     {
-        let level = self.first();
-        let place = level.place;
-        if place.depth < SHORT_VALUES_DEPTH {
-            let parts = short_parts_below(diff, level);
-            self.put_halves(diff, place, &parts)
-        } else {
-            let parts = parts_below(diff, level);
-            self.put_halves(diff, place, &parts)
-        }
-    }
-
-    // These parts of the halves take the place of the next part. Each caller has its own copy of this function, in
-    // which halves of 64 bits stay in registers.
-    #[inline(always)]
-    fn put_halves(&mut self, diff: &Difference, place: Place, parts: &([Bez<8>; 3], [Bez<8>; 3]))
-        requires some { 1 ≤ length self.old }
-        requires stack { IsStack diff.now self.old }
-        requires next { (level : Level) (rest : List Level) → self.old ≡ level ∷ rest → level.place ≡ place }
-        requires shallow { place.depth < 8 }
-        requires left { IsLevel diff.now (record { place = left_half place; part = parts.now.0 }) }
-        requires right { IsLevel diff.now (record { place = right_half place; part = parts.now.1 }) }
-        ensures stack { IsStack diff.now self.new }
-        ensures places { (level : Level) (rest : List Level) → self.old ≡ level ∷ rest
-            → places_of self.new ≡ left_half place ∷ right_half place ∷ places_of rest }
-    {
-        self.drop_next();
-        self.push(place.right(), &parts.1);
-        self.push(place.left(), &parts.0);
+        let top = self.top;
+        let (before, from) = self.levels.split_at_mut(top);
+        let level = &mut from[0];
+        level.halve(diff, &mut before[top - 1]);
+        self.top = top - 1;
     }
 
     fn drop_next(&mut self)
@@ -149,15 +141,5 @@ impl Waiting {
         ensures { self.new ≡ drop 1 self.old }
     {
         self.top += 1;
-    }
-
-    // A part before the others. There must be room for it. It is written field by field, so that it is copied once.
-    fn push(&mut self, place: Place, part: &[Bez<8>; 3])
-        requires { length self.old < 9 }
-        ensures { self.new ≡ record { place = place; part = part.now } ∷ self.old }
-    {
-        self.top -= 1;
-        self.levels[self.top].place = place;
-        self.levels[self.top].part = *part;
     }
 }

@@ -4,7 +4,7 @@ use Rattle.sep_parts.proofs.Rulers.{entries, few, low, positive, reaches, small}
 use Rattle.sep_parts.proofs.ruler.Ruler.low_control.Goals as goal
 
 pub low_control-requires-clause-values : goal.low_control-requires-clause-values
-low_control-requires-clause-values g c = level_small c.args.diff.now c.args.level.now c.requires.level c.raised_law.ensures.values
+low_control-requires-clause-values g c = rw c.curves.ensures (level_small c.args.diff.now c.args.level.now c.requires.level c.raised_law.ensures.values)
 
 pub low_control-requires-clause-positive : goal.low_control-requires-clause-positive
 low_control-requires-clause-positive g c =
