@@ -52,11 +52,6 @@ pub level_halved : (diff : List (Bez 8)) (level : Level) → level.place.depth <
     All (λ (curve : Bez 8). All (IsBelow (2 ^ 54)) curve.b) level.part
 level_halved diff level shallow is small = level_below 3 (2 ^ 54) diff level (omega arith) (omega arith) (lit< tt) is small
 
--- of one that is halved at most four times
-pub level_short : (diff : List (Bez 8)) (level : Level) → level.place.depth ≤ 4 → IsLevel diff level → All (λ (curve : Bez 8). All (IsBelow (2 ^ 30)) curve.b) diff →
-    All (λ (curve : Bez 8). All (IsBelow (2 ^ 58)) curve.b) level.part
-level_short diff level shallow is small = level_below 4 (2 ^ 58) diff level shallow (omega arith) (lit< tt) is small
-
 -- each curve of a level has eight control values
 pub level_sizes : (diff : List (Bez 8)) (level : Level) → IsLevel diff level → All (λ (curve : Bez 8). length curve.b ≡ 8) level.part
 level_sizes diff level is =
