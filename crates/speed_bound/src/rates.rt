@@ -84,7 +84,7 @@ fn slow<const K: usize>(least: u64, ms: u16, depth: Depth) -> u128
     ensures exact { result ≡ 2 ^ ((7 - K) * depth) * time K ms * least / units K }
     ensures shallow { depth ≤ most_depth }
 {
-    2u128.pow(fall(K, depth)) * time::<K>(ms) * least as u128 / units::<K>()
+    (1 << fall(K, depth)) * time::<K>(ms) * least as u128 / units::<K>()
 }
 
 // The rate of parts of this depth with this widest difference.
