@@ -17,9 +17,8 @@ half_within b half depth below r less shallow side is within =
         rw (e, pow-add 2 7 (84 - 7 * depth), at-eight (part_value 1 r (at b)) k small)
         (wide (2 ^ (84 - 7 * depth)) (part_value 1 r (at b) k) (part-within 1 r k (at b) (pos (2 ^ (84 - 7 * depth))) side small (λ i low. within_at (2 ^ (84 - 7 * depth)) b i within)))
 
--- numbers that are small enough
-pub room_of : (depth : ℕ) (x : ℤ) → IsWithin (pos (2 ^ (84 - 7 * depth))) x → IsWithin (pos (2 ^ 84)) x
-room_of depth x within =
-    let more : 84 - 7 * depth ≤ 84 = omega arith in
-    let room : 2 ^ (84 - 7 * depth) ≤ 2 ^ 84 = pow-le-pow_right {n = 2} (lit< tt) more in
+-- those of a part are within a power that is as large
+pub room_of : (n depth : ℕ) (x : ℤ) → 84 - 7 * depth ≤ n → IsWithin (pos (2 ^ (84 - 7 * depth))) x → IsWithin (pos (2 ^ n)) x
+room_of n depth x more within =
+    let room : 2 ^ (84 - 7 * depth) ≤ 2 ^ n = pow-le-pow_right {n = 2} (lit< tt) more in
     (omega (arith, ints, room, within.0), omega (arith, ints, room, within.1))

@@ -6,6 +6,7 @@ pub mod Changes
 pub mod RateLemmas
 pub mod Units
 pub mod Speeds
+pub mod Words
 pub mod Halves
 pub mod Walks
 pub mod Rests

@@ -65,7 +65,7 @@ fn curve_rate<const K: usize>(curve: &Bez<8>, ms: u16, depth: Depth, least: u64)
     ensures exact { result ≡ max least (segment_rate K depth ms (at curve.now.b)) }
     ensures small { result < limit K }
 {
-    let whole = widest::<K>(curve);
+    let whole = widest::<K, 64>(curve);
     if units::<K>() * whole <= time::<K>(ms) * least as u128 {
         return least;
     }

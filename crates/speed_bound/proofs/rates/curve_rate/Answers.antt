@@ -13,7 +13,7 @@ within : (b : List ℤ) (k : ℕ) → All (IsBelow (2 ^ 28)) b → IsWithin (pos
 within b k values = wide 28 (at b k) (omega arith) (below_at (2 ^ 28) b k (lit< tt) values)
 
 pub widest-whole-requires-clause-values : goal.widest-whole-requires-clause-values
-widest-whole-requires-clause-values g c k d inside = wide 84 _ (omega arith) (c.requires.values k d inside)
+widest-whole-requires-clause-values g c k d inside = wide 56 _ (omega arith) (c.requires.values k d inside)
 
 pub overflow_mul-units : goal.overflow_mul-units
 overflow_mul-units g c =
