@@ -1,8 +1,9 @@
 -- Ends of parts: what marks tell of them, and that the halves of a part share them.
-use Rattle.pair_search.proofs.Prelude.{below_more, drop, get_or, get_or-set_other, get_or-set_same, slice_set, ◌≡◌, ◌≢◌, ◌⊎◌, inl, inr, ℕ, suc, ◌+◌, ◌-◌, ◌*◌, ◌^◌, ◌≤◌, ◌<◌, ◌<ℤ◌, ◌+ℤ◌, ◌*ℤ◌, ℤ, pos, Bool, true, false, arith, refl, sym, ◌∙◌, ap, subst, List, [], ◌∷◌, ◌++◌, length, Option, Some, None, is_some, is_none, at, by_lt, linear, pow-add, mul_left_comm_ℤ, Bez, controls, Place, part_value, direction_of, threshold, IsLevel, IsStack, left_half, right_half, root, places_of, Measure, Level, Node, Leaf, Split, IsShallow, places_below, least_value, low_value, part_along, first_low-values, IsPoint, Point, AreOpposites, first_by, does_separate, bit_at, bit_and, bit_or, drop-drop, length-map, bit_at-lt, bit_at-zero, bit_at_and, bit_at_or, bernstein-zero, part-part, Marks, Ends, AreEarly, AreEnds, AreLeft, AreWeighed, FindsEarly, FindsMarked, IsLowEnd, IsMarked, IsMarkedIn, MarkTells, MarksAt, TellAll, TellsEnds, TellsOf}
+use Rattle.pair_search.proofs.Prelude.{below_more, drop, get_or, get_or-set_other, get_or-set_same, slice_set, ◌≡◌, ◌≢◌, ◌⊎◌, inl, inr, ℕ, suc, ◌+◌, ◌-◌, ◌*◌, ◌^◌, ◌≤◌, ◌<◌, ◌<ℤ◌, ◌+ℤ◌, ◌*ℤ◌, ℤ, pos, Bool, true, false, arith, refl, sym, ◌∙◌, ap, subst, List, [], ◌∷◌, ◌++◌, length, Option, Some, None, is_some, is_none, at, by_lt, linear, pow-add, mul_left_comm_ℤ, Bez, controls, Place, part_value, direction_of, threshold, IsLevel, IsStack, left_half, right_half, root, places_of, Measure, Level, Node, Leaf, Split, IsShallow, places_below, least_value, low_value, part_along, first_low-values, IsPoint, Point, AreOpposites, first_by, does_separate, bit_at, bit_and, bit_or, drop-drop, length-map, bit_at-lt, bit_at-zero, bit_at_and, bit_at_or, bernstein-zero, part-part, Marks, Ends, AreEarly, AreEnds, AreLeft, AreWeighed, FindsEarly, FindsMarked, IsLowEnd, IsMarked, IsMarkedIn, MarkTells, MarksAt, TellAll, TellsEnds, TellsOf, MarksOf, AreShortMarks, IsShortPoint, ShortPoint}
 use Rattle.halving.proofs.HalfLemmas.{left_edge, right_edge}
 use Rattle.pair_search.specs.declared.opposites.Opposites.{Opposites}
 use Rattle.pair_search.specs.declared.ends.Kept.{Kept}
+use Rattle.pair_search.proofs.ShortLemmas.{short_along}
 use Rattle.pair_search.proofs.LaneLemmas.{by_same, lane_along}
 use Rattle.pair_search.proofs.Marks.{none_there, some_there}
 
@@ -87,6 +88,24 @@ module _ (m : Measure) (diff : List (Bez 8)) where
         lane_along diff level m.clearance (direction_of m.directions (length m.directions - (i + 1))) s.lanes at_point.0 (length m.directions - (i + 1)) k few is at_point.2 (opposites.lanes.each (length m.directions - (i + 1)) (omega (arith, inside)))
         (opposites.each i inside at_point.0 at_point.1 (at_point.3.back i (omega arith) (omega (arith, inside, count)) clear));
   }
+
+  -- and so do those by rough values
+  short_told : (s : Opposites) (level : Level) (k : ℕ) (p : ShortPoint) (marks : Marks) → k ≤ 7 → length m.directions ≤ 98 → AreOpposites m s → IsLevel diff level → IsShortPoint level k p → AreShortMarks s.short p marks → TellsOf m diff level.place k marks
+  short_told s level k p marks few count opposites is point marked = record {
+    front = λ i inside clear.
+        let lane = opposites.short i inside in
+        let rough = marked.front i (omega (arith, inside, count)) lane.small clear in
+        short_along diff level m.clearance (direction_of m.directions i) s.lanes p i k few is point (opposites.lanes.each i (omega (arith, inside))) (lane.low p rough.0 point.fits rough.1 rough.2);
+    back = λ i inside clear.
+        let lane = opposites.short i inside in
+        let rough = marked.back i (omega (arith, inside, count)) lane.small clear in
+        short_along diff level m.clearance (direction_of m.directions (length m.directions - (i + 1))) s.lanes p (length m.directions - (i + 1)) k few is point
+        (opposites.lanes.each (length m.directions - (i + 1)) (omega (arith, inside))) (lane.high p rough.0 point.fits rough.1 rough.2);
+  }
+
+  pub marks_told : (s : Opposites) (level : Level) (k : ℕ) (marks : Marks) → k ≤ 7 → length m.directions ≤ 98 → AreOpposites m s → IsLevel diff level → MarksOf s level k marks → TellsOf m diff level.place k marks
+  marks_told s level k marks few count opposites is (inl short) = short_told s level k short.0 marks few count opposites is short.1 short.2
+  marks_told s level k marks few count opposites is (inr whole) = told s level k marks few count opposites is whole
 
   -- ---- the whole cue, whose ends are weighed
   -- they stay its ends while their points stay
@@ -242,14 +261,14 @@ no_bit i set = omega (arith, set, bit_at-zero i)
 
 -- the ends of the whole cue
 pub root_told : (m : Measure) (diff : List (Bez 8)) (s : Opposites) (ends : Ends) → length m.directions ≤ 98 → AreOpposites m s → IsLevel diff (record { place = root; part = diff }) →
-    MarksAt s (record { place = root; part = diff }) 0 ends.first → MarksAt s (record { place = root; part = diff }) 7 ends.last → TellsEnds m diff root ends
+    MarksOf s (record { place = root; part = diff }) 0 ends.first → MarksOf s (record { place = root; part = diff }) 7 ends.last → TellsEnds m diff root ends
 root_told m diff s ends few opposites is first last = record {
-  first = told m diff s (record { place = root; part = diff }) 0 ends.first (omega arith) few opposites is first;
-  last = told m diff s (record { place = root; part = diff }) 7 ends.last (omega arith) few opposites is last;
+  first = marks_told m diff s (record { place = root; part = diff }) 0 ends.first (omega arith) few opposites is first;
+  last = marks_told m diff s (record { place = root; part = diff }) 7 ends.last (omega arith) few opposites is last;
 }
 
 pub whole_told : (m : Measure) (diff : List (Bez 8)) (s : Opposites) (ends : Ends) (places : List Place) → length m.directions ≤ 98 → AreOpposites m s → IsLevel diff (record { place = root; part = diff }) →
-    MarksAt s (record { place = root; part = diff }) 0 ends.first → MarksAt s (record { place = root; part = diff }) 7 ends.last → places ≡ root ∷ [] → TellAll m diff places (ends ∷ [])
+    MarksOf s (record { place = root; part = diff }) 0 ends.first → MarksOf s (record { place = root; part = diff }) 7 ends.last → places ≡ root ∷ [] → TellAll m diff places (ends ∷ [])
 whole_told m diff s ends places few opposites is first last same = rw same (root_told m diff s ends few opposites is first last, tt)
 
 -- those of the next part
@@ -327,14 +346,14 @@ module _ (waiting next : List Level) (ends all : List Ends) (node : Node) (some 
 
   pub split_told : (m : Measure) (diff : List (Bez 8)) (s : Opposites) (middle : Marks) → length m.directions ≤ 98 → AreOpposites m s → node ≡ Split →
       ((e : Ends) (rest : List Ends) → ends ≡ e ∷ rest → all ≡ record { first = e.first; last = middle } ∷ record { first = middle; last = e.last } ∷ rest) →
-      IsStack diff next → ((level : Level) (rest : List Level) → next ≡ level ∷ rest → MarksAt s level 7 middle) → TellAll m diff (places_of waiting) ends → TellAll m diff (places_of next) all
+      IsStack diff next → ((level : Level) (rest : List Level) → next ≡ level ∷ rest → MarksOf s level 7 middle) → TellAll m diff (places_of waiting) ends → TellAll m diff (places_of next) all
   split_told m diff s middle few opposites is splits stack between tells = go waiting refl ends refl
     where
       middle_of : (place other : Place) (ps : List Place) (n : List Level) → next ≡ n → places_of n ≡ place ∷ other ∷ ps → IsStack diff n → TellsOf m diff place 7 middle
       middle_of place other ps [] same placed st = absurd (cc)
       middle_of place other ps (level ∷ rest) same placed st =
           let here : level.place ≡ place = cc in
-          subst (λ (p : Place). TellsOf m diff p 7 middle) here (told m diff s level 7 middle (omega arith) few opposites st.1 (between level rest same))
+          subst (λ (p : Place). TellsOf m diff p 7 middle) here (marks_told m diff s level 7 middle (omega arith) few opposites st.1 (between level rest same))
 
       go : (w : List Level) → waiting ≡ w → (e : List Ends) → ends ≡ e → TellAll m diff (places_of next) all
       go [] waits e has = absurd (omega (arith, some, ap (λ (xs : List Level). length xs) waits))

@@ -142,35 +142,41 @@ least_is t p =
     swap p = omega arith
 
 -- a sum whose point is below what it has to reach is below the least value
-pub lane_low : (e : ℕ) (t sum v low s : ℤ) → sum ≤ℤ (pos (2 ^ (14 + 7 * e)) *ℤ (v +ℤ s)) → v <ℤ low → (pos 16384 *ℤ (low +ℤ s)) ≤ℤ (pos 5040 *ℤ t) → sum <ℤ least_value t e
-lane_low e t sum v low s most less reach =
+lane_low : (step times e : ℕ) (t sum v low s : ℤ) → 0 < step → times ≡ step * 2 ^ (7 * e) → sum ≤ℤ (pos times *ℤ (v +ℤ s)) → v <ℤ low → (pos step *ℤ (low +ℤ s)) ≤ℤ (pos 5040 *ℤ t) → sum <ℤ least_value t e
+lane_low step times e t sum v low s whole split most less reach =
     let some : 0 < 2 ^ (7 * e) = pow_pos (7 * e) in
-    let step : (pos (2 ^ (7 * e)) *ℤ (pos 16384 *ℤ (v +ℤ s +ℤ pos 1))) ≤ℤ (pos (2 ^ (7 * e)) *ℤ (pos 5040 *ℤ t)) = le_mul_pos (2 ^ (7 * e)) _ _ (omega (arith, linear, less, reach)) in
-    let spread : pos (2 ^ (7 * e)) *ℤ (pos 16384 *ℤ (v +ℤ s +ℤ pos 1)) ≡ pos (16384 * 2 ^ (7 * e)) *ℤ (v +ℤ s) +ℤ pos (16384 * 2 ^ (7 * e)) =
-    sym (mul_assoc_ℤ (pos (2 ^ (7 * e))) (pos 16384) (v +ℤ s +ℤ pos 1)) ∙ ap (λ (n : ℕ). pos n *ℤ (v +ℤ s +ℤ pos 1)) (swap (2 ^ (7 * e)))
-    ∙ mul_add_ℤ (pos (16384 * 2 ^ (7 * e))) (v +ℤ s) (pos 1) ∙ ap (λ (z : ℤ). pos (16384 * 2 ^ (7 * e)) *ℤ (v +ℤ s) +ℤ z) (mul_comm_ℤ (pos (16384 * 2 ^ (7 * e))) (pos 1) ∙ one_mul_ℤ (pos (16384 * 2 ^ (7 * e)))) in
-    let most_is : sum ≤ℤ (pos (16384 * 2 ^ (7 * e)) *ℤ (v +ℤ s)) = subst (λ (n : ℕ). sum ≤ℤ (pos n *ℤ (v +ℤ s))) (scale_split e) most in
-    close (16384 * 2 ^ (7 * e)) sum (pos (16384 * 2 ^ (7 * e)) *ℤ (v +ℤ s)) (pos (2 ^ (7 * e)) *ℤ (pos 5040 *ℤ t)) (least_value t e) (omega (arith, some)) most_is (subst (λ (z : ℤ). z ≤ℤ (pos (2 ^ (7 * e)) *ℤ (pos 5040 *ℤ t))) spread step) (least_is t (2 ^ (7 * e)))
+    let next : (pos step *ℤ (v +ℤ s +ℤ pos 1)) ≤ℤ (pos step *ℤ (low +ℤ s)) = le_mul_pos step (v +ℤ s +ℤ pos 1) (low +ℤ s) (omega (arith, linear, less)) in
+    let scaled : (pos (2 ^ (7 * e)) *ℤ (pos step *ℤ (v +ℤ s +ℤ pos 1))) ≤ℤ (pos (2 ^ (7 * e)) *ℤ (pos 5040 *ℤ t)) = le_mul_pos (2 ^ (7 * e)) _ _ (omega (arith, linear, next, reach)) in
+    let spread : pos (2 ^ (7 * e)) *ℤ (pos step *ℤ (v +ℤ s +ℤ pos 1)) ≡ pos (step * 2 ^ (7 * e)) *ℤ (v +ℤ s) +ℤ pos (step * 2 ^ (7 * e)) =
+    sym (mul_assoc_ℤ (pos (2 ^ (7 * e))) (pos step) (v +ℤ s +ℤ pos 1)) ∙ ap (λ (n : ℕ). pos n *ℤ (v +ℤ s +ℤ pos 1)) (mul-comm (2 ^ (7 * e)) step)
+    ∙ mul_add_ℤ (pos (step * 2 ^ (7 * e))) (v +ℤ s) (pos 1) ∙ ap (λ (z : ℤ). pos (step * 2 ^ (7 * e)) *ℤ (v +ℤ s) +ℤ z) (mul_comm_ℤ (pos (step * 2 ^ (7 * e))) (pos 1) ∙ one_mul_ℤ (pos (step * 2 ^ (7 * e)))) in
+    let most_is : sum ≤ℤ (pos (step * 2 ^ (7 * e)) *ℤ (v +ℤ s)) = subst (λ (n : ℕ). sum ≤ℤ (pos n *ℤ (v +ℤ s))) split most in
+    close (step * 2 ^ (7 * e)) sum (pos (step * 2 ^ (7 * e)) *ℤ (v +ℤ s)) (pos (2 ^ (7 * e)) *ℤ (pos 5040 *ℤ t)) (least_value t e) (mul-pos step (2 ^ (7 * e)) whole some) most_is (subst (λ (z : ℤ). z ≤ℤ (pos (2 ^ (7 * e)) *ℤ (pos 5040 *ℤ t))) spread scaled) (least_is t (2 ^ (7 * e)))
   where
-    swap : (p : ℕ) → p * 16384 ≡ 16384 * p
-    swap p = omega arith
+    mul-comm : (a b : ℕ) → a * b ≡ b * a
+    mul-comm a b = omega arith
+
+    mul-pos : (a b : ℕ) → 0 < a → 0 < b → 0 < a * b
+    mul-pos a b p q = omega (arith, mul-le 1 1 a b p q)
 
     close : (d : ℕ) (sum a b least : ℤ) → 0 < d → sum ≤ℤ a → (a +ℤ pos d) ≤ℤ b → least ≡ b → sum <ℤ least
     close d sum a b least some most step is = omega (arith, ints, some, most, step, is)
 
--- a lane that is too low at a point of a part: so is the value there along its direction
-pub lane_along : (diff : List (Bez 8)) (level : Level) (clear : Clearance) (n : List ℤ) (l : Lanes) (p : Point) (i k : ℕ) → k ≤ 7 → IsLevel diff level → IsPoint level k p → IsLane clear n l i →
-    lane_value l p i <ℤ at l.low i → part_along clear.r clear.h diff level.place n k <ℤ least_value (threshold clear n) level.place.depth
-lane_along diff level clear n l p i k few is point lane less =
+-- a sum of weighted coordinates in steps of a part that is too low: so is the value there along the direction
+pub steps_along : (step times : ℕ) (diff : List (Bez 8)) (level : Level) (clear : Clearance) (n : List ℤ) (l : Lanes) (x y z low : ℤ) (i k : ℕ) → k ≤ 7 → IsLevel diff level → IsLane clear n l i →
+    0 < step → 2 ^ times ≡ step * 2 ^ (7 * level.place.depth) → IsFloor times (at (controls level.part 0) k) x → IsFloor times (at (controls level.part 1) k) y → IsFloor times (at (controls level.part 2) k) z →
+    (at l.x i *ℤ x +ℤ at l.y i *ℤ y +ℤ at l.z i *ℤ z) <ℤ low → (pos step *ℤ (low +ℤ slack_of (weights n clear.r clear.h))) ≤ℤ (pos 5040 *ℤ threshold clear n) →
+    part_along clear.r clear.h diff level.place n k <ℤ least_value (threshold clear n) level.place.depth
+steps_along step times diff level clear n l x y z low i k few is lane whole split x_floor y_floor z_floor less reach =
     let ws : List ℤ = weights n clear.r clear.h in
     let same : at ws 0 *ℤ at (controls level.part 0) k +ℤ at ws 1 *ℤ at (controls level.part 1) k +ℤ at ws 2 *ℤ at (controls level.part 2) k ≡ part_along clear.r clear.h diff level.place n k =
     sums (at ws 0) (at ws 1) (at ws 2) (value 0 (omega arith)) (value 1 (omega arith)) (value 2 (omega arith)) in
-    let lane_is : lane_value l p i ≡ at ws 0 *ℤ p.x +ℤ at ws 1 *ℤ p.y +ℤ at ws 2 *ℤ p.z = lanes p.x p.y p.z lane.x lane.y lane.z in
-    lane_low level.place.depth (threshold clear n) (part_along clear.r clear.h diff level.place n k) (at ws 0 *ℤ p.x +ℤ at ws 1 *ℤ p.y +ℤ at ws 2 *ℤ p.z) (at l.low i) (slack_of ws)
-    (subst (λ (z : ℤ). z ≤ℤ (pos (2 ^ (14 + 7 * level.place.depth)) *ℤ ((at ws 0 *ℤ p.x +ℤ at ws 1 *ℤ p.y +ℤ at ws 2 *ℤ p.z) +ℤ slack_of ws))) same
-    (sum_weighed (2 ^ (14 + 7 * level.place.depth)) (at ws 0) (at ws 1) (at ws 2) p.x p.y p.z (at (controls level.part 0) k) (at (controls level.part 1) k) (at (controls level.part 2) k)
-    point.x.low point.x.high point.y.low point.y.high point.z.low point.z.high))
-    (subst (λ (z : ℤ). z <ℤ at l.low i) lane_is less) lane.low
+    let lane_is : at l.x i *ℤ x +ℤ at l.y i *ℤ y +ℤ at l.z i *ℤ z ≡ at ws 0 *ℤ x +ℤ at ws 1 *ℤ y +ℤ at ws 2 *ℤ z = lanes x y z lane.x lane.y lane.z in
+    lane_low step (2 ^ times) level.place.depth (threshold clear n) (part_along clear.r clear.h diff level.place n k) (at ws 0 *ℤ x +ℤ at ws 1 *ℤ y +ℤ at ws 2 *ℤ z) low (slack_of ws) whole split
+    (subst (λ (m : ℤ). m ≤ℤ (pos (2 ^ times) *ℤ ((at ws 0 *ℤ x +ℤ at ws 1 *ℤ y +ℤ at ws 2 *ℤ z) +ℤ slack_of ws))) same
+    (sum_weighed (2 ^ times) (at ws 0) (at ws 1) (at ws 2) x y z (at (controls level.part 0) k) (at (controls level.part 1) k) (at (controls level.part 2) k)
+    x_floor.low x_floor.high y_floor.low y_floor.high z_floor.low z_floor.high))
+    (subst (λ (m : ℤ). m <ℤ low) lane_is less) reach
   where
     value : (axis : ℕ) → axis ≤ 2 → at (controls level.part axis) k ≡ part_value level.place.depth level.place.index (at (controls diff axis)) k
     value axis low = ap (λ (xs : List ℤ). at xs k) (is.part axis low) ∙ at-eight (part_value level.place.depth level.place.index (at (controls diff axis))) k few
@@ -180,6 +186,12 @@ lane_along diff level clear n l p i k few is point lane less =
 
     lanes : {a b c u v w : ℤ} (x y z : ℤ) → a ≡ u → b ≡ v → c ≡ w → a *ℤ x +ℤ b *ℤ y +ℤ c *ℤ z ≡ u *ℤ x +ℤ v *ℤ y +ℤ w *ℤ z
     lanes {a} {b} {c} {u} {v} {w} x y z p q r = cc
+
+-- a lane that is too low at a point of a part: so is the value there along its direction
+pub lane_along : (diff : List (Bez 8)) (level : Level) (clear : Clearance) (n : List ℤ) (l : Lanes) (p : Point) (i k : ℕ) → k ≤ 7 → IsLevel diff level → IsPoint level k p → IsLane clear n l i →
+    lane_value l p i <ℤ at l.low i → part_along clear.r clear.h diff level.place n k <ℤ least_value (threshold clear n) level.place.depth
+lane_along diff level clear n l p i k few is point lane less =
+    steps_along 16384 (14 + 7 * level.place.depth) diff level clear n l p.x p.y p.z (at l.low i) i k few is lane (omega arith) (scale_split level.place.depth) point.x point.y point.z less lane.low
 
 -- ---- whole steps
 -- a value of a part is few steps

@@ -11,5 +11,6 @@ pub mod LaneLemmas
 pub mod Reaches
 pub mod Waits
 pub mod OppositeLemmas
+pub mod ShortLemmas
 pub mod EndLemmas
 pub mod HighBits

@@ -1,10 +1,10 @@
 -- What the proofs of this crate cite from elsewhere, passed on from one place. Declares nothing.
-pub use Rattle.std.proofs.Common.{All, Bool, Err, FitsSigned, IfOk, List, None, Ok, Option, Result, Some, [], ap, append-nil, append_assoc, arith, below_more, bit_and, bit_or, cond, drop, false, get_or, get_or-set_other, get_or-set_same, inl, inr, is_none, leb, length, length-append, lit<, map, nat_lt, neg_ℤ, negsuc, not, of_z, pos, pow_mono, refl, replicate, rules, slice_set, subst, suc, sym, take, to_z, true, unsigned_abs, w8, zero, ℕ, ℤ, ◌%◌, ◌*ℤ◌, ◌*◌, ◌++◌, ◌+ℤ◌, ◌+◌, ◌-ℤ◌, ◌-◌, ◌/◌, ◌<ℤ◌, ◌<◌, ◌^◌, ◌↔◌, ◌∙◌, ◌∷◌, ◌≡◌, ◌≢◌, ◌≤ℤ◌, ◌≤◌, ◌⊎◌}
+pub use Rattle.std.proofs.Common.{All, Bool, Err, FitsSigned, IfOk, IfSome, List, None, Ok, Option, Result, Some, [], ap, append-nil, append_assoc, arith, below_more, bit_and, bit_or, cond, drop, false, get_or, get_or-set_other, get_or-set_same, inl, inr, is_none, leb, length, length-append, lit<, map, nat_lt, neg_ℤ, negsuc, not, of_z, pos, pow_mono, refl, replicate, rules, slice_set, subst, suc, sym, take, to_z, true, unsigned_abs, w8, zero, ℕ, ℤ, ◌%◌, ◌*ℤ◌, ◌*◌, ◌++◌, ◌+ℤ◌, ◌+◌, ◌-ℤ◌, ◌-◌, ◌/◌, ◌<ℤ◌, ◌<◌, ◌^◌, ◌↔◌, ◌∙◌, ◌∷◌, ◌≡◌, ◌≢◌, ◌≤ℤ◌, ◌≤◌, ◌⊎◌}
 pub use Rattle.std.proofs.Math.ListN.{get_or-map}
 pub use Rattle.std.proofs.Math.Nat.{pow-le-pow_right, pow-suc, two-pow-succ}
 pub use Rattle.std.proofs.lemmas.Bool.Decides.{nat_tests}
 pub use Rattle.std.proofs.lemmas.Grind.{common_steps}
-pub use Rattle.std.proofs.lemmas.Int.{ints, to_z-of_z, unsigned_abs-mul}
+pub use Rattle.std.proofs.lemmas.Int.{int_wrap_fits, ints, to_z-of_z, unsigned_abs-mul, wrapping_add_onto}
 pub use Rattle.std.proofs.lemmas.List.{drop-drop, get_or_default, length-map}
 pub use Rattle.std.proofs.lemmas.List.Quantifiers.{position-Some}
 pub use Rattle.std.proofs.lemmas.List.Sums.{position_or_len_is, sum_by-cons}
@@ -12,7 +12,8 @@ pub use Rattle.std.proofs.lemmas.Nat.{and-not, and_comm, div_below, le-div, lead
 pub use Rattle.std.proofs.lemmas.Nat.Bits.{and_pow, bit_at-lt, bit_at-trailing_zeros, bit_at-zero, bit_at_above, bit_at_and, bit_at_clear_other, bit_at_or}
 pub use Rattle.std.proofs.lemmas.Result.{err_from_is_err_and}
 pub use Rattle.std.proofs.lemmas.Simd.{bit_mask_l, bitmask_splat, get_or-chunk, length-chunk}
-pub use Rattle.std.specs.Int.{bit_at}
+pub use Rattle.std.specs.Int.{bit_at, int_wrap}
+pub use Rattle.std.specs.Int.Signed.{shr_z}
 pub use Rattle.std.specs.Option.{is_some, option_map, option_or}
 pub use Rattle.std.specs.Simd.Lanes.{chunk, mask_l}
 pub use Rattle.bezier_core.proofs.CurveLemmas.{at-eight}
@@ -46,7 +47,7 @@ pub use Rattle.sep_parts.specs.declared.node.Node.{Node}
 pub use Rattle.sep_parts.specs.declared.node.Node.TheVariants.{Leaf, Split}
 pub use Rattle.sep_parts.specs.declared.slot.Slot.{Slot}
 pub use Rattle.sep_parts.specs.declared.stack.Level.{Level}
-pub use mir.Syntax.{w128, w32, w64}
+pub use mir.Syntax.{w128, w16, w32, w64}
 pub use Rattle.pair_search.specs.Extents.{HasAxes, HasExtents, HaveFlights, IsExtent, IsFar, IsFarOn, IsFlight, least_distance, no_extent, room_on}
 unfoldable pub use Rattle.pair_search.specs.Fleets.{direction_at}
 pub use Rattle.pair_search.specs.Fleets.{StopsBy, best_nodes, blocked_in, nodes_in, nodes_of, slots_in}
@@ -55,10 +56,15 @@ pub use Rattle.pair_search.specs.Marks.{AnswersBit, AreEarly, AreEnds, AreLeft, 
 pub use Rattle.pair_search.specs.Opposites.{AreOpposites, AreSmallHighs, CancelAt, IsHigh, IsSmallHigh}
 unfoldable pub use Rattle.pair_search.specs.Search.{blocked_place, first_direction}
 pub use Rattle.pair_search.specs.Search.{HasDirection, IsClear, SearchGives, best_tree, first_by, first_without, place_at, split_of}
+pub use Rattle.pair_search.specs.Short.{AreShort, AreShortMarks, FitsShort, HasSmallWeights, IsRough, IsShortPoint, MarksOf, TellsShort, short_lane_at, short_low, short_steps_of, short_value}
 pub use Rattle.pair_search.specs.Steps.{CountGives, FindsCount, FindsFirst, IsPairFar, WalkGives, blocked_slot, does_separate, marked, node_for}
 pub use Rattle.pair_search.specs.declared.ends.Ends.{Ends}
 pub use Rattle.pair_search.specs.declared.extents.Extent.{Extent}
 pub use Rattle.pair_search.specs.declared.lanes.Lanes.{Lanes}
 pub use Rattle.pair_search.specs.declared.lanes.Point.{Point}
 pub use Rattle.pair_search.specs.declared.marking.Marks.{Marks}
+pub use Rattle.pair_search.specs.declared.opposites.Opposites.{Opposites}
+pub use Rattle.pair_search.specs.declared.short.ShortLane.{ShortLane}
+pub use Rattle.pair_search.specs.declared.short.ShortLanes.{ShortLanes}
+pub use Rattle.pair_search.specs.declared.short.ShortPoint.{ShortPoint}
 pub use Rattle.pair_search.specs.declared.walk.Found.{Found}

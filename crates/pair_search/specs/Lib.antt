@@ -6,3 +6,4 @@ pub mod Extents
 pub mod Lanes
 pub mod Marks
 pub mod Opposites
+pub mod Short

@@ -7,6 +7,7 @@ use Rattle.pair_search.specs.declared.lanes.Lanes.{Lanes}
 use Rattle.pair_search.specs.declared.lanes.Point.{Point}
 use Rattle.pair_search.specs.declared.opposites.Opposites.{Opposites}
 use Rattle.pair_search.specs.Lanes.{AreLanes, IsSmallPoint, lane_value}
+use Rattle.pair_search.specs.Short.{AreShort}
 
 -- the directions of two lanes are opposite
 pub record CancelAt (l : Lanes) (i j : ℕ) : Type 0 where
@@ -30,3 +31,4 @@ pub record AreOpposites (m : Measure) (s : Opposites) : Type 0 where
   pub lanes : AreLanes m s.lanes
   pub small : AreSmallHighs s.high
   pub each : (i : ℕ) → i + i < length m.directions → IsHigh s.lanes i (length m.directions - (i + 1)) (at s.high i)
+  pub short : AreShort s.lanes (length m.directions) s.short

@@ -9,12 +9,14 @@ ghost use Rattle.pair_search.specs.declared.ends.Ends.{Ends};
 ghost use Rattle.pair_search.specs.declared.opposites.Opposites.{Opposites};
 ghost use Rattle.pair_search.specs.Lanes.{AreSmallLanes, IsSmallPoint};
 ghost use Rattle.pair_search.specs.Marks.{AreEnds, AreWeighed, IsMarked, IsMarkedIn, IsWeighed, MarkTells};
-ghost use Rattle.pair_search.specs.Marks.{MarksAt, TellAll};
+ghost use Rattle.pair_search.specs.Marks.{TellAll};
 ghost use Rattle.pair_search.specs.Opposites.{AreOpposites, AreSmallHighs};
+ghost use Rattle.pair_search.specs.Short.{MarksOf};
 
-use crate::lanes::{Point, point_at, whole_point_at};
-use crate::marking::{Marks, both, early_marks, late_marks, marks_of};
+use crate::lanes::{Point, whole_point_at};
+use crate::marking::{Marks, both, early_marks, late_marks};
 use crate::opposites::Opposites;
+use crate::short::{marks_at, whole_marks_at};
 use fleet_curves::Difference;
 use sep_parts::{Level, Node, Waiting};
 use std::marker::Model;
@@ -120,12 +122,12 @@ impl WaitingEnds {
 pub fn ends_of_whole(diff: &Difference, opposites: &Opposites) -> Ends
     requires lanes { AreSmallLanes opposites.now.lanes }
     requires high { AreSmallHighs opposites.now.high }
-    ensures first { MarksAt opposites.now (record { place = root; part = diff.now }) 0 result.first }
-    ensures last { MarksAt opposites.now (record { place = root; part = diff.now }) 7 result.last }
+    ensures first { MarksOf opposites.now (record { place = root; part = diff.now }) 0 result.first }
+    ensures last { MarksOf opposites.now (record { place = root; part = diff.now }) 7 result.last }
 {
     Ends {
-        first: marks_of(opposites, &whole_point_at(diff, 0)),
-        last: marks_of(opposites, &whole_point_at(diff, 7)),
+        first: whole_marks_at(opposites, diff, 0),
+        last: whole_marks_at(opposites, diff, 7),
     }
 }
 
@@ -335,10 +337,10 @@ fn marks_between(diff: &Difference, opposites: &Opposites, waiting: &Waiting) ->
     requires stack { IsStack diff.now waiting.now }
     requires lanes { AreSmallLanes opposites.now.lanes }
     requires high { AreSmallHighs opposites.now.high }
-    ensures { (level : Level) (rest : List Level) → waiting.now ≡ level ∷ rest → MarksAt opposites.now level 7 result }
+    ensures { (level : Level) (rest : List Level) → waiting.now ≡ level ∷ rest → MarksOf opposites.now level 7 result }
 {
     match waiting.next() {
-        Some(level) => marks_of(opposites, &point_at(diff, level, 7)),
+        Some(level) => marks_at(opposites, diff, level, 7),
         None => Marks { front: 0, back: 0 },
     }
 }

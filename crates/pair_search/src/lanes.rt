@@ -124,7 +124,7 @@ pub fn whole_point_at(diff: &Difference, k: usize) -> Point
 }
 
 // A law: a level has three curves of eight control values each, whose size its depth bounds.
-fn level_law(diff: &Difference, level: &Level)
+pub(crate) fn level_law(diff: &Difference, level: &Level)
     requires level { IsLevel diff.now level.now }
     ensures depth { level.now.place.depth ≤ 8 }
     ensures axes { length level.now.part ≡ 3 }
@@ -165,7 +165,7 @@ fn steps_of(depth: Depth) -> u32
 }
 
 // A value by a power of 2, rounded down.
-fn floor_by(value: i128, times: u32) -> i128
+pub(crate) fn floor_by(value: i128, times: u32) -> i128
     requires { times ≤ 70 }
     ensures { IsFloor times value result }
 {
@@ -173,7 +173,7 @@ fn floor_by(value: i128, times: u32) -> i128
 }
 
 // The same of a value of 64 bits.
-fn floor_short(value: i64, times: u32) -> i64
+pub(crate) fn floor_short(value: i64, times: u32) -> i64
     requires { times ≤ 42 }
     ensures { IsFloor times value result }
 {

@@ -19,6 +19,7 @@ mod lanes;
 mod marking;
 mod opposites;
 mod shape;
+mod short;
 mod some;
 mod walk;
 

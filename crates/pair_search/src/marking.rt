@@ -102,7 +102,7 @@ fn is_low(value: i32, low: i32) -> u8
 
 // Bit k is set where byte k is 0.
 #[inline(always)]
-fn clear_bytes(bytes: &[u8; 64]) -> u64
+pub(crate) fn clear_bytes(bytes: &[u8; 64]) -> u64
     ensures { (k : ℕ) → k < 64 → bit_at result k ≡ 0 → slice_index bytes.now k ≢ 0 }
 {
     u8x64::from_slice(bytes)

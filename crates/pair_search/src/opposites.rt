@@ -7,6 +7,7 @@ ghost use Rattle.pair_search.specs.Lanes.{AreSmallLanes};
 ghost use Rattle.pair_search.specs.Opposites.{AreOpposites, AreSmallHighs, CancelAt, IsHigh, IsSmallHigh};
 
 use crate::lanes::{Lanes, lanes_of};
+use crate::short::{ShortLanes, short_of};
 use sep_parts::Ruler;
 
 /// The lanes of a ruler. For each direction of the first half of its table, `high` says above what a point is too low
@@ -15,6 +16,7 @@ use sep_parts::Ruler;
 pub struct Opposites {
     pub lanes: Lanes,
     pub high: [i32; 56],
+    pub short: ShortLanes,
 }
 
 /// The lanes of a ruler with the opposite directions.
@@ -23,11 +25,12 @@ pub fn opposites_of<const M: usize>(ruler: &Ruler<M>) -> Opposites
 {
     let lanes = lanes_of(ruler);
     let high = highs_of(&lanes, ruler.count());
-    Opposites { lanes, high }
+    let short = short_of(&lanes, ruler.count());
+    Opposites { lanes, high, short }
 }
 
 // How many directions the first half of a table has, the middle one included.
-fn front_of(count: usize) -> usize
+pub(crate) fn front_of(count: usize) -> usize
     requires { count ≤ 98 }
     ensures enough { count ≤ result + result }
     ensures few { result + result ≤ count + 1 }
@@ -65,7 +68,7 @@ fn high_of(lanes: &Lanes, i: usize, j: usize) -> i32
     }
 }
 
-fn are_opposite(lanes: &Lanes, i: usize, j: usize) -> bool
+pub(crate) fn are_opposite(lanes: &Lanes, i: usize, j: usize) -> bool
     requires i { i < 112 }
     requires j { j < 112 }
     requires lanes { AreSmallLanes lanes.now }
