@@ -1,6 +1,7 @@
 //! Who may be deaf to a landing, and whether it is covered all the same.
 
-ghost use Rattle.std.specs.Prelude.{◌≡◌, ◌≤◌, ◌<◌, ◌+◌, ◌++◌, ◌&&◌, [], length};
+ghost use Rattle.std.specs.Prelude.{◌≡◌, ◌≤◌, ◌<◌, ◌+◌, ◌++◌, ◌&&◌, [], length, ℕ, Some};
+ghost use Rattle.std.specs.List.{list_all};
 ghost use Rattle.flight_model.specs.Directors.{may_be_deaf as word_deaf, one_if, deaf_from, is_same as word_same};
 ghost use Rattle.flight_model.specs.Directors.{is_window as word_window, has_window as word_has};
 ghost use Rattle.flight_model.specs.Directors.{is_covered as word_covered, has_risen as word_risen};
@@ -92,13 +93,16 @@ fn has_window(windows: &[Window], n: usize, ms: u32, deaf: &Option<usize>) -> bo
     false
 }
 
+// Whether each of these drones has a window in which it is deaf.
+fn each_has_window(windows: &[Window], n: usize, ms: u32, deaf: &[usize]) -> bool
+    ensures { result ≡ list_all (λ (d : ℕ). word_has windows.now n ms (Some d)) deaf.now }
+{
+    deaf.iter().all(|d| has_window(windows, n, ms, &Some(*d)))
+}
+
 /// Whether windows cover a landing `ms` after step n, where these drones may be deaf.
 pub fn is_covered(windows: &[Window], n: usize, ms: u32, deaf: &[usize]) -> bool
     ensures { result ≡ word_covered windows.now n ms deaf.now }
 {
-    match deaf {
-        [] => has_window(windows, n, ms, &None),
-        [d] => has_window(windows, n, ms, &None) && has_window(windows, n, ms, &Some(*d)),
-        _ => false,
-    }
+    has_window(windows, n, ms, &None) && each_has_window(windows, n, ms, deaf)
 }

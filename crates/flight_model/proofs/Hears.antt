@@ -1,5 +1,5 @@
 -- What the director looks at is whether all may land.
-use Rattle.flight_model.proofs.Prelude.{◌≡◌, ◌⊎◌, ◌<◌, ◌+◌, ◌∷◌, ◌++◌, ◌∙◌, ◌||◌, ◌&&◌, [], List, Bool, true, false, not, refl, sym, ap, subst, None, Some, Option, ℕ, zero, suc, inl, inr, leb, eqb, arith, and_parts, leb-true, le-leb, ltb-true, lt-ltb, eqb-true, eq-eqb, slice_get, list_any, Contains, Contains-append_left, Contains-append_right, Contains-append_cases, Sample, Flight, Window, Track, State, any_risen, has_risen, may_be_deaf, one_if, deaf_from, is_same, is_window, has_window, is_covered, covers, MayBeDeaf, HasWindow, IsCovered, MayLand}
+use Rattle.flight_model.proofs.Prelude.{◌≡◌, ◌⊎◌, ◌<◌, ◌+◌, ◌∷◌, ◌∙◌, ◌||◌, ◌&&◌, [], List, Bool, true, false, not, refl, sym, ap, subst, None, Some, Option, ℕ, zero, suc, inl, inr, leb, eqb, arith, and_parts, leb-true, le-leb, ltb-true, lt-ltb, eqb-true, eq-eqb, slice_get, list_all, list_any, Contains, Contains-append_left, Contains-append_right, Contains-append_cases, Sample, Flight, Window, Track, State, any_risen, has_risen, may_be_deaf, one_if, deaf_from, is_same, is_window, has_window, is_covered, covers, MayBeDeaf, HasWindow, IsCovered, MayLand}
 unfoldable use Rattle.flight_model.specs.Directors.{may_land}
 
 both : (a b : Bool) → a ≡ true → b ≡ true → a && b ≡ true
@@ -129,19 +129,6 @@ deaf-get f n k (u ∷ us) j has = by_case (λ there. deaf-get f n (suc k) us j t
       let at = r.is_place in
       record { place = suc r.place; is_place = omega (arith, at); track = r.track; is_track = r.is_track; is_deaf = r.is_deaf }
 
--- no two of them are the same
-two-differ : (f : Flight) (n k : ℕ) (ts : List Track) (a b : ℕ) (ds : List ℕ) → deaf_from f n k ts ≡ a ∷ b ∷ ds → a < b
-two-differ f n k [] a b ds is = absurd (cc)
-two-differ f n k (u ∷ us) a b ds is = by_one (λ same. two-differ f n (suc k) us a b ds same) (has_risen f n k && may_be_deaf u.seen) is where
-  by_one : (deaf_from f n (suc k) us ≡ a ∷ b ∷ ds → a < b) → (c : Bool) → one_if c k ++ deaf_from f n (suc k) us ≡ a ∷ b ∷ ds → a < b
-  by_one more true same =
-      let first : k ≡ a = cc in
-      let rest : deaf_from f n (suc k) us ≡ b ∷ ds = cc in
-      let r = deaf-get f n (suc k) us b (subst (λ xs. Contains xs b) (sym rest) (0, omega arith, refl)) in
-      let at = r.is_place in
-      omega (arith, first, at)
-  by_one more false same = more same
-
 may-be-deaf : (f : Flight) (s : State) (d : ℕ) → Contains (deaf_from f s.next 0 s.tracks) d → MayBeDeaf f s d
 may-be-deaf f s d has =
     let r = deaf-get f s.next 0 s.tracks d has in
@@ -165,39 +152,42 @@ only-one a d c = by_place c.0 c.1 c.2 where
   by_place zero l e = sym e
   by_place (suc i) l e = absurd (omega arith)
 
-covered-true : (f : Flight) (ws : List Window) (s : State) (ds : List ℕ) → deaf_from f s.next 0 s.tracks ≡ ds → is_covered ws s.next s.waited ds ≡ true → IsCovered f ws s
-covered-true f ws s [] is h = record {
-  by_all = window-true ws s None h;
-  without = λ d m. absurd (none-in d (subst (λ xs. Contains xs d) is (is-among f s d m)));
-  one = λ d k m n. absurd (none-in d (subst (λ xs. Contains xs d) is (is-among f s d m)));
-}
-covered-true f ws s (a ∷ []) is h =
-    let p = and_parts (has_window ws s.next s.waited None) (has_window ws s.next s.waited (Some a)) h in
-    let only = λ (d : ℕ) (m : MayBeDeaf f s d). only-one a d (subst (λ xs. Contains xs d) is (is-among f s d m)) in
-    record {
-      by_all = window-true ws s None p.0;
-      without = λ d m. subst (λ j. HasWindow ws s (Some j)) (sym (only d m)) (window-true ws s (Some a) p.1);
-      one = λ d k m n. only d m ∙ sym (only k n);
-    }
-covered-true f ws s (a ∷ b ∷ ds) is h = absurd (cc)
+-- a fact of a list holds of each number in it
+all-in : (p : ℕ → Bool) (ds : List ℕ) (d : ℕ) → list_all p ds ≡ true → Contains ds d → p d ≡ true
+all-in p [] d all has = absurd (none-in d has)
+all-in p (k ∷ ds) d all has =
+    let q = and_parts (p k) (list_all p ds) all in
+    by_case q.0 (λ there. all-in p ds d q.1 there) (Contains-append_cases (k ∷ []) ds d has) where
+      by_case : p k ≡ true → (Contains ds d → p d ≡ true) → Contains (k ∷ []) d ⊎ Contains ds d → p d ≡ true
+      by_case here more (inl has) = ap p (only-one k d has) ∙ here
+      by_case here more (inr there) = more there
 
-covered-is : (f : Flight) (ws : List Window) (s : State) (ds : List ℕ) → deaf_from f s.next 0 s.tracks ≡ ds → IsCovered f ws s → is_covered ws s.next s.waited ds ≡ true
-covered-is f ws s [] is h = window-is ws s None h.by_all
-covered-is f ws s (a ∷ []) is h =
-    let m = may-be-deaf f s a (subst (λ xs. Contains xs a) (sym is) (0, omega arith, refl)) in
-    both (has_window ws s.next s.waited None) (has_window ws s.next s.waited (Some a)) (window-is ws s None h.by_all) (window-is ws s (Some a) (h.without a m))
-covered-is f ws s (a ∷ b ∷ ds) is h =
-    let m = may-be-deaf f s a (subst (λ xs. Contains xs a) (sym is) (0, omega arith, refl)) in
-    let n = may-be-deaf f s b (subst (λ xs. Contains xs b) (sym is) (1, omega arith, refl)) in
-    let same = h.one a b m n in
-    let less = two-differ f s.next 0 s.tracks a b ds is in
-    absurd (omega (arith, same, less))
+all-put : (p : ℕ → Bool) (ds : List ℕ) → ((d : ℕ) → Contains ds d → p d ≡ true) → list_all p ds ≡ true
+all-put p [] each = refl
+all-put p (k ∷ ds) each =
+    both (p k) (list_all p ds) (each k (Contains-append_left (k ∷ []) ds k (0, omega arith, refl)))
+    (all-put p ds (λ d has. each d (Contains-append_right (k ∷ []) ds d has)))
+
+covered-true : (f : Flight) (ws : List Window) (s : State) → is_covered ws s.next s.waited (deaf_from f s.next 0 s.tracks) ≡ true → IsCovered f ws s
+covered-true f ws s h =
+    let p = λ (d : ℕ). has_window ws s.next s.waited (Some d) in
+    let parts = and_parts (has_window ws s.next s.waited None) (list_all p (deaf_from f s.next 0 s.tracks)) h in
+    record {
+      by_all = window-true ws s None parts.0;
+      without = λ d m. window-true ws s (Some d) (all-in p (deaf_from f s.next 0 s.tracks) d parts.1 (is-among f s d m));
+    }
+
+covered-is : (f : Flight) (ws : List Window) (s : State) → IsCovered f ws s → is_covered ws s.next s.waited (deaf_from f s.next 0 s.tracks) ≡ true
+covered-is f ws s h =
+    let p = λ (d : ℕ). has_window ws s.next s.waited (Some d) in
+    both (has_window ws s.next s.waited None) (list_all p (deaf_from f s.next 0 s.tracks)) (window-is ws s None h.by_all)
+    (all-put p (deaf_from f s.next 0 s.tracks) (λ d has. window-is ws s (Some d) (h.without d (may-be-deaf f s d has))))
 
 -- ---- all may land
 
 covers-true : (f : Flight) (s : State) (o : Option (List Window)) → f.windows ≡ o → covers o f s ≡ true → MayLand f s
 covers-true f s None is h = inl is
-covers-true f s (Some ws) is h = inr (inr (ws, is, covered-true f ws s (deaf_from f s.next 0 s.tracks) refl h))
+covers-true f s (Some ws) is h = inr (inr (ws, is, covered-true f ws s h))
 
 pub may-true : (f : Flight) (s : State) → may_land f s ≡ true → MayLand f s
 unfolding may_land
@@ -212,7 +202,7 @@ may-is f s (inl none) = or-right (not (any_risen f s.next)) (covers f.windows f 
 may-is f s (inr (inl on_pads)) = or-left (not (any_risen f s.next)) (covers f.windows f s) (ap not on_pads)
 may-is f s (inr (inr c)) =
     or-right (not (any_risen f s.next)) (covers f.windows f s)
-    (ap (λ o. covers o f s) c.1 ∙ covered-is f c.0 s (deaf_from f s.next 0 s.tracks) refl c.2)
+    (ap (λ o. covers o f s) c.1 ∙ covered-is f c.0 s c.2)
 
 pub may-not : (f : Flight) (s : State) → may_land f s ≡ false → MayLand f s → ⊥
 may-not f s none may = let yes = may-is f s may in cc

@@ -7,7 +7,7 @@ pub use Rattle.std.proofs.lemmas.Int.{ints}
 pub use Rattle.std.proofs.lemmas.List.{append-nil, append_assoc, length-map, length-set, take_all}
 pub use Rattle.std.proofs.lemmas.List.Elements.{All-append, All-cons, All-contains, All-head, All-nil, All-tail, Contains-append_cases, Contains-append_left, Contains-append_right, Contains-push}
 pub use Rattle.std.proofs.lemmas.Option.{slice_get_within}
-pub use Rattle.std.specs.List.{flat_map, list_any, range_with_len}
+pub use Rattle.std.specs.List.{flat_map, list_all, list_any, range_with_len}
 pub use Rattle.std.specs.Option.{option_map}
 pub use Rattle.std.specs.Prelude.{All, Contains, int_le, int_lt, map, negsuc, pos, replicate, slice_get, slice_set, ℤ, ◌*ℤ◌, ◌+ℤ◌, ◌-ℤ◌, ◌≤ℤ◌}
 unfoldable pub use Rattle.fleet_math.specs.Bernstein.{bernstein}

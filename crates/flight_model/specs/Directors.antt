@@ -142,12 +142,10 @@ is_window n ms deaf w = w.step == n && nat_le w.from ms && nat_le ms w.to && is_
 abbrev pub has_window : List Window → ℕ → ℕ → Option ℕ → Bool
 has_window ws n ms deaf = list_any (λ (w : Window). is_window n ms deaf w) ws
 
--- Who may be deaf may also hear: a window has to cover that all do, and another one that this drone doesn't. No window
--- has two drones deaf.
+-- Who may be deaf may also hear: a window has to cover that all do, and for each of these drones another one that it
+-- doesn't. Hears.antt says why that is enough for any number of them.
 abbrev pub is_covered : List Window → ℕ → ℕ → List ℕ → Bool
-is_covered ws n ms [] = has_window ws n ms None
-is_covered ws n ms (d ∷ []) = has_window ws n ms None && has_window ws n ms (Some d)
-is_covered ws n ms (d ∷ k ∷ ds) = false
+is_covered ws n ms deaf = has_window ws n ms None && list_all (λ (d : ℕ). has_window ws n ms (Some d)) deaf
 
 abbrev pub covers : Option (List Window) → Flight → State → Bool
 covers None f s = true

@@ -22,12 +22,13 @@ pub record HasWindow (windows : List Window) (s : State) (who : Option ℕ) : Ty
   pub to : s.waited ≤ window.to
   pub deaf : window.deaf ≡ who
 
--- Who may be deaf may hear all the same: a window covers that all hear of the landing; another one covers that a drone
--- doesn't that may be deaf; and there is no more than one of these.
+-- Who may be deaf may hear all the same: a window covers that all hear of the landing, and for each drone that may be
+-- deaf another one covers that this one doesn't. That is enough, however many don't hear of it, since apart is said of
+-- any two drones. Of two that have risen both land, as in the window of none; or one flies on, as in its own window; or
+-- both do, as in the text that they fly.
 pub record IsCovered (f : Flight) (windows : List Window) (s : State) : Type 0 where
   pub by_all : HasWindow windows s None
   pub without : (d : ℕ) → MayBeDeaf f s d → HasWindow windows s (Some d)
-  pub one : (d k : ℕ) → MayBeDeaf f s d → MayBeDeaf f s k → d ≡ k
 
 -- All that have risen may land now: no windows are listed, or nobody has risen, or a landing is covered.
 abbrev pub MayLand : Flight → State → Type 0

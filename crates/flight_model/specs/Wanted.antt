@@ -80,6 +80,9 @@ window deaf = record { step = 3; from = 1000; to = 2000; deaf = deaf }
 abbrev pub with_one : List Window
 with_one = window None ∷ window (Some 1) ∷ []
 
+abbrev pub with_two : List Window
+with_two = window (Some 0) ∷ with_one
+
 unfoldable pub may : List Window → State → Bool
 may windows s = may_land (only_in windows) s
 
@@ -128,9 +131,16 @@ pub record CoveredRows : Type 0 where
   pub other_deaf : may with_one (rising_for 1500 (ago 301 300)) ≡ false
   -- that window covers nothing where all hear
   pub nobody_deaf : may (window (Some 1) ∷ []) (rising_for 1500 (ago 0 0)) ≡ false
-  -- two may be deaf
-  pub two_deaf : may (window (Some 0) ∷ with_one) (rising_for 1500 (ago 301 301)) ≡ false
-  pub one_of_two : may (window (Some 0) ∷ with_one) (rising_for 1500 (ago 301 300)) ≡ true
+  -- two may be deaf: each has a window, at this instant, and so has the landing of both
+  pub two_deaf : may with_two (rising_for 1500 (ago 301 301)) ≡ true
+  pub first_lacks : may with_one (rising_for 1500 (ago 301 301)) ≡ false
+  pub second_lacks : may (window None ∷ window (Some 0) ∷ []) (rising_for 1500 (ago 301 301)) ≡ false
+  pub both_lack : may (window None ∷ []) (rising_for 1500 (ago 301 301)) ≡ false
+  pub none_hears : may (window (Some 0) ∷ window (Some 1) ∷ []) (rising_for 1500 (ago 301 301)) ≡ false
+  pub second_over : may (record (window (Some 1)) { to = 1499 } ∷ window (Some 0) ∷ window None ∷ [])
+      (rising_for 1500 (ago 301 301)) ≡ false
+  -- one of the two may be
+  pub one_of_two : may with_two (rising_for 1500 (ago 301 300)) ≡ true
   -- one that was never heard may be deaf; one that wasn't told to rise is told nothing
   pub unheard : may (window None ∷ [])
       (rising_for 1500 (heard_ago 0 ∷ record (heard_ago 0) { seen = None } ∷ [])) ≡ false

@@ -428,13 +428,13 @@ fn lands_who_is_outside(rt: HostRuntime) {
     assert!(rt; all_say(rt.alloc(), ROOM));
 }
 
-// The second drone was heard so long ago, armed, at its first place.
-fn heard_ago(age: u32) -> Event {
+// A drone was heard so long ago, armed, so far aside, where its show begins.
+fn heard_ago(drone: u8, x: i16, age: u32) -> Event {
     Event::Seen {
-        drone: 1,
+        drone,
         sample: Sample {
             age,
-            x: 2000,
+            x,
             y: 0,
             z: TOP,
             ready: true,
@@ -447,17 +447,17 @@ fn heard_ago(age: u32) -> Event {
     }
 }
 
-// How much goes out at the operator's land, and a millisecond later, 3.5 s after both were told to rise. So long ago
-// the second drone was heard.
+// How much goes out at the operator's land, and a millisecond later, 3.5 s after both were told to rise. The windows
+// have these deaf, and so long ago the two were heard.
 fn said_in(
     alloc: Global,
     from: u32,
     to: u32,
-    deaf: Option<u8>,
-    age: u32,
+    all_deaf: [Option<u8>; 3],
+    ages: (u32, u32),
 ) -> Result<(usize, usize), AllocError> {
     let mut windows = Vec::new(alloc);
-    for deaf in [None, deaf] {
+    for deaf in all_deaf {
         windows.push(Window {
             step: 3,
             from,
@@ -467,7 +467,10 @@ fn said_in(
     }
     let mut d = Director::make(flight_with(alloc, Some(Listed::from_vec(windows)))?);
     hear(&mut d, UP);
-    hear(&mut d, &[&[heard_ago(age)]]);
+    hear(
+        &mut d,
+        &[&[heard_ago(0, 0, ages.0), heard_ago(1, 2000, ages.1)]],
+    );
     let now = hear(&mut d, &[LAND]).len();
     Ok((now, hear(&mut d, &[later!(1)]).len()))
 }
@@ -485,7 +488,24 @@ fn lands_in_a_window(rt: HostRuntime) -> Result<(), Fail> {
         (0, 9000, Some(1), 301, (2, 0)),
         (0, 9000, Some(0), 301, (1, 0)),
     ] {
-        assert!(rt; said_in(rt.alloc(), from, to, deaf, age)? == wanted);
+        assert!(rt; said_in(rt.alloc(), from, to, [None, deaf, deaf], (0, age))? == wanted);
+    }
+    Ok(())
+}
+
+// Where both may be deaf, each has to have its window, and so has the landing of both.
+#[test]
+fn lands_while_two_may_be_deaf(rt: HostRuntime) -> Result<(), Fail> {
+    for (all_deaf, ages, wanted) in [
+        ([None, Some(0), Some(1)], (301, 301), (2, 0)),
+        ([Some(1), None, Some(0)], (301, 301), (2, 0)),
+        ([None, Some(0), None], (301, 301), (1, 0)),
+        ([None, Some(1), None], (301, 301), (1, 0)),
+        ([Some(0), Some(1), Some(0)], (301, 301), (1, 0)),
+        ([None, Some(0), None], (301, 300), (2, 0)),
+        ([None, Some(1), None], (301, 300), (1, 0)),
+    ] {
+        assert!(rt; said_in(rt.alloc(), 0, 9000, all_deaf, ages)? == wanted);
     }
     Ok(())
 }
