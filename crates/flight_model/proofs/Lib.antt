@@ -28,3 +28,4 @@ mod Outside
 mod Hears
 mod Wanted
 mod CoveredRows
+mod BoundRows

@@ -29,7 +29,7 @@ pub use Rattle.flight_model.specs.Outside.{HasRisen, IsHeardOutside, OutsideLaw,
 pub use Rattle.flight_model.specs.Rejected.{DownRows, KeptRows, NearRows, SureRows, at_origin, begun, brief, flown_by, flown_unsure, heard_at, late_news, on_its_pad, sample_at, standing, turning, unhurried}
 pub use Rattle.flight_model.specs.Rooms.{IsInRoom, IsSpanOf, RoomOfLaw, all_values, is_in_room, is_in_span, span_of, with_value, with_values}
 pub use Rattle.flight_model.specs.Samples.{is_at, is_fit, is_short, square, stands_at}
-pub use Rattle.flight_model.specs.Turns.{AllDown, AtPads, IsSeenDown, MayArm, MayGoOn, MayRise, MayStart, TurnLaw, twice}
+pub use Rattle.flight_model.specs.Turns.{AllDown, AtPads, HoldsUntil, IsDownBound, IsSeenDown, IsUpBound, MayArm, MayGoOn, MayRise, MayStart, TurnLaw, twice}
 pub use Rattle.flight_model.specs.declared.events.Event.{Event}
 pub use Rattle.flight_model.specs.declared.events.Event.TheVariants.{Answered, Clock, Said, Seen}
 pub use Rattle.flight_model.specs.declared.events.Fault.{Fault}

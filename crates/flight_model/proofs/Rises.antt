@@ -104,7 +104,7 @@ in-up w d up z ms k e rise =
     (sym (get-leg (λ legs. up_order legs k) w.up d up e) ∙ rise) in (
       up_condition w k legs,
       get-leg (up_condition w k) w.up d up e,
-      ap (λ (b : Bool). cond b w.at_place w.near) (still-sooner legs (k - 1) k (omega arith) first.0),
+      (let still = still-sooner legs (k - 1) k (omega arith) first.0 in rw still refl),
       begins-there up.start up.segments k first.0 first.1,
     )
 

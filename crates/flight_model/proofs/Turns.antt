@@ -1,5 +1,5 @@
 -- In whose turn each order goes out.
-use Rattle.flight_model.proofs.Prelude.{◌≡◌, ◌⊎◌, ◌≤◌, ◌∷◌, ◌∙◌, ◌||◌, ◌&&◌, [], List, Bool, true, false, not, cond, refl, sym, ap, subst, None, Some, Option, ℕ, zero, suc, inl, inr, ◌-◌, ◌+◌, ◌<◌, ◌++◌, length, leb, ltb, eqb, arith, ℤ, map, slice_get, Contains, All, option_map, append_assoc, flat_map, range_with_len, stands_at, and_parts, not-true, leb-true, ltb-true, ltb-false, ne_eqb, eqb-true, eqb-false, Traj, Order, Sample, Event, Clock, Seen, Answered, Said, Position, Condition, Step, Flight, Routes, Leg, legs_of, leg, moves, has_moved, will_move, arm_order, up_order, down_order, way_begins, position_of, leg_count, leg_ms, ms_before, up_bound, down_bound, arm_condition, group_step, arm_step, down_condition, up_condition, start_condition, start_step, up_step, down_step, lasts, last_condition, last_step, Phase, Steps, Landing, Off, Halted, Ended, Track, State, Choice, Rest, Begin, Descend, Cut, Quit, Finish, chosen, is_fault, is_stop, is_down, all_down, are_down, end_step, has_landed, order_in, says, later, passed, land_order, has_risen, drones, orders_to, only_if, IsNear, StandsAt, MayBegin, IsOnward, Arms, Rises, Starts, twice, MayGoOn, MayArm, MayRise, MayStart, AtPads, IsSeenDown, AllDown, TurnLaw, Wait}
+use Rattle.flight_model.proofs.Prelude.{◌≡◌, ◌⊎◌, ◌≤◌, ◌∷◌, ◌∙◌, ◌||◌, ◌&&◌, [], List, Bool, true, false, not, cond, refl, sym, ap, subst, None, Some, Option, ℕ, zero, suc, inl, inr, ◌-◌, ◌+◌, ◌<◌, ◌++◌, length, leb, ltb, eqb, arith, ℤ, map, slice_get, Contains, All, option_map, append_assoc, flat_map, range_with_len, stands_at, and_parts, not-true, leb-true, ltb-true, ltb-false, ne_eqb, eqb-true, eqb-false, Traj, Order, Sample, Event, Clock, Seen, Answered, Said, Position, Condition, Step, Flight, Routes, Leg, legs_of, leg, moves, has_moved, will_move, arm_order, up_order, down_order, way_begins, position_of, leg_count, leg_ms, ms_before, up_bound, down_bound, arm_condition, group_step, arm_step, down_condition, up_condition, start_condition, start_step, up_step, down_step, lasts, last_condition, last_step, Phase, Steps, Landing, Off, Halted, Ended, Track, State, Choice, Rest, Begin, Descend, Cut, Quit, Finish, chosen, is_fault, is_stop, is_down, all_down, are_down, end_step, has_landed, order_in, says, later, passed, land_order, has_risen, drones, orders_to, only_if, IsNear, StandsAt, MayBegin, IsOnward, Arms, Rises, Starts, twice, HoldsUntil, IsUpBound, IsDownBound, MayGoOn, MayArm, MayRise, MayStart, AtPads, IsSeenDown, AllDown, TurnLaw, Wait}
 use Rattle.flight_model.specs.declared.events.Order.TheVariants as order
 use Rattle.flight_model.specs.declared.events.Signal.TheVariants as signal
 unfoldable use Rattle.flight_model.specs.Legs.{steps_of}
@@ -8,7 +8,7 @@ use Rattle.flight_model.proofs.OrdersTo.{orders_to-landing, orders_to-no_landing
 use Rattle.flight_model.proofs.Telling.{orders_to-says}
 use Rattle.flight_model.proofs.Choices.{steps-has, landing-has, off-has, halted-has}
 use Rattle.flight_model.proofs.Beginning.{implied, stands-true, begin-may, due_law, onward-begins, contains-nil, contains-one}
-use Rattle.flight_model.proofs.Rises.{begins-there, still-sooner, get-leg, get-none, all-steps, all-get, ordered-step, rises-first}
+use Rattle.flight_model.proofs.Rises.{or-parts, begins-there, still-sooner, get-leg, get-none, all-steps, all-get, ordered-step, rises-first}
 
 -- ---- which step has an order
 
@@ -144,7 +144,7 @@ arms_ready w d up e =
       arm_condition w k legs,
       get-leg (arm_condition w k) w.up d up e,
       ap not parts.0,
-      ap (λ (b : Bool). cond b w.at_place w.near) (still-sooner legs (k - 1) k (omega arith) parts.0),
+      (let still = still-sooner legs (k - 1) k (omega arith) parts.0 in rw still refl),
       begins-there up.start up.segments k parts.0 parts.1,
     )))
     (λ k has. absurd (no_down (λ legs. up_order legs k) w.up d order.Arm (λ legs is. no_arm (has_moved legs k) (moves (leg legs k)) _ _ _ _ _ _ _ is) has))
@@ -280,8 +280,71 @@ is-step f w s e n step steps number is m = by_some m.step step (sym m.is_next �
   by_some : (a b : Step) → Some a ≡ Some b → a ≡ b
   by_some a b h = cc
 
+-- ---- how near drones have to be before a leg
+
+moved-at : (legs : List Leg) (k : ℕ) → has_moved legs k ≡ true → (j : ℕ) × (j < k) × (moves (leg legs j) ≡ true)
+moved-at legs zero h = absurd (cc)
+moved-at [] (suc k) h = absurd (cc)
+moved-at (l ∷ legs) (suc k) h = by_first (λ more. moved-at legs k more) (moves l) refl h where
+  by_first : (has_moved legs k ≡ true → (j : ℕ) × (j < k) × (moves (leg legs j) ≡ true)) →
+      (b : Bool) → moves l ≡ b → b || has_moved legs k ≡ true → (j : ℕ) × (j < suc k) × (moves (leg (l ∷ legs) j) ≡ true)
+  by_first more true is h = (0, omega arith, is)
+  by_first more false is h = let r = more h in (suc r.0, (let less = r.1 in omega (arith, less)), r.2)
+
+moved-not : (legs : List Leg) (k : ℕ) → has_moved legs k ≡ false → HoldsUntil legs k
+moved-not legs zero h j l = absurd (omega (arith, l))
+moved-not [] (suc k) h j l = cc
+moved-not (x ∷ legs) (suc k) h zero l = (or-parts (moves x) (has_moved legs k) h).0
+moved-not (x ∷ legs) (suc k) h (suc j) l = moved-not legs k (or-parts (moves x) (has_moved legs k) h).1 j (omega (arith, l))
+
+moving-at : (legs : List Leg) (k : ℕ) → will_move legs k ≡ true → (j : ℕ) × (k ≤ j) × (moves (leg legs j) ≡ true)
+moving-at [] zero h = absurd (cc)
+moving-at [] (suc k) h = absurd (cc)
+moving-at (l ∷ legs) zero h = by_first (λ more. moving-at legs zero more) (moves l) refl h where
+  by_first : (will_move legs zero ≡ true → (j : ℕ) × (zero ≤ j) × (moves (leg legs j) ≡ true)) →
+      (b : Bool) → moves l ≡ b → b || will_move legs zero ≡ true → (j : ℕ) × (zero ≤ j) × (moves (leg (l ∷ legs) j) ≡ true)
+  by_first more true is h = (0, omega arith, is)
+  by_first more false is h = let r = more h in (suc r.0, omega arith, r.2)
+moving-at (l ∷ legs) (suc k) h = let r = moving-at legs k h in (suc r.0, (let less = r.1 in omega (arith, less)), r.2)
+
+moving-not : (legs : List Leg) (k : ℕ) → will_move legs k ≡ false → (j : ℕ) → k ≤ j → moves (leg legs j) ≡ false
+moving-not [] k h j l = cc
+moving-not (x ∷ legs) zero h zero l = (or-parts (moves x) (will_move legs zero) h).0
+moving-not (x ∷ legs) zero h (suc j) l = moving-not legs zero (or-parts (moves x) (will_move legs zero) h).1 j (omega arith)
+moving-not (x ∷ legs) (suc k) h zero l = absurd (omega (arith, l))
+moving-not (x ∷ legs) (suc k) h (suc j) l = moving-not legs k h j (omega (arith, l))
+
+is-up_bound : (w : Routes) (legs : List Leg) (k : ℕ) → IsUpBound w legs (suc k) (up_bound w legs (suc k))
+is-up_bound w legs k = by_moved (has_moved legs (suc k - 1)) refl where
+  by_moved : (b : Bool) → has_moved legs (suc k - 1) ≡ b → IsUpBound w legs (suc k) (up_bound w legs (suc k))
+  by_moved true is =
+      let m = moved-at legs (suc k - 1) is in
+      let less = m.1 in
+      let no = λ (holds : moves (leg legs m.0) ≡ false). sym m.2 ∙ holds in
+      record {
+        on_pad = λ holds. (let never = no (holds m.0 (omega (arith, less))) in absurd (cc));
+        risen = λ j same holds first. (let never = no (holds m.0 (omega (arith, less, same))) in absurd (cc));
+        in_the_air = λ j l first. rw is refl;
+      }
+  by_moved false is = record {
+    on_pad = λ holds. rw is refl;
+    risen = λ j same holds first. rw is refl;
+    in_the_air = λ j l first. (let never = sym first ∙ moved-not legs (suc k - 1) is j (omega (arith, l)) in absurd (cc));
+  }
+
+is-down_bound : (w : Routes) (legs : List Leg) (k : ℕ) → IsDownBound w legs k (down_bound w legs k)
+is-down_bound w legs k = by_moving (will_move legs k) refl where
+  by_moving : (b : Bool) → will_move legs k ≡ b → IsDownBound w legs k (down_bound w legs k)
+  by_moving true is =
+      let m = moving-at legs k is in
+      record { in_the_air = λ j l moving. rw is refl; landed = λ holds. (let never = sym m.2 ∙ holds m.0 m.1 in absurd (cc)) }
+  by_moving false is = record {
+    in_the_air = λ j l moving. (let never = sym moving ∙ moving-not legs k is j l in absurd (cc));
+    landed = λ holds. rw is refl;
+  }
+
 leg_up : (f : Flight) (w : Routes) → f.steps ≡ steps_of w → (s : State) (e : Event) (k : ℕ) → suc k < leg_count (map legs_of w.up) → s.next ≡ suc (twice (suc k)) →
-    ((happens f s e).next ≡ s.next) ⊎ MayGoOn f s e (leg_ms (map legs_of w.up) k) w.up (suc k) (λ legs. up_bound w legs (suc k))
+    ((happens f s e).next ≡ s.next) ⊎ MayGoOn f s e (leg_ms (map legs_of w.up) k) w.up (suc k) (λ legs. IsUpBound w legs (suc k))
 leg_up f w steps s e k l number = elim (due_law.steps f s e) [
   | inl same ↦ inl same
   | inr m ↦ let is = is-step f w s e (suc (twice (suc k))) (arm_step w (map legs_of w.up) (suc k)) steps number (arm-step w k l) m in
@@ -294,14 +357,17 @@ leg_up f w steps s e k l number = elim (due_law.steps f s e) [
         settled = subst (λ (ms : ℕ). ms ≤ (heard f s e).steady) (ap (λ b. cond b 0 1000) other) (subst (λ (x : Step). x.settle ≤ (heard f s e).steady) is m.settled);
         each = λ d t at_d.
             (let c = arm_condition w (suc k) (legs_of t) in
-            let fit = m.fit d c (ap (λ (x : Step). slice_get x.conditions d) is ∙ get-leg (arm_condition w (suc k)) w.up d t at_d) in
-            record { sample = fit.1; is_last = record { track = fit.0; is_track = fit.2; is_sample = fit.3 }; near = fit.4.near });
+            let fit = m.fit d c (ap (λ (x : Step). slice_get x.conditions d) is ∙ get-leg (arm_condition w (suc k)) w.up d t at_d) in (
+              up_bound w (legs_of t) (suc k),
+              is-up_bound w (legs_of t) k,
+              record { sample = fit.1; is_last = record { track = fit.0; is_track = fit.2; is_sample = fit.3 }; near = fit.4.near },
+            ));
       })
 ]
 
 leg_down : (f : Flight) (w : Routes) → f.steps ≡ steps_of w → (s : State) (e : Event) (k : ℕ) → k < leg_count (map legs_of w.down) →
     s.next ≡ suc (twice (leg_count (map legs_of w.up)) + suc k) →
-    ((happens f s e).next ≡ s.next) ⊎ MayGoOn f s e (ms_before (lasts w.show) (map legs_of w.down) k) w.down k (λ legs. down_bound w legs k)
+    ((happens f s e).next ≡ s.next) ⊎ MayGoOn f s e (ms_before (lasts w.show) (map legs_of w.down) k) w.down k (λ legs. IsDownBound w legs k)
 leg_down f w steps s e k l number = elim (due_law.steps f s e) [
   | inl same ↦ inl same
   | inr m ↦ let n = suc (twice (leg_count (map legs_of w.up)) + suc k) in
@@ -311,8 +377,11 @@ leg_down f w steps s e k l number = elim (due_law.steps f s e) [
         settled = subst (λ (x : Step). x.settle ≤ (heard f s e).steady) is m.settled;
         each = λ d t at_d.
             (let c = down_condition w k (legs_of t) in
-            let fit = m.fit d c (ap (λ (x : Step). slice_get x.conditions d) is ∙ get-leg (down_condition w k) w.down d t at_d) in
-            record { sample = fit.1; is_last = record { track = fit.0; is_track = fit.2; is_sample = fit.3 }; near = fit.4.near });
+            let fit = m.fit d c (ap (λ (x : Step). slice_get x.conditions d) is ∙ get-leg (down_condition w k) w.down d t at_d) in (
+              down_bound w (legs_of t) k,
+              is-down_bound w (legs_of t) k,
+              record { sample = fit.1; is_last = record { track = fit.0; is_track = fit.2; is_sample = fit.3 }; near = fit.4.near },
+            ));
       })
 ]
 

@@ -1,7 +1,7 @@
 -- In whose turn each order goes out: what the steps of three ways ask before drones are armed, rise, start, are
 -- disarmed or halted. Law.antt says it of the steps of any flight; these laws name the steps.
 use Rattle.std.specs.Prelude.{◌≡◌, ◌⊎◌, ℕ, zero, suc, ◌+◌, ◌<◌, ◌≤◌, true, false, List, map, slice_get, Some, ℤ}
-use Rattle.std.specs.Prelude.{Contains}
+use Rattle.std.specs.Prelude.{[], ◌∷◌, pos, Contains}
 use Rattle.traj_codec.specs.declared.traj.Traj.{Traj}
 use Rattle.flight_model.specs.declared.events.Order.TheVariants as order
 use Rattle.flight_model.specs.declared.events.Sample.{Sample}
@@ -11,10 +11,11 @@ use Rattle.flight_model.specs.declared.events.Event.TheVariants.{Said}
 use Rattle.flight_model.specs.declared.flights.Flight.{Flight}
 use Rattle.flight_model.specs.Legs.{Routes, Leg, legs_of, leg, leg_count, leg_ms, ms_before, lasts, way_begins}
 use Rattle.flight_model.specs.Legs.{way_ends}
-use Rattle.flight_model.specs.Legs.{position_of, up_bound, down_bound, steps_of}
+use Rattle.flight_model.specs.Legs.{moves, position_of, steps_of}
 use Rattle.flight_model.specs.declared.flights.Position.{Position}
 use Rattle.flight_model.specs.Directors.{Track, State, Landing, heard, happens, says}
 use Rattle.flight_model.specs.Law.{orders_to, IsNear, StandsAt}
+use Rattle.flight_model.specs.Example.{routes}
 
 -- With the event e this is the last sample of drone d.
 pub record IsLastSample (f : Flight) (s : State) (e : Event) (d : ℕ) (x : Sample) : Type 0 where
@@ -84,14 +85,32 @@ pub record IsThere (f : Flight) (s : State) (e : Event) (d bound : ℕ) (p : Pos
   pub is_last : IsLastSample f s e d sample
   pub near : IsNear bound p sample
 
+-- The drone holds in each leg before leg k.
+abbrev pub HoldsUntil : List Leg → ℕ → Type 0
+HoldsUntil legs k = (j : ℕ) → j < k → moves (leg legs j) ≡ false
+
+-- How near to where leg k of its way up begins a drone has to be: as near as to its pad while it stands there, and
+-- where it has just risen; and as near as to a place in the air once it has moved in an earlier leg.
+pub record IsUpBound (w : Routes) (legs : List Leg) (k bound : ℕ) : Type 0 where
+  pub on_pad : HoldsUntil legs k → bound ≡ w.near
+  -- its first move was the leg before
+  pub risen : (j : ℕ) → k ≡ suc j → HoldsUntil legs j → moves (leg legs j) ≡ true → bound ≡ w.near
+  pub in_the_air : (j : ℕ) → suc j < k → moves (leg legs j) ≡ true → bound ≡ w.at_place
+
+-- And of its way down: as near as to a place in the air while it moves in that leg or a later one; and once it has
+-- landed, as near as to its pad.
+pub record IsDownBound (w : Routes) (legs : List Leg) (k bound : ℕ) : Type 0 where
+  pub in_the_air : (j : ℕ) → k ≤ j → moves (leg legs j) ≡ true → bound ≡ w.at_place
+  pub landed : ((j : ℕ) → k ≤ j → moves (leg legs j) ≡ false) → bound ≡ w.near
+
 -- The leg before leg k lasts so long, and is over; the drones have been at their places for a second; and each is
 -- within its bound of where leg k begins.
-pub record MayGoOn (f : Flight) (s : State) (e : Event) (ms : ℕ) (ways : List Traj) (k : ℕ) (bound : List Leg → ℕ)
-    : Type 0 where
+pub record MayGoOn (f : Flight) (s : State) (e : Event) (ms : ℕ) (ways : List Traj) (k : ℕ)
+    (IsBound : List Leg → ℕ → Type 0) : Type 0 where
   pub over : ms ≤ (heard f s e).waited
   pub settled : 1000 ≤ (heard f s e).steady
   pub each : (d : ℕ) (t : Traj) → slice_get ways d ≡ Some t →
-      IsThere f s e d (bound (legs_of t)) (position_of (leg (legs_of t) k).from)
+      (bound : ℕ) × IsBound (legs_of t) bound × IsThere f s e d bound (position_of (leg (legs_of t) k).from)
 
 abbrev pub twice : ℕ → ℕ
 twice zero = 0
@@ -111,17 +130,47 @@ pub record TurnLaw : Type 0 where
   pub leg_up : (f : Flight) (w : Routes) → f.steps ≡ steps_of w → (s : State) (e : Event) (k : ℕ) →
       suc k < leg_count (map legs_of w.up) → s.next ≡ suc (twice (suc k)) →
       ((happens f s e).next ≡ s.next)
-      ⊎ MayGoOn f s e (leg_ms (map legs_of w.up) k) w.up (suc k) (λ legs. up_bound w legs (suc k))
+      ⊎ MayGoOn f s e (leg_ms (map legs_of w.up) k) w.up (suc k) (λ legs. IsUpBound w legs (suc k))
   pub start : (f : Flight) (w : Routes) → f.steps ≡ steps_of w → (s : State) (e : Event) (d : ℕ) →
       Contains (orders_to d (says f s e)) order.Start → MayStart f w s e
   -- after n legs up and the start, leg k of the way down has the step 2 n + 2 + k
   pub leg_down : (f : Flight) (w : Routes) → f.steps ≡ steps_of w → (s : State) (e : Event) (k : ℕ) →
       k < leg_count (map legs_of w.down) → s.next ≡ suc (twice (leg_count (map legs_of w.up)) + suc k) →
       ((happens f s e).next ≡ s.next)
-      ⊎ MayGoOn f s e (ms_before (lasts w.show) (map legs_of w.down) k) w.down k (λ legs. down_bound w legs k)
+      ⊎ MayGoOn f s e (ms_before (lasts w.show) (map legs_of w.down) k) w.down k (λ legs. IsDownBound w legs k)
   -- motors stop where each drone was seen down, or each stands at its pad
   pub disarm : (f : Flight) (w : Routes) → f.steps ≡ steps_of w → (s : State) (e : Event) (d : ℕ) →
       Contains (orders_to d (says f s e)) order.Disarm → AllDown f w s e ⊎ AtPads f w s e
   -- or at the operator's stop
   pub halt : (f : Flight) (w : Routes) → f.steps ≡ steps_of w → (s : State) (e : Event) (d : ℕ) →
       Contains (orders_to d (says f s e)) order.Halt → e ≡ Said signal.Stop
+
+-- ---- by hand
+
+-- a leg on z alone
+abbrev pub from_to : ℕ → ℕ → Leg
+from_to a b = record {
+  from = pos 0 ∷ pos 0 ∷ pos a ∷ pos 0 ∷ [];
+  to = pos 0 ∷ pos 0 ∷ pos b ∷ pos 0 ∷ [];
+  ms = 1000;
+}
+
+-- It waits on its pad, rises, and rises further; and it sinks, lands, and waits there.
+abbrev pub rising : List Leg
+rising = from_to 0 0 ∷ from_to 0 500 ∷ from_to 500 1000 ∷ []
+
+abbrev pub sinking : List Leg
+sinking = from_to 1000 500 ∷ from_to 500 0 ∷ from_to 0 0 ∷ []
+
+-- In the small flight: 100 mm from a pad, and 50 from a place in the air.
+pub record BoundRows : Type 0 where
+  pub waits : IsUpBound routes rising 1 100
+  pub waits_close : IsUpBound routes rising 1 50 → ⊥
+  pub has_risen : IsUpBound routes rising 2 100
+  pub has_risen_close : IsUpBound routes rising 2 50 → ⊥
+  pub flies : IsUpBound routes rising 3 50
+  pub flies_far : IsUpBound routes rising 3 100 → ⊥
+  pub lands : IsDownBound routes sinking 1 50
+  pub lands_far : IsDownBound routes sinking 1 100 → ⊥
+  pub has_landed : IsDownBound routes sinking 2 100
+  pub has_landed_close : IsDownBound routes sinking 2 50 → ⊥

@@ -7,7 +7,7 @@ ghost use Rattle.flight_model.specs.Law.{OnlyLaw, DueLaw, LandLaw, FaultLaw, Hal
 ghost use Rattle.flight_model.specs.Alarms.{AlarmLaw};
 ghost use Rattle.flight_model.specs.Holds.{HoldLaw};
 ghost use Rattle.flight_model.specs.Rises.{RiseLaw};
-ghost use Rattle.flight_model.specs.Turns.{TurnLaw};
+ghost use Rattle.flight_model.specs.Turns.{BoundRows, TurnLaw};
 ghost use Rattle.flight_model.specs.Kept.{KeptLaw};
 ghost use Rattle.flight_model.specs.Example.{ExampleLaw};
 ghost use Rattle.flight_model.specs.Rejected.{RejectedLaw};
@@ -74,4 +74,9 @@ pub fn hears_law()
 /// Whom packets for a group reach, and when drones are armed: each value beside one that differs.
 pub fn group_law()
     ensures { GroupRows }
+{}
+
+/// How near to a leg's beginning drones have to be: each bound beside one that differs.
+pub fn bound_law()
+    ensures { BoundRows }
 {}

@@ -16,6 +16,7 @@ pub use flights::{
     Condition, Course, Flight, Hold, Leg, Orders, Position, Room, Span, Step, Stretch, Window,
 };
 pub use law::{
-    director_law, example_law, group_law, hears_law, plan_law, rejected_law, room_law, watched_law,
+    bound_law, director_law, example_law, group_law, hears_law, plan_law, rejected_law, room_law,
+    watched_law,
 };
 pub use states::{Choice, Phase, Track};
