@@ -28,7 +28,7 @@ pub const COMMAND_BYTES: usize = 9;
 pub const PLAIN_SCALE: [u8; 4] = [0, 0, 0x80, 0x3F];
 
 /// A command that a drone is given.
-#[derive(Clone, Copy, Debug, PartialEq, Eq)]
+#[derive(Clone, Copy, PartialEq, Eq)]
 pub enum Command {
     /// The trajectory `id` has this many pieces and lies from `offset` on, at a location and in a form.
     Define {
@@ -49,7 +49,7 @@ pub enum Command {
 }
 
 /// Why a payload is no command.
-#[derive(Clone, Copy, Debug, PartialEq, Eq)]
+#[derive(Clone, Copy, PartialEq, Eq)]
 pub enum CommandFault {
     /// There is no byte, or fewer than 9 of a define or a start.
     Short,

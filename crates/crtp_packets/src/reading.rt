@@ -23,7 +23,7 @@ pub const MEMORY_LEAST: usize = 6;
 pub type Piece = ArrayVec<u8, PAYLOAD_BYTES>;
 
 /// Why bytes are no packet, or a packet is no message of the table.
-#[derive(Clone, Copy, Debug, PartialEq, Eq)]
+#[derive(Clone, Copy, PartialEq, Eq)]
 pub enum PacketFault {
     /// There are no bytes.
     Empty,
@@ -36,7 +36,7 @@ pub enum PacketFault {
 }
 
 /// What a drone is told.
-#[derive(Debug, Drop, PartialEq, Eq)]
+#[derive(Drop, PartialEq, Eq)]
 pub enum Down {
     /// Write these 1 to 25 bytes to the memory `id` from `address` on.
     Write { id: u8, address: u32, piece: Piece },
@@ -47,7 +47,7 @@ pub enum Down {
 }
 
 /// What the host is told.
-#[derive(Debug, Drop, PartialEq, Eq)]
+#[derive(Drop, PartialEq, Eq)]
 pub enum Up {
     /// The answer to a write to the memory `id` from `address` on.
     WriteAnswer {

@@ -33,7 +33,7 @@ pub struct Grid {
 }
 
 /// What is wrong with the names or the cues of a show, and in which line.
-#[derive(Clone, Copy, PartialEq, Eq, Debug)]
+#[derive(Clone, Copy, PartialEq, Eq)]
 pub enum GridFault {
     /// There is no drone; named is line 1.
     NoDrone { line: u32 },

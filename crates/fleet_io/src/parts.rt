@@ -30,7 +30,7 @@ pub struct Part {
 }
 
 /// Why there is no part.
-#[derive(Clone, Copy, Debug, PartialEq, Eq)]
+#[derive(Clone, Copy, PartialEq, Eq)]
 pub enum IoFault {
     /// A read failed.
     Read,

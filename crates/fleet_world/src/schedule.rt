@@ -48,7 +48,7 @@ pub type Name = ArrayVec<u8, 16>;
 
 /// Why a schedule isn't read: its first faulty line, counted from 1 with lines without words, or want
 /// of memory.
-#[derive(Clone, Copy, Debug, PartialEq, Eq)]
+#[derive(Clone, Copy, PartialEq, Eq)]
 pub enum ScheduleFault {
     Line { line: u32 },
     Memory,

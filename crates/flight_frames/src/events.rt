@@ -11,7 +11,7 @@ use byteorder::{ByteOrder, LittleEndian};
 use flight_model::{Event, Sample, Signal};
 
 /// Why bytes are no event's frame.
-#[derive(Clone, Copy, Debug, PartialEq, Eq)]
+#[derive(Clone, Copy, PartialEq, Eq)]
 pub enum FrameFault {
     /// No frame begins with the first byte, or there is none.
     Kind,

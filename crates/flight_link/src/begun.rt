@@ -11,7 +11,8 @@ use std::marker::Model;
 // The most bytes of an event: a sample.
 const EVENT_BYTES: usize = 11;
 
-#[derive(Clone, Copy, Debug, PartialEq, Eq)]
+/// What a byte gives after those of an event that is begun: more are wanted, the event is whole, or it is none.
+#[derive(Clone, Copy, PartialEq, Eq)]
 pub enum Fed {
     More,
     Whole { e: Event },

@@ -3,7 +3,7 @@
 
 /// An order to a drone. Rise, go, land and halt are commands of Bitcraze's high-level commander (`take off`, `go to`,
 /// `land`, `stop`), `Start` starts the trajectory that was uploaded, and `Group` sets the group mask.
-#[derive(Clone, Copy, Debug, PartialEq, Eq)]
+#[derive(Clone, Copy, PartialEq, Eq)]
 pub enum Order {
     /// The motors may turn.
     Arm,
@@ -36,7 +36,7 @@ pub enum Order {
 }
 
 /// What a bridge knows of a drone: where it is, and what the bridge judges of it.
-#[derive(Clone, Copy, Debug, Default, PartialEq, Eq)]
+#[derive(Clone, Copy, Default, PartialEq, Eq)]
 pub struct Sample {
     /// For how long this has been known.
     pub age: u32,
@@ -58,7 +58,7 @@ pub struct Sample {
 }
 
 /// The operator's signals.
-#[derive(Clone, Copy, Debug, PartialEq, Eq)]
+#[derive(Clone, Copy, PartialEq, Eq)]
 pub enum Signal {
     /// A step that waits for this may begin.
     Go,
@@ -69,7 +69,7 @@ pub enum Signal {
 }
 
 /// What happens to the director.
-#[derive(Clone, Copy, Debug, PartialEq, Eq)]
+#[derive(Clone, Copy, PartialEq, Eq)]
 pub enum Event {
     /// So much time has passed since the clock before.
     Clock { ms: u32 },
@@ -82,7 +82,7 @@ pub enum Event {
 }
 
 /// What may be wrong with a drone.
-#[derive(Clone, Copy, Debug, Default, PartialEq, Eq)]
+#[derive(Clone, Copy, Default, PartialEq, Eq)]
 pub enum Fault {
     /// Its last sample is older than the flight's `silence`.
     #[default]
@@ -104,14 +104,14 @@ pub enum Fault {
 }
 
 /// A fault of a drone, as people are told of it.
-#[derive(Clone, Copy, Debug, Default, PartialEq, Eq)]
+#[derive(Clone, Copy, Default, PartialEq, Eq)]
 pub struct Note {
     pub drone: u8,
     pub fault: Fault,
 }
 
 /// What the director says.
-#[derive(Clone, Copy, Debug, PartialEq, Eq)]
+#[derive(Clone, Copy, PartialEq, Eq)]
 pub enum Frame {
     /// An order to one drone.
     To { drone: u8, order: Order },

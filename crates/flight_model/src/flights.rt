@@ -5,7 +5,7 @@ use listed::Listed;
 use traj_codec::Traj;
 
 /// A position in space, in millimetres.
-#[derive(Clone, Copy, Debug, PartialEq, Eq)]
+#[derive(Clone, Copy, PartialEq, Eq)]
 pub struct Position {
     pub x: i16,
     pub y: i16,
@@ -13,7 +13,7 @@ pub struct Position {
 }
 
 /// A leg of one drone: where it begins and ends, on x, y, z and yaw, and how long it lasts.
-#[derive(Clone, Copy, Debug, PartialEq, Eq)]
+#[derive(Clone, Copy, PartialEq, Eq)]
 pub struct Leg {
     pub from: [i16; 4],
     pub to: [i16; 4],
@@ -21,7 +21,7 @@ pub struct Leg {
 }
 
 /// The condition of a drone under which a step may begin.
-#[derive(Clone, Copy, Debug, PartialEq, Eq)]
+#[derive(Clone, Copy, PartialEq, Eq)]
 pub struct Condition {
     pub position: Position,
     /// How far from the position it may be in a straight line, in millimetres.
@@ -34,14 +34,14 @@ pub struct Condition {
 }
 
 /// The orders of a step: to each drone its own or none, by number; or one to all at once.
-#[derive(Debug, Drop)]
+#[derive(Drop)]
 pub enum Orders {
     Each { orders: Listed<Option<Order>> },
     All { order: Order },
 }
 
 /// A stretch of a flight, each the text of a show.
-#[derive(Clone, Copy, Debug, PartialEq, Eq)]
+#[derive(Clone, Copy, PartialEq, Eq)]
 pub enum Stretch {
     /// The way up.
     Up,
@@ -52,7 +52,7 @@ pub enum Stretch {
 
 /// Where drones are told to be from a step on: on the curves of a stretch from an instant of it on, for so long, and
 /// from then on where that ends. Times in milliseconds.
-#[derive(Clone, Copy, Debug, PartialEq, Eq)]
+#[derive(Clone, Copy, PartialEq, Eq)]
 pub struct Hold {
     pub stretch: Stretch,
     pub from: u32,
@@ -61,7 +61,7 @@ pub struct Hold {
 
 /// The curves of the way up or down, how long it lasts, and how far drones may be from their curves, and how late.
 /// Lengths in millimetres, times in milliseconds.
-#[derive(Debug, Drop)]
+#[derive(Drop)]
 pub struct Course {
     pub curves: Listed<Traj>,
     pub ms: u32,
@@ -70,14 +70,14 @@ pub struct Course {
 }
 
 /// From one value on an axis to another, both included, in millimetres.
-#[derive(Clone, Copy, Debug, PartialEq, Eq)]
+#[derive(Clone, Copy, PartialEq, Eq)]
 pub struct Span {
     pub low: i16,
     pub high: i16,
 }
 
 /// A box in space, and how far outside of it on each axis drones may be, in millimetres.
-#[derive(Clone, Copy, Debug, PartialEq, Eq)]
+#[derive(Clone, Copy, PartialEq, Eq)]
 pub struct Room {
     pub x: Span,
     pub y: Span,
@@ -87,7 +87,7 @@ pub struct Room {
 
 /// When a landing is covered: a show was accepted in which all that have risen land where they are, from an instant of
 /// this window on. Its ends are included, in milliseconds after the last step.
-#[derive(Clone, Copy, Debug, PartialEq, Eq)]
+#[derive(Clone, Copy, PartialEq, Eq)]
 pub struct Window {
     /// How many steps have begun.
     pub step: u32,
@@ -98,7 +98,7 @@ pub struct Window {
 }
 
 /// A step of a flight: when it begins, the condition of each drone for that, and its orders. Times in milliseconds.
-#[derive(Debug, Drop)]
+#[derive(Drop)]
 pub struct Step {
     /// It begins only with the operator's go.
     pub asked: bool,
@@ -115,7 +115,7 @@ pub struct Step {
 }
 
 /// A flight. Lengths in millimetres, times in milliseconds.
-#[derive(Debug, Drop)]
+#[derive(Drop)]
 pub struct Flight {
     /// From the pads to the pads.
     pub steps: Listed<Step>,

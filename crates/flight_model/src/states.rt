@@ -3,7 +3,7 @@
 use crate::events::Sample;
 
 /// The phase of a flight.
-#[derive(Clone, Copy, Debug, PartialEq, Eq)]
+#[derive(Clone, Copy, PartialEq, Eq)]
 pub enum Phase {
     /// On the way, from the pads to the pads.
     Steps,
@@ -20,7 +20,7 @@ pub enum Phase {
 /// A drone's last sample, with its age by now; for how long its samples have been off where it is told to be, if they
 /// are; for how long they have been unsure; and whether the last one was outside of the room. All three count from the
 /// last step on.
-#[derive(Clone, Copy, Debug, Default, PartialEq, Eq)]
+#[derive(Clone, Copy, Default, PartialEq, Eq)]
 pub struct Track {
     pub seen: Option<Sample>,
     pub off: Option<u32>,
@@ -29,7 +29,7 @@ pub struct Track {
 }
 
 /// What the director does at an event.
-#[derive(Clone, Copy, Debug, PartialEq, Eq)]
+#[derive(Clone, Copy, PartialEq, Eq)]
 pub enum Choice {
     /// Nothing.
     Rest,

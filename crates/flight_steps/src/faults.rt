@@ -3,14 +3,14 @@
 use std::alloc::AllocError;
 
 /// One of the two ways beside the show.
-#[derive(Clone, Copy, Debug, PartialEq, Eq)]
+#[derive(Clone, Copy, PartialEq, Eq)]
 pub enum Way {
     Up,
     Down,
 }
 
 /// Where one of the three shows ends and the next one begins.
-#[derive(Clone, Copy, Debug, PartialEq, Eq)]
+#[derive(Clone, Copy, PartialEq, Eq)]
 pub enum Seam {
     /// The end of the way up, and the beginning of the show.
     UpToShow,
@@ -21,7 +21,7 @@ pub enum Seam {
 }
 
 /// Why three shows are no flight. Drones and cues are numbered from 0.
-#[derive(Clone, Copy, Debug, PartialEq, Eq)]
+#[derive(Clone, Copy, PartialEq, Eq)]
 pub enum FlightFault {
     /// The way has no drone of this number, has one that the show doesn't have, or names it otherwise.
     OtherDrone { way: Way, drone: usize },
@@ -40,7 +40,7 @@ pub enum FlightFault {
 }
 
 /// Why there are no steps.
-#[derive(Clone, Copy, Debug, PartialEq, Eq)]
+#[derive(Clone, Copy, PartialEq, Eq)]
 pub enum StepsError {
     /// The three shows are no flight.
     Fault { fault: FlightFault },

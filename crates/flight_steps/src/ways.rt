@@ -7,7 +7,7 @@ use traj_codec::Traj;
 pub type Name = ArrayVec<u8, 16>;
 
 /// The ellipsoid around each drone of a show: its half axes in millimetres, across and upwards.
-#[derive(Clone, Copy, Debug, PartialEq, Eq)]
+#[derive(Clone, Copy, PartialEq, Eq)]
 pub struct Ellipsoid {
     pub r: u16,
     pub h: u16,

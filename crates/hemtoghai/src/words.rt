@@ -10,7 +10,7 @@ use std::alloc::{AllocError, AllocFailed, Global};
 use std::str;
 
 /// Why there are no words.
-#[derive(Clone, Copy, Debug, PartialEq, Eq)]
+#[derive(Clone, Copy, PartialEq, Eq)]
 pub enum WordsFault {
     /// Out of memory.
     Memory,

@@ -74,7 +74,7 @@ fn step<M: Machine, S: Source>(
 }
 
 // Why items are taken no further, short of the end of the dialogue.
-#[derive(Clone, Copy, Debug, PartialEq, Eq)]
+#[derive(Clone, Copy, PartialEq, Eq)]
 enum Broken {
     Read,
     Write,

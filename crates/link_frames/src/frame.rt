@@ -40,7 +40,7 @@ pub enum View<'a> {
 }
 
 /// Why a byte has no place.
-#[derive(Clone, Copy, Debug, PartialEq, Eq)]
+#[derive(Clone, Copy, PartialEq, Eq)]
 pub enum FrameFault {
     /// No frame begins with it.
     Kind,

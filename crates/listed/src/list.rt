@@ -3,7 +3,7 @@
 use std::marker::Model;
 
 /// Items in order, which a contract sees as the list of them.
-#[derive(Debug, Drop)]
+#[derive(Drop)]
 pub struct Listed<T> {
     items: Vec<T>,
 }

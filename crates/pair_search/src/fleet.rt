@@ -22,7 +22,7 @@ use sep_parts::{Forest, Node, Ruler, Slot, Waiting};
 use std::alloc::{AllocError, Global};
 
 /// Why a search of a fleet finds no trees.
-#[derive(Clone, Copy, Debug, PartialEq, Eq)]
+#[derive(Clone, Copy, PartialEq, Eq)]
 pub enum SearchFault {
     /// The first part of a cue in which no direction separates two drones, in the order pair, cue, part: part `index`
     /// of as many equal parts as the depth gives. Parts count from 0.

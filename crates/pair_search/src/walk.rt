@@ -25,7 +25,7 @@ use sep_parts::{Clearance, Dirs, Level, Node, Ruler, Waiting};
 use std::alloc::AllocError;
 
 /// What a search found.
-#[derive(Clone, Copy, Debug, PartialEq, Eq)]
+#[derive(Clone, Copy, PartialEq, Eq)]
 pub enum Found {
     /// Each part of the greatest depth has a separating direction.
     Clear,

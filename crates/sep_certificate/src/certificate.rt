@@ -4,7 +4,7 @@ use halving::Place;
 use sep_parts::Forest;
 
 /// A certificate: for each pair of drones and each cue a tree, none deeper than `depth`.
-#[derive(Debug, Drop)]
+#[derive(Drop)]
 pub struct Certificate {
     /// 1, where leaves name the 26 directions, or 2, where they name the 98.
     pub version: u8,

@@ -9,7 +9,7 @@ use std::marker::Model;
 
 /// Trees, each the list of its nodes: one after another in one list, so that no tree takes memory of its own. A
 /// contract sees the lists.
-#[derive(Debug, Drop)]
+#[derive(Drop)]
 pub struct Forest {
     nodes: Vec<Node>,
     ends: Vec<usize>,

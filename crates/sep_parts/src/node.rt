@@ -3,7 +3,7 @@
 ghost use Rattle.sep_parts.specs.Trees.{TreeLaw};
 
 /// A node of a tree of parts of a cue: a split into halves, or a leaf with the direction that separates the part.
-#[derive(Clone, Copy, Debug, PartialEq, Eq)]
+#[derive(Clone, Copy, PartialEq, Eq)]
 pub enum Node {
     /// The part is cut into its two halves, whose trees follow, the first half's before the second's.
     Split,

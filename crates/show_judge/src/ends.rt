@@ -40,7 +40,7 @@ pub enum Answer {
 }
 
 /// Why nothing can be judged.
-#[derive(Clone, Copy, Debug, PartialEq, Eq)]
+#[derive(Clone, Copy, PartialEq, Eq)]
 pub enum Failure {
     /// A read failed.
     Read,

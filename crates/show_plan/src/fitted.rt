@@ -24,7 +24,7 @@ pub struct Fitted {
 }
 
 /// What keeps a show from having a plan.
-#[derive(Clone, Copy, PartialEq, Eq, Debug)]
+#[derive(Clone, Copy, PartialEq, Eq)]
 pub enum PlanFault {
     /// A fault of its names or cues.
     Grid { fault: GridFault },
@@ -37,7 +37,7 @@ pub enum PlanFault {
 }
 
 /// Why a show isn't fitted.
-#[derive(Clone, Copy, PartialEq, Eq, Debug)]
+#[derive(Clone, Copy, PartialEq, Eq)]
 pub enum FitError {
     /// What keeps it from having a plan.
     Fault { fault: PlanFault },

@@ -23,7 +23,7 @@ use std::alloc::{AllocError, Global};
 
 /// A part of a cue in which no direction separates two drones: part `index` of as many equal parts as the depth gives,
 /// counted from 0.
-#[derive(Clone, Copy, PartialEq, Eq, Debug)]
+#[derive(Clone, Copy, PartialEq, Eq)]
 pub struct BlockedPart {
     /// The two drones and the cue.
     pub slot: Slot,
@@ -32,7 +32,7 @@ pub struct BlockedPart {
 }
 
 /// Why a show that fits has no certificate.
-#[derive(Clone, Copy, PartialEq, Eq, Debug)]
+#[derive(Clone, Copy, PartialEq, Eq)]
 pub enum SeparationFault {
     /// The first blocked part, in the order pair, cue, part.
     Blocked { part: BlockedPart },

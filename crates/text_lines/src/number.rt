@@ -8,7 +8,7 @@ ghost use Rattle.text_lines.specs.Numbers.{begins_with_minus as begins_with_minu
 ghost use Rattle.text_lines.specs.Numbers.{number_in as number_in_of};
 
 /// Why a word isn't a number that is wanted.
-#[derive(Clone, Copy, Debug, PartialEq, Eq)]
+#[derive(Clone, Copy, PartialEq, Eq)]
 pub enum NumberFault {
     /// It isn't decimal digits, at least one, with an optional `-` before them.
     NotANumber,

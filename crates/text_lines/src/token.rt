@@ -11,7 +11,7 @@ use crate::marks::{low_bytes, lowest, without};
 use std::alloc::{AllocError, Global};
 
 /// A word: the number of its line, from 1, where in the text it begins, and where it ends.
-#[derive(Clone, Copy, Debug, PartialEq, Eq)]
+#[derive(Clone, Copy, PartialEq, Eq)]
 pub struct Token {
     pub line: u32,
     pub start: usize,
@@ -19,7 +19,7 @@ pub struct Token {
 }
 
 /// Whether a text has comments.
-#[derive(Clone, Copy, Debug, PartialEq, Eq)]
+#[derive(Clone, Copy, PartialEq, Eq)]
 pub enum Comments {
     /// A `#` begins one, which goes to the end of its line.
     FromHash,

@@ -16,7 +16,7 @@ use listed::Listed;
 use std::alloc::{AllocError, AllocFailed, Global};
 
 /// Why bytes are no trajectory of this many segments. Places count bytes from 0.
-#[derive(Clone, Copy, Debug, PartialEq, Eq)]
+#[derive(Clone, Copy, PartialEq, Eq)]
 pub enum CodecFault {
     /// The field at this place isn't whole: a number, a header or a duration.
     Short { at: usize },

@@ -5,7 +5,7 @@ use listed::Listed;
 /// How a segment moves on one axis: a Bézier curve's control points after the first one, which is the last value
 /// before the segment. In millimetres, and on the axis of yaw in tenths of a degree. The four kinds are those of
 /// Bitcraze's compressed trajectory format: degree 0, 1, 3 and 7.
-#[derive(Clone, Copy, Debug, PartialEq, Eq)]
+#[derive(Clone, Copy, PartialEq, Eq)]
 pub enum Element {
     /// The value stays.
     Constant,
@@ -18,7 +18,7 @@ pub enum Element {
 }
 
 /// A stretch of a trajectory.
-#[derive(Clone, Copy, Debug, PartialEq, Eq)]
+#[derive(Clone, Copy, PartialEq, Eq)]
 pub struct Segment {
     /// How long it lasts, in milliseconds.
     pub ms: u16,
@@ -27,7 +27,7 @@ pub struct Segment {
 }
 
 /// Where a drone starts, and how it moves from there.
-#[derive(Debug, Drop)]
+#[derive(Drop)]
 pub struct Traj {
     /// x, y and z in millimetres, and yaw in tenths of a degree.
     pub start: [i16; 4],

@@ -4,7 +4,7 @@
 use crtp_packets::Packet;
 
 /// A packet of a session, by its drone and its number among the packets of that drone.
-#[derive(Clone, Copy, Debug, Default, PartialEq, Eq)]
+#[derive(Clone, Copy, Default, PartialEq, Eq)]
 pub struct Sent {
     pub drone: u8,
     pub packet: u16,
@@ -18,7 +18,7 @@ pub enum Event {
 }
 
 /// A phase of an upload. It begins for all drones when the one before is complete for all.
-#[derive(Clone, Copy, Debug, PartialEq, Eq)]
+#[derive(Clone, Copy, PartialEq, Eq)]
 pub enum Phase {
     /// Writes, and the define of each drone.
     Loading,
@@ -31,7 +31,7 @@ pub enum Phase {
 /// How far an upload is: still going, done, given up for a packet that was in flight too long, ended
 /// by a drone that refused a packet with a status other than 0, or by a read that brought another byte
 /// than the load's.
-#[derive(Clone, Copy, Debug, PartialEq, Eq)]
+#[derive(Clone, Copy, PartialEq, Eq)]
 pub enum Progress {
     Going,
     Done,
@@ -54,7 +54,7 @@ pub enum Progress {
 
 /// What an answer says of a packet: nothing, that the drone did what was wanted, or how it ends the
 /// upload.
-#[derive(Clone, Copy, Debug, PartialEq, Eq)]
+#[derive(Clone, Copy, PartialEq, Eq)]
 pub enum Reply {
     Silent,
     Good,
@@ -64,7 +64,7 @@ pub enum Reply {
 /// What happens in the world: a tick of the host; a drone takes packet `n` of all that were ever
 /// sent to it; the host hears answer `n` of all that the drone ever gave; somebody else alters one byte
 /// of a drone's memory.
-#[derive(Clone, Copy, Debug, PartialEq, Eq)]
+#[derive(Clone, Copy, PartialEq, Eq)]
 pub enum WorldEvent {
     Tick,
     Take { drone: u8, n: u32 },

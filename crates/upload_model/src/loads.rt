@@ -11,7 +11,7 @@ pub struct Load {
 
 /// An entry of a drone's table: where in its memory a trajectory begins, and how many segments it
 /// has.
-#[derive(Clone, Copy, Debug, PartialEq, Eq)]
+#[derive(Clone, Copy, PartialEq, Eq)]
 pub struct Def {
     pub offset: u32,
     pub pieces: u8,
