@@ -1,6 +1,6 @@
 //! Memories with a path at their end, with bytes that were written out by hand.
 use firmware_memory::{Def, Drone, MEMORY_BYTES, curve_of, make};
-use std::test::Fail;
+use std::alloc::{AllocError, Global};
 use traj_codec::{Element, Segment, Traj};
 
 // A metre along x from rest to rest in two seconds, at one metre's height, and the ending.
@@ -10,113 +10,86 @@ const PATH: [u8; 28] = [
 ];
 
 // A blank drone with the path as its last bytes, and this entry under id 9.
-fn drone_with(entry: Def) -> Drone {
+fn drone_with(offset: u32, pieces: u8) -> Drone {
     let mut memory = [0xFF; MEMORY_BYTES];
-    for i in 0..28 {
-        memory[4068 + i] = PATH[i];
-    }
+    memory[4068..].copy_from_slice(&PATH);
     let mut drone = make(2, memory);
-    drone.defs[9] = Some(entry);
+    drone.defs[9] = Some(Def { offset, pieces });
     drone
 }
 
-// Whether the memory decodes to a trajectory with this start and this one segment.
-fn is_one(found: &Option<Traj>, start: [i16; 4], segment: Segment) -> bool {
-    match found {
-        Some(t) => t.start == start && t.segments.as_slice() == [segment].as_slice(),
-        None => false,
-    }
-}
+// The segment of the path.
+const METRE: Segment = Segment {
+    ms: 2000,
+    elements: [
+        Element::Seven {
+            v: [0, 0, 0, 1000, 1000, 1000, 1000],
+        },
+        Element::Constant,
+        Element::Constant,
+        Element::Constant,
+    ],
+};
 
-#[test]
-fn a_path_at_the_end(rt: HostRuntime) -> Result<(), Fail> {
-    let alloc = rt.alloc();
-    let drone = drone_with(Def {
-        offset: 4068,
-        pieces: 1,
-    });
-    let segment = Segment {
-        ms: 2000,
-        elements: [
-            Element::Seven {
-                v: [0, 0, 0, 1000, 1000, 1000, 1000],
-            },
-            Element::Constant,
-            Element::Constant,
-            Element::Constant,
-        ],
-    };
-    assert!(rt; is_one(&curve_of(alloc, &drone, 9)?, [0, 0, 1000, 0], segment));
-    for id in 0..9 {
-        assert!(rt; curve_of(alloc, &drone, id)?.is_none());
-    }
-    Ok(())
-}
+// The segment that blank bytes are.
+const BLANK: Segment = Segment {
+    ms: 65_535,
+    elements: [Element::Seven { v: [-1; 7] }; 4],
+};
 
-#[test]
-fn blank_bytes_are_a_trajectory(rt: HostRuntime) -> Result<(), Fail> {
-    let alloc = rt.alloc();
-    let drone = drone_with(Def {
-        offset: 0,
-        pieces: 1,
-    });
-    let segment = Segment {
-        ms: 65_535,
-        elements: [Element::Seven { v: [-1; 7] }; 4],
-    };
-    assert!(rt; is_one(&curve_of(alloc, &drone, 9)?, [-1; 4], segment));
-    Ok(())
-}
+// Where a trajectory begins, and its one segment; none where it has no segments.
+type Curve = ([i16; 4], Option<Segment>);
 
-#[test]
-fn no_segments_are_a_start(rt: HostRuntime) -> Result<(), Fail> {
-    let drone = drone_with(Def {
-        offset: 4088,
-        pieces: 0,
-    });
-    match curve_of(rt.alloc(), &drone, 9)? {
-        Some(t) => {
-            assert!(rt; t.start == [-6141, -6141, 3, 0]);
-            assert!(rt; t.segments.as_slice().is_empty());
-        }
-        None => assert!(rt; false),
-    }
-    Ok(())
-}
-
-// Entries under which the memory decodes to nothing: the ending is a second segment that lasts no time;
-// a segment isn't whole; a start isn't; and places past the end.
-const NOTHING: [Def; 6] = [
-    Def {
-        offset: 4068,
-        pieces: 2,
-    },
-    Def {
-        offset: 4077,
-        pieces: 1,
-    },
-    Def {
-        offset: 4089,
-        pieces: 0,
-    },
-    Def {
-        offset: 4096,
-        pieces: 0,
-    },
-    Def {
-        offset: 8164,
-        pieces: 1,
-    },
-    Def {
-        offset: 4_294_967_295,
-        pieces: 255,
-    },
+// Offset and pieces of an entry, and what the memory decodes to under it.
+const DECODED: [(u32, u8, Option<Curve>); 9] = [
+    // a path at the end
+    (4068, 1, Some(([0, 0, 1000, 0], Some(METRE)))),
+    // blank bytes are a trajectory
+    (0, 1, Some(([-1; 4], Some(BLANK)))),
+    // no segments are a start
+    (4088, 0, Some(([-6141, -6141, 3, 0], None))),
+    // the ending is a second segment that lasts no time
+    (4068, 2, None),
+    // a segment isn't whole
+    (4077, 1, None),
+    // a start isn't
+    (4089, 0, None),
+    // places past the end
+    (4096, 0, None),
+    (8164, 1, None),
+    (4_294_967_295, 255, None),
 ];
 
-#[test]
-fn bytes_that_are_none(rt: HostRuntime) -> Result<(), Fail> {
-    for entry in NOTHING {
-        assert!(rt; curve_of(rt.alloc(), &drone_with(entry), 9)?.is_none());
+fn is_curve(t: &Traj, wanted: Curve) -> bool {
+    let (start, segment) = wanted;
+    let segments = t.segments.as_slice();
+    t.start == start && segments.len() <= 1 && segments.first().copied() == segment
+}
+
+// Whether a drone's memory decodes to this under id 9, and to nothing under the others.
+fn decodes_to(alloc: Global, drone: &Drone, wanted: Option<Curve>) -> Result<bool, AllocError> {
+    for id in 0..9 {
+        if curve_of(alloc, drone, id)?.is_some() {
+            return Ok(false);
+        }
     }
-    Ok(())
+    match (curve_of(alloc, drone, 9)?, wanted) {
+        (Some(t), Some(wanted)) => Ok(is_curve(&t, wanted)),
+        (found, wanted) => Ok(found.is_none() && wanted.is_none()),
+    }
+}
+
+// The number of the first row that decodes to something else; none where there is no such row.
+fn wrong_curve(alloc: Global) -> Result<Option<usize>, AllocError> {
+    for (k, (offset, pieces, wanted)) in DECODED.iter().enumerate() {
+        if !decodes_to(alloc, &drone_with(*offset, *pieces), *wanted)? {
+            return Ok(Some(k));
+        }
+    }
+    Ok(None)
+}
+
+#[test]
+fn memories_are_decoded(rt: HostRuntime) {
+    assert_eq!(rt; wrong_curve(rt.alloc()).unwrap_or(Some(0)), None);
 }

@@ -1,27 +1,17 @@
 //! Packets that one drone takes, and its answers, with bytes that were written out by hand.
-ghost use Rattle.std.specs.Prelude.{◌≤◌, length};
 
-use crtp_packets::{Packet, command_answer};
+use crtp_packets::from_bytes;
 use firmware_memory::{Def, Drone, MEMORY_BYTES, TABLE_ENTRIES, make};
-use std::test::Fail;
 
-// The packet of 1 to 31 bytes.
-fn packet_of(bytes: &[u8]) -> Packet
-    requires not_empty { 1 ≤ length bytes.now }
-    requires fits { length bytes.now ≤ 31 }
-{
-    match crtp_packets::from_bytes(bytes) {
-        Ok(packet) => packet,
-        Err(_) => unreachable!(),
-    }
-}
+// The last bytes of a fresh drone's memory.
+const LAST: [u8; 20] = [
+    1, 2, 3, 4, 5, 6, 7, 8, 9, 10, 11, 12, 13, 14, 15, 16, 17, 18, 19, 20,
+];
 
-// A drone to which nothing has happened. Its memory has the id 2, and 1 to 20 as its last bytes.
+// A drone to which nothing has happened. Its memory has the id 2.
 fn fresh() -> Drone {
     let mut memory = [255; MEMORY_BYTES];
-    for i in 0..20 {
-        memory[4076 + i] = i as u8 + 1;
-    }
+    memory[4076..].copy_from_slice(&LAST);
     make(2, memory)
 }
 
@@ -140,59 +130,111 @@ const ANSWERS: &[(&[u8], &[u8], Option<Change>)] = &[
     (&[0x00, 0x48, 0x69], &[], None),
 ];
 
-#[test]
-fn answers_one_packet(rt: HostRuntime) -> Result<(), Fail> {
-    for &(bytes, answer, change) in ANSWERS {
-        assert!(rt; 1 <= bytes.len() && bytes.len() <= 31);
-        let mut drone = fresh();
-        match drone.handle(&packet_of(bytes)) {
-            Some(given) => assert!(rt; given.bytes() == answer),
-            None => assert!(rt; answer.is_empty()),
-        }
-        let mut wanted = fresh();
-        match change {
-            Some(Change::Byte(place)) => {
-                assert!(rt; place < MEMORY_BYTES);
-                wanted.memory[place] = 7;
-            }
-            Some(Change::Entry(id, def)) => {
-                assert!(rt; id < TABLE_ENTRIES);
-                wanted.defs[id] = Some(def);
-            }
-            None => {}
-        }
-        assert!(rt; drone.memory.as_slice() == wanted.memory.as_slice());
-        assert!(rt; drone.defs.as_slice() == wanted.defs.as_slice());
-        assert!(rt; drone.started == None);
-        assert!(rt; drone.memory_id == 2);
+// Whether a drone gives this answer to a packet.
+fn gives(drone: &mut Drone, bytes: &[u8], answer: &[u8]) -> bool {
+    let Ok(packet) = from_bytes(bytes) else {
+        return false;
+    };
+    match drone.handle(&packet) {
+        Some(given) => given.bytes() == answer,
+        None => answer.is_empty(),
     }
-    Ok(())
+}
+
+// Changes a drone so; false where it has no such place or entry.
+fn make_change(drone: &mut Drone, it: &Option<Change>) -> bool {
+    match it {
+        Some(Change::Byte(place)) => {
+            if *place >= MEMORY_BYTES {
+                return false;
+            }
+            drone.memory[*place] = 7;
+        }
+        Some(Change::Entry(id, def)) => {
+            if *id >= TABLE_ENTRIES {
+                return false;
+            }
+            drone.defs[*id] = Some(*def);
+        }
+        None => {}
+    }
+    true
+}
+
+// Whether a drone is this one, and has started nothing.
+fn is_at_rest(drone: &Drone, wanted: &Drone) -> bool {
+    drone.memory_id == 2
+        && drone.memory.as_slice() == wanted.memory.as_slice()
+        && drone.defs.as_slice() == wanted.defs.as_slice()
+        && drone.started == None
+}
+
+// Whether a fresh drone gives this answer to a packet, and changes so.
+fn answers(bytes: &[u8], answer: &[u8], change: &Option<Change>) -> bool {
+    let mut drone = fresh();
+    let mut wanted = fresh();
+    gives(&mut drone, bytes, answer)
+        && make_change(&mut wanted, change)
+        && is_at_rest(&drone, &wanted)
+}
+
+// The number of the first row that is wrong; none where there is no such row.
+fn wrong_answer() -> Option<usize> {
+    for (k, (bytes, answer, change)) in ANSWERS.iter().enumerate() {
+        if !answers(bytes, answer, change) {
+            return Some(k);
+        }
+    }
+    None
 }
 
 #[test]
-fn starts_what_it_was_given(rt: HostRuntime) -> Result<(), Fail> {
-    let mut drone = make(2, [255; MEMORY_BYTES]);
-    let table: [(&[u8], u8); 8] = [
-        (&[0x4E, 2, 0xFC, 0x0F, 0, 0, 3, 0, 0, 0], 0),
-        (&[0x8C, 6, 4, 1, 1, 0xE4, 0x0F, 0, 0, 1], 0),
-        (&[0x8C, 5, 0, 0, 0, 3, 0, 0, 0x80, 0x3F], 2),
-        (&[0x8C, 5, 1, 0, 0, 4, 0, 0, 0x80, 0x3F], 2),
-        (&[0x8C, 5, 0, 1, 0, 4, 0, 0, 0x80, 0x3F], 2),
-        (&[0x8C, 5, 0, 0, 1, 4, 0, 0, 0x80, 0x3F], 2),
-        (&[0x8C, 5, 0, 0, 0, 4, 0, 0, 0, 0x40], 2),
-        (&[0x8C, 5, 0, 0, 0, 4, 0, 0, 0x80, 0x3F], 0),
-    ];
-    for (bytes, status) in table {
-        assert!(rt; 1 <= bytes.len() && bytes.len() <= 31);
-        assert!(rt; drone.started == None);
-        match drone.handle(&packet_of(bytes)) {
-            Some(given) => assert!(rt; given.bytes().last() == Some(&status)),
-            None => assert!(rt; false),
+fn answers_one_packet(rt: HostRuntime) {
+    assert_eq!(rt; wrong_answer(), None);
+}
+
+// Packets that a drone takes one after the other, with the statuses of its answers. Nothing is started before the last.
+const STARTS: &[(&[u8], u8)] = &[
+    (&[0x4E, 2, 0xFC, 0x0F, 0, 0, 3, 0, 0, 0], 0),
+    (&[0x8C, 6, 4, 1, 1, 0xE4, 0x0F, 0, 0, 1], 0),
+    (&[0x8C, 5, 0, 0, 0, 3, 0, 0, 0x80, 0x3F], 2),
+    (&[0x8C, 5, 1, 0, 0, 4, 0, 0, 0x80, 0x3F], 2),
+    (&[0x8C, 5, 0, 1, 0, 4, 0, 0, 0x80, 0x3F], 2),
+    (&[0x8C, 5, 0, 0, 1, 4, 0, 0, 0x80, 0x3F], 2),
+    (&[0x8C, 5, 0, 0, 0, 4, 0, 0, 0, 0x40], 2),
+    (&[0x8C, 5, 0, 0, 0, 4, 0, 0, 0x80, 0x3F], 0),
+];
+
+// Whether a drone's answer to a packet has this status.
+fn has_status(drone: &mut Drone, bytes: &[u8], status: u8) -> bool {
+    let Ok(packet) = from_bytes(bytes) else {
+        return false;
+    };
+    match drone.handle(&packet) {
+        Some(given) => given.bytes().last() == Some(&status),
+        None => false,
+    }
+}
+
+// The number of the first row with another status, or before which something is started.
+fn wrong_status(drone: &mut Drone) -> Option<usize> {
+    for (k, (bytes, status)) in STARTS.iter().enumerate() {
+        if drone.started.is_some() || !has_status(drone, bytes, *status) {
+            return Some(k);
         }
     }
-    assert!(rt; &drone.memory[4091..] == [255, 3, 0, 0, 0].as_slice());
-    assert!(rt; drone.defs[4].map(|def| (def.offset, def.pieces)) == Some((4068, 1)));
-    assert!(rt; drone.defs[3].is_none());
+    None
+}
+
+#[test]
+fn starts_what_it_was_given(rt: HostRuntime) {
+    let mut drone = make(2, [255; MEMORY_BYTES]);
+    assert_eq!(rt; wrong_status(&mut drone), None);
+    let entry = Def {
+        offset: 4068,
+        pieces: 1,
+    };
+    let memory = drone.memory[4091..].starts_with(&[255, 3, 0, 0, 0]);
+    assert!(rt; memory && drone.defs[4] == Some(entry) && drone.defs[3].is_none());
     assert!(rt; drone.started == Some(4));
-    Ok(())
 }

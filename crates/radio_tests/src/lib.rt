@@ -18,4 +18,6 @@ mod frames;
 #[cfg(test)]
 mod packets;
 #[cfg(test)]
+mod sessions;
+#[cfg(test)]
 mod world;
