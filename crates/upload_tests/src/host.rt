@@ -1,67 +1,37 @@
 //! A host from its first packets to its end, answer by answer. The bytes are those of docs/RADIO.md, or
 //! were written out by hand from it.
 
-ghost use Rattle.std.specs.Prelude.{◌≡◌, ◌≤◌, IfOk};
-ghost use Rattle.upload_model.specs.Sessions.{drone_count};
-
-use crtp_packets::from_bytes;
+use crate::hosts::{Happens, Row, happen, host_of, wrong_owner_row, wrong_row};
+use crate::sessions::{PATH, PLAIN, Upload, owner_of, session_of};
 use std::alloc::{AllocError, Global};
-use std::test::Fail;
-use upload_core::{Event, Host, Listed, Load, Out, Progress, Sent, Session, Settings};
+use upload_core::{Host, Out, Progress, Sent, Session, Settings};
 
-// A trajectory of 28 bytes, so of two writes, with one segment.
-const PATH: [u8; 28] = [
-    0, 0, 0, 0, 0xE8, 3, 0, 0, 3, 0xD0, 7, 0, 0, 0, 0, 0, 0, 0xE8, 3, 0xE8, 3, 0xE8, 3, 0xE8, 3, 0,
-    0, 0,
-];
+// The path for two drones, and the same with a start.
+const TWO: Upload = Upload {
+    settings: PLAIN,
+    loads: &[(PATH, 1), (PATH, 1)],
+    readback: false,
+    start: false,
+};
 
-// A session that brings the path to two drones.
-fn two_drones(alloc: Global, start: bool) -> Result<Session, AllocError>
-    ensures { IfOk result (λ s. drone_count s ≡ 2) }
-{
-    let mut loads = Vec::new(alloc);
-    loads.push(Load {
-        bytes: Listed::from_vec(PATH.to_vec(alloc)?),
-        pieces: 1,
-    })?;
-    loads.push(Load {
-        bytes: Listed::from_vec(PATH.to_vec(alloc)?),
-        pieces: 1,
-    })?;
-    let settings = Settings {
-        memory_id: 2,
-        offset: 0,
-        trajectory_id: 0,
-    };
-    Session::make(alloc, settings, &loads, false, start)
-}
+const TWO_STARTED: Upload = Upload {
+    settings: PLAIN,
+    loads: &[(PATH, 1), (PATH, 1)],
+    readback: false,
+    start: true,
+};
 
 // One byte with 255 segments and the path with two, for the last places of two drones.
-fn last_places(alloc: Global) -> Result<Session, AllocError>
-    ensures { IfOk result (λ s. drone_count s ≡ 2) }
-{
-    let mut loads = Vec::new(alloc);
-    loads.push(Load {
-        bytes: Listed::from_vec([7].to_vec(alloc)?),
-        pieces: 255,
-    })?;
-    loads.push(Load {
-        bytes: Listed::from_vec(PATH.to_vec(alloc)?),
-        pieces: 2,
-    })?;
-    let settings = Settings {
+const LAST_PLACES: Upload = Upload {
+    settings: Settings {
         memory_id: 3,
         offset: 4068,
         trajectory_id: 9,
-    };
-    Ok(Session::of_loads(settings, loads, false, true))
-}
-
-// These bytes come up from a drone; the test ends where they are no packet.
-fn up(drone: u8, bytes: &[u8]) -> Result<Event, Fail> {
-    let packet = from_bytes(bytes).map_err(|_| Fail::from(AllocError))?;
-    Ok(Event::Up { drone, packet })
-}
+    },
+    loads: &[(&[7], 255), (PATH, 2)],
+    readback: false,
+    start: true,
+};
 
 macro_rules! sent {
     ($drone:expr, $packet:expr) => {
@@ -71,6 +41,22 @@ macro_rules! sent {
         }
     };
 }
+
+// Bytes come up from a drone, as a packet.
+macro_rules! up {
+    ($drone:expr, $bytes:expr) => {
+        Happens::Up($drone, $bytes)
+    };
+}
+
+// Bytes come up from a drone, as they are.
+macro_rules! heard {
+    ($drone:expr, $bytes:expr) => {
+        Happens::Heard($drone, $bytes)
+    };
+}
+
+// ---- packets
 
 // Whether these are all packets of a drone, in order.
 fn has_packets(session: &Session, drone: usize, wanted: &[&[u8]]) -> bool {
@@ -86,25 +72,26 @@ fn has_packets(session: &Session, drone: usize, wanted: &[&[u8]]) -> bool {
 }
 
 // The packets that bring the path to place 0, and start it.
-const PATH_PACKETS: [&[u8]; 4] = [
-    &[
-        0x4E, 2, 0, 0, 0, 0, 0, 0, 0, 0, 0xE8, 3, 0, 0, 3, 0xD0, 7, 0, 0, 0, 0, 0, 0, 0xE8, 3,
-        0xE8, 3, 0xE8, 3, 0xE8,
-    ],
-    &[0x4E, 2, 0x18, 0, 0, 0, 3, 0, 0, 0],
-    &[0x8C, 6, 0, 1, 1, 0, 0, 0, 0, 1],
-    &[0x8C, 5, 0, 0, 0, 0, 0, 0, 0x80, 0x3F],
+const WRITE_FIRST: &[u8] = &[
+    0x4E, 2, 0, 0, 0, 0, 0, 0, 0, 0, 0xE8, 3, 0, 0, 3, 0xD0, 7, 0, 0, 0, 0, 0, 0, 0xE8, 3, 0xE8, 3,
+    0xE8, 3, 0xE8,
 ];
 
+const WRITE_SECOND: &[u8] = &[0x4E, 2, 0x18, 0, 0, 0, 3, 0, 0, 0];
+
+const DEFINE: &[u8] = &[0x8C, 6, 0, 1, 1, 0, 0, 0, 0, 1];
+
+const START: &[u8] = &[0x8C, 5, 0, 0, 0, 0, 0, 0, 0x80, 0x3F];
+
 // The packets that bring one byte to place 4068.
-const LAST_BYTE: [&[u8]; 3] = [
+const LAST_BYTE: &[&[u8]] = &[
     &[0x4E, 3, 0xE4, 0x0F, 0, 0, 7],
     &[0x8C, 6, 9, 1, 1, 0xE4, 0x0F, 0, 0, 255],
     &[0x8C, 5, 0, 0, 0, 9, 0, 0, 0x80, 0x3F],
 ];
 
 // The packets that bring the path to place 4068.
-const LAST_PATH: [&[u8]; 4] = [
+const LAST_PATH: &[&[u8]] = &[
     &[
         0x4E, 3, 0xE4, 0x0F, 0, 0, 0, 0, 0, 0, 0xE8, 3, 0, 0, 3, 0xD0, 7, 0, 0, 0, 0, 0, 0, 0xE8,
         3, 0xE8, 3, 0xE8, 3, 0xE8,
@@ -115,13 +102,13 @@ const LAST_PATH: [&[u8]; 4] = [
 ];
 
 // Whether a session has these settings, two loads of 1 and 28 bytes, and these bytes at three places of the second.
-fn has_last_places(session: &Session) -> bool
-    requires { drone_count session.now ≡ 2 }
-{
+fn has_last_places(session: &Session) -> bool {
+    if session.drones() != 2 {
+        return false;
+    }
     let settings = session.settings();
     let lengths = session.load_len(0) == 1 && session.load_len(1) == 28;
-    let bytes: [(usize, u8); 3] = [(0, 0), (9, 0xD0), (27, 0)];
-    for (i, byte) in bytes {
+    for (i, byte) in [(0, 0), (9, 0xD0), (27, 0)] {
         if i >= session.load_len(1) || session.load_byte(1, i) != byte {
             return false;
         }
@@ -129,18 +116,46 @@ fn has_last_places(session: &Session) -> bool
     lengths && settings.memory_id == 3 && settings.offset == 4068 && settings.trajectory_id == 9
 }
 
-#[test]
-fn packets_are_those_of_the_format(rt: HostRuntime) -> Result<(), Fail> {
-    let alloc = rt.alloc();
-    let session = two_drones(alloc, true)?;
-    assert!(rt; has_packets(&session, 0, &PATH_PACKETS) && has_packets(&session, 1, &PATH_PACKETS));
-    let session = two_drones(alloc, false)?;
-    assert!(rt; has_packets(&session, 1, &PATH_PACKETS[..3]));
-    let session = last_places(alloc)?;
-    assert!(rt; has_packets(&session, 0, &LAST_BYTE) && has_packets(&session, 1, &LAST_PATH));
-    assert!(rt; has_last_places(&session));
-    Ok(())
+// An upload, one of its drones, and the packets of that.
+type Packets<'a> = (Upload<'a>, usize, &'a [&'a [u8]]);
+
+const PACKETS: &[Packets] = &[
+    (TWO_STARTED, 0, &[WRITE_FIRST, WRITE_SECOND, DEFINE, START]),
+    (TWO_STARTED, 1, &[WRITE_FIRST, WRITE_SECOND, DEFINE, START]),
+    (TWO, 1, &[WRITE_FIRST, WRITE_SECOND, DEFINE]),
+];
+
+fn are_packets(alloc: Global, row: &Packets) -> Result<bool, AllocError> {
+    let (upload, drone, wanted) = *row;
+    if upload.loads.is_empty() || upload.loads.len() > 32 {
+        return Ok(false);
+    }
+    Ok(has_packets(&session_of(alloc, &upload)?, drone, wanted))
 }
+
+fn are_last(alloc: Global) -> Result<bool, AllocError> {
+    let session = owner_of(alloc, &LAST_PLACES)?;
+    let packets = has_packets(&session, 0, LAST_BYTE) && has_packets(&session, 1, LAST_PATH);
+    Ok(packets && has_last_places(&session))
+}
+
+// The number of the first row with other packets; none where there is no such row.
+fn wrong_packets(alloc: Global) -> Option<usize> {
+    for (k, row) in PACKETS.iter().enumerate() {
+        if !matches!(are_packets(alloc, row), Ok(true)) {
+            return Some(k);
+        }
+    }
+    None
+}
+
+#[test]
+fn packets_are_those_of_the_format(rt: HostRuntime) {
+    assert_eq!(rt; wrong_packets(rt.alloc()), None);
+    assert!(rt; matches!(are_last(rt.alloc()), Ok(true)));
+}
+
+// ---- cursors
 
 // Whether a drone's first open packet is this one, and these bits are those of its first 64 packets.
 fn is_at(host: &Host, drone: usize, cursor: usize, word: u64) -> bool {
@@ -161,29 +176,33 @@ const CURSORS: &[(&[u8], usize, u64)] = &[
     (&[0x8C, 5, 0, 0, 0], 3, 0b0111),
 ];
 
-// Whether the first drone is so far after each of these answers, and the second where it was.
-fn is_at_each(host: &mut Host, rows: &[(&[u8], usize, u64)]) -> Result<bool, Fail> {
+// Whether the first drone is so far after each of these answers, and the second where it was; and a tick then sends
+// the writes of the second.
+fn is_at_each(alloc: Global, rows: &[(&[u8], usize, u64)]) -> Result<bool, AllocError> {
+    let mut host = host_of(alloc, &TWO_STARTED)?;
     let mut out = Out::new();
+    if !is_at(&host, 0, 0, 0) {
+        return Ok(false);
+    }
     for (bytes, cursor, word) in rows {
-        let going = host.event(up(0, bytes)?, &mut out) == Progress::Going;
-        if !going || !is_at(host, 0, *cursor, *word) || !is_at(host, 1, 0, 0) {
+        let progress = happen(&mut host, up!(0, bytes), &mut out);
+        let at = is_at(&host, 0, *cursor, *word) && is_at(&host, 1, 0, 0);
+        if progress != Some(Progress::Going) || !at {
             return Ok(false);
         }
     }
-    Ok(true)
+    let progress = happen(&mut host, Happens::Tick, &mut out);
+    Ok(progress == Some(Progress::Going) && out.as_slice() == WRITES_OF_SECOND)
 }
 
+const WRITES_OF_SECOND: &[Sent] = &[sent!(1, 0), sent!(1, 1)];
+
 #[test]
-fn cursors_and_words(rt: HostRuntime) -> Result<(), Fail> {
-    let mut host = Host::make(rt.alloc(), two_drones(rt.alloc(), true)?)?;
-    let begins = is_at(&host, 0, 0, 0);
-    assert!(rt; begins && is_at_each(&mut host, CURSORS)?);
-    let mut out = Out::new();
-    let going = host.event(Event::Tick, &mut out) == Progress::Going;
-    let writes = [sent!(1, 0), sent!(1, 1)];
-    assert!(rt; going && out.as_slice() == writes.as_slice());
-    Ok(())
+fn cursors_and_words(rt: HostRuntime) {
+    assert!(rt; matches!(is_at_each(rt.alloc(), CURSORS), Ok(true)));
 }
+
+// ---- answers
 
 // Answers of two drones to the packets of their path.
 const FIRST: &[u8] = &[0x4E, 2, 0, 0, 0, 0, 0];
@@ -194,67 +213,80 @@ const DEFINED: &[u8] = &[0x8C, 6, 0, 1, 0];
 
 const STARTED: &[u8] = &[0x8C, 5, 0, 0, 0];
 
-// What comes up from a drone, what is sent then, and how far the upload is.
-type Row<'a> = (u8, &'a [u8], &'a [Sent], Progress);
+// What is in flight before any event.
+const AT_FIRST: &[Sent] = &[sent!(0, 0), sent!(0, 1), sent!(1, 0), sent!(1, 1)];
 
-const STARTS: &[Row<'static>] = &[
-    (0, SECOND, &[], Progress::Going),
-    (0, SECOND, &[], Progress::Going),
-    (0, FIRST, &[sent!(0, 2)], Progress::Going),
-    (0, DEFINED, &[], Progress::Going),
-    (1, FIRST, &[], Progress::Going),
-    (1, SECOND, &[sent!(1, 2)], Progress::Going),
-    (1, DEFINED, &[sent!(0, 3), sent!(1, 3)], Progress::Going),
-    (1, STARTED, &[], Progress::Going),
-    (1, STARTED, &[], Progress::Going),
-    (0, STARTED, &[], Progress::Done),
+const STARTS: &[Row] = &[
+    (up!(0, SECOND), &[], Progress::Going),
+    (up!(0, SECOND), &[], Progress::Going),
+    (up!(0, FIRST), &[sent!(0, 2)], Progress::Going),
+    (up!(0, DEFINED), &[], Progress::Going),
+    (up!(1, FIRST), &[], Progress::Going),
+    (up!(1, SECOND), &[sent!(1, 2)], Progress::Going),
+    (
+        up!(1, DEFINED),
+        &[sent!(0, 3), sent!(1, 3)],
+        Progress::Going,
+    ),
+    (up!(1, STARTED), &[], Progress::Going),
+    (up!(1, STARTED), &[], Progress::Going),
+    (up!(0, STARTED), &[], Progress::Done),
 ];
+
+#[test]
+fn starts_come_last(rt: HostRuntime) {
+    assert_eq!(rt;
+        wrong_row(rt.alloc(), &TWO_STARTED, AT_FIRST, &[STARTS]),
+        None
+    );
+}
 
 // Of the session at the last places, whose trajectory is 9 and whose memory is 3.
 const DEFINED_LAST: &[u8] = &[0x8C, 6, 9, 1, 0];
 
-const PLACES: &[Row<'static>] = &[
+const LAST_AT_FIRST: &[Sent] = &[sent!(0, 0), sent!(1, 0), sent!(1, 1)];
+
+const PLACES: &[Row] = &[
     // Another place, another memory and another trajectory.
-    (1, &[0x4E, 3, 24, 0, 0, 0, 0], &[], Progress::Going),
-    (0, &[0x4E, 2, 0xE4, 0x0F, 0, 0, 0], &[], Progress::Going),
-    (0, &[0x8C, 6, 0, 1, 0], &[], Progress::Going),
-    (1, &[0x4E, 3, 0xE4, 0x0F, 0, 0, 0], &[], Progress::Going),
+    (up!(1, &[0x4E, 3, 24, 0, 0, 0, 0]), &[], Progress::Going),
     (
-        1,
-        &[0x4E, 3, 0xFC, 0x0F, 0, 0, 0],
+        up!(0, &[0x4E, 2, 0xE4, 0x0F, 0, 0, 0]),
+        &[],
+        Progress::Going,
+    ),
+    (up!(0, &[0x8C, 6, 0, 1, 0]), &[], Progress::Going),
+    (
+        up!(1, &[0x4E, 3, 0xE4, 0x0F, 0, 0, 0]),
+        &[],
+        Progress::Going,
+    ),
+    (
+        up!(1, &[0x4E, 3, 0xFC, 0x0F, 0, 0, 0]),
         &[sent!(1, 2)],
         Progress::Going,
     ),
-    (1, DEFINED_LAST, &[], Progress::Going),
+    (up!(1, DEFINED_LAST), &[], Progress::Going),
     (
-        0,
-        &[0x4E, 3, 0xE4, 0x0F, 0, 0, 0],
+        up!(0, &[0x4E, 3, 0xE4, 0x0F, 0, 0, 0]),
         &[sent!(0, 1)],
         Progress::Going,
     ),
     (
-        0,
-        DEFINED_LAST,
+        up!(0, DEFINED_LAST),
         &[sent!(0, 2), sent!(1, 3)],
         Progress::Going,
     ),
-    (0, STARTED, &[], Progress::Going),
-    (1, STARTED, &[], Progress::Done),
+    (up!(0, STARTED), &[], Progress::Going),
+    (up!(1, STARTED), &[], Progress::Done),
 ];
 
-// Whether a host sends this at each answer, and is so far then.
-fn follows(host: &mut Host, rows: &[Row]) -> Result<bool, Fail> {
-    let mut out = Out::new();
-    for (drone, bytes, wanted, progress) in rows {
-        if host.event(up(*drone, bytes)?, &mut out) != *progress || out.as_slice() != *wanted {
-            return Ok(false);
-        }
-    }
-    Ok(true)
+#[test]
+fn answers_match_by_place_and_id(rt: HostRuntime) {
+    assert_eq!(rt;
+        wrong_owner_row(rt.alloc(), &LAST_PLACES, LAST_AT_FIRST, &[PLACES]),
+        None
+    );
 }
-
-// What is in flight before any event.
-const AT_FIRST: &[Sent] = &[sent!(0, 0), sent!(0, 1), sent!(1, 0), sent!(1, 1)];
 
 const REFUSAL: &[u8] = &[0x4E, 2, 0, 0, 0, 0, 5];
 
@@ -264,65 +296,37 @@ const FIRST_REFUSED: Progress = Progress::Refused {
     status: 5,
 };
 
-const REFUSALS: &[Row<'static>] = &[
+const REFUSALS: &[Row] = &[
     // From a drone that isn't there, and of another port.
-    (2, REFUSAL, &[], Progress::Going),
-    (0, &[0, 0x48, 0x69], &[], Progress::Going),
-    (1, REFUSAL, &[], FIRST_REFUSED),
-    (1, REFUSAL, &[], FIRST_REFUSED),
+    (up!(2, REFUSAL), &[], Progress::Going),
+    (up!(0, &[0, 0x48, 0x69]), &[], Progress::Going),
+    (up!(1, REFUSAL), &[], FIRST_REFUSED),
+    (up!(1, REFUSAL), &[], FIRST_REFUSED),
+    (Happens::Tick, &[], FIRST_REFUSED),
 ];
 
-// Whether this is in flight before any event, whatever has happened since.
-fn is_first(host: &Host, wanted: &[Sent]) -> bool {
-    let mut out = Out::new();
-    host.first(&mut out);
-    out.as_slice() == wanted
-}
-
-// What a tick makes of an upload.
-fn ticked(host: &mut Host) -> Progress {
-    let mut out = Out::new();
-    host.event(Event::Tick, &mut out)
-}
-
 #[test]
-fn a_packet_is_refused(rt: HostRuntime) -> Result<(), Fail> {
-    let mut host = Host::make(rt.alloc(), two_drones(rt.alloc(), false)?)?;
-    assert!(rt; is_first(&host, AT_FIRST) && follows(&mut host, REFUSALS)?);
-    assert!(rt; ticked(&mut host) == FIRST_REFUSED && is_first(&host, AT_FIRST));
-    Ok(())
+fn a_packet_is_refused(rt: HostRuntime) {
+    assert_eq!(rt; wrong_row(rt.alloc(), &TWO, AT_FIRST, &[REFUSALS]), None);
 }
 
-#[test]
-fn starts_come_last(rt: HostRuntime) -> Result<(), Fail> {
-    let mut host = Host::make(rt.alloc(), two_drones(rt.alloc(), true)?)?;
-    assert!(rt; follows(&mut host, STARTS)?);
-    Ok(())
-}
+const NINETEEN_TICKS: &[Row] = &[(Happens::Tick, AT_FIRST, Progress::Going); 19];
 
-#[test]
-fn answers_match_by_place_and_id(rt: HostRuntime) -> Result<(), Fail> {
-    let mut host = Host::make(rt.alloc(), last_places(rt.alloc())?)?;
-    assert!(rt; follows(&mut host, PLACES)?);
-    Ok(())
-}
-
-#[test]
-fn silence_ends_at_twenty_ticks(rt: HostRuntime) -> Result<(), Fail> {
-    let alloc = rt.alloc();
-    let mut host = Host::make(alloc, two_drones(alloc, false)?)?;
-    let mut out = Out::new();
-    for _ in 0..19 {
-        assert!(rt; host.event(Event::Tick, &mut out) == Progress::Going);
-        assert!(rt; out.len() == 4);
-    }
-    let ended = Progress::GaveUp {
+const SILENCE: &[Row] = &[(
+    Happens::Tick,
+    &[],
+    Progress::GaveUp {
         drone: 0,
         packet: 0,
-    };
-    assert!(rt; host.event(Event::Tick, &mut out) == ended);
-    assert!(rt; out.is_empty());
-    Ok(())
+    },
+)];
+
+#[test]
+fn silence_ends_at_twenty_ticks(rt: HostRuntime) {
+    assert_eq!(rt;
+        wrong_row(rt.alloc(), &TWO, AT_FIRST, &[NINETEEN_TICKS, SILENCE]),
+        None
+    );
 }
 
 const REFUSED: Progress = Progress::Refused {
@@ -331,41 +335,24 @@ const REFUSED: Progress = Progress::Refused {
     status: 2,
 };
 
-const BYTES: &[Row<'static>] = &[
+const BYTES: &[Row] = &[
     // One byte too few, another port, a drone that isn't there, and another memory.
-    (0, &[0x4E, 2, 0, 0, 0, 0], &[], Progress::Going),
-    (0, &[0x00, 0x48, 0x69], &[], Progress::Going),
-    (2, &[0x4E, 2, 0, 0, 0, 0, 0], &[], Progress::Going),
-    (0, &[0x4E, 3, 0, 0, 0, 0, 0], &[], Progress::Going),
-    (0, &[0x4E, 2, 24, 0, 0, 0, 0], &[], Progress::Going),
+    (heard!(0, &[0x4E, 2, 0, 0, 0, 0]), &[], Progress::Going),
+    (heard!(0, &[0x00, 0x48, 0x69]), &[], Progress::Going),
+    (heard!(2, &[0x4E, 2, 0, 0, 0, 0, 0]), &[], Progress::Going),
+    (heard!(0, &[0x4E, 3, 0, 0, 0, 0, 0]), &[], Progress::Going),
+    (heard!(0, &[0x4E, 2, 24, 0, 0, 0, 0]), &[], Progress::Going),
     // What follows the status is of no account.
     (
-        0,
-        &[0x4E, 2, 0, 0, 0, 0, 0, 9, 9],
+        heard!(0, &[0x4E, 2, 0, 0, 0, 0, 0, 9, 9]),
         &[sent!(0, 2)],
         Progress::Going,
     ),
-    (1, &[0x4E, 2, 24, 0, 0, 0, 2], &[], REFUSED),
-    (1, &[0x4E, 2, 24, 0, 0, 0, 0], &[], REFUSED),
+    (heard!(1, &[0x4E, 2, 24, 0, 0, 0, 2]), &[], REFUSED),
+    (heard!(1, &[0x4E, 2, 24, 0, 0, 0, 0]), &[], REFUSED),
 ];
 
-// The same of bytes that are heard, 1 to 31 of them.
-fn hears(host: &mut Host, rows: &[Row]) -> bool {
-    let mut out = Out::new();
-    for (drone, bytes, wanted, progress) in rows {
-        if bytes.is_empty() || bytes.len() > 31 {
-            return false;
-        }
-        if host.hear(*drone, bytes, &mut out) != *progress || out.as_slice() != *wanted {
-            return false;
-        }
-    }
-    true
-}
-
 #[test]
-fn bytes_of_answers_are_heard(rt: HostRuntime) -> Result<(), Fail> {
-    let mut host = Host::make(rt.alloc(), two_drones(rt.alloc(), false)?)?;
-    assert!(rt; hears(&mut host, BYTES));
-    Ok(())
+fn bytes_of_answers_are_heard(rt: HostRuntime) {
+    assert_eq!(rt; wrong_row(rt.alloc(), &TWO, AT_FIRST, &[BYTES]), None);
 }

@@ -8,6 +8,8 @@
 #[cfg(test)]
 mod host;
 #[cfg(test)]
+mod hosts;
+#[cfg(test)]
 mod link;
 #[cfg(test)]
 mod readback;
@@ -15,3 +17,7 @@ mod readback;
 mod readback_world;
 #[cfg(test)]
 mod rehearsing;
+#[cfg(test)]
+mod sessions;
+#[cfg(test)]
+mod states;
