@@ -1,16 +1,13 @@
 //! Drones that stay, with ellipsoids of half axes 120, 120 and 300 mm, as near as they are still told apart. Which of
 //! the 98 directions is the first was computed from the definitions by exact sums, apart from the program.
 
-ghost use Rattle.std.specs.Prelude.{◌≤◌};
-
-use crate::flights::{still, two_legs};
-use crate::searches::{nodes_of, raised};
-use fleet_curves::{Curves, Difference};
+use crate::flights::still;
+use crate::searches::{have_nodes, raised, staying};
+use fleet_curves::Difference;
 use fleet_math::Depth;
 use pair_search::{Found, search_with};
 use sep_parts::{Node, Ruler, WIDE, table_law};
 use std::alloc::{AllocError, Global};
-use std::test::Fail;
 
 // Where the second drone is from the first, in millimetres on x, y and z; the first direction; and a place a millimetre
 // nearer, where no direction tells the two apart. At each place its first direction is the only one. Lanes are weighed
@@ -37,71 +34,70 @@ const PLACES: &[([i16; 3], u8, [i16; 3])] = &[
     ([157, 163, 211], 97, [156, 162, 210]),
 ];
 
-// What a search among the 98 directions finds where the second drone stays so far from the first, and its nodes.
-fn searched(
-    alloc: Global,
-    place: [i16; 3],
-    depth: Depth,
-) -> Result<(Found, Vec<Node>), AllocError> {
+// Whether a search among the 98 directions finds this and these nodes, where the second drone stays so far from the
+// first.
+fn finds(alloc: Global, place: [i16; 3], wanted: Found, tree: &[Node]) -> Result<bool, AllocError> {
     table_law();
-    let diff = Difference::make([
-        raised([place[0]; 8]),
-        raised([place[1]; 8]),
-        raised([place[2]; 8]),
-    ]);
+    let [x, y, z] = place;
+    let diff = Difference::make([raised([x; 8]), raised([y; 8]), raised([z; 8])]);
     let ruler = Ruler::make(&WIDE, still());
     let mut nodes = Vec::new(alloc);
-    let found = search_with(&diff, &ruler, depth, &mut nodes)?;
-    Ok((found, nodes))
+    let found = search_with(&diff, &ruler, Depth::make(0), &mut nodes)?;
+    Ok(found == wanted && nodes.as_slice() == tree)
+}
+
+fn is_first(alloc: Global, place: [i16; 3], dir: u8) -> Result<bool, AllocError> {
+    finds(alloc, place, Found::Clear, &[Node::Leaf { dir }])
+}
+
+fn is_within(alloc: Global, nearer: [i16; 3]) -> Result<bool, AllocError> {
+    finds(alloc, nearer, Found::Blocked { index: 0 }, &[])
 }
 
 #[test]
-fn the_first_direction_at_the_edge(rt: HostRuntime) -> Result<(), Fail> {
+fn the_first_direction_at_the_edge(rt: HostRuntime) {
     for &(place, dir, nearer) in PLACES {
-        let (found, nodes) = searched(rt.alloc(), place, Depth::make(0))?;
         assert!(rt;
-            found == Found::Clear && nodes.as_slice() == [Node::Leaf { dir }].as_slice(),
+            matches!(is_first(rt.alloc(), place, dir), Ok(true)),
             "direction {dir}"
         );
-        let (found, nodes) = searched(rt.alloc(), nearer, Depth::make(0))?;
         assert!(rt;
-            found == Found::Blocked { index: 0 } && nodes.is_empty(),
+            matches!(is_within(rt.alloc(), nearer), Ok(true)),
             "within direction {dir}"
         );
     }
-    Ok(())
 }
 
-// Two drones that stay at two places, through two cues.
-fn staying(alloc: Global, first: [i16; 3], second: [i16; 3]) -> Result<Curves, AllocError> {
-    let first = two_legs(alloc, [first; 3])?;
-    let second = two_legs(alloc, [second; 3])?;
-    let trajs = vec![in alloc; first, second]?;
-    Curves::of_slice(alloc, trajs.as_slice())
+// Whether two drones that stay at two places have so many nodes in two cues, or are blocked.
+fn counts(
+    alloc: Global,
+    first: [i16; 3],
+    second: [i16; 3],
+    wanted: Result<u64, u16>,
+) -> Result<bool, AllocError> {
+    table_law();
+    let curves = staying(alloc, first, second)?;
+    let ruler = Ruler::make(&WIDE, still());
+    Ok(have_nodes(alloc, &curves, &ruler, Depth::make(0), wanted))
 }
 
 // Where it is only asked whether there is a direction, the opposite one is looked at with each: so either drone is the
 // first.
 #[test]
-fn counted_at_the_edge(rt: HostRuntime) -> Result<(), Fail> {
-    table_law();
-    let ruler = Ruler::make(&WIDE, still());
+fn counted_at_the_edge(rt: HostRuntime) {
+    let here = [0, 0, 0];
     for &(place, dir, nearer) in PLACES {
-        let apart = staying(rt.alloc(), [0, 0, 0], place)?;
         assert!(rt;
-            nodes_of(rt.alloc(), &apart, &ruler, Depth::make(0)) == Some(Ok(2)),
+            matches!(counts(rt.alloc(), here, place, Ok(2)), Ok(true)),
             "direction {dir}"
         );
-        let turned = staying(rt.alloc(), place, [0, 0, 0])?;
         assert!(rt;
-            nodes_of(rt.alloc(), &turned, &ruler, Depth::make(0)) == Some(Ok(2)),
+            matches!(counts(rt.alloc(), place, here, Ok(2)), Ok(true)),
             "opposite of {dir}"
         );
-        let near = staying(rt.alloc(), [0, 0, 0], nearer)?;
         assert!(rt;
-            nodes_of(rt.alloc(), &near, &ruler, Depth::make(0)) == Some(Err(0)),
+            matches!(counts(rt.alloc(), here, nearer, Err(0)), Ok(true)),
             "within {dir}"
         );
     }
-    Ok(())
 }

@@ -1,7 +1,7 @@
 //! Parts of a cue, judged along one direction at its threshold, their halves, and the order of pairs and cues: values
 //! from outside.
 
-ghost use Rattle.std.specs.Prelude.{◌^◌, All};
+ghost use Rattle.std.specs.Prelude.{◌≤ℤ◌, ◌<ℤ◌, ◌^◌, pos, All};
 ghost use Rattle.fleet_math.specs.Numbers.{IsBelow};
 ghost use Rattle.sep_parts.specs.Levels.{IsStack};
 
@@ -12,7 +12,6 @@ use halving::Place;
 use sep_parts::{
     Node, Slot, Waiting, above, first_below, halves, low_control, projected, separates,
 };
-use std::test::Fail;
 
 // Millimetres at the scale of raised curves.
 fn scaled(millimetres: i16) -> i128
@@ -50,60 +49,117 @@ const AT_THE_THRESHOLD: &[(i16, i16, u16, i128, u8, bool)] = &[
     (241, 241, 300, 72001, 1, false),
 ];
 
+// A threshold that a show may have.
+fn allowed(threshold: i128) -> i128
+    ensures low { pos 0 ≤ℤ result }
+    ensures high { result <ℤ pos (2 ^ 30) }
+{
+    threshold.max(0).min(1_000_000)
+}
+
+fn separated(millimetres: i16, dip: i16, h: u16, threshold: i128, depth: u8) -> bool {
+    separates(
+        &aside(millimetres, dip),
+        [1, 0, 0],
+        120,
+        h.max(1).min(2000),
+        allowed(threshold),
+        Depth::make(depth.min(8)),
+    )
+}
+
 #[test]
-fn a_direction_at_its_threshold(rt: HostRuntime) -> Result<(), Fail> {
-    let along_x = [1, 0, 0];
+fn a_direction_at_its_threshold(rt: HostRuntime) {
     for &(millimetres, dip, h, threshold, depth, wanted) in AT_THE_THRESHOLD {
-        let found = separates(
-            &aside(millimetres, dip),
-            along_x,
-            120,
-            h.max(1).min(2000),
-            threshold.max(0).min(1_000_000),
-            Depth::make(depth.min(8)),
-        );
+        let found = separated(millimetres, dip, h, threshold, depth);
         assert!(rt; found == wanted, "{millimetres}, {dip}, {h}, {depth}");
     }
-    Ok(())
 }
 
-// The difference of 241 mm along x dips to 240 mm at the control value 3: 241 times 300 is 72,300, and 240 times 300 is
-// 72,000.
-#[test]
-fn the_first_control_value_that_is_too_low(rt: HostRuntime) -> Result<(), Fail> {
-    let along_x = [1, 0, 0];
-    let dips = aside(241, 240);
-    let seen = projected(&dips, along_x, 120, 300);
-    let whole = Depth::make(0);
-    // 72,300 and 72,000 times 5,040
-    assert!(rt; [seen.b[0], seen.b[3], seen.b[7]] == [364392000, 362880000, 364392000]);
-    for (found, wanted) in [
-        (low_control(&dips, along_x, 120, 300, 72001, whole), Some(3)),
-        (low_control(&dips, along_x, 120, 300, 72000, whole), None),
-        (low_control(&dips, along_x, 120, 300, 72301, whole), Some(0)),
-        (first_below(&seen, 72001, whole), Some(3)),
-        (first_below(&seen, 72000, whole), None),
-        (first_below(&seen, 1, Depth::make(2)), None),
-        (first_below(&seen, 5, Depth::make(2)), Some(0)),
-    ] {
-        assert!(rt; found == wanted);
-    }
-    Ok(())
+// A threshold, and the first control value that is below it along x, where the difference of 241 mm dips to 240 mm at
+// the control value 3: 241 times 300 is 72,300, and 240 times 300 is 72,000.
+const LOW: &[(i128, Option<usize>)] = &[(72001, Some(3)), (72000, None), (72301, Some(0))];
+
+fn low(threshold: i128) -> Option<usize> {
+    low_control(
+        &aside(241, 240),
+        [1, 0, 0],
+        120,
+        300,
+        allowed(threshold),
+        Depth::make(0),
+    )
 }
 
-// 5,040 times 2 to the 14 is 82,575,360: what a threshold of 1 asks at depth 2.
+// The same of its projection, and at a depth.
+const BELOW: &[(i128, u8, Option<usize>)] = &[
+    (72001, 0, Some(3)),
+    (72000, 0, None),
+    (1, 2, None),
+    (5, 2, Some(0)),
+];
+
+fn seen() -> Bez<8> {
+    projected(&aside(241, 240), [1, 0, 0], 120, 300)
+}
+
+fn below(threshold: i128, depth: u8) -> Option<usize> {
+    first_below(&seen(), allowed(threshold), Depth::make(depth.min(8)))
+}
+
+// 72,300 and 72,000 times 5,040
+const SEEN: [i128; 8] = [
+    364392000, 364392000, 364392000, 362880000, 364392000, 364392000, 364392000, 364392000,
+];
+
 #[test]
-fn all_control_values_at_the_threshold(rt: HostRuntime) -> Result<(), Fail> {
-    let reached = [82_575_360; 8];
-    for (threshold, depth, wanted) in [(1, 2, true), (2, 2, false), (1, 3, false)] {
-        assert!(rt; above(&Bez::<8> { b: reached }, threshold, Depth::make(depth)) == wanted);
+fn the_first_control_value_that_is_too_low(rt: HostRuntime) {
+    assert!(rt; seen().b == SEEN);
+    for &(threshold, wanted) in LOW {
+        assert!(rt; low(threshold) == wanted, "threshold {threshold}");
     }
-    for k in 0..8 {
-        let mut b = reached;
-        b[k] = 82_575_359;
-        assert!(rt; !above(&Bez::<8> { b }, 1, Depth::make(2)), "the value {k}");
+    for &(threshold, depth, wanted) in BELOW {
+        assert!(rt;
+            below(threshold, depth) == wanted,
+            "threshold {threshold}, depth {depth}"
+        );
     }
-    Ok(())
+}
+
+// 5,040 times 2 to the 14 is 82,575,360: what a threshold of 1 asks at depth 2. A threshold, a depth, eight control
+// values of which the one is this and all others are those, and whether all reach the threshold.
+const REACHED: &[(i128, u8, usize, i128, bool)] = &[
+    (1, 2, 0, 82_575_360, true),
+    (2, 2, 0, 82_575_360, false),
+    (1, 3, 0, 82_575_360, false),
+    (1, 2, 0, 82_575_359, false),
+    (1, 2, 1, 82_575_359, false),
+    (1, 2, 2, 82_575_359, false),
+    (1, 2, 3, 82_575_359, false),
+    (1, 2, 4, 82_575_359, false),
+    (1, 2, 5, 82_575_359, false),
+    (1, 2, 6, 82_575_359, false),
+    (1, 2, 7, 82_575_359, false),
+];
+
+fn reached(threshold: i128, depth: u8, k: usize, value: i128) -> bool {
+    let mut b = [82_575_360; 8];
+    b[k % 8] = value;
+    above(
+        &Bez::<8> { b },
+        allowed(threshold),
+        Depth::make(depth.min(8)),
+    )
+}
+
+#[test]
+fn all_control_values_at_the_threshold(rt: HostRuntime) {
+    for &(threshold, depth, k, value, wanted) in REACHED {
+        assert!(rt;
+            reached(threshold, depth, k, value) == wanted,
+            "threshold {threshold}, depth {depth}, the value {k}"
+        );
+    }
 }
 
 // Three drones in two cues: the pairs by first and then second drone, for each the cues, and then a pair that is none.
@@ -122,7 +178,7 @@ fn numbers(slot: Slot) -> (u8, u8, u16) {
 }
 
 #[test]
-fn pairs_and_cues_in_order(rt: HostRuntime) -> Result<(), Fail> {
+fn pairs_and_cues_in_order(rt: HostRuntime) {
     let first = Slot::first();
     let second = first.next(3, 2);
     let third = second.next(3, 2);
@@ -139,23 +195,27 @@ fn pairs_and_cues_in_order(rt: HostRuntime) -> Result<(), Fail> {
         numbers(sixth.next(3, 2)),
     ];
     assert!(rt; found == IN_ORDER);
-    Ok(())
 }
+
+const STEP: Bez<8> = Bez {
+    b: [0, 0, 0, 0, 1, 1, 1, 1],
+};
+
+const LEVEL: Bez<8> = Bez { b: [0; 8] };
+
+const ABOVE: Bez<8> = Bez { b: [5; 8] };
+
+// Control values of the step in its halves, times 2 to the 7.
+const FIRST_HALF: [i128; 8] = [0, 0, 0, 0, 8, 24, 44, 64];
+
+const LAST_HALF: [i128; 8] = [64, 84, 104, 120, 128, 128, 128, 128];
 
 // The halves of a step on x, by the double sum over whole numbers without a bound.
 #[test]
-fn both_halves_of_a_cue(rt: HostRuntime) -> Result<(), Fail> {
-    let step = Bez::<8> {
-        b: [0, 0, 0, 0, 1, 1, 1, 1],
-    };
-    let level = Bez::<8> { b: [0; 8] };
-    let above = Bez::<8> { b: [5; 8] };
-    let (first, second) = halves(&[step, level, above]);
-    assert!(rt; first[0].b == [0, 0, 0, 0, 8, 24, 44, 64]);
-    assert!(rt; second[0].b == [64, 84, 104, 120, 128, 128, 128, 128]);
-    assert!(rt; first[1].b == [0; 8]);
-    assert!(rt; second[2].b == [640; 8]);
-    Ok(())
+fn both_halves_of_a_cue(rt: HostRuntime) {
+    let (first, second) = halves(&[STEP, LEVEL, ABOVE]);
+    let found = [first[0].b, second[0].b, first[1].b, second[2].b];
+    assert!(rt; found == [FIRST_HALF, LAST_HALF, [0; 8], [640; 8]]);
 }
 
 // Whether the next part stands at a place, and has these control values on x.
@@ -188,24 +248,20 @@ fn passed(waiting: &mut Waiting, diff: &Difference, node: Node) -> bool
 
 // The halves of the step, and those of its second half, whose first is the third quarter: by the double sum.
 #[test]
-fn halves_wait_in_order(rt: HostRuntime) -> Result<(), Fail> {
-    let step = Bez::<8> {
-        b: [0, 0, 0, 0, 1, 1, 1, 1],
-    };
-    let diff = Difference::make([step, Bez::<8> { b: [0; 8] }, Bez::<8> { b: [5; 8] }]);
+fn halves_wait_in_order(rt: HostRuntime) {
+    let diff = Difference::make([STEP, LEVEL, ABOVE]);
     diff.raised_law();
     let mut waiting = Waiting::none();
     assert!(rt; waiting.next().is_none());
     waiting.begin(&diff);
     assert!(rt; passed(&mut waiting, &diff, Node::Split));
-    assert!(rt; is_at(&waiting, 1, 0, [0, 0, 0, 0, 8, 24, 44, 64]));
+    assert!(rt; is_at(&waiting, 1, 0, FIRST_HALF));
     assert!(rt; passed(&mut waiting, &diff, Node::Leaf { dir: 0 }));
-    assert!(rt; is_at(&waiting, 1, 1, [64, 84, 104, 120, 128, 128, 128, 128]));
+    assert!(rt; is_at(&waiting, 1, 1, LAST_HALF));
     assert!(rt; passed(&mut waiting, &diff, Node::Split));
     assert!(rt; is_at(&waiting, 2, 2, THIRD_QUARTER));
     assert!(rt; passed(&mut waiting, &diff, Node::Leaf { dir: 0 }));
     assert!(rt; is_at(&waiting, 2, 3, LAST_QUARTER));
     assert!(rt; passed(&mut waiting, &diff, Node::Leaf { dir: 0 }));
     assert!(rt; waiting.next().is_none());
-    Ok(())
 }

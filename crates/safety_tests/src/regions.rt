@@ -1,7 +1,7 @@
 //! Parts that were judged elsewhere, by whole numbers without a bound, for a drone that goes one metre along x in two
 //! seconds, with ellipsoids of half axes 120, 120 and 300 mm.
 
-ghost use Rattle.std.specs.Prelude.{◌≡◌, ◌≤◌, ◌≤ℤ◌, ◌∷◌, [], pos, neg_ℤ, IfOk};
+ghost use Rattle.std.specs.Prelude.{◌≡◌, ◌≤◌, ◌≤ℤ◌, ◌∷◌, [], pos, neg_ℤ, length, IfOk};
 ghost use Rattle.traj_codec.specs.Positions.{durations};
 ghost use Rattle.fleet_curves.specs.Raised.{AreOneShow};
 ghost use Rattle.keepout_boxes.specs.Kept.{AreEnds, IsNear};
@@ -10,7 +10,6 @@ use fleet_curves::Curves;
 use fleet_math::Depth;
 use keepout_boxes::{Judged, Region, RegionFault, judge, read_regions};
 use std::alloc::{AllocError, Global};
-use std::test::Fail;
 use traj_codec::{Element, Listed, Segment, Traj};
 
 // The drone's trajectory.
@@ -32,16 +31,6 @@ fn solo(alloc: Global) -> Result<Vec<Traj>, AllocError>
         segments: Listed::from_vec(vec![in alloc; leg]?),
     };
     Ok(vec![in alloc; t]?)
-}
-
-// What is judged of one region.
-fn judged(alloc: Global, region: Region, depth: Depth) -> Result<Judged, AllocError>
-    requires region { IsNear region }
-{
-    let trajs = solo(alloc)?;
-    let curves = Curves::make(alloc, &trajs)?;
-    let regions = vec![in alloc; region]?;
-    Ok(judge(&curves, 120, 300, depth, &regions))
 }
 
 // A coordinate that a region may have.
@@ -75,6 +64,25 @@ fn volume(low: [i32; 3], high: [i32; 3]) -> Region
     }
 }
 
+// Whether this is judged of one region, for a drone that strays so far: the extents are those of the ellipsoid and the
+// stray together.
+fn is_judged(
+    alloc: Global,
+    region: Region,
+    stray: u16,
+    depth: u8,
+    wanted: Judged,
+) -> Result<bool, AllocError>
+    requires region { IsNear region }
+{
+    let trajs = solo(alloc)?;
+    let curves = Curves::make(alloc, &trajs)?;
+    let regions = vec![in alloc; region]?;
+    let stray = stray.min(1000);
+    let depth = Depth::make(depth.min(8));
+    Ok(judge(&curves, 120 + stray, 300 + stray, depth, &regions) == wanted)
+}
+
 macro_rules! part {
     ($index:expr) => {
         Judged::Enters {
@@ -86,107 +94,146 @@ macro_rules! part {
     };
 }
 
-// The corners of a keepout and the depth; what is judged. A box beside the way, one nearer, and at the very limit,
-// where one millimetre decides.
-const KEEPOUTS: &[([i32; 3], [i32; 3], u8, Judged)] = &[
-    ([400, 200, 0], [600, 400, 2000], 6, Judged::Kept),
-    ([400, 100, 0], [600, 300, 2000], 6, part!(25)),
-    ([1121, 0, 0], [1200, 10, 2000], 6, Judged::Kept),
-    ([1120, 0, 0], [1200, 10, 2000], 6, part!(63)),
-    ([1120, 0, 0], [1200, 10, 2000], 8, part!(255)),
+// The corners of a region, the stray and the depth; what is judged.
+type Row = ([i32; 3], [i32; 3], u16, u8, Judged);
+
+const KEEPOUTS: &[Row] = &[
+    // A box beside the way, one nearer, and at the very limit, where one millimetre decides.
+    ([400, 200, 0], [600, 400, 2000], 0, 6, Judged::Kept),
+    ([400, 100, 0], [600, 300, 2000], 0, 6, part!(25)),
+    ([1121, 0, 0], [1200, 10, 2000], 0, 6, Judged::Kept),
+    ([1120, 0, 0], [1200, 10, 2000], 0, 6, part!(63)),
+    ([1120, 0, 0], [1200, 10, 2000], 0, 8, part!(255)),
+    // Where the way ends 120 mm before a keepout, any stray makes the drone enter, at the end of its way.
+    ([1121, 0, 0], [3000, 10, 2000], 0, 6, Judged::Kept),
+    ([1121, 0, 0], [3000, 10, 2000], 1, 6, part!(63)),
+    ([1171, 0, 0], [3000, 10, 2000], 50, 6, Judged::Kept),
+    ([1170, 0, 0], [3000, 10, 2000], 50, 6, part!(63)),
+    ([2121, 0, 0], [3000, 10, 2000], 1000, 6, Judged::Kept),
+    ([2120, 0, 0], [3000, 10, 2000], 1000, 6, part!(63)),
 ];
 
 // The same of volumes around the way.
-const VOLUMES: &[([i32; 3], [i32; 3], u8, Judged)] = &[
-    ([-200, -200, 500], [1200, 200, 1500], 6, Judged::Kept),
-    ([0, -200, 500], [1200, 200, 1500], 6, part!(0)),
-    ([-120, -120, 700], [1120, 120, 1300], 6, Judged::Kept),
-    ([-120, -120, 700], [1119, 120, 1300], 6, part!(59)),
-    ([-120, -120, 700], [1119, 120, 1300], 0, part!(0)),
+const VOLUMES: &[Row] = &[
+    ([-200, -200, 500], [1200, 200, 1500], 0, 6, Judged::Kept),
+    ([0, -200, 500], [1200, 200, 1500], 0, 6, part!(0)),
+    ([-120, -120, 700], [1120, 120, 1300], 0, 6, Judged::Kept),
+    ([-120, -120, 700], [1119, 120, 1300], 0, 6, part!(59)),
+    ([-120, -120, 700], [1119, 120, 1300], 0, 0, part!(0)),
 ];
 
+fn is_kept_from(alloc: Global, row: &Row) -> Result<bool, AllocError> {
+    let (low, high, stray, depth, wanted) = *row;
+    is_judged(alloc, keepout(low, high), stray, depth, wanted)
+}
+
+fn is_kept_in(alloc: Global, row: &Row) -> Result<bool, AllocError> {
+    let (low, high, stray, depth, wanted) = *row;
+    is_judged(alloc, volume(low, high), stray, depth, wanted)
+}
+
 #[test]
-fn regions_of_one_drone(rt: HostRuntime) -> Result<(), Fail> {
-    for &(low, high, depth, wanted) in KEEPOUTS {
-        assert!(rt; judged(rt.alloc(), keepout(low, high), Depth::make(depth.min(8)))? == wanted);
+fn regions_of_one_drone(rt: HostRuntime) {
+    for (k, row) in KEEPOUTS.iter().enumerate() {
+        assert!(rt;
+            matches!(is_kept_from(rt.alloc(), row), Ok(true)),
+            "keepout {k}"
+        );
     }
-    for &(low, high, depth, wanted) in VOLUMES {
-        assert!(rt; judged(rt.alloc(), volume(low, high), Depth::make(depth.min(8)))? == wanted);
+    for (k, row) in VOLUMES.iter().enumerate() {
+        assert!(rt;
+            matches!(is_kept_in(rt.alloc(), row), Ok(true)),
+            "volume {k}"
+        );
     }
-    Ok(())
 }
 
-// What is read of a text.
-#[derive(Clone, Copy, PartialEq, Eq)]
-enum Read {
-    Regions(usize),
-    Line(u32),
-    Memory,
+// How often a line stands, the line, and what comes after it; the number of regions that are read, or the faulty line.
+const TEXTS: &[(usize, &[u8], &[u8], Result<usize, u32>)] = &[
+    (0, b"", b"", Ok(0)),
+    (1, b"", b"\n \t\r\n", Ok(0)),
+    (1, b"", b"keepout 400 200 0 600 400 2000", Ok(1)),
+    (
+        1,
+        b"",
+        b"volume -040000 0 0 40000 0 0\r\n\nkeepout 1 1 1 1 1 1\n",
+        Ok(2),
+    ),
+    (1, b"", b"keepout 1 0 0 0 0 0", Err(1)),
+    (1, b"", b"volume 0 0 0 0 0 0\nvolume 0 0 7 0 0 6\n", Err(2)),
+    (1, b"", b"\n\nkeepout 0 0 0 0 0 40001\n", Err(3)),
+    (1, b"", b"keepout 0 0 0 0 0\n", Err(1)),
+    (1, b"", b"keepout 0 0 0 0 0 0 0\n", Err(1)),
+    (1, b"", b"keep 0 0 0 0 0 0 # out\n", Err(1)),
+    // At most 64.
+    (64, b"volume 0 0 0 1 1 1\n", b"", Ok(64)),
+    (
+        64,
+        b"volume 0 0 0 1 1 1\n",
+        b" \nkeepout 5 5 5 6 6 6\n",
+        Err(66),
+    ),
+];
+
+fn is_read(
+    alloc: Global,
+    times: usize,
+    line: &[u8],
+    end: &[u8],
+    wanted: Result<usize, u32>,
+) -> Result<bool, AllocError> {
+    let mut text = Vec::new(alloc);
+    for _ in 0..times {
+        text.extend_from_slice(line)?;
+    }
+    text.extend_from_slice(end)?;
+    Ok(text.len() <= 1_048_576 && are_read(alloc, &text, wanted))
 }
 
-fn found(alloc: Global, text: &[u8]) -> Read {
-    if text.len() > 1_048_576 {
-        return Read::Memory;
-    }
+fn are_read(alloc: Global, text: &[u8], wanted: Result<usize, u32>) -> bool
+    requires { length text.now ≤ 1048576 }
+{
     match read_regions(alloc, text) {
-        Ok(regions) => Read::Regions(regions.len()),
-        Err(RegionFault::Line { line }) => Read::Line(line),
-        Err(RegionFault::Memory) => Read::Memory,
+        Ok(regions) => wanted == Ok(regions.len()),
+        Err(RegionFault::Line { line }) => wanted == Err(line),
+        Err(RegionFault::Memory) => false,
     }
 }
 
 #[test]
 fn texts(rt: HostRuntime) {
-    let cases: [(&[u8], Read); 10] = [
-        (b"", Read::Regions(0)),
-        (b"\n \t\r\n", Read::Regions(0)),
-        (b"keepout 400 200 0 600 400 2000", Read::Regions(1)),
-        (
-            b"volume -040000 0 0 40000 0 0\r\n\nkeepout 1 1 1 1 1 1\n",
-            Read::Regions(2),
-        ),
-        (b"keepout 1 0 0 0 0 0", Read::Line(1)),
-        (b"volume 0 0 0 0 0 0\nvolume 0 0 7 0 0 6\n", Read::Line(2)),
-        (b"\n\nkeepout 0 0 0 0 0 40001\n", Read::Line(3)),
-        (b"keepout 0 0 0 0 0\n", Read::Line(1)),
-        (b"keepout 0 0 0 0 0 0 0\n", Read::Line(1)),
-        (b"keep 0 0 0 0 0 0 # out\n", Read::Line(1)),
-    ];
-    for (text, wanted) in cases {
-        assert!(rt; found(rt.alloc(), text) == wanted);
+    for &(times, line, end, wanted) in TEXTS {
+        assert!(rt;
+            matches!(is_read(rt.alloc(), times, line, end, wanted), Ok(true)),
+            "{times} lines and {end:?}"
+        );
+    }
+}
+
+const THREE: &[u8] =
+    b"volume -200 -200 500 1200 200 1500\nkeepout 400 100 0 600 300 2000\nkeepout 0 0 0 1 1 1001\n";
+
+// What is judged of the regions of a text; none where it has no regions.
+fn judged_by(alloc: Global, text: &[u8]) -> Result<Option<Judged>, AllocError>
+    requires { length text.now ≤ 1048576 }
+{
+    let trajs = solo(alloc)?;
+    let curves = Curves::make(alloc, &trajs)?;
+    match read_regions(alloc, text) {
+        Ok(regions) => Ok(Some(judge(&curves, 120, 300, Depth::make(6), &regions))),
+        Err(_) => Ok(None),
     }
 }
 
 #[test]
-fn at_most_sixty_four(rt: HostRuntime) -> Result<(), Fail> {
-    let mut text = Vec::new(rt.alloc());
-    for _ in 0..64 {
-        text.extend_from_slice(b"volume 0 0 0 1 1 1\n")?;
-    }
-    assert!(rt; found(rt.alloc(), text.as_slice()) == Read::Regions(64));
-    text.extend_from_slice(b" \nkeepout 5 5 5 6 6 6\n")?;
-    assert!(rt; found(rt.alloc(), text.as_slice()) == Read::Line(66));
-    Ok(())
-}
-
-#[test]
-fn the_first_region(rt: HostRuntime) -> Result<(), Fail> {
-    let text =
-        b"volume -200 -200 500 1200 200 1500\nkeepout 400 100 0 600 300 2000\nkeepout 0 0 0 1 1 1001\n";
-    let trajs = solo(rt.alloc())?;
-    let curves = Curves::make(rt.alloc(), &trajs)?;
-    let Ok(regions) = read_regions(rt.alloc(), text) else {
-        assert!(rt; false);
-        return Ok(());
-    };
+fn the_first_region(rt: HostRuntime) {
     let entry = Judged::Enters {
         region: 1,
         drone: 0,
         cue: 0,
         index: 25,
     };
-    assert!(rt; judge(&curves, 120, 300, Depth::make(6), &regions) == entry);
-    Ok(())
+    assert!(rt; matches!(judged_by(rt.alloc(), THREE), Ok(Some(found)) if found == entry));
 }
 
 // A second from one place to another along one axis, from rest to rest.
@@ -199,70 +246,69 @@ fn leg(on_x: Element, on_z: Element) -> Segment
     }
 }
 
+const STAY: Element = Element::Constant;
+
+const RISE: Element = Element::Seven {
+    v: [1000, 1000, 1000, 2000, 2000, 2000, 2000],
+};
+
+const BACK: Element = Element::Seven {
+    v: [1000, 1000, 1000, 0, 0, 0, 0],
+};
+
+// Two legs from a place on x.
+fn legs(alloc: Global, x: i16, first: Segment, second: Segment) -> Result<Traj, AllocError>
+    requires first { first.ms ≡ 1000 }
+    requires second { second.ms ≡ 1000 }
+    ensures { IfOk result (λ t. durations t.segments ≡ 1000 ∷ 1000 ∷ []) }
+{
+    Ok(Traj {
+        start: [x, 0, 1000, 0],
+        segments: Listed::from_vec(vec![in alloc; first, second]?),
+    })
+}
+
 // The first drone stays; the second one rises by 1 m and then flies 1 m back along x.
 fn pair(alloc: Global) -> Result<Vec<Traj>, AllocError>
     ensures { IfOk result (λ trajs. AreOneShow (1000 ∷ 1000 ∷ []) trajs.items) }
 {
-    let rise = Element::Seven {
-        v: [1000, 1000, 1000, 2000, 2000, 2000, 2000],
-    };
-    let back = Element::Seven {
-        v: [1000, 1000, 1000, 0, 0, 0, 0],
-    };
-    let stay = leg(Element::Constant, Element::Constant);
-    let first = Traj {
-        start: [0, 0, 1000, 0],
-        segments: Listed::from_vec(vec![in alloc; stay, stay]?),
-    };
-    let second = Traj {
-        start: [1000, 0, 1000, 0],
-        segments: Listed::from_vec(vec![in alloc;
-            leg(Element::Constant, rise),
-            leg(back, Element::Constant),
-        ]?),
-    };
+    let first = legs(alloc, 0, leg(STAY, STAY), leg(STAY, STAY))?;
+    let second = legs(alloc, 1000, leg(STAY, RISE), leg(BACK, STAY))?;
     Ok(vec![in alloc; first, second]?)
 }
 
-#[test]
-fn the_second_drone_in_the_second_cue(rt: HostRuntime) -> Result<(), Fail> {
-    let trajs = pair(rt.alloc())?;
-    let curves = Curves::make(rt.alloc(), &trajs)?;
-    let below = vec![in rt.alloc(); keepout([300, -50, 1200], [400, 50, 1690])]?;
-    assert!(rt; judge(&curves, 120, 300, Depth::make(6), &below) == Judged::Kept);
-    let reached = vec![in rt.alloc(); keepout([300, -50, 1310], [400, 50, 1710])]?;
-    assert!(rt;
-        judge(&curves, 120, 300, Depth::make(6), &reached)
-            == (Judged::Enters {
-                region: 0,
-                drone: 1,
-                cue: 1,
-                index: 31
-            })
-    );
-    Ok(())
+fn is_judged_of_pair(
+    alloc: Global,
+    low: [i32; 3],
+    high: [i32; 3],
+    wanted: Judged,
+) -> Result<bool, AllocError> {
+    let trajs = pair(alloc)?;
+    let curves = Curves::make(alloc, &trajs)?;
+    let regions = vec![in alloc; keepout(low, high)]?;
+    Ok(judge(&curves, 120, 300, Depth::make(6), &regions) == wanted)
 }
 
-// Where the way of the one drone ends 120 mm before a keepout, any stray makes it enter; and a volume bears as much
-// stray as it leaves room. The extents are those of the ellipsoid and the stray together.
-const BY_STRAY: &[(i32, u16, bool)] = &[
-    (1121, 0, true),
-    (1121, 1, false),
-    (1171, 50, true),
-    (1170, 50, false),
-    (2121, 1000, true),
-    (2120, 1000, false),
+const OF_PAIR: &[([i32; 3], [i32; 3], Judged)] = &[
+    ([300, -50, 1200], [400, 50, 1690], Judged::Kept),
+    (
+        [300, -50, 1310],
+        [400, 50, 1710],
+        Judged::Enters {
+            region: 0,
+            drone: 1,
+            cue: 1,
+            index: 31,
+        },
+    ),
 ];
 
 #[test]
-fn keepouts_and_strays(rt: HostRuntime) -> Result<(), Fail> {
-    let trajs = solo(rt.alloc())?;
-    let curves = Curves::make(rt.alloc(), &trajs)?;
-    for &(low, stray, kept) in BY_STRAY {
-        let stray = stray.min(1000);
-        let regions = vec![in rt.alloc(); keepout([low, 0, 0], [3000, 10, 2000])]?;
-        let found = judge(&curves, 120 + stray, 300 + stray, Depth::make(6), &regions);
-        assert!(rt; (found == Judged::Kept) == kept, "from {low} with {stray}");
+fn the_second_drone_in_the_second_cue(rt: HostRuntime) {
+    for &(low, high, wanted) in OF_PAIR {
+        assert!(rt;
+            matches!(is_judged_of_pair(rt.alloc(), low, high, wanted), Ok(true)),
+            "to {high:?}"
+        );
     }
-    Ok(())
 }

@@ -12,7 +12,6 @@ use fleet_math::Depth;
 use pair_search::{Found, SearchFault, count_all, search, search_all, search_with};
 use sep_parts::{DIRECTIONS, Forest, Node, Ruler, Slot, WIDE, table_law};
 use std::alloc::{AllocError, Global};
-use std::test::Fail;
 use traj_codec::{Element, Listed, Segment, Traj};
 
 // A raised curve of control values in millimetres.
@@ -40,41 +39,6 @@ fn scaled(millimetres: i16) -> i128
     millimetres as i128 * 5040
 }
 
-// From rest to rest.
-fn moved(from: i16, to: i16) -> [i16; 8] {
-    [from, from, from, from, to, to, to, to]
-}
-
-// What a search of three curves finds, and its nodes; and the same with a ruler made before.
-fn searched(
-    alloc: Global,
-    x: [i16; 8],
-    y: [i16; 8],
-    z: [i16; 8],
-    depth: Depth,
-) -> Result<(Found, Vec<Node>), AllocError> {
-    table_law();
-    let diff = Difference::make([raised(x), raised(y), raised(z)]);
-    let mut nodes = Vec::new(alloc);
-    let found = search(&diff, &DIRECTIONS, still(), depth, &mut nodes)?;
-    Ok((found, nodes))
-}
-
-fn searched_with(
-    alloc: Global,
-    x: [i16; 8],
-    y: [i16; 8],
-    z: [i16; 8],
-    depth: Depth,
-) -> Result<(Found, Vec<Node>), AllocError> {
-    table_law();
-    let diff = Difference::make([raised(x), raised(y), raised(z)]);
-    let ruler = Ruler::make(&DIRECTIONS, still());
-    let mut nodes = Vec::new(alloc);
-    let found = search_with(&diff, &ruler, depth, &mut nodes)?;
-    Ok((found, nodes))
-}
-
 const LEVEL: [i16; 8] = [0; 8];
 
 const RISES: [i16; 8] = [0, 0, 0, 0, 1000, 1000, 1000, 1000];
@@ -89,7 +53,9 @@ const ABOVE: [i16; 8] = [620, 300, 620, 0, 0, 0, 300, 620];
 
 // Where the second drone is from the first, on x, y and z; the depth; what is found, and the nodes. One drone waits 1 m
 // beside the other and rises; they cross with 1 m between them; it sinks; they meet; and they pass part by part.
-const SEARCHES: &[([i16; 8], [i16; 8], [i16; 8], u8, Found, &[Node])] = &[
+type Search = ([i16; 8], [i16; 8], [i16; 8], u8, Found, &'static [Node]);
+
+const SEARCHES: &[Search] = &[
     (
         [1000; 8],
         LEVEL,
@@ -135,54 +101,58 @@ const SEARCHES: &[([i16; 8], [i16; 8], [i16; 8], u8, Found, &[Node])] = &[
     (ACROSS, ASIDE, ABOVE, 2, Found::Blocked { index: 2 }, &[]),
 ];
 
-#[test]
-fn trees_of_pairs(rt: HostRuntime) -> Result<(), Fail> {
-    for &(x, y, z, depth, wanted, tree) in SEARCHES {
-        let (found, nodes) = searched(rt.alloc(), x, y, z, Depth::make(depth.min(8)))?;
-        assert!(rt; found == wanted && nodes.as_slice() == tree);
-    }
-    Ok(())
+// Whether a search finds so, and so does one with a ruler made before.
+fn finds(alloc: Global, row: &Search) -> Result<bool, AllocError> {
+    table_law();
+    let (x, y, z, depth, wanted, tree) = *row;
+    let depth = Depth::make(depth.min(8));
+    let diff = Difference::make([raised(x), raised(y), raised(z)]);
+    let mut nodes = Vec::new(alloc);
+    let found = search(&diff, &DIRECTIONS, still(), depth, &mut nodes)?;
+    let first = found == wanted && nodes.as_slice() == tree;
+    let ruler = Ruler::make(&DIRECTIONS, still());
+    let mut again = Vec::new(alloc);
+    let found = search_with(&diff, &ruler, depth, &mut again)?;
+    Ok(first && found == wanted && again.as_slice() == tree)
 }
 
 #[test]
-fn a_ruler_made_before(rt: HostRuntime) -> Result<(), Fail> {
-    for &(x, y, z, depth, wanted, tree) in SEARCHES {
-        let (found, nodes) = searched_with(rt.alloc(), x, y, z, Depth::make(depth.min(8)))?;
-        assert!(rt; found == wanted && nodes.as_slice() == tree);
+fn trees_of_pairs(rt: HostRuntime) {
+    for (k, row) in SEARCHES.iter().enumerate() {
+        assert!(rt; matches!(finds(rt.alloc(), row), Ok(true)), "row {k}");
     }
-    Ok(())
 }
 
-// The second drone stays at a place beside the first, through two cues.
-fn beside(alloc: Global, place: [i16; 3]) -> Result<Curves, AllocError> {
-    let first = two_legs(alloc, [[0, 0, 0]; 3])?;
-    let second = two_legs(alloc, [place; 3])?;
-    let trajs = vec![in alloc; first, second]?;
-    Curves::of_slice(alloc, trajs.as_slice())
+// Two drones that stay at two places, through two cues.
+pub(crate) fn staying(
+    alloc: Global,
+    first: [i16; 3],
+    second: [i16; 3],
+) -> Result<Curves, AllocError> {
+    let first = two_legs(alloc, [first; 3])?;
+    let second = two_legs(alloc, [second; 3])?;
+    Curves::of_slice(alloc, &[first, second])
 }
 
-// How many nodes a pair has by both searches, where they say the same; or the part of the first cue that is blocked.
-pub(crate) fn nodes_of(
+// Whether a pair has so many nodes by both searches, or this part of the first cue is blocked in both.
+pub(crate) fn have_nodes(
     alloc: Global,
     curves: &Curves,
     ruler: &Ruler<98>,
     depth: Depth,
-) -> Option<Result<u64, u16>> {
-    let counted = match count_all(alloc, curves, ruler, depth) {
-        Ok(count) => Ok(u64::from(count)),
-        Err(SearchFault::Blocked { index, .. }) => Err(index),
-        Err(SearchFault::Memory) => return None,
+    wanted: Result<u64, u16>,
+) -> bool {
+    let is_counted = match count_all(alloc, curves, ruler, depth) {
+        Ok(count) => wanted == Ok(u64::from(count)),
+        Err(SearchFault::Blocked { index, .. }) => wanted == Err(index),
+        Err(SearchFault::Memory) => false,
     };
-    let found = match search_all(alloc, curves, ruler, depth) {
-        Ok(trees) => Ok(all_nodes(&trees)),
-        Err(SearchFault::Blocked { index, .. }) => Err(index),
-        Err(SearchFault::Memory) => return None,
+    let is_found = match search_all(alloc, curves, ruler, depth) {
+        Ok(trees) => wanted == Ok(all_nodes(&trees)),
+        Err(SearchFault::Blocked { index, .. }) => wanted == Err(index),
+        Err(SearchFault::Memory) => false,
     };
-    if counted == found {
-        Some(counted)
-    } else {
-        None
-    }
+    is_counted && is_found
 }
 
 // How many nodes trees have.
@@ -197,7 +167,9 @@ fn all_nodes(trees: &Forest) -> u64 {
 // The place of the second drone, a stray, the reach on x, y and z, and how many nodes two cues have, or none where they
 // are blocked. Drones on one axis are apart exactly where they are farther than two half axes, two strays and the reach
 // of that axis.
-const ON_ONE_AXIS: &[([i16; 3], u16, [u32; 3], Result<u64, u16>)] = &[
+type Beside = ([i16; 3], u16, [u32; 3], Result<u64, u16>);
+
+const ON_ONE_AXIS: &[Beside] = &[
     ([241, 0, 0], 0, [0, 0, 0], Ok(2)),
     ([240, 0, 0], 0, [0, 0, 0], Err(0)),
     ([-241, 0, 0], 0, [0, 0, 0], Ok(2)),
@@ -215,16 +187,20 @@ const ON_ONE_AXIS: &[([i16; 3], u16, [u32; 3], Result<u64, u16>)] = &[
     ([0, 0, -600], 0, [9, 9, 0], Err(0)),
 ];
 
-#[test]
-fn drones_on_one_axis(rt: HostRuntime) -> Result<(), Fail> {
+// Whether the second drone, which stays at that place beside the first, has so many.
+fn have_beside(alloc: Global, row: &Beside) -> Result<bool, AllocError> {
     table_law();
-    for &(place, stray, reach, wanted) in ON_ONE_AXIS {
-        let curves = beside(rt.alloc(), place)?;
-        let ruler = Ruler::make(&WIDE, clearance(120, 300, stray, reach));
-        let found = nodes_of(rt.alloc(), &curves, &ruler, Depth::make(0));
-        assert!(rt; found == Some(wanted), "stray {stray}");
+    let (place, stray, reach, wanted) = *row;
+    let curves = staying(alloc, [0, 0, 0], place)?;
+    let ruler = Ruler::make(&WIDE, clearance(120, 300, stray, reach));
+    Ok(have_nodes(alloc, &curves, &ruler, Depth::make(0), wanted))
+}
+
+#[test]
+fn drones_on_one_axis(rt: HostRuntime) {
+    for (k, row) in ON_ONE_AXIS.iter().enumerate() {
+        assert!(rt; matches!(have_beside(rt.alloc(), row), Ok(true)), "row {k}");
     }
-    Ok(())
 }
 
 // One leg of three seconds.
@@ -254,12 +230,13 @@ fn passing(alloc: Global) -> Result<Curves, AllocError> {
     ];
     let first = one_leg(alloc, [0, 0, 1000, 0], [Element::Constant; 4])?;
     let second = one_leg(alloc, [1000, 100, 1620, 0], passes)?;
-    let trajs = vec![in alloc; first, second]?;
-    Curves::of_slice(alloc, trajs.as_slice())
+    Curves::of_slice(alloc, &[first, second])
 }
 
 // A stray, the reach on x, y and z, and the depth; how many nodes there are, or the first part that is blocked.
-const PASSING: &[(u16, [u32; 3], u8, Result<u64, u16>)] = &[
+type Passing = (u16, [u32; 3], u8, Result<u64, u16>);
+
+const PASSING: &[Passing] = &[
     (0, [0, 0, 0], 0, Err(0)),
     (0, [0, 0, 0], 1, Ok(3)),
     (5, [0, 0, 0], 8, Ok(3)),
@@ -272,14 +249,21 @@ const PASSING: &[(u16, [u32; 3], u8, Result<u64, u16>)] = &[
     (30, [10, 10, 10], 8, Ok(13)),
 ];
 
-#[test]
-fn drones_that_pass(rt: HostRuntime) -> Result<(), Fail> {
+// Whether drones that pass have so many.
+fn have_passing(alloc: Global, row: &Passing) -> Result<bool, AllocError> {
     table_law();
-    let curves = passing(rt.alloc())?;
-    for &(stray, reach, depth, wanted) in PASSING {
-        let ruler = Ruler::make(&WIDE, clearance(120, 300, stray, reach));
-        let found = nodes_of(rt.alloc(), &curves, &ruler, Depth::make(depth.min(8)));
-        assert!(rt; found == Some(wanted), "stray {stray}, depth {depth}");
+    let (stray, reach, depth, wanted) = *row;
+    let curves = passing(alloc)?;
+    let ruler = Ruler::make(&WIDE, clearance(120, 300, stray, reach));
+    Ok(have_nodes(alloc, &curves, &ruler, Depth::make(depth.min(8)), wanted))
+}
+
+#[test]
+fn drones_that_pass(rt: HostRuntime) {
+    for (k, row) in PASSING.iter().enumerate() {
+        assert!(rt;
+            matches!(have_passing(rt.alloc(), row), Ok(true)),
+            "row {k}"
+        );
     }
-    Ok(())
 }

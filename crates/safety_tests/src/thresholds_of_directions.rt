@@ -4,7 +4,6 @@
 
 use crate::flights::clearance;
 use sep_parts::{DIRECTIONS, table_law, thresholds};
-use std::test::Fail;
 
 // A stray and a reach on each axis, and the thresholds along (1, 0, 0), (0, 0, 1) and (1, 1, 1). The strays of two
 // drones take away 600, 240 and 881.8 a millimetre, rounded up, and each millimetre of reach 300, 120 and 720.
@@ -23,37 +22,54 @@ const BY_STRAY_AND_REACH: &[(u16, u32, [i128; 3])] = &[
     (1000, 65536, [20332801, 8176321, 48192445]),
 ];
 
-#[test]
-fn by_stray_and_reach(rt: HostRuntime) -> Result<(), Fail> {
+// The thresholds along these three.
+fn along_three(r: u16, h: u16, stray: u16, reach: u32) -> [i128; 3] {
     table_law();
-    for &(stray, reach, wanted) in BY_STRAY_AND_REACH {
-        let t = thresholds(&DIRECTIONS, clearance(120, 300, stray, [reach; 3]));
+    let t = thresholds(&DIRECTIONS, clearance(r, h, stray, [reach; 3]));
+    [t[21], t[13], t[25]]
+}
+
+#[test]
+fn by_stray_and_reach(rt: HostRuntime) {
+    for (stray, reach, wanted) in BY_STRAY_AND_REACH {
         assert!(rt;
-            [t[21], t[13], t[25]] == wanted,
+            along_three(120, 300, *stray, *reach) == *wanted,
             "stray {stray}, reach {reach}"
         );
     }
-    Ok(())
 }
 
-// Directions with one, two and three entries that aren't 0, and a reach that differs on each axis: 15 mm on x and 20 mm
-// on z.
-#[test]
-fn by_entries(rt: HostRuntime) -> Result<(), Fail> {
+// Directions with one, two and three entries that aren't 0, drones that stay, and then a stray and a reach that differs
+// on each axis: 15 mm on x and 20 mm on z. Directions that have this threshold.
+const BY_ENTRIES: &[(u16, [u32; 3], i128, &[usize])] = &[
+    (0, [0, 0, 0], 72001, &[4, 10, 12, 15]),
+    (0, [0, 0, 0], 101824, &[1, 3, 11, 24]),
+    (0, [0, 0, 0], 124708, &[0, 2, 6, 25]),
+    (50, [15, 0, 20], 106501, &[4, 21]),
+    (50, [15, 0, 20], 86401, &[12, 13]),
+    (50, [15, 0, 20], 175699, &[0, 25]),
+];
+
+// Whether each of these directions has this threshold.
+fn all_have(stray: u16, reach: [u32; 3], wanted: i128, dirs: &[usize]) -> bool {
     table_law();
-    let still = thresholds(&DIRECTIONS, clearance(120, 300, 0, [0, 0, 0]));
-    let late = thresholds(&DIRECTIONS, clearance(120, 300, 50, [15, 0, 20]));
-    for (wanted, found) in [
-        (72001, [still[4], still[10], still[12], still[15]]),
-        (101824, [still[1], still[3], still[11], still[24]]),
-        (124708, [still[0], still[2], still[6], still[25]]),
-        (106501, [late[4], late[21], late[4], late[21]]),
-        (86401, [late[12], late[13], late[12], late[13]]),
-        (175699, [late[0], late[25], late[0], late[25]]),
-    ] {
-        assert!(rt; found == [wanted; 4]);
+    let t = thresholds(&DIRECTIONS, clearance(120, 300, stray, reach));
+    for dir in dirs {
+        if t.get(*dir) != Some(&wanted) {
+            return false;
+        }
     }
-    Ok(())
+    true
+}
+
+#[test]
+fn by_entries(rt: HostRuntime) {
+    for (stray, reach, wanted, dirs) in BY_ENTRIES {
+        assert!(rt;
+            all_have(*stray, *reach, *wanted, dirs),
+            "threshold {wanted}"
+        );
+    }
 }
 
 // The widest ellipsoids that a show may have, 2,000 mm to the side or up and down, alone and with the greatest stray
@@ -68,11 +84,11 @@ const AT_THE_WIDEST: &[(u16, u16, u16, u32, [i128; 3])] = &[
 ];
 
 #[test]
-fn at_the_widest(rt: HostRuntime) -> Result<(), Fail> {
-    table_law();
-    for &(r, h, stray, reach, wanted) in AT_THE_WIDEST {
-        let t = thresholds(&DIRECTIONS, clearance(r, h, stray, [reach; 3]));
-        assert!(rt; [t[21], t[13], t[25]] == wanted, "ellipsoid {r} {h}");
+fn at_the_widest(rt: HostRuntime) {
+    for (r, h, stray, reach, wanted) in AT_THE_WIDEST {
+        assert!(rt;
+            along_three(*r, *h, *stray, *reach) == *wanted,
+            "ellipsoid {r} {h}"
+        );
     }
-    Ok(())
 }
