@@ -1,8 +1,7 @@
 //! Parts of an input, whole and byte by byte, under reads of any size and with reads that fail.
 use crate::reading::two_parts;
-use fleet_io::{Ask, Failed, IoFault, MemSource, Part, Parts, Source};
+use fleet_io::{Ask, Failed, IoFault, MemSource, Parts, Source};
 use std::alloc::{AllocError, Global};
-use std::test::Fail;
 
 // The most bytes of a part that is read.
 const LIMIT: usize = 100;
@@ -30,32 +29,35 @@ const PARTS_UNDER_ANY_CUT: &[(&[u8], &[u8], bool, &[u8])] = &[
     (b"%%\n%%\n", b"", true, b""),
 ];
 
-#[test]
-fn parts_under_any_cut(rt: HostRuntime) -> Result<(), Fail> {
-    for &(input, wanted, marker, rest) in PARTS_UNDER_ANY_CUT {
-        for cut in [1, 2, 3, 5, 100] {
-            let mut source = source_of(rt.alloc(), input, cut, 0)?;
-            let Ok((first, second)) = two_parts(rt.alloc(), &mut source) else {
-                panic!(rt; "no two parts of {input:?}");
-            };
-            let is_first = first.bytes.as_slice() == wanted && first.marker == marker;
-            assert!(rt; is_first && second.bytes.as_slice() == rest);
-        }
-    }
-    Ok(())
-}
-
-// The first part of an input, of which a read with this number fails, and whether the reader is sound then.
-fn first_part(
+fn are_parts(
     alloc: Global,
     input: &[u8],
-    limit: usize,
-    fails: u64,
-) -> Result<(Result<Part, IoFault>, bool), AllocError> {
-    let mut source = source_of(alloc, input, 2, fails)?;
-    let mut parts = Parts::make();
-    let part = parts.text(alloc, &mut source, limit.min(LIMIT));
-    Ok((part, parts.sound()))
+    cut: usize,
+    wanted: &[u8],
+    marker: bool,
+    rest: &[u8],
+) -> Result<bool, AllocError> {
+    let mut source = source_of(alloc, input, cut, 0)?;
+    match two_parts(alloc, &mut source) {
+        Ok((first, second)) => Ok(
+            first.marker == marker
+                && first.bytes.as_slice() == wanted
+                && second.bytes.as_slice() == rest,
+        ),
+        Err(_) => Ok(false),
+    }
+}
+
+const CUTS: &[usize] = &[1, 2, 3, 5, 100];
+
+#[test]
+fn parts_under_any_cut(rt: HostRuntime) {
+    for &(input, wanted, marker, rest) in PARTS_UNDER_ANY_CUT {
+        for &cut in CUTS {
+            let found = are_parts(rt.alloc(), input, cut, wanted, marker, rest);
+            assert!(rt; matches!(found, Ok(true)), "{input:?} by {cut}");
+        }
+    }
 }
 
 // The input, its limit, the number of the read that fails, and the fault or the part.
@@ -67,18 +69,29 @@ const REFUSALS: &[(&[u8], usize, u64, Result<&[u8], IoFault>)] = &[
     (b"abc\n%%\n", 4, 0, Ok(b"abc\n")),
 ];
 
+// Whether this is the first part of an input, of which a read with this number fails. The reader is sound after a part.
+fn is_first(
+    alloc: Global,
+    input: &[u8],
+    limit: usize,
+    fails: u64,
+    wanted: Result<&[u8], IoFault>,
+) -> Result<bool, AllocError> {
+    let mut source = source_of(alloc, input, 2, fails)?;
+    let mut parts = Parts::make();
+    let found = match parts.text(alloc, &mut source, limit.min(LIMIT)) {
+        Ok(part) => wanted == Ok(part.bytes.as_slice()),
+        Err(fault) => wanted == Err(fault),
+    };
+    Ok(found && parts.sound() == wanted.is_ok())
+}
+
 #[test]
-fn refusals(rt: HostRuntime) -> Result<(), Fail> {
+fn refusals(rt: HostRuntime) {
     for &(input, limit, fails, wanted) in REFUSALS {
-        let (part, sound) = first_part(rt.alloc(), input, limit, fails)?;
-        let is_wanted = match (&part, wanted) {
-            (Ok(part), Ok(bytes)) => sound && part.bytes.as_slice() == bytes,
-            (Err(fault), Err(other)) => !sound && *fault == other,
-            _ => false,
-        };
-        assert!(rt; is_wanted);
+        let found = is_first(rt.alloc(), input, limit, fails, wanted);
+        assert!(rt; matches!(found, Ok(true)), "{input:?} within {limit}");
     }
-    Ok(())
 }
 
 // The next byte, from a reader that may still be asked.
@@ -89,33 +102,47 @@ fn next_byte<S: Source>(parts: &mut Parts, source: &mut S) -> Result<Option<u8>,
     parts.byte(source)
 }
 
-// Bytes after a part, one by one. The end is met once.
-#[test]
-fn bytes_after_a_part(rt: HostRuntime) -> Result<(), Fail> {
-    let alloc = rt.alloc();
-    for cut in [1, 2, 3, 100] {
-        let mut source = source_of(alloc, b"a\n%%\nb\n%%", cut, 0)?;
-        let mut parts = Parts::make();
-        let part = parts.text(alloc, &mut source, 10);
-        let is_part = matches!(&part, Ok(part) if part.bytes.as_slice() == b"a\n".as_slice());
-        assert!(rt; is_part && parts.lines());
-        for byte in [Some(b'b'), Some(b'\n'), Some(b'%'), Some(b'%'), None] {
-            assert!(rt; !parts.ended() && next_byte(&mut parts, &mut source) == Ok(byte));
+// Bytes after a part, one by one.
+const AFTER: &[Option<u8>] = &[Some(b'b'), Some(b'\n'), Some(b'%'), Some(b'%'), None];
+
+// Whether they come one by one, and the end is met once.
+fn are_next<S: Source>(parts: &mut Parts, source: &mut S) -> bool {
+    for byte in AFTER {
+        if parts.ended() || next_byte(parts, source) != Ok(*byte) {
+            return false;
         }
-        assert!(rt; !parts.lines() && parts.ended() && parts.sound());
     }
-    Ok(())
+    !parts.lines() && parts.ended() && parts.sound()
+}
+
+fn come_after_a_part(alloc: Global, cut: usize) -> Result<bool, AllocError> {
+    let mut source = source_of(alloc, b"a\n%%\nb\n%%", cut, 0)?;
+    let mut parts = Parts::make();
+    let is_part = match parts.text(alloc, &mut source, 10) {
+        Ok(part) => part.bytes.as_slice() == b"a\n".as_slice(),
+        Err(_) => false,
+    };
+    Ok(is_part && parts.lines() && are_next(&mut parts, &mut source))
 }
 
 // A failed read ends the calls.
-#[test]
-fn a_read_that_fails_between_bytes(rt: HostRuntime) -> Result<(), Fail> {
-    let mut source = source_of(rt.alloc(), b"ab", 1, 2)?;
+fn fails_between_bytes(alloc: Global) -> Result<bool, AllocError> {
+    let mut source = source_of(alloc, b"ab", 1, 2)?;
     let mut parts = Parts::make();
-    let first = next_byte(&mut parts, &mut source);
-    let second = next_byte(&mut parts, &mut source);
-    assert!(rt; first == Ok(Some(b'a')) && second == Err(Failed) && !parts.sound());
-    Ok(())
+    let first = next_byte(&mut parts, &mut source) == Ok(Some(b'a'));
+    let second = next_byte(&mut parts, &mut source) == Err(Failed);
+    Ok(first && second && !parts.sound())
+}
+
+#[test]
+fn bytes_after_a_part(rt: HostRuntime) {
+    for &cut in [1, 2, 3, 100].as_slice() {
+        assert!(rt;
+            matches!(come_after_a_part(rt.alloc(), cut), Ok(true)),
+            "by {cut}"
+        );
+    }
+    assert!(rt; matches!(fails_between_bytes(rt.alloc()), Ok(true)));
 }
 
 // What `part_bytes` gives of an input to its end: its bytes, and `^` for each marker line.
@@ -149,32 +176,40 @@ const PARTS_BYTE_BY_BYTE: &[(&[u8], &[u8])] = &[
     (b"%%%\n%\n%%\n", b"%%%\n%\n^"),
 ];
 
+fn gives(alloc: Global, input: &[u8], cut: usize, wanted: &[u8]) -> bool {
+    match asked(alloc, input, cut, 0) {
+        Ok(given) => given.as_slice() == wanted,
+        Err(_) => false,
+    }
+}
+
 #[test]
-fn parts_byte_by_byte(rt: HostRuntime) -> Result<(), Fail> {
+fn parts_byte_by_byte(rt: HostRuntime) {
     for &(input, wanted) in PARTS_BYTE_BY_BYTE {
-        for cut in [1, 2, 3, 5, 100] {
-            let given = asked(rt.alloc(), input, cut, 0);
-            assert!(rt; matches!(&given, Ok(bytes) if bytes.as_slice() == wanted));
+        for &cut in CUTS {
+            assert!(rt; gives(rt.alloc(), input, cut, wanted), "{input:?} by {cut}");
         }
     }
-    let failed = asked(rt.alloc(), b"%%\n", 1, 3);
-    assert!(rt; matches!(failed, Err(IoFault::Read)));
-    Ok(())
+    assert!(rt; matches!(asked(rt.alloc(), b"%%\n", 1, 3), Err(IoFault::Read)));
 }
 
 // A marker line that stands across the end of the reader's 4,096 bytes.
+fn stands_across(alloc: Global, size: usize) -> Result<bool, AllocError> {
+    let mut input = Vec::from_elem(alloc, b'x', size)?;
+    let mut wanted = Vec::from_elem(alloc, b'x', size)?;
+    input.extend_from_slice(b"\n%%\r\ny")?;
+    wanted.extend_from_slice(b"\n^y")?;
+    Ok(gives(alloc, &input, 5000, &wanted))
+}
+
 #[test]
-fn marker_line_across_the_buffer(rt: HostRuntime) -> Result<(), Fail> {
-    let alloc = rt.alloc();
-    for size in [4092, 4093, 4094, 4095, 4096] {
-        let mut input = Vec::from_elem(alloc, b'x', size)?;
-        let mut wanted = Vec::from_elem(alloc, b'x', size)?;
-        input.extend_from_slice(b"\n%%\r\ny")?;
-        wanted.extend_from_slice(b"\n^y")?;
-        let given = asked(alloc, &input, 5000, 0);
-        assert!(rt; matches!(&given, Ok(bytes) if bytes.as_slice() == wanted.as_slice()));
+fn marker_line_across_the_buffer(rt: HostRuntime) {
+    for size in 4092..4097 {
+        assert!(rt;
+            matches!(stands_across(rt.alloc(), size), Ok(true)),
+            "after {size} bytes"
+        );
     }
-    Ok(())
 }
 
 // The first bytes of the input, the fault, and the bytes that are left: one read of 4,096 bytes.
@@ -185,17 +220,25 @@ const READS_LITTLE: &[(&[u8], Option<IoFault>, usize)] = &[
 ];
 
 // How many bytes of 20,000 a reader takes for a part of at most 10 bytes.
+fn reads_so(
+    alloc: Global,
+    front: &[u8],
+    wanted: Option<IoFault>,
+    left: usize,
+) -> Result<bool, AllocError> {
+    let mut bytes = Vec::from_slice(alloc, front)?;
+    bytes.extend_from_slice(&[b'x'; 20000])?;
+    let mut source = MemSource::make(bytes, 20100, Vec::new(alloc));
+    let fault = Parts::make().text(alloc, &mut source, 10).err();
+    Ok(fault == wanted && source.read(&mut [0u8; 20100]) == Ok(left))
+}
+
 #[test]
-fn reads_little(rt: HostRuntime) -> Result<(), Fail> {
-    let alloc = rt.alloc();
+fn reads_little(rt: HostRuntime) {
     for &(front, wanted, left) in READS_LITTLE {
-        let mut bytes = Vec::from_slice(alloc, front)?;
-        bytes.extend_from_slice(&[b'x'; 20000])?;
-        let mut source = MemSource::make(bytes, 20100, Vec::new(alloc));
-        let mut parts = Parts::make();
-        let fault = parts.text(alloc, &mut source, 10).err();
-        let mut rest = [0u8; 20100];
-        assert!(rt; fault == wanted && source.read(&mut rest) == Ok(left));
+        assert!(rt;
+            matches!(reads_so(rt.alloc(), front, wanted, left), Ok(true)),
+            "{front:?}"
+        );
     }
-    Ok(())
 }

@@ -1,6 +1,5 @@
 //! Small texts and words, with what is read of them.
 use std::alloc::{AllocError, Global};
-use std::test::Fail;
 use text_lines::{
     Comments, LARGE, NumberFault, line_word_count, natural, number_in, split_line, tokens, visible,
     word_at,
@@ -23,7 +22,10 @@ fn are_words(
     if tokens.len() != wanted.len() {
         return Ok(false);
     }
-    for (token, (line, word)) in tokens.iter().zip(wanted.iter()) {
+    for (k, token) in tokens.iter().enumerate() {
+        let Some((line, word)) = wanted.get(k) else {
+            return Ok(false);
+        };
         if token.line != *line || word_at(text, token) != *word {
             return Ok(false);
         }
@@ -31,29 +33,37 @@ fn are_words(
     Ok(true)
 }
 
-const WITHOUT: [(u32, &[u8]); 3] = [(1, b"a"), (1, b"bc"), (5, b"d")];
+const TEXT: &[u8] = b"a  bc\r\n\n \t\n#x\nd#e\tf";
 
-const WITH: [(u32, &[u8]); 5] = [(1, b"a"), (1, b"bc"), (4, b"#x"), (5, b"d#e"), (5, b"f")];
+const WORDS_ON_LINES: &[(&[u8], Comments, &[(u32, &[u8])])] = &[
+    (
+        TEXT,
+        Comments::FromHash,
+        &[(1, b"a"), (1, b"bc"), (5, b"d")],
+    ),
+    (
+        TEXT,
+        Comments::Absent,
+        &[(1, b"a"), (1, b"bc"), (4, b"#x"), (5, b"d#e"), (5, b"f")],
+    ),
+    (b"", Comments::Absent, &[]),
+    (b"\n\nz\n", Comments::Absent, &[(3, b"z")]),
+];
 
-const THIRD: [(u32, &[u8]); 1] = [(3, b"z")];
+// How many words the first line of the text has.
+fn first_words(alloc: Global) -> Result<usize, AllocError> {
+    let words = tokens(alloc, TEXT, Comments::Absent)?;
+    Ok(line_word_count(words.as_slice()))
+}
 
 #[test]
-fn words_stand_on_lines(rt: HostRuntime) -> Result<(), Fail> {
-    let alloc = rt.alloc();
-    let text = b"a  bc\r\n\n \t\n#x\nd#e\tf".as_slice();
-    let cases = [
-        (text, Comments::FromHash, WITHOUT.as_slice()),
-        (text, Comments::Absent, WITH.as_slice()),
-        (b"".as_slice(), Comments::Absent, &[]),
-        (b"\n\nz\n".as_slice(), Comments::Absent, THIRD.as_slice()),
-    ];
-    for (text, comments, wanted) in cases {
-        assert!(rt; are_words(alloc, text, comments, wanted)?);
+fn words_stand_on_lines(rt: HostRuntime) {
+    for &(text, comments, wanted) in WORDS_ON_LINES {
+        let found = are_words(rt.alloc(), text, comments, wanted);
+        assert!(rt; matches!(found, Ok(true)), "{text:?}");
     }
-    let words = tokens(alloc, text, Comments::Absent)?;
-    let count = line_word_count(words.as_slice());
-    assert!(rt; count == 2 && visible(b"a#b", Comments::FromHash) == b"a".as_slice());
-    Ok(())
+    assert!(rt; matches!(first_words(rt.alloc()), Ok(2)));
+    assert!(rt; visible(b"a#b", Comments::FromHash) == b"a".as_slice());
 }
 
 const LINES_ARE_SPLIT: &[(&[u8], Option<(&[u8], &[u8])>)] = &[
@@ -66,7 +76,10 @@ const LINES_ARE_SPLIT: &[(&[u8], Option<(&[u8], &[u8])>)] = &[
 #[test]
 fn lines_are_split(rt: HostRuntime) {
     for &(text, wanted) in LINES_ARE_SPLIT {
-        assert!(rt; text.len() < TEXT_LIMIT && split_line(text) == wanted);
+        assert!(rt;
+            text.len() < TEXT_LIMIT && split_line(text) == wanted,
+            "{text:?}"
+        );
     }
 }
 
@@ -91,7 +104,7 @@ const NUMBERS_ARE_READ_NUMBERS: &[(&[u8], Result<i64, NumberFault>)] = &[
 #[test]
 fn numbers_are_read(rt: HostRuntime) {
     for &(word, wanted) in NUMBERS_ARE_READ_NUMBERS {
-        assert!(rt; number_in(word, -1000, 1000) == wanted);
+        assert!(rt; number_in(word, -1000, 1000) == wanted, "{word:?}");
     }
 }
 
@@ -105,6 +118,6 @@ const WORDS: &[(&[u8], Option<u64>)] = &[
 #[test]
 fn digits_are_counted_up_to_a_limit(rt: HostRuntime) {
     for &(word, wanted) in WORDS {
-        assert!(rt; natural(word) == wanted);
+        assert!(rt; natural(word) == wanted, "{word:?}");
     }
 }
