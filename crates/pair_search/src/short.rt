@@ -256,15 +256,15 @@ fn short_point_at(diff: &Difference, level: &Level, k: usize) -> Option<ShortPoi
     let depth = Depth::make(level.place.depth);
     if depth.levels() <= 4 {
         short_point(
-            shallow_stepped(level.part[0].b[k], depth),
-            shallow_stepped(level.part[1].b[k], depth),
-            shallow_stepped(level.part[2].b[k], depth),
+            shallow_stepped(level.part.value(0, k), depth),
+            shallow_stepped(level.part.value(1, k), depth),
+            shallow_stepped(level.part.value(2, k), depth),
         )
     } else {
         short_point(
-            deep_stepped(level.part[0].b[k], depth),
-            deep_stepped(level.part[1].b[k], depth),
-            deep_stepped(level.part[2].b[k], depth),
+            deep_stepped(level.part.value(0, k), depth),
+            deep_stepped(level.part.value(1, k), depth),
+            deep_stepped(level.part.value(2, k), depth),
         )
     }
 }
