@@ -332,7 +332,8 @@ pub fn pass(
     }
 }
 
-// The marks between the two halves that wait first.
+// The marks between the two halves that wait first. Each caller has its own copy of this function.
+#[inline(always)]
 fn marks_between(diff: &Difference, opposites: &Opposites, waiting: &Waiting) -> Marks
     requires stack { IsStack diff.now waiting.now }
     requires lanes { AreSmallLanes opposites.now.lanes }
