@@ -1,13 +1,12 @@
-"""What `explain` writes, for .ci/stand_in: by exact fractions, from docs/COMMANDS.md and the package's
-geometry/separation.py."""
+"""What `explain` writes, for .ci/stand_in: by exact fractions, from docs/COMMANDS.md and bench/separation.py."""
 from __future__ import annotations
 
 from fractions import Fraction
 from itertools import combinations
 from math import comb, floor
 
-from hemtoghai.geometry import separation
 from hemtoghai.language.choreo import Flown
+import separation
 
 MOST = 200  # pairs and cues that have a line
 

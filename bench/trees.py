@@ -1,15 +1,15 @@
 """Certificates of both versions, computed and judged by halving parts one by one: for the benches and .ci/tools, which
 compare them with what the program says.
 
-It is written from docs/SEPARATION.md alone, over `hemtoghai.geometry.separation`, whose folder has to be on `sys.path`.
+It is written from docs/SEPARATION.md alone, over separation.py beside it; the package's folder has to be on `sys.path`.
 """
 from __future__ import annotations
 
 from typing import List, Optional
 
-from hemtoghai.geometry import separation
-from hemtoghai.geometry.separation import Part
 from hemtoghai.language.choreo import Flown, LONGEST_CERTIFICATE, Refused
+import separation
+from separation import Part
 
 Nodes = List[Optional[int]]  # of a tree in preorder: None for a split, else the number of a direction
 

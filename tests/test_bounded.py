@@ -5,17 +5,20 @@ import io
 import os
 import random
 import subprocess
+import sys
 import tempfile
 import unittest
-from itertools import chain
+from itertools import chain, islice
 from unittest import mock
 
 import common
 from common import TOP
 from hemtoghai.commands import flown, judge
 from hemtoghai.companion import value
-from hemtoghai.geometry import separation
 from hemtoghai.language import choreo
+
+sys.path.append(os.path.join(TOP, "bench"))
+import separation
 
 DRONES = 32
 HEAD = "choreo 1\n" + "".join("drone d%d 0 0 1000000 0\n" % k for k in range(DRONES))
@@ -49,9 +52,9 @@ class Blocked(common.Folder, unittest.TestCase):
 
     def test_counts(self):
         flown, before = choreo.flown_of(ALL.encode()), separation.looked[0]
-        places, are_all = separation.some_places(flown, 6)
+        places = list(islice(separation.blocked_places(flown, 6), 201))
         # Of each pair the first of the parts of depth 6 is blocked, after one part of each depth from 0 on.
-        self.assertEqual((len(places), are_all, separation.looked[0] - before), (200, False, 7 * 201))
+        self.assertEqual((len(places), separation.looked[0] - before), (201, 7 * 201))
         self.assertEqual(places[0], (0, 1, 0, 0))
 
     def test_what_a_repeat_flies_is_worked_out_once(self):

@@ -1,14 +1,18 @@
-"""./show deal and ./show why --cured: shows of a few drones, worked by hand. The program isn't run here."""
+"""./show deal and ./show why --cured: shows of a few drones, worked by hand."""
 import os
 import subprocess
+import sys
 import tempfile
 import unittest
 
+import common
 import forked
 from common import TOP
 from hemtoghai.language import choreo
 from hemtoghai.language.converting import converted
-from hemtoghai.geometry import separation
+
+sys.path.append(os.path.join(TOP, "bench"))
+import separation
 
 # Two drones form a row across, change sides, and form it again.
 TWICE = """choreo 1
@@ -242,6 +246,7 @@ class Forms(unittest.TestCase):
         self.assertEqual((said.count("cue 3000ms"), said.count("cue 3s")), (3, 0))
 
 
+@common.wants_program
 class Cured(unittest.TestCase):
     def cured(self, text):
         """The status and what was said of a show, and the cured one, or None where none was written."""
@@ -254,7 +259,7 @@ class Cured(unittest.TestCase):
                 return status, said + told, file.read()
 
     def is_apart(self, text):
-        """Whether nothing is blocked in a show, by the tools' own judge."""
+        """Whether nothing is blocked in a show, by the benches' own search."""
         return not list(separation.blocked_places(choreo.flown_of(text.encode()), 6))
 
     def test_formed(self):

@@ -1,5 +1,4 @@
-"""./show why: which remedies help, `stray` and `late` as causes, and the shortest cure. Shows worked by hand; the
-program is asked where it is built."""
+"""./show why: which remedies help, `stray` and `late` as causes, and the shortest cure. Shows worked by hand."""
 import os
 import sys
 import tempfile
@@ -53,6 +52,7 @@ d move 0 3000000 1000000 0
 end""")
 
 
+@common.wants_program
 class Causes(unittest.TestCase):
     def said(self, text):
         """What is said of a show that is refused."""
@@ -91,17 +91,15 @@ class Causes(unittest.TestCase):
         self.assertNotIn("the cause", self.said(BESIDE.replace("300000", "240000") % "stray 10"))
 
 
+@common.wants_program
 class Cures(unittest.TestCase):
     def test_most_places(self):
-        """The program names one pair in 200 cues, which are alike; without it the tool finds 200 pairs in the first one."""
+        """The program names one pair in 200 cues, which are alike."""
         drones = "".join("drone d%d 0 0 1000000 0\n" % k for k in range(32))
         text = "choreo 1\n" + drones + "repeat 1000\ncue 1000\nend\nend\n"
         status, said, told = run("why", "--most", "3", text=text)
-        is_built = os.access(common.PROGRAM, os.X_OK)
-        self.assertEqual((status, said.count("TOO NEAR")), (5, 1 if is_built else 3), told)
-        self.assertEqual("and 197 more: --most N shows them" in said, not is_built)
-        self.assertIn("More are blocked: these are the first 200, by pair and then by cue.\n" if is_built else
-                      "More may be blocked: these are the place that is named and those of the first cues, at most 200.\n", said)
+        self.assertEqual((status, said.count("TOO NEAR"), "more: --most N shows them" in said), (5, 1, False), told)
+        self.assertIn("More are blocked: these are the first 200, by pair and then by cue.\n", said)
 
     def cured(self, text):
         """What was said of a show and its cure, and the cured show, or None where none was written."""

@@ -398,7 +398,7 @@ class Release(unittest.TestCase):
         tag = sys.implementation.cache_tag
         for name in names:
             self.added(name, code)
-        for module in ("language/choreo", "launching/words", "geometry/separation"):
+        for module in ("language/choreo", "launching/words", "geometry/nearest"):
             folder, name = os.path.split("python/hemtoghai/" + module)
             source = os.path.join(self.top, folder, name + ".py")
             found = os.stat(source)

@@ -1,5 +1,5 @@
 """python/hemtoghai/seeing/studio_places.py, studio_words.py and studio_work.py: where drones are at a line of a text that may be half
-written, what the words of a line are, and blocked places as they are found."""
+written, what the words of a line are, and blocked places."""
 import contextlib
 import io
 import json
@@ -166,22 +166,26 @@ class Words(unittest.TestCase):
 
 
 class Marks(unittest.TestCase):
-    def test_so_far(self):
-        """Where no program can be asked blocked places are written as they are found, and all are counted."""
-        text = "choreo 1\n" + "".join("drone d%d 0 0 1000000 0\n" % k for k in range(6)) + "cue 100\nend\n"
-        flown, out = choreo.flown_of(text.encode()), io.StringIO()
-        before = studio_work.MARK_TIME, studio_work.MOST_MARKS, studio_work.MOST_MEASURED
-        studio_work.MARK_TIME, studio_work.MOST_MARKS, studio_work.MOST_MEASURED = 0, 4, 7
-        try:
-            with contextlib.redirect_stdout(out):
-                studio_work.put_marks(flown, text.encode(), os.devnull, 6)  # which is no program
-        finally:
-            studio_work.MARK_TIME, studio_work.MOST_MARKS, studio_work.MOST_MEASURED = before
-        rows = [json.loads(line) for line in out.getvalue().splitlines()]
-        self.assertEqual([row["all"] for row in rows], [False] * 15 + [True])
-        self.assertEqual([row["many"] for row in rows[-2:]], [15, 15])  # six drones at one place are 15 pairs
-        self.assertEqual([len(row["marks"]) for row in rows], [1, 2, 3] + [4] * 13)
-        self.assertFalse(hasattr(studio_work, "MOST_SLOTS"))
+    TEXT = b"choreo 1\n" + b"".join(b"drone d%d 0 0 1000000 0\n" % k for k in range(6)) + b"cue 100\nend\n"
+
+    def stages(self, program, answer):
+        """What is written of the text, stage by stage."""
+        with contextlib.redirect_stdout(io.StringIO()) as out:
+            studio_work.put_flight(self.TEXT, 6, program, answer, None)
+        return {row["stage"]: row for row in map(json.loads, out.getvalue().splitlines())}
+
+    @common.wants_program
+    def test_all(self):
+        """Blocked places are those that the program names: six drones at one place are 15 pairs."""
+        found = self.stages(common.PROGRAM, [5, "error 5 pair d0 d1 cue 1 part 0 of 64"])
+        self.assertEqual((len(found["marks"]["marks"]), found["marks"]["many"], found["marks"]["all"]), (15, 15, True))
+        first, = found["flight"]["flight"]["marks"]
+        self.assertEqual((first["pair"], first["named"], first["touch"]), ([0, 1], True, True))
+
+    def test_no_program(self):
+        """Where no program can be asked there is no verdict, and nothing is marked."""
+        found = self.stages(os.devnull, None)
+        self.assertEqual((found["verdict"]["status"], found["flight"]["flight"]["marks"], "marks" in found), (70, [], False))
 
 
 if __name__ == "__main__":

@@ -13,7 +13,7 @@ import common
 from hemtoghai import __main__
 from hemtoghai.commands import summary
 from hemtoghai.flying import stages
-from hemtoghai.geometry import separation
+from hemtoghai.geometry.nearest import nearest_in
 from hemtoghai.language import choreo
 
 # `a` ends on the floor, or a millimetre below what is enough: then no way down begins with it.
@@ -81,7 +81,7 @@ class Long(common.Folder, unittest.TestCase):
         chance = random.Random(9)
         for _ in range(6):
             flown = choreo.flown_of(random_show(chance, 4, 5))
-            by_all = {(i, j): min(separation.nearest_in(flown, i, j, cue).share for cue in range(len(flown.cues)))
+            by_all = {(i, j): min(nearest_in(flown, i, j, cue).share for cue in range(len(flown.cues)))
                       for i, j in itertools.combinations(range(4), 2)}
             rows, left_out = summary.nearest_pairs(flown)
             self.assertEqual(({row[1:3]: row[0] for row in rows}, left_out), (by_all, 0))

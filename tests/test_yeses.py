@@ -23,7 +23,7 @@ PACKAGE = os.path.join(PYTHON, "hemtoghai")
 WORDS = re.compile(r"\b(valid|KEPT|APART|PROVED|proved|accepted|accepts|apart|separated|ok|kept|landed|disarmed|stored|"
                    r"land now|judged as|judged stage|as a whole|stage by stage|as the show has them|has its trajectory|"
                    r"has what it is to fly|come home by themselves|[Nn]othing is blocked|nothing is refused)\b")
-STATUSES = re.compile("commands/|dev/|exchange/export|launching/|__main__|streams|geometry/separation|"
+STATUSES = re.compile("commands/|dev/|exchange/export|launching/|__main__|streams|companion|"
                       "flying/(bridge|descent)|seeing/studio_work")  # modules that end with one
 TRUTHS = re.compile("judging|program")  # modules whose yes may be a value that is true
 
@@ -54,6 +54,8 @@ YESES = {
     "program.py is_answer": ("true", "the words that each command writes where it accepts, by docs/COMMANDS.md"),
     "program.py runs": ("proved proved proved", NO),
     "program.py words_of": ("proved", WHAT),
+    "companion.py decoded.number": ("handed", NUMBER),
+    "companion.py depth": ("handed", NUMBER),
     "commands/as_json.py -": ("separated", "what `explain` writes where it finds no blocked part"),
     "commands/as_json.py Tee.write": ("handed", NUMBER),
     "commands/as_json.py by_program": ("handed", PROGRAM),
@@ -108,8 +110,6 @@ YESES = {
     "dev/library.py over_kept": ("proved proved proved", NO),
     "dev/library.py prove": ("proved", RECORD),
     "commands/picture.py main": ("0 0", WRITTEN),
-    "commands/picture.py picture_of": ("nothing is refused", OWN + ": the page begins with `Worked out without the "
-                                       "program`, and standard error says that `check` was not asked"),
     "commands/picture.py step": ("handed", NUMBER),
     "dev/release.py contents_of": ("proved", RECORD),
     "dev/release.py judged_record": ("proved", RECORD),
@@ -121,8 +121,6 @@ YESES = {
     "commands/summary.py places_in": ("handed", NUMBER),
     "commands/summary.py print_margin": ("accepted accepted", PROGRAM),
     "commands/summary.py print_ways": ("as a whole stage by stage", WAY),
-    "commands/why.py blocked_in": ("nothing is blocked ok", PROGRAM + ": where `check` accepts, no place is looked for; "
-                                   "the words say that the rest wasn't asked"),
     "commands/why.py explain_separation": ("0 handed", "how many are blocked: none is no yes by itself, see main"),
     "commands/why.py main": ("4 Nothing is blocked apart handed", PROGRAM + "; 70 without it, and where the two differ"),
     "commands/why.py print_counts": ("apart apart", "of places at which `check` or the tool refuses the show"),
@@ -155,8 +153,6 @@ YESES = {
     "flying/uploads.py -": ("has what it is to fly", "the words of status 0: " + UPLOAD),
     "flying/ways.py Ways.tell": ("as a whole come home by themselves stage by stage", WAY + "; of show, pause and way home as "
                                  "one text, too, and of each drone's way home alone"),
-    "geometry/separation.py judged": ("0 ok", "taken for a refusal alone, but where words say that nothing is proved"),
-    "geometry/separation.py most_borne": ("handed", NUMBER),
     "judging.py Verdict.__bool__": ("true", PROGRAM + ": it is `ok`"),
     "judging.py Verdict.more_blocked": ("true", NO),
     "judging.py Verdict.ok": ("true", PROGRAM + ": its status alone, which is 0 with the command's own words only"),
@@ -191,8 +187,8 @@ YESES = {
     "seeing/sampling.py mark_of": ("apart apart", NO),
     "seeing/studio_program.py Program.now": ("proved proved", RECORD),
     "seeing/studio_server.py Handler.of_worker": ("proved", NO),
-    "seeing/studio_work.py judged": ("handed", NUMBER),
     "seeing/studio_work.py main": ("0 0 handed", "the page is told that what this process finds is not proved: of_worker"),
+    "seeing/studio_work.py refused": ("handed", NO),
     "seeing/studio_work.py tool": ("handed", "a tool's own status, of the program that the studio was given: the page "
                                    "says NOT PROVED of one without a record"),
     "streams.py Heard.write": ("handed handed", NUMBER),

@@ -1,4 +1,4 @@
-"""How much room is enough: the tables of docs/LANGUAGE.md, by hemtoghai/geometry/separation.py and not the program."""
+"""How much room is enough: the tables of docs/LANGUAGE.md, by bench/separation.py and not the program."""
 from __future__ import annotations
 
 import collections
@@ -11,8 +11,8 @@ from typing import Counter, Iterable, List, Tuple
 from scripts import TOP
 
 sys.path.insert(0, os.path.join(TOP, "python"))
-from hemtoghai.geometry import separation
 from hemtoghai.language import choreo
+import separation
 
 R, H = 120, 300
 CUES = 24000

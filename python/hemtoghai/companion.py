@@ -150,6 +150,16 @@ def no_verdict(program: str | None = None) -> str:
     return "no verdict: %s; what the tool itself looked at is as it should be" % missing(program)
 
 
+def without_program(text: bytes, program: str | None = None) -> tuple[int, str]:
+    """The status and the line of a refusal for which no program is needed, of a faulty text or for want of room; of all
+    others 70, and why there is no verdict."""
+    try:
+        choreo.judge_room(choreo.flown_of(text))
+    except Refused as refusal:
+        return refusal.status, str(refusal)
+    return NO_ANSWER, no_verdict(program)
+
+
 def value(row: Sequence[Number], u: Number) -> Number:
     """The place on an axis at a fraction of a cue, by its control values."""
     many_, rest, power, out, share = len(row) - 1, 1 - u, u, row[0], 1

@@ -16,7 +16,6 @@ from functools import cached_property
 from typing import Any, Optional, Union
 
 from hemtoghai import answering, companion, program, texts
-from hemtoghai.geometry.separation import Meeting
 from hemtoghai.language import choreo, cures
 from hemtoghai.language.choreo import DEPTH
 from hemtoghai.writing import flyable, meetings
@@ -196,7 +195,7 @@ def told(words: list[str], text: bytes) -> tuple[int, str]:
     return answer.status, answer.output.decode()
 
 
-def placed(flown: Any, found: Iterable[Meeting]) -> tuple[Blocked, ...]:
+def placed(flown: Any, found: Iterable[meetings.Meeting]) -> tuple[Blocked, ...]:
     """Places in which drones are blocked, with the one that is named before the others, in the order of distances."""
     out = []
     for number, it in enumerate(found):

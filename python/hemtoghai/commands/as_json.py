@@ -28,12 +28,12 @@ from typing import Any
 
 from hemtoghai import companion, judging, streams, texts
 from hemtoghai.commands import summary, why
-from hemtoghai.geometry import separation
 from hemtoghai.language import choreo
 from hemtoghai.launching import launcher, words as commands
 from hemtoghai.program import NAME, Unusable
 from hemtoghai.writing.margins import margins_of
 from hemtoghai.writing.meetings import ALL, MORE, PLACE
+from hemtoghai.writing.trials import Trials
 
 
 def put(command: str, verdict: judging.Verdict, **more: Any) -> int:
@@ -146,27 +146,19 @@ def shown(reader: argparse.ArgumentParser, words: list[str]) -> tuple[argparse.N
 
 
 def verdict_of(text: bytes, depth: int) -> judging.Verdict:
-    """The verdict on a show. Where the program can't be run a refusal is that of the companions; they accept none."""
+    """The verdict on a show. Where the program can't be run the companions refuse a faulty one, or one without room."""
     try:
         return judging.check(text, depth)
     except Unusable:
-        status, line = separation.judged(text, depth)
-        if status == 0:
-            status, line = streams.NO_ANSWER, companion.no_verdict()
-        verdict = judging.Verdict(status, line.encode() + b"\n", None, text, depth)
-    if status == 5:  # the places are those of the companions, too
-        flown = choreo.flown_of(text)
-        found, are_all = separation.some_places(flown, depth, line)
-        placed = judging.placed(flown, (separation.meeting(flown, depth, *it) for it in found))
-        vars(verdict)["places"] = placed, are_all
-    return verdict
+        status, line = companion.without_program(text)
+        return judging.Verdict(status, line.encode() + b"\n", None, text, depth)
 
 
-def helped(flown: choreo.Flown, place: judging.Blocked, depth: int) -> dict[str, Any]:
+def helped(trials: Trials, place: judging.Blocked) -> dict[str, Any]:
     """What helps two drones in a cue: each remedy with the names of those that are still blocked then."""
-    i, j = flown.names.index(place.first), flown.names.index(place.second)
-    ends = why.standing(flown, i, j, place.cue - 1, depth)
-    rows = [] if ends else why.helps(flown, (i, j), place.cue - 1, depth)
+    i, j = trials.flown.names.index(place.first), trials.flown.names.index(place.second)
+    begins = place.begin_ms == trials.flown.begins[place.cue - 1]
+    ends, rows = why.helps(trials, i, j, place.cue - 1, begins)
     return {"blocked_where_the_cue": ends, "helps": [
         {"words": remedy.words, "takes_ms": remedy.takes, "still_blocked": left} for remedy, left in rows[:3]]}
 
@@ -181,9 +173,8 @@ def by_why(words: list[str]) -> int:
     verdict = verdict_of(text, options.depth)
     if flown is None:
         return put("why", verdict)
-    begin = separation.looked[0]
-    places = [{**vars(place), **(helped(flown, place, options.depth) if number < options.most and
-                                 separation.looked[0] - begin < why.MOST_TRIED else {})}
+    trials = Trials(judging.told, flown, options.depth)
+    places = [{**vars(place), **(helped(trials, place) if number < options.most and trials.may_ask else {})}
               for number, place in enumerate(verdict.blocked)]
     room = [{"drone": name, "bytes": len(data), "room": flown.room(), "pieces": len(segments)}
             for name, data, segments in zip(flown.names, flown.data(), flown.sent)]

@@ -15,8 +15,7 @@ from __future__ import annotations
 import sys
 from collections.abc import Callable
 
-from hemtoghai.companion import add_depth, ask_check, missing, no_verdict, parser, stop, tool_name, words_and_show
-from hemtoghai.geometry import separation
+from hemtoghai.companion import add_depth, ask_check, missing, parser, stop, tool_name, without_program, words_and_show
 from hemtoghai.language import choreo
 from hemtoghai.language.lines import free_name, with_words, with_words_at
 from hemtoghai.streams import NO_ANSWER, tell
@@ -95,9 +94,9 @@ def judged(text: bytes, deep: int) -> int:
     if answer := ask_check(text, deep):
         say("check: " + answer[1])
         return answer[0]
-    status, line = separation.judged(text, deep)
-    say(missing() + "; as this tool computes it: " + line if status else no_verdict())
-    return status or NO_ANSWER
+    status, line = without_program(text)
+    say(line if status == NO_ANSWER else missing() + "; as this tool computes it: " + line)
+    return status
 
 
 def say_carried(made: Dealt, new_line: Callable[[int], int]) -> None:

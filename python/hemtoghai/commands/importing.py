@@ -31,13 +31,15 @@ from typing import Any, List, NamedTuple, NoReturn, Tuple
 
 from hemtoghai import program
 from hemtoghai.commands import why
-from hemtoghai.companion import add_depth, begins, many, parser, stop
+from hemtoghai.companion import add_depth, ask, begins, many, missing, parser, stop
 from hemtoghai.exchange import foreign
-from hemtoghai.geometry import fitting, separation
+from hemtoghai.geometry import fitting
 from hemtoghai.geometry.paths import Budget, Path, TooLong
 from hemtoghai.language import choreo
 from hemtoghai.language.lines import header, line_in, NEWEST
 from hemtoghai.streams import shown
+from hemtoghai.writing.meetings import meetings_of
+from hemtoghai.writing.trials import Trials
 
 Paths = List[Path[Fraction]]
 Axes = Tuple[int, int]  # half axes of an ellipsoid, in millimetres
@@ -69,8 +71,7 @@ def judge(fit: fitting.Fit, head: list[str], form: int, wanted: Axes, bound: Fra
         begin = fit.cues[first].begin
         print("check, from %.3f s on: %s" % (begin / 1000, output.decode(errors="replace").strip()))
         if status == 5:
-            text = fit.text(head, form, chosen, begin)
-            print_why(fit, text, wanted, deep, after_wait(output.decode(errors="replace"), text, fit.cues[chosen]))
+            print_why(fit, fit.text(head, form, chosen, begin), wanted, deep)
         elif status:
             print("NO ANSWER on separation: the import is refused for another reason; see docs/COMMANDS.md")
         if status:
@@ -106,23 +107,18 @@ def nearest(fit: fitting.Fit, pair: tuple[int, int], begin: float, end: float, w
     return min((begin + best * step, (low + high) / 2), key=far)
 
 
-def after_wait(line: str, text: str, cues: Sequence[object]) -> str:
-    """The line of `check` on some cues, as it is on a text with these at its end, after a wait."""
-    waits = sum(row.startswith("cue ") for row in text.split("\n")) - len(cues)
-    return re.sub(r"(?<= cue )\d+", lambda found: str(int(found[0]) + waits), line.strip())
-
-
-def print_why(fit: fitting.Fit, text: str, wanted: Axes, deep: int, line: str) -> None:
-    """Says of a refusal for separation, with this line, whether the file is to blame, where and when, and what `why`
-    says. The text begins with a wait, so that its time is the file's."""
+def print_why(fit: fitting.Fit, text: str, wanted: Axes, deep: int) -> None:
+    """Says of a refusal for separation whether the file is to blame, where and when, and what `why` says. The text
+    begins with a wait, so that its time is the file's."""
     flown, found = choreo.flown_of(text.encode()), []
     edges = begins(flown)
-    blocked, are_all = separation.some_places(flown, deep, line)
-    for i, j, cue, index in blocked:
-        t = nearest(fit, (i, j), edges[cue], edges[cue + 1], wanted)
-        found.append((share_of(fit, (i, j), Fraction(t), wanted), t, i, j, cue, index))
+    told = meetings_of(ask, flown, text.encode(), deep)
+    blocked, are_all = told if told and told[0] else stop(missing())
+    for it in blocked:
+        t = nearest(fit, (it.i, it.j), edges[it.cue], edges[it.cue + 1], wanted)
+        found.append((share_of(fit, (it.i, it.j), Fraction(t), wanted), t, it))
     found.sort(key=lambda row: row[0][0])
-    (square, places), t, i, j, cue, index = found[0]
+    (square, places), t, first = found[0]
     if square <= 1:
         print("TOO NEAR: at this instant, by the file's own curves, two ellipsoids %d %d share a point:" % wanted)
     else:
@@ -130,13 +126,13 @@ def print_why(fit: fitting.Fit, text: str, wanted: Axes, deep: int, line: str) -
               "A smaller --tolerance may show it. Nearest by the file, as far as was looked:")
     print("  at %.3f s of the file, with %.1f %% of the distance at which the ellipsoids touch" % (
         t / 1000, 100 * float(square) ** 0.5))
-    for k, place in zip((i, j), places):
+    for k, place in zip((first.i, first.j), places):
         print("  %s at (%s) mm by the file" % (flown.names[k], ", ".join("%.0f" % (v / 1000) for v in place[:3])))
     if len(found) > 1:
         print("  and %s blocked, of this or other pairs%s" % (
             many(len(found) - 1, "more place"), "" if are_all else "; there may be more"))
     print("%s why, of the import: its cues and lines, and its larger ellipsoids" % program.COMMAND)
-    why.print_place(flown, text.encode().split(b"\n"), separation.meeting(flown, deep, i, j, cue, index), deep, [])
+    why.print_place(Trials(ask, flown, deep), text.encode().split(b"\n"), first, [])
 
 
 # ---- limits

@@ -19,8 +19,8 @@ import sys
 from typing import Any
 
 from hemtoghai import program
-from hemtoghai.companion import add_depth, ask_check, ask_dynamics, missing, parser, read_file, words_and_show
-from hemtoghai.geometry import separation
+from hemtoghai.companion import (add_depth, ask_check, ask_dynamics, missing, parser, read_file, without_program,
+                                 words_and_show)
 from hemtoghai.language.choreo import Flown
 from hemtoghai.seeing import drawing
 from hemtoghai.seeing.page import page_of
@@ -47,12 +47,11 @@ def motion_said(options: argparse.Namespace, text: bytes, flown: Flown) -> str:
 def picture_of(options: argparse.Namespace, text: bytes, flown: Flown) -> dict[str, Any]:
     judge, (status, line) = "check", ask_check(text, options.depth, options.program) or (2, "")
     if status not in (0, 4, 5):
-        judge, (status, line) = "this tool", separation.judged(text, options.depth)
-        line = line if status else "nothing is refused"
+        judge, (status, line) = "this tool", without_program(text, options.program)
     step = step_of(flown, options.step)
     marks: list[Mark] = []
     if status == 5:
-        marks, are_all = blocked_marks(flown, text, options.depth, line, options.program)
+        marks, are_all = blocked_marks(flown, text, options.depth, options.program)
         line += "" if are_all else f" (more may be blocked than the {len(marks)} places that are marked)"
     rows = rows_of_play(text, options.program, options.depth, step) if status == 0 else None
     regions = regions_of(options.regions) if options.regions else []

@@ -16,7 +16,7 @@ from math import hypot, inf
 from hemtoghai.companion import (add_depth, ask_check, ask_dynamics, begins, many, missing, Motion, no_program,
                                  parser, place, seconds, value, words_and_show)
 from hemtoghai.flying import legs
-from hemtoghai.geometry import separation
+from hemtoghai.geometry.nearest import nearest_in
 from hemtoghai.language.choreo import Flown
 from hemtoghai.language.lines import line_in
 from hemtoghai.program import COMMAND
@@ -114,7 +114,7 @@ def nearest_of(flown: Flown, i: int, j: int, most: int) -> tuple[tuple[float, in
             break
         if number == most:
             return best, False
-        near = separation.nearest_in(flown, i, j, cue)
+        near = nearest_in(flown, i, j, cue)
         best = (near.share, i, j, cue, near.at) if (near.share, cue) < (best[0], best[3]) else best
     return best, True
 

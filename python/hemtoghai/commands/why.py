@@ -1,7 +1,7 @@
 """Says where and when drones of a show come too close, or why a show has no room, and lists changes that help.
 
-If the program is built, the first line is the answer of `check`, and the pairs and cues are those that its `explain
---all` names. All else is computed here, and proves nothing; so are the pairs and cues if the program isn't built.
+The first line is the answer of the program's `check`. The pairs and cues are those that its `explain --all` names, and
+so are those that stay blocked with a change: each is tried as a show. Distances and room are computed here.
 With --cured it writes the show with remedies, place by place, and takes among several the one that adds the least time;
 no file is written where something stays blocked, or `check` refuses the new show.
 The status is that of the show: 0 if it is accepted, 5 or 4 if it is refused. 70: no answer.
@@ -9,24 +9,26 @@ The status is that of the show: 0 if it is accepted, 5 or 4 if it is refused. 70
 from __future__ import annotations
 
 from collections.abc import Iterable, Iterator
+from itertools import combinations
 from math import hypot
+from typing import List, Tuple
 
 from hemtoghai.companion import (add_depth, ask, ask_check, begins, cue_words, many, missing, no_verdict, parser, place,
                                  seconds, stop, words_and_show)
 from hemtoghai import outputs
-from hemtoghai.geometry import separation
-from hemtoghai.geometry.separation import cause_of, is_clear, Meeting, meeting, ruler_of
+from hemtoghai.geometry.nearest import reach_of
 from hemtoghai.language import choreo
 from hemtoghai.language.choreo import Flown
 from hemtoghai.program import COMMAND
 from hemtoghai.streams import shown
 from hemtoghai.writing.dealing import costs, dealt, form_lines, total
 from hemtoghai.writing.flyable import small
-from hemtoghai.writing.meetings import meetings_of
-from hemtoghai.writing.remedies import ENOUGH, first_of, last_of, lift_all, lifted, remedies, Remedy, written
+from hemtoghai.writing.meetings import Meeting, meetings_of
+from hemtoghai.writing.remedies import ENOUGH, lift_all, lifted, remedies, Remedy, written
+from hemtoghai.writing.trials import cause_of, Stage, stage_of, Trials
 
 MOST_CURES = 40
-MOST_TRIED = 20000  # parts of cues that are looked at for remedies, some seconds of work
+Helped = Tuple[Remedy, List[str]]  # what helps, and the names of those that are still blocked then
 
 
 def act_words(flown: Flown, lines: list[bytes], drone: int, cue: int) -> str:
@@ -54,7 +56,7 @@ def more_room(flown: Flown, side: float, up: float) -> str:
     """How much farther apart, to the side alone or up and down alone, leaves room enough: by the half axes of what is
     kept clear around a drone, with the stray and half of its way while it is late."""
     (own, own_up), (stray,) = [flown.show.settings[word] for word in ("ellipsoid", "stray")]
-    x, y, z = separation.reach_of(flown)
+    x, y, z = reach_of(flown)
     r, h = own + stray + max(x, y) / 2, own_up + stray + z / 2
     wide = r * max(0, 4 * ENOUGH ** 2 - (up / h) ** 2) ** 0.5
     high = h * max(0, 4 * ENOUGH ** 2 - (side / r) ** 2) ** 0.5
@@ -62,10 +64,11 @@ def more_room(flown: Flown, side: float, up: float) -> str:
         wide, side, high, up)
 
 
-def layers(flown: Flown, cue: int, pairs: list[tuple[int, int]], deep: int) -> dict[int, int] | None:
-    """By drone how much higher it may fly a cue in which many are blocked, so that none is, or None."""
+def layers(trials: Trials, cue: int, pairs: list[tuple[int, int]]) -> Remedy | None:
+    """The remedy by which drones fly a cue in which many are blocked so much higher that none is, or None."""
+    flown = trials.flown
     _, h = flown.show.settings["ellipsoid"]
-    ruler, step = ruler_of(flown), -(-int(2 * h * ENOUGH) // 50) * 50
+    step = -(-int(2 * h * ENOUGH) // 50) * 50
     level: dict[int, int] = {}
     drones = range(len(flown.names))
     for drone in sorted(drones, key=lambda k: -sum(k in pair for pair in pairs)):
@@ -75,34 +78,39 @@ def layers(flown: Flown, cue: int, pairs: list[tuple[int, int]], deep: int) -> d
     if max(level.values()) > 3:
         return None
     for high in (step, 3 * step // 2, 2 * step):
-        cues = [lifted(flown.by_cue[k][cue][1], high * level[k]) for k in drones]
-        flights = [(cues[k][stage], cues[j][stage]) for stage in range(3) for k in drones for j in range(k)]
-        if all(is_clear(first, second, ruler, deep) for first, second in flights):
-            return {k: high * level[k] for k in drones if level[k]}
+        remedy = lift_all(flown, cue, {k: high * level[k] for k in drones if level[k]})
+        every = list(combinations(drones, 2))
+        told = trials.told(cue, remedy.stages, every)
+        if told and all(told.get((i, j, stage)) for i, j in every for stage in range(3)):
+            return remedy
     return None
 
 
-def helps(flown: Flown, drones: Iterable[int], cue: int, deep: int) -> list[tuple[Remedy, list[str]]]:
-    """What helps these drones, tried against all others of the cue: each remedy with the names of those that are still
-    blocked. Those that help most come first, and of these the ones that make the show least longer."""
-    ruler, found = ruler_of(flown), []
-    for drone in drones:
-        for remedy in remedies(flown, drone, cue):
-            found.append((remedy, [name for other, name in enumerate(flown.names) if other != drone and not all(
-                is_clear(mine, become(flown.by_cue[other][cue][1]), ruler, deep) for mine, become in remedy.stages)]))
-    own = {flown.names[drone] for drone in drones}
-    return sorted((row for row in found if not own & set(row[1])), key=lambda row: (len(row[1]), row[0].takes))
+STANDS: list[Stage] = [(1, {})]
 
 
-def standing(flown: Flown, i: int, j: int, cue: int, deep: int) -> list[str]:
-    """At which ends of a cue two drones would be blocked if they stood there: the words."""
-    first, second = flown.by_cue[i][cue][1], flown.by_cue[j][cue][1]
-    return [word for word, become in (("begins", first_of), ("ends", last_of))
-            if not is_clear(become(first), become(second), ruler_of(flown), deep)]
+def helps(trials: Trials, i: int, j: int, cue: int, begins_so: bool) -> tuple[list[str], list[Helped]]:
+    """At which ends of a cue two drones would be blocked if they stood there, in words, of two that may be where it
+    begins; and, where at none, what helps them, tried against all others of the cue: each remedy with the names of those
+    that are still blocked. Those that help most come first, and of these the ones that make the show least longer."""
+    flown, found = trials.flown, []
+    own = [(drone, remedy) for drone in (i, j) for remedy in remedies(flown, drone, cue)]
+    others = {drone: [k for k in range(len(flown.names)) if k != drone] for drone in (i, j)}
+    stands = [*STANDS, stage_of(flown, cue), *STANDS]
+    standing, told = trials.told(cue, stands, [(i, j)]) or {} if begins_so else {}, []
+    if not begins_so or standing.get((i, j, 0)):
+        standing, *told = trials.each(cue, [stands, *(remedy.stages for _, remedy in own)], [
+            (drone, other) for drone in (i, j) for other in others[drone]])
+    for (drone, remedy), known in zip(own, told):
+        left = [flown.names[other] for other in others[drone] if not all(
+            known.get((drone, other, stage)) for stage in range(len(remedy.stages)))]
+        if not {flown.names[i], flown.names[j]} & {*left}:
+            found.append((remedy, left))
+    ends = [word for word, stage in (("begins", 0), ("ends", 2)) if standing.get((i, j, stage)) is False]
+    return ends, [] if ends else sorted(found, key=lambda row: (len(row[1]), row[0].takes))
 
 
-def print_help(flown: Flown, i: int, j: int, cue: int, deep: int) -> None:
-    ends = standing(flown, i, j, cue, deep)
+def print_help(flown: Flown, i: int, j: int, cue: int, ends: list[str], tried: list[Helped]) -> None:
     for word in ends:
         words, side, up = both_words(flown, i, j, cue, 0 if word == "begins" else 1)
         print("  they are already blocked where the cue %s: %s" % (word, words))
@@ -111,7 +119,6 @@ def print_help(flown: Flown, i: int, j: int, cue: int, deep: int) -> None:
         print("    " + more_room(flown, side, up))
     if ends:
         return
-    tried = helps(flown, (i, j), cue, deep)
     if not tried:
         print("  nothing that was tried helps these two: waiting, going first, flying it higher or lower. Give one of "
               "them another way")
@@ -124,11 +131,12 @@ def print_help(flown: Flown, i: int, j: int, cue: int, deep: int) -> None:
                                           seconds(remedy.takes)))
 
 
-def print_place(flown: Flown, lines: list[bytes], found: Meeting, deep: int, others: list[int],
-                may_try: bool = True) -> None:
+def print_place(trials: Trials, lines: list[bytes], found: Meeting, others: list[int]) -> None:
     """Prints what is known of one pair in one cue, and what helps; `others` are later cues with the same."""
+    flown, may_try = trials.flown, trials.may_ask
     i, j, cue, index = found.i, found.j, found.cue, found.index
-    begin, time, parts = begins(flown)[cue], flown.cues[cue].milliseconds, 2 ** deep
+    begin, time, parts = begins(flown)[cue], flown.cues[cue].milliseconds, 2 ** trials.deep
+    ends, tried = helps(trials, i, j, cue, index == 0) if may_try else ([], [])
     print("%s and %s in cue %d, %s" % (flown.names[i], flown.names[j], cue + 1, cue_words(flown.cues[cue])))
     if others:
         print("  and the same in cue %s" % ", ".join(str(other + 1) for other in others))
@@ -144,13 +152,13 @@ def print_place(flown: Flown, lines: list[bytes], found: Meeting, deep: int, oth
     if found.touch:
         print("  TOO NEAR: no depth helps")
     elif found.cause:
-        print("  APART WHILE THEY FLY EXACTLY: the cause is " + (cause_of(flown, i, j, cue, deep) or found.cause))
+        print("  APART WHILE THEY FLY EXACTLY: the cause is " + (may_try and cause_of(trials, i, j, cue) or found.cause))
     else:
         print("  APART, BUT ALONG NO DIRECTION: none of the 98 directions shows it for a whole part%s"
-              % ("; --depth 8 may do" if deep < 8 and not standing(flown, i, j, cue, deep) else ""))
+              % ("; --depth 8 may do" if trials.deep < 8 and not ends else ""))
     print("  room enough at this instant: " + more_room(flown, side, up))
     if may_try:
-        print_help(flown, i, j, cue, deep)
+        print_help(flown, i, j, cue, ends, tried)
     else:
         print("  no remedy was tried here: those above took too long")
     print()
@@ -182,53 +190,37 @@ def print_counts(deep: int, found: list[Meeting], more: str) -> None:
     print("Cues are counted with repeats and figures written out.\n")
 
 
-def blocked_in(flown: Flown, text: bytes, deep: int, line: str) -> tuple[list[Meeting], str]:
-    """Pairs and cues that are blocked, of a show of which `check` says a line, or nothing if it can't be asked; and
-    words where there are more, or may be. They are the program's, and else those that are found here."""
-    if line.startswith("ok "):
-        return [], ""
-    told = meetings_of(ask, flown, text, deep) if line else None
-    if told is not None:
-        return told[0], "" if told[1] else (
-            "More are blocked: these are the first %d, by pair and then by cue." % len(told[0]))
-    places, are_all = separation.some_places(flown, deep, line)
-    found = [meeting(flown, deep, *place) for place in places]
-    if not found and not are_all:
-        stop("nothing is blocked in the first cues, and the program wasn't asked about the rest")
-    return found, "" if are_all else (
-        "More may be blocked: these are the place that is named and those of the first cues, at most %d."
-        % separation.MOST_PLACES)
-
-
-def explain_separation(flown: Flown, text: bytes, deep: int, most: int, line: str) -> int:
-    """Prints pairs and cues that are blocked, in the order of time, of a show of which `check` says a line; the number
-    of them."""
-    (found, more), lines = blocked_in(flown, text, deep, line), text.split(b"\n")
+def explain_separation(flown: Flown, text: bytes, deep: int, most: int) -> int:
+    """Prints pairs and cues that are blocked, in the order of time, of a show that the program refuses; the number of
+    them."""
+    told, lines = meetings_of(ask, flown, text, deep), text.split(b"\n")
+    if told is None:
+        stop(no_verdict())
+    found, are_all = told
     if not found:
         return 0
-    print_counts(deep, found, more)
+    print_counts(deep, found, "" if are_all else (
+        "More are blocked: these are the first %d, by pair and then by cue." % len(found)))
     found.sort(key=lambda it: (it.cue, it.share))
-    groups, begin = alike(flown, found), separation.looked[0]
+    groups, trials = alike(flown, found), Trials(ask, flown, deep)
     for group in groups[:most]:
-        print_place(flown, lines, group[0], deep, [it.cue for it in group[1:]],
-                    separation.looked[0] - begin < MOST_TRIED)
+        print_place(trials, lines, group[0], [it.cue for it in group[1:]])
     if len(groups) > most:
         print("and %d more: --most N shows them" % (len(groups) - most))
-    if separation.looked[0] - begin < MOST_TRIED:
-        print_together(flown, groups, deep)
+    if trials.may_ask:
+        print_together(trials, groups)
     return len(found)
 
 
-def print_together(flown: Flown, groups: list[list[Meeting]], deep: int) -> None:
+def print_together(trials: Trials, groups: list[list[Meeting]]) -> None:
     """Prints what helps all pairs of a cue at once, where there are several."""
     for cue in sorted({group[0].cue for group in groups}):
         together = [(it.i, it.j) for group in groups for it in group if it.cue == cue]
-        lifts = layers(flown, cue, together, deep) if 1 < len(together) <= MOST_CURES else None
-        if lifts:
-            remedy = lift_all(flown, lifts)
+        remedy = layers(trials, cue, together) if 1 < len(together) <= MOST_CURES else None
+        if remedy:
             print("What helps all of cue %d at once (%s more):" % (cue + 1, seconds(remedy.takes)))
             print("    " + remedy.words)
-        for line in crossing_forms(flown, cue) if len(together) > 1 else []:
+        for line in crossing_forms(trials.flown, cue) if len(together) > 1 else []:
             print("Line %d forms a formation whose ways cross: %s deal deals its places anew." % (line.number, COMMAND))
 
 
@@ -264,15 +256,23 @@ def explain_room(flown: Flown) -> None:
     print("`curve X0 Y0 Z0 X Y Z X Y Z YAW` is from rest to rest too, with 6. docs/LANGUAGE.md, What a cue costs.")
 
 
-def cures_of(flown: Flown, cue: int, pairs: list[tuple[int, int]], deep: int) -> Iterator[Remedy]:
+def cures_of(trials: Trials, cue: int, pairs: list[tuple[int, int]]) -> Iterator[Remedy]:
     """What helps in a cue, that first which makes the show least longer: what helps one drone of the first pair, and
     where no drone is in all pairs, what helps them all at once."""
     shared = set.intersection(*(set(pair) for pair in pairs))
-    lifts = layers(flown, cue, pairs, deep) if not shared and len(pairs) <= MOST_CURES else None
-    if lifts:
-        yield lift_all(flown, lifts)
-    tried = [remedy for remedy, left in helps(flown, pairs[0], cue, deep) if not left]
+    remedy = layers(trials, cue, pairs) if not shared and len(pairs) <= MOST_CURES else None
+    if remedy:
+        yield remedy
+    tried = [remedy for remedy, left in helps(trials, *pairs[0], cue, False)[1] if not left]
     yield from sorted(tried, key=lambda remedy: remedy.takes)
+
+
+def first_places(trials: Trials, text: bytes) -> tuple[int, list[tuple[int, int]]] | None:
+    """The first cue of this text in which the program names pairs that are blocked, and these; None where it names
+    none."""
+    found, _ = meetings_of(trials.ask, trials.flown, text, trials.deep) or ([], True)
+    cue = min((it.cue for it in found), default=0)
+    return (cue, [(it.i, it.j) for it in found if it.cue == cue]) if found else None
 
 
 def cured(text: bytes, deep: int, flown: Flown | None = None) -> tuple[bytes, list[str], str | None]:
@@ -281,12 +281,12 @@ def cured(text: bytes, deep: int, flown: Flown | None = None) -> tuple[bytes, li
     done: list[str] = []
     while len(done) < MOST_CURES:
         flown = flown if not done and flown else choreo.flown_of(text)
-        answer = ask_check(text, deep)
-        found = [] if answer and not answer[0] else separation.first_places(flown, deep)
+        trials = Trials(ask, flown, deep)
+        found = first_places(trials, text)
         if not found:
             return text, done, None
-        cue, pairs = found[0][2], [(i, j) for i, j, _, _ in found]
-        for remedy in cures_of(flown, cue, pairs, deep):
+        cue, pairs = found
+        for remedy in cures_of(trials, cue, pairs):
             if (new := written(text, flown, cue, remedy)) is not None:
                 text = new
                 done.append("cue %d: %s (%s more)" % (cue + 1, remedy.words, seconds(remedy.takes)))
@@ -337,17 +337,17 @@ def main(words: list[str]) -> int:
         if options.cured:
             print("no file is written: only nearness is cured")
         return 4
-    blocked = explain_separation(flown, text, options.depth, options.most, answer[1] if answer else "")
+    if answer is None:
+        stop(no_verdict())
+    blocked = explain_separation(flown, text, options.depth, options.most) if answer[0] else 0
     own = 5 if blocked else 0
     if blocked and options.cured:
         write_cured(options.cured, text, flown, options.depth, options.force)
-    if answer is None and not blocked:
-        stop(no_verdict())
-    if answer and answer[0] == own == 0:
+    if answer[0] == own == 0:
         print("Nothing is blocked at depth %d: all drones are apart." % options.depth)
         if options.cured:
             print("no file is written: there is nothing to cure")
-    elif answer and answer[0] != own:
+    elif answer[0] != own:
         stop("check ends with %d and this tool with %d: one of them is wrong; please report the show"
              % (answer[0], own))
     return own

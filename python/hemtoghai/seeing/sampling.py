@@ -7,11 +7,10 @@ from itertools import combinations
 from typing import Any, Dict, List, Tuple
 
 from hemtoghai.companion import ask, begins, cue_words, place, read_file, seconds, stop, value
-from hemtoghai.geometry import separation
 from hemtoghai.language import choreo
 from hemtoghai.program import Unusable
 from hemtoghai.texts import joined
-from hemtoghai.writing.meetings import meetings_of
+from hemtoghai.writing.meetings import Meeting, meetings_of
 
 MOST_PLACES = 48000  # of all drones together, so that a page has about a megabyte
 MOST_PAIRS = 12
@@ -102,7 +101,7 @@ def shares(flown: choreo.Flown, places: list[list[Sample]]) -> tuple[list[list[f
     return nearest, [[round(100 * squared ** 0.5, 1), i, j, k] for squared, i, j, k in rows[:MOST_PAIRS]]
 
 
-def mark_of(flown: choreo.Flown, it: separation.Meeting, is_named: bool = False) -> Mark:
+def mark_of(flown: choreo.Flown, it: Meeting, is_named: bool = False) -> Mark:
     """A place in which two drones are blocked: from, to, both drones, cue, the nearest instant, all in milliseconds,
     how near they are there, whether they touch, the cause where it is the show's `stray` or `late`, and words."""
     words = "%s and %s in cue %d, %s: nearest at %s with %.1f %% of what their ellipsoids need, %s" % (
@@ -114,27 +113,15 @@ def mark_of(flown: choreo.Flown, it: separation.Meeting, is_named: bool = False)
             "share": round(100 * it.share, 1), "touch": it.touch, "cause": it.cause, "named": is_named}
 
 
-def told_marks(flown: choreo.Flown, text: bytes, deep: int, program: str) -> tuple[list[Mark], bool] | None:
+def blocked_marks(flown: choreo.Flown, text: bytes, deep: int, program: str) -> tuple[list[Mark], bool]:
     """Places in which two drones are blocked, as the program names them, the nearest first, and whether these are all;
-    `named` is the one that `check` names. None where the program can't be asked."""
+    `named` is the one that `check` names. None of them where the program doesn't answer."""
     try:
         told = meetings_of(lambda words, show: ask(words, show, program), flown, text, deep)
     except Unusable:
-        return None
-    if told is None or not told[0]:
-        return None
-    marks = [mark_of(flown, it, number == 0) for number, it in enumerate(told[0])]
-    return sorted(marks, key=lambda mark: float(mark["share"])), told[1]
-
-
-def blocked_marks(flown: choreo.Flown, text: bytes, deep: int, line: str, program: str) -> tuple[list[Mark], bool]:
-    """The same; where the program can't be asked, as they are found here, with the place that this line names."""
-    told = told_marks(flown, text, deep, program)
-    if told is not None:
-        return told
-    places, are_all = separation.some_places(flown, deep, line)
-    marks = [mark_of(flown, separation.meeting(flown, deep, *found), number == 0)
-             for number, found in enumerate(places)]
+        told = None
+    found, are_all = told or ([], False)
+    marks = [mark_of(flown, it, number == 0) for number, it in enumerate(found)]
     return sorted(marks, key=lambda mark: float(mark["share"])), are_all
 
 

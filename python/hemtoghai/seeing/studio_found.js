@@ -45,10 +45,9 @@ export function showVerdict() {
 function showAccepted(verdict, by) {
   const [, names, cues, ms] = verdict.line.match(/drones (\d+) cues (\d+) duration_ms (\d+)/).map(Number);
   const size = `${many(names, "drone")}, ${many(cues, "cue")}, ${inSeconds(ms)}`;
-  const isProved = verdict.proved && verdict.judge === "check", short = names > 1 ? "PROVED APART" : "PROVED";
+  const isProved = verdict.proved, short = names > 1 ? "PROVED APART" : "PROVED";
   const proved = names > 1 ? "PROVED APART at every instant" : "PROVED: one drone, near its text at every instant";
-  const other = verdict.judge === "check" ? "NOT PROVED, but accepted" : "NOT PROVED, but no fault was found";
-  const accepted = isProved ? proved : other;
+  const accepted = isProved ? proved : "NOT PROVED, but accepted";
   const rest = isProved ? [`${size} · ${by}`] : [size, by.replace("NOT PROVED: ", "")];
   if (regionFault()) {
     return showRegion(regionFault(), [names > 1 && isProved ? "apart from each other: proved" : "", ...rest]);

@@ -10,12 +10,12 @@ Standard input has a line of JSON and then the show's text. The line has the pat
 the page `want`s: "places", with a `line`, is what stands around that line (seeing/studio_places.py); "preview" is what
 a text would fly that isn't the page's yet; "remedies" is what helps in the first cue in which two are blocked, "formed"
 are the names of formations that are formed; "motion" is how fast `drones` fly, by their numbers; "flight", with the
-status and the words of `check` as `answer`, or null where the tools are to judge, is all the rest. Each line of
-standard output is a stage in JSON, as soon as it is known: `verdict` where the tools judged, `flight`, which is that of
-the longest right beginning where the text is faulty, and then nothing follows, `explained` of a
+status and the words of `check` as `answer`, or null where it wasn't asked, is all the rest. Each line of
+standard output is a stage in JSON, as soon as it is known: `verdict` where `check` wasn't asked, `flight`, which is
+that of the longest right beginning where the text is faulty, and then nothing follows, `explained` of a
 show that is refused for nearness, `regions` where there is a file of them for `boxes`, `lines`, `notes`, `marks` of a
-show that is refused for nearness, several times until all are found, `margin` of one that is accepted. It is trusted
-for nothing: only what the program says is proved.
+show that is refused for nearness, `margin` of one that is accepted. It is trusted for nothing: only what the program
+says is proved.
 """
 from __future__ import annotations
 
@@ -31,26 +31,23 @@ from functools import partial
 from typing import Any
 
 from hemtoghai import program as proved
-from hemtoghai.commands.why import cures_of
-from hemtoghai.companion import ask, ask_dynamics, begins, set_tool, speeds_in, stop
-from hemtoghai.geometry import separation
+from hemtoghai.commands.why import cures_of, first_places
+from hemtoghai.companion import ask, ask_dynamics, begins, set_tool, speeds_in, stop, without_program
 from hemtoghai.language import choreo
-from hemtoghai.seeing.sampling import (boxes_said, flight_of, Mark, mark_of, regions_of, rows_of_play, step_of,
-                                       told_marks)
+from hemtoghai.seeing.sampling import blocked_marks, boxes_said, flight_of, Mark, regions_of, rows_of_play, step_of
 from hemtoghai.seeing.studio_motion import motion_of
 from hemtoghai.seeing.studio_places import begun, places_at
+from hemtoghai.streams import NO_ANSWER
 from hemtoghai.writing.dealing import form_lines
 from hemtoghai.writing.flyable import below, MOST as FASTEST, motion_if_known, small
 from hemtoghai.writing.margins import greatest, MOST, with_setting
 from hemtoghai.writing.remedies import written
+from hemtoghai.writing.trials import Trials
 
 TOOLS = "why", "deal", "fly"  # of the page's buttons
 MOST_PLACES = 32000  # of all drones together: the page has to keep up with typing
 MOST_PREVIEW = 16000  # of a preview, which follows each step of a number
-MOST_MARKS = 200  # that are listed; the others are counted
-MOST_MEASURED = 2000  # of which it is computed how near they are
 MOST_REMEDIES = 6  # that are offered for a cue
-MARK_TIME = 1.0  # seconds from one list of blocked places to the next, while more are looked for
 QUIET = 0.6  # seconds before the margins are looked for, which take many checks
 
 
@@ -59,10 +56,10 @@ def put(stage: str, **more: object) -> None:
     sys.stdout.flush()
 
 
-def judged(text: bytes, deep: int) -> tuple[int, str]:
-    """The status and the line of `check`, by the tools; a marker line is refused as the program does."""
+def refused(text: bytes, program: str) -> tuple[int, str]:
+    """What is said where `check` can't be asked; a marker line is refused as the program does."""
     show, second, markers = choreo.parts_of(text)
-    answer = separation.judged(show, deep)
+    answer = without_program(show, program)
     return answer if second is None or answer[0] == 3 else (11, "error 11 line %d" % markers[0])
 
 
@@ -88,30 +85,6 @@ def lines_of(flown: choreo.Flown, cue: choreo.Cue, names: list[str]) -> list[int
 def with_lines(flown: choreo.Flown, mark: Mark) -> Mark:
     """A mark with the lines by which both drones fly."""
     return {**mark, "lines": lines_of(flown, flown.cues[mark["cue"]], [flown.names[k] for k in mark["pair"]])}
-
-
-def put_marks(flown: choreo.Flown, text: bytes, program: str, deep: int) -> None:
-    """Writes the blocked places that the program names, those first in which two are nearest. Where it can't be asked,
-    all that are found here; the list so far at times while it looks."""
-    if said := told_marks(flown, text, deep, program):
-        put("marks", marks=[with_lines(flown, mark) for mark in said[0]], many=len(said[0]), all=said[1])
-        return
-    marks: list[Mark] = []
-    many, told = 0, time.monotonic()
-    for found in separation.blocked_places(flown, deep):
-        many += 1
-        if many <= MOST_MEASURED:
-            marks.append(mark_of(flown, separation.meeting(flown, deep, *found), many == 1))
-        if time.monotonic() - told > MARK_TIME:
-            put_marks_so_far(flown, marks, many, False)
-            told = time.monotonic()
-    put_marks_so_far(flown, marks, many, True)
-
-
-def put_marks_so_far(flown: choreo.Flown, marks: list[Mark], many: int, are_all: bool) -> None:
-    """Writes the blocked places that are known."""
-    marks.sort(key=lambda mark: float(mark["share"]))
-    put("marks", marks=[with_lines(flown, mark) for mark in marks[:MOST_MARKS]], many=many, all=are_all)
 
 
 def explained(flown: choreo.Flown, text: bytes, program: str, deep: int) -> dict[str, object] | None:
@@ -198,13 +171,14 @@ def put_preview(text: bytes) -> None:
     return put("preview", flight={**drawn, "marks": []})
 
 
-def put_remedies(text: bytes, deep: int) -> None:
+def put_remedies(text: bytes, deep: int, program: str) -> None:
     """Writes what helps in the first cue in which two are blocked, each as a text, those first that make the show least
     longer."""
-    flown = choreo.flown_of(choreo.parts_of(text)[0])
-    if found := separation.first_places(flown, deep):
-        cue, pairs = found[0][2], [(i, j) for i, j, _, _ in found]
-        for remedy in itertools.islice(cures_of(flown, cue, pairs, deep), MOST_REMEDIES):
+    text = choreo.parts_of(text)[0]
+    trials = Trials(partial(ask, program=program), flown := choreo.flown_of(text), deep)
+    if found := first_places(trials, text):
+        cue, pairs = found
+        for remedy in itertools.islice(cures_of(trials, cue, pairs), MOST_REMEDIES):
             if (new := written(text, flown, cue, remedy)) is not None:
                 put("remedy", cue=cue, words=remedy.words, takes=remedy.takes,
                     text=new.decode("utf-8", "surrogateescape"))
@@ -225,17 +199,15 @@ def put_motion(text: bytes, drones: list[int]) -> None:
 
 def put_flight(text: bytes, deep: int, program: str, answer: list[Any] | None, path: str | None) -> None:
     """Writes all that is known of a text, given what `check` said of it, or null."""
-    status, said = answer or judged(text, deep)
+    status, said = answer or refused(text, program)
     if answer is None:
         put("verdict", status=status, line=said, judge="tools")
-    if status not in (0, 4, 5):
+    if status not in (0, 4, 5, NO_ANSWER):
         return put_begun(text, said, path)
     flown = choreo.flown_of(choreo.parts_of(text)[0])
-    first = None
-    if status == 5:  # the place that `check` names
-        _, _, _, i, j, _, cue, _, part, *_ = said.split()
-        found = separation.meeting(flown, deep, flown.names.index(i), flown.names.index(j), int(cue) - 1, int(part))
-        first = with_lines(flown, mark_of(flown, found, True))
+    found, are_all = blocked_marks(flown, text, deep, program) if status == 5 else ([], True)
+    marks = [with_lines(flown, mark) for mark in found]
+    first = next((mark for mark in marks if mark["named"]), None)  # the place that `check` names
     step = step_of(flown, None, MOST_PLACES)
     rows = rows_of_play(text, program, deep, step) if status == 0 else None
     also = {round(first["nearest"])} if first else set()
@@ -249,11 +221,11 @@ def put_flight(text: bytes, deep: int, program: str, answer: list[Any] | None, p
     put("lines", **drone_lines(flown))
     put("notes", **notes_of(flown, text, program))
     if status == 5:
-        put_marks(flown, text, program, deep)
+        put("marks", marks=marks, many=len(marks), all=are_all)
     if status == 0 and len(flown.names) > 1:
         time.sleep(QUIET)
         for name in ("stray", "late"):
-            most, _ = greatest(deep, MOST + 1, partial(with_setting, text, name), judged, program)
+            most, _ = greatest(deep, MOST + 1, partial(with_setting, text, name), program)
             put("margin", name=name, most=most)
     return None
 
@@ -283,7 +255,7 @@ def main(words: list[str]) -> int:
     elif asked["want"] == "preview":
         put_preview(text)
     elif asked["want"] == "remedies":
-        put_remedies(text, deep)
+        put_remedies(text, deep, program)
     elif asked["want"] == "formed":
         put_formed(text)
     elif asked["want"] == "motion":

@@ -5,10 +5,8 @@ from __future__ import annotations
 import re
 from collections.abc import Callable, Iterator
 from functools import partial
-from typing import NoReturn
 
 from hemtoghai.companion import ask_check, missing, stop
-from hemtoghai.geometry import separation
 from hemtoghai.language import choreo
 from hemtoghai.language.lines import line_in
 
@@ -24,24 +22,18 @@ def with_setting(text: bytes, word: str, *numbers: int) -> bytes:
 
 
 def greatest(deep: int, high: int, changed: Callable[[int], bytes],
-             judge: Callable[[bytes, int], tuple[int, str]] = separation.judged,
              program: str | None = None) -> tuple[int | None, str]:
-    """The greatest number below `high` with which the show is accepted, by halving, and the refusal above it; None
-    where it isn't with the least, and what is said then. Where the program can't be asked, `judge` is."""
+    """The greatest number below `high` with which the program accepts the show, by halving, and the refusal above it;
+    None where it isn't with the least, and what is said then. The tool ends where the program doesn't answer."""
     low, refusal = -1, ""
     while high - low > 1:
         k = (low + high) // 2
         text = changed(k)
-        status, line = ask_check(text, deep, program) or judge(text, deep)
+        status, line = ask_check(text, deep, program) or stop(missing(program))
         if status not in (0, 5):
             return None, line
         low, high, refusal = (k, high, refusal) if status == 0 else (low, k, line)
     return (None if low < 0 else low), refusal
-
-
-def not_asked(text: bytes, deep: int) -> NoReturn:
-    """Ends the tool where the program, which answered before, doesn't: no number is accepted by anything else."""
-    stop(missing())
 
 
 def margins_of(flown: choreo.Flown, text: bytes, deep: int) -> Iterator[tuple[str, int | None, str]]:
@@ -49,6 +41,6 @@ def margins_of(flown: choreo.Flown, text: bytes, deep: int) -> Iterator[tuple[st
     they are: the setting, the greatest number that the program accepts, or None, and the refusal above it."""
     r, h = flown.show.settings["ellipsoid"]
     yield ("ellipsoid", *greatest(deep, 100 * 2000 // max(r, h) + 1, lambda k: with_setting(
-        text, "ellipsoid", max(1, r * k // 100), max(1, h * k // 100)), not_asked))
+        text, "ellipsoid", max(1, r * k // 100), max(1, h * k // 100))))
     for word in ("stray", "late"):
-        yield (word, *greatest(deep, MOST + 1, partial(with_setting, text, word), not_asked))
+        yield (word, *greatest(deep, MOST + 1, partial(with_setting, text, word)))

@@ -1,16 +1,15 @@
 """The places in which two drones of a show are blocked, as the program's `explain --all` names them: the pairs and cues
 with the first part that is blocked, and where the two are nearest at the instants that were looked at.
 
-What stands here is the program's word, parsed. Where the program can't be asked, the tools have geometry/separation.py,
-which proves nothing.
+What stands here is the program's word, parsed: nothing else of the package judges whether drones are apart.
 """
 from __future__ import annotations
 
 import re
 from collections.abc import Callable, Sequence
+from dataclasses import dataclass
 from typing import List, NamedTuple, Optional, Tuple
 
-from hemtoghai.geometry.separation import Meeting
 from hemtoghai.language.choreo import Flown
 from hemtoghai.language.lines import line_in
 from hemtoghai.program import Unusable
@@ -22,6 +21,26 @@ MORE = "blocked more than 200\n"
 ALL = re.compile(r"(?:separated\n|((?:%s)+)(%s)?)(?:closest pair .*\n)?(?:touch pair .*\n|no-touch instants \d+\n)?"
                  % (re.sub(r"\((?!\?)", "(?:", PLACE.pattern), MORE))
 Ask = Callable[[List[str], bytes], Optional[Tuple[int, str]]]  # the status and the output of a command on a text
+Slot = Tuple[int, int, int]  # two drones and a cue, numbered from 0
+
+
+@dataclass(frozen=True)
+class Meeting:
+    """Two drones that are blocked in a cue, numbered from 0, with the first of its parts in which they are: the
+    milliseconds of the show at which that part begins and ends and at which they are nearest, at which fraction of the
+    cue that is, how far apart they are there as a share of the distance at which their ellipsoids touch, whether these
+    touch there, and the cause in words where they are apart there by the show's `stray` or `late`."""
+    i: int
+    j: int
+    cue: int
+    index: int
+    begin: float
+    end: float
+    nearest: float
+    at: float
+    share: float
+    touch: bool
+    cause: Optional[str]
 
 
 class Said(NamedTuple):
@@ -38,14 +57,16 @@ class Said(NamedTuple):
     level: int
 
     @property
-    def slot(self) -> tuple[int, int, int]:
+    def slot(self) -> Slot:
         """The pair and the cue."""
-        return self.i, self.j, self.cue
+        return self[:3]
 
     def meeting(self, flown: Flown, cause: str | None) -> Meeting:
         """The place as values; below level 1,000 the two ellipsoids share a point at that instant."""
-        return Meeting(flown, *self.slot, self.part, self.parts, self.at / self.of, (self.level / 1000) ** 0.5,
-                       self.level < 1000, cause)
+        begin, lasts = flown.begins[self.cue], flown.cues[self.cue].milliseconds
+        begins, ends = (begin + lasts * part / self.parts for part in (self.part, self.part + 1))
+        return Meeting(*self.slot, self.part, begins, ends, begin + lasts * (self.at / self.of), self.at / self.of,
+                       (self.level / 1000) ** 0.5, self.level < 1000, cause)
 
 
 def said_in(output: str, names: Sequence[str]) -> tuple[list[Said], bool]:

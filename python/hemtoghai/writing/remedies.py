@@ -2,35 +2,18 @@
 ./show why."""
 from __future__ import annotations
 
-from collections.abc import Callable, Iterator, Sequence
+from collections.abc import Iterator
 from dataclasses import dataclass
 from typing import List
 
 from hemtoghai.language import choreo
 from hemtoghai.language.lines import line_in
-
-Elements = List[choreo.Row]  # what a drone flies in a cue, by axis
-Become = Callable[[Elements], Elements]  # how the others' elements become
+from hemtoghai.writing.trials import FORM, Stage, stage_of
 
 LOW = 300  # millimetres; nothing is advised that flies below
 # With a tenth more than the ellipsoids need a direction is found: docs/LANGUAGE.md, How much room is enough.
 ENOUGH = 1.1
 LEAST_LIFT, EASY_LIFT = 2000, 700  # milliseconds for a way up or down of so many millimetres: less than 1 m/s
-
-
-def first_of(elements: Elements) -> Elements:
-    return [row[:1] for row in elements]
-
-
-def last_of(elements: Elements) -> Elements:
-    return [row[-1:] for row in elements]
-
-
-def lifted(own: Elements, by: int) -> tuple[Elements, Elements, Elements]:
-    """A drone's elements in three cues: it rises, flies its cue so much higher, and sinks again."""
-    x, y, z = own[:3]
-    return ([x[:1], y[:1], [z[0]] * 4 + [z[0] + by] * 4], [x, y, [v + by for v in z]],
-            [x[-1:], y[-1:], [z[-1] + by] * 4 + [z[-1]] * 4])
 
 
 @dataclass(frozen=True)
@@ -39,7 +22,7 @@ class Remedy:
     how: str  # it is written: "wait", "first" or "lift"
     lifts: dict[int, int]  # by drone how many millimetres it flies higher: 0 where it waits or goes first
     words: str
-    stages: Sequence[tuple[Elements, Become]]  # one drone's own elements, and how the others' become
+    stages: List[Stage]  # what all fly in place of the cue
     takes: int  # milliseconds
 
 
@@ -48,30 +31,42 @@ def lift_time(by: int) -> int:
     return max(LEAST_LIFT, -(-LEAST_LIFT * abs(by) // EASY_LIFT // 100) * 100)
 
 
-def lift_all(flown: choreo.Flown, lifts: dict[int, int]) -> Remedy:
+def lifted(flown: choreo.Flown, cue: int, lifts: dict[int, int]) -> list[Stage]:
+    """The stages in which drones rise, fly a cue so much higher, and sink again."""
+    milliseconds, acts = stage_of(flown, cue)
+    for drone, by in lifts.items():
+        if (name := flown.names[drone]) in acts:
+            acts[name] = higher(acts[name], 1000 * by, FORM).split()
+    slow = max(map(lift_time, lifts.values()))
+    return [(slow, way_of(flown, cue, lifts, True, FORM)), (milliseconds, acts),
+            (slow, way_of(flown, cue, lifts, False, FORM))]
+
+
+def lift_all(flown: choreo.Flown, cue: int, lifts: dict[int, int]) -> Remedy:
     """The remedy by which several drones fly a cue higher."""
     words = "fly it higher, with a cue before to get there and one after to come back: " + ", ".join(
         "%s %d mm" % (flown.names[drone], by) for drone, by in sorted(lifts.items()))
-    return Remedy("lift", lifts, words, (), 2 * lift_time(max(lifts.values())))
+    return Remedy("lift", lifts, words, lifted(flown, cue, lifts), 2 * lift_time(max(lifts.values())))
 
 
 def remedies(flown: choreo.Flown, drone: int, cue: int) -> Iterator[Remedy]:
     """What a drone could do else in a cue."""
-    (time, own), (_, h) = flown.by_cue[drone][cue], flown.show.settings["ellipsoid"]
+    (time, acts), (_, h) = stage_of(flown, cue), flown.show.settings["ellipsoid"]
     name, high = flown.names[drone], -(-int(2 * h * ENOUGH) // 50) * 50
     number, out = flown.cues[cue].acts.get(name, (0,))[0], "leave it out of this cue"
     if any(line.kind == "form" and line.number == number for line in flown.cues[cue].line.body):
         out = "write the places of line %d as acts, and leave it out" % number
-    yield Remedy("wait", {drone: 0}, "let %s wait: %s, and let it fly alone in a cue after it" % (name, out),
-                 [(first_of(own), list), (own, last_of)], time)
-    yield Remedy("first", {drone: 0}, "let %s go first: %s here, and let it fly alone in a cue before this one" % (
-        name, out.replace(" of this cue", "")), [(own, first_of), (last_of(own), list)], time)
+    if name in acts:
+        alone, others = (time, {name: acts.pop(name)}), (time, acts)
+        yield Remedy("wait", {drone: 0}, "let %s wait: %s, and let it fly alone in a cue after it" % (name, out),
+                     [others, alone], time)
+        yield Remedy("first", {drone: 0}, "let %s go first: %s here, and let it fly alone in a cue before this one" % (
+            name, out.replace(" of this cue", "")), [alone, others], time)
     for by in (high, -high):
-        if min(own[2]) + by >= LOW:
+        if min(flown.by_cue[drone][cue][1][2]) + by >= LOW:
             words = "let %s fly this cue %d mm %s: a cue before it to get there, and one after it to come back" % (
                 name, abs(by), "higher" if by > 0 else "lower")
-            yield Remedy("lift", {drone: by}, words, list(zip(lifted(own, by), (first_of, list, last_of))),
-                         2 * lift_time(by))
+            yield Remedy("lift", {drone: by}, words, lifted(flown, cue, {drone: by}), 2 * lift_time(by))
 
 
 def higher(words: list[str], by: int, form: int) -> str:
@@ -103,12 +98,11 @@ def acts_of(flown: choreo.Flown, lines: list[bytes], cue: int,
     return others, own
 
 
-def ways_of_lift(flown: choreo.Flown, cue: int, lifts: dict[int, int], up: bool) -> Iterator[bytes]:
+def way_of(flown: choreo.Flown, cue: int, lifts: dict[int, int], up: bool, form: int) -> dict[str, list[str]]:
     """The acts by which drones go to their heights where a cue begins, or come back where it ends."""
-    for drone, by in sorted(lifts.items()):
-        x, y, z, yaw = flown.places[drone][cue if up else cue + 1]
-        yield line_in(flown.show.form, "act", flown.names[drone], "move", x, y, z + (1000 * by if up else 0),
-                      yaw).encode()
+    places = {drone: flown.places[drone][cue if up else cue + 1] for drone in sorted(lifts)}
+    return {name: line_in(form, "act", name, "move", x, y, z + (1000 * lifts[drone] if up else 0), yaw).split()
+            for drone, (x, y, z, yaw) in places.items() for name in [flown.names[drone]]}
 
 
 def written(text: bytes, flown: choreo.Flown, cue: int, remedy: Remedy) -> bytes | None:
@@ -123,8 +117,9 @@ def written(text: bytes, flown: choreo.Flown, cue: int, remedy: Remedy) -> bytes
             return None
         acts = [higher(own[name], 1000 * by, form).encode() for name, by in names.items() if name in own]
         slow = line_in(form, "cue", max(map(lift_time, remedy.lifts.values()))).encode()
-        new = [slow, *ways_of_lift(flown, cue, remedy.lifts, True), b"end", *rest, *acts, b"end",
-               slow, *ways_of_lift(flown, cue, remedy.lifts, False), b"end"]
+        up, down = ([" ".join(words).encode() for words in way_of(flown, cue, remedy.lifts, is_up, form).values()]
+                    for is_up in (True, False))
+        new = [slow, *up, b"end", *rest, *acts, b"end", slow, *down, b"end"]
     else:
         if not own:
             return None
