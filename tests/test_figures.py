@@ -51,7 +51,7 @@ class Command(unittest.TestCase):
     """./show figures: places by hand, and circles by their equation."""
 
     def setUp(self):
-        patch = mock.patch.object(figures, "ask_check", lambda text: (0, "ok"))
+        patch = mock.patch.object(companion, "ask_check", lambda text, deep: (0, "ok"))
         self.told = io.StringIO()
         patch.start()
         self.addCleanup(patch.stop)

@@ -278,7 +278,7 @@ class Swapped(unittest.TestCase):
         status, said, told = shell("./show import --judge examples/relay.csv --waypoints", self.place)
         self.assertEqual((status, "APART" in said, line in told), (70, False, True), told)
         status, said, told = shell("./show why " + SHOW, self.place)
-        self.assertEqual((status, "check: ok" in said, line in said), (5, False, True), said + told)
+        self.assertEqual((status, "check: ok" in said, line in said), (70, False, True), said + told)
         for words in ("bridge " + SHOW, "export skyc %s out" % SHOW, "fly --simulate --yes " + SHOW):
             status, said, told = shell("./show " + words, self.place)
             self.assertEqual((status, "check: ok" in said + told, line in told), (70, False, True), said + told)

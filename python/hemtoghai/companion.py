@@ -112,6 +112,27 @@ def ask_check(text: bytes, deep: int = choreo.DEPTH, program: str | None = None)
     return answer and (answer[0], answer[1].strip())
 
 
+def say(words: str) -> None:
+    """A line on standard error, beside what the tool writes."""
+    tell(tool_name(), words)
+
+
+def put_show(text: bytes, deep: int = choreo.DEPTH) -> int:
+    """Writes a new show, and says what `check` finds; its status, or 70 where it can't be asked."""
+    sys.stdout.buffer.write(text)
+    sys.stdout.flush()
+    answer = ask_check(text, deep)
+    say("check: " + answer[1] if answer else "the new show has no verdict: " + missing())
+    return answer[0] if answer else NO_ANSWER
+
+
+def known_names(flown: Flown, names: list[str]) -> list[str]:
+    """These names, where they are all of drones of the show; another one ends the tool."""
+    if strangers := [name for name in names if name not in flown.names]:
+        stop("no drone of the show: %s; it has %s" % (", ".join(strangers), ", ".join(flown.names)), 2)
+    return names
+
+
 MOTION = re.compile(r"dynamics (\S+) acceleration (\d+) (\d+) (\d+) jump (\d+) cue (\d+) (\d+) cue (\d+) (\d+) "
                     r"cue (\d+) begins (\w+) ends (\w+)$", re.M)
 

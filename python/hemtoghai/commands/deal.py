@@ -12,20 +12,14 @@ that of `check`, or 71 if a `form` line stays since no drone would move. 70: no 
 """
 from __future__ import annotations
 
-import sys
 from collections.abc import Callable
 
-from hemtoghai.companion import add_depth, ask_check, missing, parser, stop, tool_name, without_program, words_and_show
+from hemtoghai.companion import add_depth, parser, put_show, say, stop, words_and_show
 from hemtoghai.language import choreo
 from hemtoghai.language.lines import free_name, with_words, with_words_at
-from hemtoghai.streams import NO_ANSWER, tell
 from hemtoghai.writing.dealing import deal, Dealt, form_lines, names_of, on_their_own, State, state, Words, words_of
 
 NOBODY_MOVES = 71
-
-
-def say(words: str) -> None:
-    tell(tool_name(), words)
 
 
 def listed(numbers: list[int]) -> str:
@@ -89,16 +83,6 @@ def rewritten(text: bytes, made: Dealt) -> tuple[bytes, Callable[[int], int]]:
     return b"\n".join(it for row in new for it in row), lambda number: 1 + sum(map(len, new[:number - 1]))
 
 
-def judged(text: bytes, deep: int) -> int:
-    """Says what `check` finds, or why this tool refuses the text where the program isn't built; the status."""
-    if answer := ask_check(text, deep):
-        say("check: " + answer[1])
-        return answer[0]
-    status, line = without_program(text)
-    say(line if status == NO_ANSWER else missing() + "; as this tool computes it: " + line)
-    return status
-
-
 def say_carried(made: Dealt, new_line: Callable[[int], int]) -> None:
     """Says which acts go with their places, and which can't."""
     if carried := sorted(line.number for line in made.renamed()):
@@ -128,7 +112,5 @@ def main(words: list[str]) -> int:
     text, new_line = rewritten(text, made)
     report(made, before)
     say_carried(made, new_line)
-    sys.stdout.buffer.write(text)
-    sys.stdout.flush()
-    status = judged(text, options.depth)
+    status = put_show(text, options.depth)
     return NOBODY_MOVES if made.still else status

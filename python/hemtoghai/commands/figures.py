@@ -18,15 +18,13 @@ from __future__ import annotations
 
 import argparse
 import re
-import sys
 from collections.abc import Callable
 from math import ceil, dist
 
-from hemtoghai.companion import ask_check, flown_of, many, missing, parser, set_tool, stop, tool_name
+from hemtoghai.companion import flown_of, known_names, many, parser, put_show, say, set_tool, stop
 from hemtoghai.language import choreo
 from hemtoghai.language.lines import header, line_in, NEWEST
 from hemtoghai.language.quantities import Counts, listed_units, MICROMETRES, MILLISECONDS, TENTHS, value_of
-from hemtoghai.streams import NO_ANSWER, tell
 from hemtoghai.writing.figures import grid, micrometres, Path, piece, Place, ring, turn, wave
 
 KINDS = "ring", "rows", "turn", "wave"
@@ -58,28 +56,13 @@ def count(word: str) -> int:
     return int(word)
 
 
-def say(words: str) -> None:
-    tell(tool_name(), words)
-
-
-def put(text: bytes) -> int:
-    """Writes a show, and says what `check` finds; the status."""
-    sys.stdout.buffer.write(text)
-    sys.stdout.flush()
-    if (answer := ask_check(text)) is None:
-        say("the new show has no verdict: " + missing())
-        return NO_ANSWER
-    say("check: " + answer[1])
-    return answer[0]
-
-
 # ---- a show that begins
 
 def begun(places: list[Place]) -> int:
     """Writes a show of drones in these places, that rest for a second."""
     lines = [header(NEWEST)]
     lines += [line_in(NEWEST, "drone", "d%d" % k, *map(micrometres, place), 0) for k, place in enumerate(places, 1)]
-    return put("\n".join([*lines, line_in(NEWEST, "cue", 1000), "end", ""]).encode())
+    return put_show("\n".join([*lines, line_in(NEWEST, "cue", 1000), "end", ""]).encode())
 
 
 def begin(kind: str, words: list[str]) -> int:
@@ -134,7 +117,7 @@ def extended(text: bytes, flown: choreo.Flown, paths: dict[str, Path], milliseco
         stop("no %d curves are within 1 mm of the figure: take a smaller one, or several after one another" % MOST_CUTS)
     say("%s, %s in %g s: %s, at most %.2f mm off the figure" % (many(len(paths), "drone"), what, time / 1000, many(
         cuts, "cue"), 1000 * off))
-    return put((b"" if text.endswith(b"\n") else b"\n").join([text, "\n".join([*lines, ""]).encode()]))
+    return put_show((b"" if text.endswith(b"\n") else b"\n").join([text, "\n".join([*lines, ""]).encode()]))
 
 
 def go_on(kind: str, words: list[str]) -> int:
@@ -155,9 +138,7 @@ def go_on(kind: str, words: list[str]) -> int:
     reader.add_argument("names", nargs="*", metavar="NAME", help="a drone that flies it; without a name all do")
     options = reader.parse_args(words)
     text, flown = flown_of(options.show)
-    if strangers := [name for name in options.names if name not in flown.names]:
-        stop("no drone of the show: %s; it has %s" % (", ".join(strangers), ", ".join(flown.names)), 2)
-    names = options.names or flown.names
+    names = known_names(flown, options.names) or flown.names
     ends = {name: [v / 1e6 for v in flown.places[flown.names.index(name)][-1][:3]] for name in names}
     if kind == "wave":
         paths = {name: wave(end, options.by / 1e6, options.cycles, k / max(1, len(names)))

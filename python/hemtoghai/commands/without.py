@@ -13,13 +13,11 @@ example if no drone would be left. 3: the show is faulty. 70: no answer.
 """
 from __future__ import annotations
 
-import sys
 from collections.abc import Collection
 
-from hemtoghai.companion import add_depth, ask_check, flown_of, missing, parser, stop
+from hemtoghai.companion import add_depth, flown_of, known_names, parser, put_show, stop
 from hemtoghai.language import choreo
 from hemtoghai.language.lines import free_name, line_in, with_words
-from hemtoghai.streams import NO_ANSWER, tell
 
 IDLE = "nobody"  # the role of a figure in which nobody acts
 
@@ -92,18 +90,9 @@ def main(words: list[str]) -> int:
     reader.add_argument("names", nargs="+", metavar="NAME", help="a drone that stays on the ground")
     options = reader.parse_args(words)
     text, flown = flown_of(options.show)
-    if strangers := [name for name in options.names if name not in flown.names]:
-        stop("no drone of the show: %s; it has %s" % (", ".join(strangers), ", ".join(flown.names)), 2)
-    if set(options.names) == set(flown.names):
+    if set(known_names(flown, options.names)) == set(flown.names):
         stop("no drone would be left, and a show has at least one", 2)
     editor = Editor(text, flown.show, options.names)
     editor.drop_drones()
     editor.change_performs()
-    new = b"\n".join(line for row in editor.rows for line in row)
-    sys.stdout.buffer.write(new)
-    sys.stdout.flush()
-    if (answer := ask_check(new, options.depth)) is None:
-        tell("without", "the new show has no verdict: %s" % missing())
-        return NO_ANSWER
-    tell("without", "check: " + answer[1])
-    return answer[0]
+    return put_show(b"\n".join(line for row in editor.rows for line in row), options.depth)
