@@ -6,7 +6,7 @@ import re
 import sys
 from collections.abc import Sequence
 from fractions import Fraction
-from typing import Any, List, NoReturn, Tuple, TypeVar
+from typing import Any, NoReturn, TypeVar
 
 from hemtoghai import program as proved, texts
 from hemtoghai.language import choreo
@@ -16,8 +16,8 @@ from hemtoghai.program import COMMAND
 from hemtoghai.streams import NO_ANSWER, shown, tell
 
 Number = TypeVar("Number", float, Fraction)  # in doubles or exact
-PartOfPlan = Tuple[str, bytes, int, List[Tuple[str, str]]]  # name, bytes, pieces, packets as words and digits
-Motion = Tuple[List[float], List[float], List[int]]  # accelerations, jumps of speed, and the cues of these
+PartOfPlan = tuple[str, bytes, int, list[tuple[str, str]]]  # name, bytes, pieces, packets as words and digits
+Motion = tuple[list[float], list[float], list[int]]  # accelerations, jumps of speed, and the cues of these
 _running = ["hemtoghai"]  # the command, as its messages begin
 
 

@@ -27,7 +27,7 @@ import re
 import sys
 from collections.abc import Callable, Sequence
 from fractions import Fraction
-from typing import Any, List, NamedTuple, NoReturn, Tuple
+from typing import Any, NamedTuple, NoReturn
 
 from hemtoghai import program
 from hemtoghai.commands import why
@@ -41,8 +41,8 @@ from hemtoghai.streams import shown
 from hemtoghai.writing.meetings import meetings_of
 from hemtoghai.writing.trials import Trials
 
-Paths = List[Path[Fraction]]
-Axes = Tuple[int, int]  # half axes of an ellipsoid, in millimetres
+Paths = list[Path[Fraction]]
+Axes = tuple[int, int]  # half axes of an ellipsoid, in millimetres
 MOST_JUDGED = 20000  # cues of a show that is only judged
 COMPARISONS = 200000  # of a piece of a file with a curve, in a search for cues: some seconds
 STRETCH = 150  # cues of curves, in 23 bytes each, fit into 4,096

@@ -11,7 +11,6 @@ from __future__ import annotations
 from collections.abc import Iterable, Iterator
 from itertools import combinations
 from math import hypot
-from typing import List, Tuple
 
 from hemtoghai.companion import (add_depth, ask, ask_check, begins, cue_words, many, missing, no_verdict, parser, place,
                                  seconds, stop, words_and_show)
@@ -28,7 +27,7 @@ from hemtoghai.writing.remedies import ENOUGH, lift_all, lifted, remedies, Remed
 from hemtoghai.writing.trials import cause_of, Stage, stage_of, Trials
 
 MOST_CURES = 40
-Helped = Tuple[Remedy, List[str]]  # what helps, and the names of those that are still blocked then
+Helped = tuple[Remedy, list[str]]  # what helps, and the names of those that are still blocked then
 
 
 def act_words(flown: Flown, lines: list[bytes], drone: int, cue: int) -> str:

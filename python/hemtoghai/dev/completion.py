@@ -5,7 +5,7 @@ from __future__ import annotations
 import argparse
 import importlib
 from collections.abc import Callable
-from typing import Dict, List, NamedTuple
+from typing import NamedTuple
 
 from hemtoghai import companion
 from hemtoghai.__main__ import COMMANDS, WITH_JSON
@@ -23,7 +23,7 @@ class Option(NamedTuple):
 
     name: str
     number: str
-    choices: List[str]
+    choices: list[str]
     text: str
 
 
@@ -32,8 +32,8 @@ class Word(NamedTuple):
 
     name: str
     text: str
-    options: List[Option]
-    first: List[str]
+    options: list[Option]
+    first: list[str]
 
 
 class Found(Exception):
@@ -44,7 +44,7 @@ class Found(Exception):
         self.reader = reader
 
 
-def reader_of(call: Callable[[List[str]], int], name: str, words: list[str]) -> argparse.ArgumentParser | None:
+def reader_of(call: Callable[[list[str]], int], name: str, words: list[str]) -> argparse.ArgumentParser | None:
     """The reader with which a tool reads its words; None of a tool without one. The tool goes no further."""
     def found(reader: argparse.ArgumentParser, *_: object) -> None:
         raise Found(reader)
@@ -65,8 +65,8 @@ def readers_of(word: str) -> list[argparse.ArgumentParser]:
     """The readers of a tool's words: one, or those of its formats after it."""
     if word == "judge":  # which shares nothing with the others, and has no options
         return []
-    call: Callable[[List[str]], int] = importlib.import_module(COMMANDS[word]).main
-    calls: List[List[str]] = [[], *([it] for it in FORMATS.get(word, ()))]
+    call: Callable[[list[str]], int] = importlib.import_module(COMMANDS[word]).main
+    calls: list[list[str]] = [[], *([it] for it in FORMATS.get(word, ()))]
     return [reader for it in calls if (reader := reader_of(call, word, it))]
 
 
@@ -90,8 +90,8 @@ def options_in(reader: argparse.ArgumentParser) -> list[Option]:
 
 def tool(name: str, text: str) -> Word:
     """A word of the companions."""
-    options: Dict[str, Option] = {}
-    first: List[str] = []
+    options: dict[str, Option] = {}
+    first: list[str] = []
     for reader in readers_of(name):
         options.update((it.name, it) for it in options_in(reader))
         own = next((action for action in reader._actions if not action.option_strings), None)
@@ -243,7 +243,7 @@ def fish(words: list[Word]) -> str:
     return FISH % (" ".join(BEFORE), "\n".join(rows))
 
 
-SHELLS: Dict[str, Callable[[List[Word]], str]] = {"bash": bash, "zsh": zsh, "fish": fish}
+SHELLS: dict[str, Callable[[list[Word]], str]] = {"bash": bash, "zsh": zsh, "fish": fish}
 
 
 def completion(shell: str = "bash") -> str:

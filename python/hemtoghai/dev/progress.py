@@ -3,7 +3,6 @@ from __future__ import annotations
 
 import os
 import time
-from typing import Dict, List
 
 from hemtoghai.launching.records import sources
 
@@ -22,7 +21,7 @@ SECONDS = {
     "upload_core": 77, "upload_model": 18,
 }
 
-Crates = Dict[str, List[str]]  # each with the ones right below it
+Crates = dict[str, list[str]]  # each with the ones right below it
 FIRST = 60.0  # seconds of the table that count as seen when nothing is
 
 

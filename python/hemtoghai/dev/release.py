@@ -32,7 +32,7 @@ import subprocess
 import sys
 import tarfile
 import tempfile
-from typing import Any, Dict, List, Tuple
+from typing import Any
 
 from hemtoghai import outputs, program
 from hemtoghai.companion import parser, stop
@@ -40,9 +40,9 @@ from hemtoghai.dev import completion, manual
 from hemtoghai.launching import records
 from hemtoghai.launching.records import git
 
-Record = Dict[str, Any]  # of a build, as it is noted beside the program
-Contents = List[Tuple[str, bytes, int]]  # files as path, bytes and mode
-Links = List[Tuple[str, str]]  # each with what it leads to
+Record = dict[str, Any]  # of a build, as it is noted beside the program
+Contents = list[tuple[str, bytes, int]]  # files as path, bytes and mode
+Links = list[tuple[str, str]]  # each with what it leads to
 TOP = program.TOP
 DEV = "python/hemtoghai/dev/"  # what only a checkout needs
 SHIPPED = ["VERSION", "CHANGELOG.md", "SECURITY.md", "show", "docs", "examples", "python", "tools", "library",

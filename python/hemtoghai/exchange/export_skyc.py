@@ -19,7 +19,7 @@ import json
 import zipfile
 from collections.abc import Sequence
 from fractions import Fraction
-from typing import Any, List
+from typing import Any
 
 from hemtoghai import outputs
 from hemtoghai.companion import decoded, many, parser, stop, value
@@ -28,7 +28,7 @@ from hemtoghai.geometry import paths
 from hemtoghai.language.choreo import Segment
 from hemtoghai.streams import shown
 
-Row = List[Fraction]  # control values
+Row = list[Fraction]  # control values
 SETPOINTS = 16
 # Numbers are written in whole nanometres, nanoseconds and millionths of a degree, which doubles keep exactly.
 FINE = 10 ** 6

@@ -18,7 +18,7 @@ import zlib
 from collections.abc import Iterable, Iterator, Sequence
 from fractions import Fraction
 from math import comb
-from typing import List, Tuple, Type, TypeVar
+from typing import TypeVar
 
 from hemtoghai.companion import read_front
 from hemtoghai.geometry import paths
@@ -27,9 +27,9 @@ from hemtoghai.language.choreo import MOST_DRONES
 from hemtoghai.language.lines import free_name
 
 Kind = TypeVar("Kind")
-Row = List[Fraction]  # numbers of a line, control values, or a place
+Row = list[Fraction]  # numbers of a line, control values, or a place
 Piece = paths.Piece[Fraction]
-Timed = Tuple[Fraction, Row]  # an instant in milliseconds, and a place with its yaw
+Timed = tuple[Fraction, Row]  # an instant in milliseconds, and a place with its yaw
 
 LARGEST = 1 << 24  # bytes of a file, or of all members of an archive that are read
 CELLS = LINES = 1000000  # cells of all CSV files, and lines of one
@@ -117,7 +117,7 @@ def checked(name: str, pieces: list[Piece]) -> Path[Fraction]:
 KINDS: dict[object, str] = {dict: "object", list: "list", str: "text", Fraction: "number"}
 
 
-def field(node: object, key: str, kind: Type[Kind], where: str, default: Kind | None = None) -> Kind:
+def field(node: object, key: str, kind: type[Kind], where: str, default: Kind | None = None) -> Kind:
     """What an object has under a word."""
     found = node.get(key, default) if isinstance(node, dict) else None
     if found is None or not isinstance(found, kind):

@@ -10,13 +10,13 @@ import bisect
 import math
 from collections.abc import Sequence
 from fractions import Fraction
-from typing import List, NamedTuple, Tuple, Union
+from typing import NamedTuple, Union
 
 from hemtoghai.geometry.paths import Budget, Path, root_up
 from hemtoghai.language import choreo
 from hemtoghai.language.lines import line_in
 
-Sides = Tuple[List[float], List[float]]  # the velocities before and after an instant, on x, y, z and of yaw
+Sides = tuple[list[float], list[float]]  # the velocities before and after an instant, on x, y, z and of yaw
 
 REST = 300  # milliseconds from which on a drone's rest is kept as it is
 LONGEST = choreo.LONGEST_SEGMENT
@@ -29,15 +29,15 @@ def whole(v: float) -> int:
 
 class Act(NamedTuple):
     """What a drone does in a cue: its words after its name, and its rows of control values."""
-    words: List[Union[str, int]]
-    rows: List[choreo.Row]
+    words: list[Union[str, int]]
+    rows: list[choreo.Row]
 
 
 class Cue(NamedTuple):
     """A cue of the show, with each drone's act."""
     begin: int
     milliseconds: int
-    acts: List[Act]
+    acts: list[Act]
 
 
 class Fit:

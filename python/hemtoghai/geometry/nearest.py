@@ -4,12 +4,11 @@ from __future__ import annotations
 
 import heapq
 from math import comb, lcm
-from typing import List, Tuple
 
 from hemtoghai.geometry.curves import halves
 from hemtoghai.language.choreo import Flown, Row
 
-Part = List[Row]  # on x, y and z eight control values
+Part = list[Row]  # on x, y and z eight control values
 SCALE = lcm(*(comb(14, k) for k in range(15)))
 FARTHEST = 65536  # no two positions are farther apart on an axis, in millimetres
 REACH_DEPTH = 6   # by parts of this depth speeds are bounded
@@ -36,7 +35,7 @@ def speed(milliseconds: int, b: Row) -> int:
     return -(-7000000 * (step << REACH_DEPTH) // (5040 * milliseconds << 7 * REACH_DEPTH))
 
 
-def reach_of(flown: Flown, late: int | None = None) -> Tuple[int, int, int]:
+def reach_of(flown: Flown, late: int | None = None) -> tuple[int, int, int]:
     """How many millimetres any drone moves on x, y and z at most in so many milliseconds, those of the show if none."""
     late = flown.show.settings["late"][0] if late is None else late
     if not late:

@@ -11,14 +11,14 @@ import math
 from collections.abc import Iterator
 from fractions import Fraction
 from math import ceil, comb, isqrt, lcm
-from typing import Generic, List, Tuple
+from typing import Generic
 
 from hemtoghai.companion import Number, value
 from hemtoghai.geometry.curves import halves
 
-Row = List[Number]  # the control values of a curve on an axis
-Piece = Tuple[Number, Number, List[Row[Number]]]  # its begin, its end, and its rows on x, y, z and yaw
-Whole = Tuple[List[int], int]  # fractions as whole numbers, and what these are to be divided by
+Row = list[Number]  # the control values of a curve on an axis
+Piece = tuple[Number, Number, list[Row[Number]]]  # its begin, its end, and its rows on x, y, z and yaw
+Whole = tuple[list[int], int]  # fractions as whole numbers, and what these are to be divided by
 MANY, SAMPLE = 20, 250  # from so many lines on of at most so many milliseconds each they are samples
 PI = Fraction(31415926535897932384626433832795028841972, 10 ** 40)  # to forty places
 SPLITS = 4  # halvings of a curve, for a bound in doubles

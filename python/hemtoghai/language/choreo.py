@@ -11,13 +11,13 @@ import re
 import struct
 from collections.abc import Iterator, Sequence
 from itertools import accumulate
-from typing import Any, Dict, List, NamedTuple, Tuple
+from typing import Any, NamedTuple
 
 from hemtoghai.language import quantities
 from hemtoghai.language.quantities import MICROMETRES, MILLIMETRES, MILLISECONDS, TENTHS
 
-Row = List[int]  # the control values of a curve on an axis
-Segment = Tuple[int, List[Row]]  # milliseconds, and the rows of x, y, z and yaw
+Row = list[int]  # the control values of a curve on an axis
+Segment = tuple[int, list[Row]]  # milliseconds, and the rows of x, y, z and yaw
 LONGEST_TEXT = 1048576
 LONGEST_CERTIFICATE = 400000000
 MEMORY = 4096
@@ -28,7 +28,7 @@ LONGEST_SEGMENT = 65535
 DEPTH = 6
 ALLOWED = bytes([9, 13, *range(32, 127)])
 # The form of the language by the words of a text's first line.
-FORMS: Dict[Tuple[str, ...], int] = {("choreo", "1"): 1, ("choreo", "2"): 2}
+FORMS: dict[tuple[str, ...], int] = {("choreo", "1"): 1, ("choreo", "2"): 2}
 
 
 class Number(NamedTuple):
@@ -49,7 +49,7 @@ POINT = [COORDINATE] * 3
 AXES = ["x", "y", "z", "yaw"]
 ARCS = ["arc", "swing", "arc_in", "arc_out"]
 # The slots of a line after its first word: a name, one or more names, a number, or a set of fixed words.
-LINES: Dict[str, List[Any]] = {
+LINES: dict[str, list[Any]] = {
     "memory": [Number(0, 255), Number(0, 4095)], "trajectory": [Number(0, 9)], "ellipsoid": [HALF_AXIS, HALF_AXIS],
     "stray": [Number(0, 1000, MILLIMETRES)], "late": [Number(0, 1000, MILLISECONDS)],
     "drone": ["name", *POINT, YAW], "formation": ["name"], "at": ["name", *POINT, YAW], "figure": ["name", "names"],
@@ -57,7 +57,7 @@ LINES: Dict[str, List[Any]] = {
     "perform": ["name", {"none", "x", "y"}, Number(0, 3), *POINT, "names"],
     "form": ["name", {"line", "move"}], "end": [],
 }
-ACTS: Dict[str, List[Any]] = {
+ACTS: dict[str, list[Any]] = {
     "hold": [], "line": [*POINT, YAW], "move": [*POINT, YAW], "turn": [YAW], "curve": [*POINT * 3, YAW],
     **{act: [{"ccw", "cw"}, COORDINATE, COORDINATE, YAW] for act in ARCS}}
 SETTINGS = ["memory", "trajectory", "ellipsoid", "stray", "late"]

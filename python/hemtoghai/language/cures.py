@@ -9,7 +9,6 @@ import re
 import sys
 from collections.abc import Iterator
 from fractions import Fraction
-from typing import Tuple
 
 from hemtoghai.language.choreo import ACTS, form_of, is_name, LINES, Number, number_of, parts_of, YAW
 from hemtoghai.language.quantities import Counts, FAR, in_unit, KINDS, value_of, written
@@ -18,7 +17,7 @@ from hemtoghai.language.text_cures import (alone_row, around, block_row, byte_ro
                                            show_row, unit_row, word_row, words_of)
 from hemtoghai.program import TOP
 
-Meaning = Tuple[str, str, str, str]  # of a number: what it is, its unit, a cause of being out of range, the cure
+Meaning = tuple[str, str, str, str]  # of a number: what it is, its unit, a cause of being out of range, the cure
 
 LANGUAGE = "docs/LANGUAGE.md"
 METRES = "a coordinate", "micrometres", "a number that was multiplied twice", \

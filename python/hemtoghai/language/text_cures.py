@@ -7,13 +7,13 @@ import difflib
 import re
 import unicodedata
 from collections.abc import Iterable, Sequence
-from typing import List, NamedTuple
+from typing import NamedTuple
 
 from hemtoghai.language import choreo
 from hemtoghai.language.choreo import ACTS, ARCS, is_name, Line, LINES, PLACES
 from hemtoghai.language.quantities import KINDS
 
-Row = List[str]  # what a fault means, its commonest cause or nothing, and its cure
+Row = list[str]  # what a fault means, its commonest cause or nothing, and its cure
 
 LONGEST_SHOWN = 40  # bytes of a word of which other ways of writing it are named
 MOST_SHOWN = 8  # of names that are listed
@@ -32,8 +32,8 @@ class Around(NamedTuple):
     """A line's own words, the blocks that are open where it stands, from outside in, and the lines of the text."""
 
     number: int
-    words: List[str]
-    blocks: List[Line]
+    words: list[str]
+    blocks: list[Line]
     text: bytes
 
     @property

@@ -4,12 +4,11 @@ from __future__ import annotations
 
 from collections.abc import Iterable, Iterator, Sequence
 from math import cos, hypot, radians, sin
-from typing import Tuple
 
 from hemtoghai.language.choreo import Flown
 
 Place = Sequence[float]  # in millimetres
-Point = Tuple[float, float]  # of the drawing
+Point = tuple[float, float]  # of the drawing
 
 WIDTH, GAP = 880, 40
 TURN, TILT = 28, 30  # degrees

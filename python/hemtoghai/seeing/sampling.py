@@ -4,7 +4,7 @@ from __future__ import annotations
 
 from collections.abc import Iterable
 from itertools import combinations
-from typing import Any, Dict, List, Tuple
+from typing import Any
 
 from hemtoghai.companion import ask, begins, cue_words, place, read_file, seconds, stop, value
 from hemtoghai.language import choreo
@@ -14,9 +14,9 @@ from hemtoghai.writing.meetings import Meeting, meetings_of
 
 MOST_PLACES = 48000  # of all drones together, so that a page has about a megabyte
 MOST_PAIRS = 12
-Sample = Tuple[float, float, float, float]  # x, y and z in millimetres, and yaw in degrees
-Mark = Dict[str, Any]  # a place in which two drones are blocked, as mark_of says it
-Region = List[Any]  # its kind, and its limits in millimetres: x, y and z from, and x, y and z to
+Sample = tuple[float, float, float, float]  # x, y and z in millimetres, and yaw in degrees
+Mark = dict[str, Any]  # a place in which two drones are blocked, as mark_of says it
+Region = list[Any]  # its kind, and its limits in millimetres: x, y and z from, and x, y and z to
 
 
 def step_of(flown: choreo.Flown, wanted: int | None, most_places: int = MOST_PLACES) -> int:

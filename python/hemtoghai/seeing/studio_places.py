@@ -4,12 +4,11 @@ from __future__ import annotations
 
 import contextlib
 import itertools
-from typing import Dict, List
 
 from hemtoghai.language import choreo
 from hemtoghai.language.lines import header, line_in
 
-Places = Dict[str, List[int]]  # by drone x, y and z in micrometres, and yaw in tenths of a degree
+Places = dict[str, list[int]]  # by drone x, y and z in micrometres, and yaw in tenths of a degree
 START = [0, 0, 1000000, 0]  # of a role whose place in its figure isn't known: a metre above the origin
 DECLARED = ("drone", "formation", "figure", *choreo.SETTINGS)
 

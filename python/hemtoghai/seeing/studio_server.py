@@ -20,7 +20,7 @@ import time
 from collections.abc import Callable, Mapping
 from functools import partial
 from http.server import BaseHTTPRequestHandler, ThreadingHTTPServer
-from typing import Any, Dict, TYPE_CHECKING
+from typing import Any, TYPE_CHECKING
 from urllib.parse import urlsplit
 
 from hemtoghai.companion import seconds, tool_name
@@ -33,7 +33,7 @@ from hemtoghai.seeing.studio_texts import TooLarge, Unknown
 if TYPE_CHECKING:
     from hemtoghai.commands.studio import Studio
 
-Asked = Dict[str, Any]  # the JSON of a request, whose text is in bytes
+Asked = dict[str, Any]  # the JSON of a request, whose text is in bytes
 
 MOST_BODY = 3 * choreo.LONGEST_TEXT  # in JSON a line feed takes two bytes
 MOST_LISTENERS = 32  # pages that are told when the file changes

@@ -3,14 +3,14 @@ change hands with them: for ./show deal and ./show why."""
 from __future__ import annotations
 
 from collections.abc import Collection, Sequence
-from typing import Any, List, Tuple
+from typing import Any
 
 from hemtoghai.language import choreo
 from hemtoghai.writing.figures import least
 
-Words = Tuple[Any, ...]  # of a place: its drone, and its numbers
+Words = tuple[Any, ...]  # of a place: its drone, and its numbers
 # Of a `form` line the sum of its squared ways, how many drones stay at their places there, and the places.
-State = Tuple[int, int, List[Words]]
+State = tuple[int, int, list[Words]]
 MOST_PASSES = 3  # over the lines of a repeat, whose first one begins where the last one ends
 
 

@@ -8,7 +8,7 @@ from __future__ import annotations
 import re
 from collections.abc import Callable, Sequence
 from dataclasses import dataclass
-from typing import List, NamedTuple, Optional, Tuple
+from typing import NamedTuple, Optional
 
 from hemtoghai.language.choreo import Flown
 from hemtoghai.language.lines import line_in
@@ -20,8 +20,8 @@ PLACE = re.compile(r"blocked pair (\S+) (\S+) cue (\d+) part (\d+) of (\d+) clos
 MORE = "blocked more than 200\n"
 ALL = re.compile(r"(?:separated\n|((?:%s)+)(%s)?)(?:closest pair .*\n)?(?:touch pair .*\n|no-touch instants \d+\n)?"
                  % (re.sub(r"\((?!\?)", "(?:", PLACE.pattern), MORE))
-Ask = Callable[[List[str], bytes], Optional[Tuple[int, str]]]  # the status and the output of a command on a text
-Slot = Tuple[int, int, int]  # two drones and a cue, numbered from 0
+Ask = Callable[[list[str], bytes], Optional[tuple[int, str]]]  # the status and the output of a command on a text
+Slot = tuple[int, int, int]  # two drones and a cue, numbered from 0
 
 
 @dataclass(frozen=True)

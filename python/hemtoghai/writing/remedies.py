@@ -4,7 +4,6 @@ from __future__ import annotations
 
 from collections.abc import Iterator
 from dataclasses import dataclass
-from typing import List
 
 from hemtoghai.language import choreo
 from hemtoghai.language.lines import line_in
@@ -22,7 +21,7 @@ class Remedy:
     how: str  # it is written: "wait", "first" or "lift"
     lifts: dict[int, int]  # by drone how many millimetres it flies higher: 0 where it waits or goes first
     words: str
-    stages: List[Stage]  # what all fly in place of the cue
+    stages: list[Stage]  # what all fly in place of the cue
     takes: int  # milliseconds
 
 

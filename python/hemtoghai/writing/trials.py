@@ -7,13 +7,12 @@ from collections.abc import Callable
 from dataclasses import dataclass
 from functools import cached_property
 from itertools import accumulate
-from typing import Dict, List, Tuple
 
 from hemtoghai.language.choreo import Flown
 from hemtoghai.language.lines import header, line_in
 from hemtoghai.writing.meetings import Ask, asked, Slot
 
-Stage = Tuple[int, Dict[str, List[str]]]  # a cue of a text in `choreo 1`: milliseconds, and by drone the words of its act
+Stage = tuple[int, dict[str, list[str]]]  # a cue of a text in `choreo 1`: milliseconds, and by drone the words of its act
 FORM = 1
 MOST_SLOTS = 5000000  # pairs in cues that are asked about for one show, some seconds of work
 
