@@ -72,12 +72,18 @@ def read_file(path: str, most: int = texts.LOG) -> bytes:
     return data if len(data) <= most else stop("%s: more than %d bytes" % (path, most))
 
 
+def read_show(path: str) -> bytes:
+    """A show's text, to one more byte than it may have."""
+    text = read_front(path, choreo.LONGEST_TEXT)
+    if len(text) <= choreo.LONGEST_TEXT and choreo.parts_of(text)[2]:
+        stop("%s: a tool reads a show alone, without a marker line" % path)
+    return text
+
+
 def flown_of(path: str) -> tuple[bytes, Flown]:
     """What the drones of a show's file fly; a faulty show ends the tool with the program's status and line."""
-    text = read_front(path, choreo.LONGEST_TEXT)
+    text = read_show(path)
     try:
-        if len(text) <= choreo.LONGEST_TEXT and choreo.parts_of(text)[2]:
-            stop("%s: a tool reads a show alone, without a marker line" % path)
         return text, choreo.flown_of(text)
     except Refused as refusal:
         if refusal.number:
@@ -224,13 +230,9 @@ def many(number: int, word: str) -> str:
     return "%d %s%s" % (number, word, "" if number == 1 else "s")
 
 
-def plan_in(text: bytes, path: str) -> list[tuple[str, bytes, int]]:
-    """The drones of a plan's text, which comes from this file: name, bytes and number of pieces each."""
-    return [(name, data, pieces) for name, data, pieces, _ in parts_of_plan(text, path)]
-
-
 def parts_of_plan(text: bytes, path: str) -> list[PartOfPlan]:
-    """The same with each drone's packets; anything but a plan ends the tool."""
+    """The drones of a plan's text, which comes from this file: name, bytes, number of pieces and packets each; anything
+    but a plan ends the tool."""
     lines = text.decode(errors="replace").split("\n")
     drones: list[PartOfPlan] = []
     name = None

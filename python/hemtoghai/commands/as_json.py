@@ -136,9 +136,7 @@ def shown(reader: argparse.ArgumentParser, words: list[str]) -> tuple[argparse.N
     """Reads a tool's words, of which the last is the file of a show, and that show; None where it is faulty."""
     reader.add_argument("show", metavar="SHOW", help="a file with a show, or - for standard input")
     options = reader.parse_args(words)
-    text = companion.read_front(options.show, choreo.LONGEST_TEXT)
-    if len(text) <= choreo.LONGEST_TEXT and choreo.parts_of(text)[2]:
-        companion.stop("%s: a tool reads a show alone, without a marker line" % options.show)
+    text = companion.read_show(options.show)
     try:
         return options, text, choreo.flown_of(text)
     except choreo.Refused:

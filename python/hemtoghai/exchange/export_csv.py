@@ -17,7 +17,7 @@ import os
 from fractions import Fraction
 
 from hemtoghai import outputs
-from hemtoghai.companion import decoded, many, parser, stop
+from hemtoghai.companion import many, parser
 from hemtoghai.exchange.plans import drones_of
 from hemtoghai.geometry.curves import powers
 from hemtoghai.geometry.paths import PI
@@ -60,16 +60,13 @@ def main(words: list[str]) -> int:
     outputs.refuse((os.path.join(options.folder, name + ".csv") for name, _, _ in drones), options.force,
                    [options.plan])
     files, said = {}, []
-    for name, data, pieces in drones:
-        if (trajectory := decoded(data, pieces)) is None:
-            stop(f"{options.plan}: the bytes of {name} are no trajectory of {many(pieces, 'segment')}")
-        segments = trajectory[1]
+    for name, _, segments in drones:
         lines, places, yaw = lines_of(segments)
         files[name + ".csv"] = ("\n".join(lines) + "\n").encode()
         lasts = sum(segment[0] for segment in segments) / 1000
-        said.append(f"{os.path.join(options.folder, name)}.csv: {many(pieces, 'segment')}, {lasts:.3f} s; a double may "
+        said.append(f"{os.path.join(options.folder, name)}.csv: {many(len(segments), 'segment')}, {lasts:.3f} s; a double may "
                     f"differ by {float(places):.1e} m on an axis and {float(yaw):.1e} rad of yaw")
-        if pieces > MOST_PIECES:
+        if len(segments) > MOST_PIECES:
             said.append(f"  more than the {MOST_PIECES} segments that fit into 4,096 bytes as polynomials")
     outputs.write_below(options.folder, files, options.force)
     print(shown("\n".join(said)))

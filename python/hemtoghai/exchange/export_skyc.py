@@ -22,7 +22,7 @@ from fractions import Fraction
 from typing import Any
 
 from hemtoghai import outputs
-from hemtoghai.companion import decoded, many, parser, stop, value
+from hemtoghai.companion import many, parser, value
 from hemtoghai.exchange.plans import drones_of
 from hemtoghai.geometry import paths
 from hemtoghai.language.choreo import Segment
@@ -120,10 +120,8 @@ def main(words: list[str]) -> int:
     outputs.refuse([options.out], options.force, [options.plan])
     drones: list[dict[str, Any]] = []
     count, worst, turned = 0, Fraction(0), Fraction(0)
-    for name, data, pieces in drones_of(options.plan):
-        if (trajectory := decoded(data, pieces)) is None:
-            stop("%s: the bytes of %s are no trajectory of %s" % (options.plan, name, many(pieces, "segment")))
-        drone, more, off, also = drone_of(name, *trajectory, options.tolerance ** 2)
+    for name, start, segments in drones_of(options.plan):
+        drone, more, off, also = drone_of(name, start, segments, options.tolerance ** 2)
         drones, count, worst, turned = drones + [drone], count + more, max(worst, off), max(turned, also)
     show = {"version": 1, "settings": {}, "environment": {"type": "indoor"}, "meta": {}, "swarm": {"drones": drones},
             "media": {}}

@@ -2,11 +2,12 @@
 from __future__ import annotations
 
 from hemtoghai import program, texts
-from hemtoghai.companion import plan_in, read_file, stop
+from hemtoghai.companion import decoded, many, parts_of_plan, read_file, stop
+from hemtoghai.language.choreo import Row, Segment
 
 
-def drones_of(path: str) -> list[tuple[str, bytes, int]]:
-    """The drones of a plan, or of a show, which the program compiles: names, bytes and numbers of segments."""
+def drones_of(path: str) -> list[tuple[str, Row, list[Segment]]]:
+    """The drones of a plan, or of a show, which the program compiles: names, starts and segments."""
     text = read_file(path, texts.PLAN)
     if not text.startswith(b"plan 1"):
         try:
@@ -15,4 +16,8 @@ def drones_of(path: str) -> list[tuple[str, bytes, int]]:
             return stop("the show can't be compiled: %s" % why)
         if status:
             stop("%s: %s" % (path, text.decode(errors="replace").strip()), status)
-    return plan_in(text, path)
+    out = []
+    for name, data, pieces, _ in parts_of_plan(text, path):
+        found = decoded(data, pieces) or stop(f"{path}: the bytes of {name} are no trajectory of {many(pieces, 'segment')}")
+        out.append((name, *found))
+    return out
