@@ -14,6 +14,7 @@ from hemtoghai.language import choreo
 from hemtoghai.language.choreo import Refused
 import separation
 import trees
+from plans import plan_of
 
 
 class Verdict:
@@ -46,7 +47,7 @@ class Verdict:
         if self.refusal:
             return self.refusal.status, self.refusal.output
         if command == "compile":
-            return 0, self.flown.plan()
+            return 0, plan_of(self.flown)
         if command == "certify":
             return 0, trees.certificate(self.flown, self.depth, self.version)
         counts = len(self.flown.names), len(self.flown.cues), self.flown.milliseconds

@@ -7,10 +7,11 @@ from __future__ import annotations
 
 from typing import List, Optional
 
-from hemtoghai.language.choreo import Flown, LONGEST_CERTIFICATE, Refused
+from hemtoghai.language.choreo import Flown, Refused
 import separation
 from separation import Part
 
+LONGEST_CERTIFICATE = 400000000  # bytes
 Nodes = List[Optional[int]]  # of a tree in preorder: None for a split, else the number of a direction
 
 

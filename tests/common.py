@@ -15,6 +15,7 @@ TOP = os.path.dirname(os.path.dirname(os.path.abspath(__file__)))
 PYTHON = os.path.join(TOP, "python")
 SIMULATED = os.path.join(PYTHON, "hemtoghai", "flying", "simulated")
 sys.path[:0] = [PYTHON, SIMULATED]
+sys.path.append(os.path.join(TOP, "bench"))  # the second readers, behind all others
 
 from hemtoghai.flying import clock, own_clock
 from hemtoghai.language import choreo

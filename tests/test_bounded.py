@@ -5,7 +5,6 @@ import io
 import os
 import random
 import subprocess
-import sys
 import tempfile
 import unittest
 from itertools import chain, islice
@@ -16,9 +15,8 @@ from common import TOP
 from hemtoghai.commands import flown, judge
 from hemtoghai.companion import value
 from hemtoghai.language import choreo
-
-sys.path.append(os.path.join(TOP, "bench"))
 import separation
+from plans import plan_of
 
 DRONES = 32
 HEAD = "choreo 1\n" + "".join("drone d%d 0 0 1000000 0\n" % k for k in range(DRONES))
@@ -132,7 +130,7 @@ class Certificates(common.Folder, unittest.TestCase):
     def test_long(self):
         # 21 MB: seven million trees of a word, or one line; the memory is some four times the text, and not each tree's.
         with tempfile.TemporaryDirectory() as self.place:
-            self.write("plan", common.example("crossing_cured")[1].plan())
+            self.write("plan", plan_of(common.example("crossing_cured")[1]))
             for text, status, said in ((b"49\n" * 7000000, 12, "judge: refused at tree 1, pair a b cue 1\n"),
                                        (b"." + b"49" * 10500000, 11, "judge: error 11 line 3\n"),
                                        (b".4958\n49\n" * 500000, 12, "judge: refused at tree 1, pair a b cue 1\n")):
@@ -147,7 +145,7 @@ class Certificates(common.Folder, unittest.TestCase):
     def test_105_megabytes(self):
         # 35 million trees of a word, and trees of several lengths by turns: in 300 MB.
         with tempfile.TemporaryDirectory() as self.place:
-            self.write("plan", common.example("crossing_cured")[1].plan())
+            self.write("plan", plan_of(common.example("crossing_cured")[1]))
             for text, said in ((b"58\n", "judge: refused at tree 2, pair a b cue 2\n"),
                                (b".4958\n49\n.49.5800\n", "judge: refused at tree 1, pair a b cue 1\n")):
                 with open(self.path("certificate"), "wb") as file:

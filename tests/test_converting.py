@@ -3,15 +3,13 @@ refused."""
 import os
 import random
 import re
-import sys
 import tempfile
 import unittest
 
 from common import TOP, run
 from hemtoghai.language import choreo, converting
 from hemtoghai.texts import TooLong
-
-sys.path.append(os.path.join(TOP, "bench"))
+from plans import plan_of
 from scripts import script
 
 # The same show in both forms: each kind of line, blanks, comments and carriage returns.
@@ -104,7 +102,7 @@ def facts(text):
     except choreo.Refused as refusal:
         return str(refusal)
     try:
-        return rows, choreo.flown_of(text).plan()
+        return rows, plan_of(choreo.flown_of(text))
     except choreo.Refused as refusal:
         return rows, str(refusal)
 

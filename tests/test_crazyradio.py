@@ -16,6 +16,7 @@ from hemtoghai.flying import firmware
 from hemtoghai.flying import uploads
 from cflib import air
 from cflib.crtp import radiodriver
+from plans import digits, plan_of
 
 START = bytes.fromhex("8C05000000000000803F")
 MANY = 32
@@ -607,8 +608,8 @@ air_memory = air.Drone.memory
 
 class Packets(unittest.TestCase):
     def test_as_a_plan_has_them(self):
-        plan = common.example("solo")[1].plan()
-        self.assertIn("start " + choreo.digits(firmware.packet(firmware.COMMANDER, 0, firmware.start(0))), plan)
+        plan = plan_of(common.example("solo")[1])
+        self.assertIn("start " + digits(firmware.packet(firmware.COMMANDER, 0, firmware.start(0))), plan)
 
     def test_by_hand(self):
         # 1.0 is 00 00 80 3F, 2.0 is 00 00 00 40; heights are absolute, yaws stay as they are.

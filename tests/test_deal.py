@@ -1,7 +1,6 @@
 """./show deal and ./show why --cured: shows of a few drones, worked by hand."""
 import os
 import subprocess
-import sys
 import tempfile
 import unittest
 
@@ -10,8 +9,6 @@ import forked
 from common import TOP
 from hemtoghai.language import choreo
 from hemtoghai.language.converting import converted
-
-sys.path.append(os.path.join(TOP, "bench"))
 import separation
 
 # Two drones form a row across, change sides, and form it again.

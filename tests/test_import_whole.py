@@ -16,6 +16,7 @@ from hemtoghai.language import choreo
 from hemtoghai import program
 from hemtoghai.exchange import foreign
 from foreign_files import Case, squared
+from plans import plan_of
 
 EXAMPLES = os.path.join(common.TOP, "examples")
 FOREIGN = {"rising.skyc": [], "relay.csv": ["--smooth"], "eight_left.csv": []}
@@ -46,7 +47,7 @@ class RoundTrips(Case):
     def exported(self, flown, *words):
         """The paths in the .skyc of what is flown, its place, and its bound."""
         path = self.file("o.skyc")
-        status, out, said = self.run_tool("export skyc", "--force", *words, self.file("plan", flown.plan()), path)
+        status, out, said = self.run_tool("export skyc", "--force", *words, self.file("plan", plan_of(flown)), path)
         self.assertEqual(status, 0, said)
         self.assertIn("are their own bytes: nothing is promised of those", out)
         return foreign.read_skyc(path, {}), path, bound_of(out)

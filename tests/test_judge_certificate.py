@@ -7,6 +7,7 @@ import tempfile
 import unittest
 
 from common import choreo, example, run, TOP
+from plans import plan_of
 
 GOOD = "certificate 6\nr\nn\na\n"
 
@@ -17,7 +18,7 @@ class Judge(unittest.TestCase):
         self.addCleanup(folder.cleanup)
         self.room = folder.name
         text, flown = example("crossing_cured")
-        self.show, self.plan = text.decode(), flown.plan()
+        self.show, self.plan = text.decode(), plan_of(flown)
 
     def file(self, name, text):
         """A file with this text; its path."""
@@ -82,7 +83,7 @@ class Judge(unittest.TestCase):
                      self.show.replace("drone a       0 0", "drone a       0 1000"),
                      "\n".join(lines[:drones[1]] + lines[drones[1] + 1:])):
             self.assertEqual(self.judged(show=show)[0], 70, show)
-        self.assertEqual(self.judged(plan=example("crossing")[1].plan(), certificate="certificate 6\nr\n")[0], 12)
+        self.assertEqual(self.judged(plan=plan_of(example("crossing")[1]), certificate="certificate 6\nr\n")[0], 12)
 
     def test_damaged_plans(self):
         data = next(line for line in self.plan.split("\n") if line.startswith("data "))
@@ -105,7 +106,7 @@ class Judge(unittest.TestCase):
             self.assertEqual(self.judged(show=self.show + line + "\n")[0], status, line)
         # A drone may have the name of a setting: its acts are none.
         show = self.show.replace(" b ", " stray ").replace("\nb ", "\nstray ").replace("  b ", "  stray ")
-        plan = choreo.flown_of(show.encode()).plan()
+        plan = plan_of(choreo.flown_of(show.encode()))
         self.assertEqual(self.judged(show=show, plan=plan)[0], 0)
 
     def test_units(self):

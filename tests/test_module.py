@@ -16,6 +16,7 @@ import common
 import forked
 import hemtoghai
 from hemtoghai import answering, judging, program
+from plans import plan_of
 
 IS_BUILT = os.access(program.PROGRAM, os.X_OK)
 PROVED = "logic=proved functions=3 axioms=1"
@@ -196,7 +197,7 @@ class Plans(Case):
         self.assertEqual([drone.data for drone in plan.values()], flown.data())
         self.assertEqual(plan["b"].pack(), plan["b"].data)
         self.assertEqual([drone.pieces for drone in plan.values()], [len(segments) for segments in flown.sent])
-        self.assertEqual(plan.text.decode(), flown.plan())
+        self.assertEqual(plan.text.decode(), plan_of(flown))
         # 34 bytes go in two writes.
         self.assertEqual([kind for kind, _ in plan["a"].packets], ["write", "write", "define", "start"])
         with self.assertRaises(KeyError):

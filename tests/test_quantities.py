@@ -9,6 +9,7 @@ from fractions import Fraction
 from common import TOP
 from hemtoghai.language import choreo, quantities
 from hemtoghai.language.quantities import FAR, MICROMETRES, MILLIMETRES, MILLISECONDS, TENTHS
+from plans import plan_of
 
 # What a place counts, a word that is a quantity there with its value, and one beside it that is none.
 ROWS = [
@@ -54,7 +55,7 @@ FIRST = "choreo 1\ndrone solo 0 0 1000000 0\ncue 2000\nsolo move 1000000 0 10000
 def answer(text):
     """The plan of a show's text, or the line with which it is refused."""
     try:
-        return choreo.flown_of(text.encode()).plan()
+        return plan_of(choreo.flown_of(text.encode()))
     except choreo.Refused as refusal:
         return str(refusal)
 

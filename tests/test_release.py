@@ -26,6 +26,7 @@ from hemtoghai.dev import release
 from hemtoghai.__main__ import COMMANDS
 from hemtoghai.dev import manual
 from hemtoghai.launching import words as commands
+from plans import plan_of
 
 PROVED = "logic=proved functions=3 axioms=1"
 STAND_IN = """#!/bin/sh
@@ -462,7 +463,7 @@ class Release(unittest.TestCase):
         self.assertEqual((status, out), (3, "error 3 line 2 bad-count\n"))
         status, plan, _ = self.run_there("show", "compile", "examples/crossing_cured.choreo")
         with open(os.path.join(TOP, "examples", "crossing_cured.choreo"), "rb") as file:
-            self.assertEqual((status, plan), (0, choreo.flown_of(file.read()).plan()))
+            self.assertEqual((status, plan), (0, plan_of(choreo.flown_of(file.read()))))
         status, out, error = self.run_there("show", "release")
         self.assertEqual((status, out, "this is a release" in error), (70, "", True))
         status, _, error = self.run_there("show", "--unproved", "check", "examples/solo.choreo")

@@ -1,8 +1,6 @@
 """Shows that are tried for ./show why: a cue that is written out is the cue of the show, and what the program says of
 several ways to fly it is what it says of each alone, and what bench/separation.py finds."""
-import os
 import random
-import sys
 import unittest
 
 import common
@@ -10,8 +8,6 @@ from hemtoghai.companion import ask
 from hemtoghai.language import choreo
 from hemtoghai.writing.remedies import remedies
 from hemtoghai.writing.trials import stage_of, Trials
-
-sys.path.append(os.path.join(common.TOP, "bench"))
 import separation
 
 EXAMPLES = "every_act", "mirrored_figure", "nested_repeats", "turning_square", "formation_change", "units"

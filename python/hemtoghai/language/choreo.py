@@ -1,9 +1,9 @@
-"""The reader of the language that tools and benches share: from a show's text to its plan and its certificate.
+"""The reader of the language that tools and benches share: from a show's text to the bytes of its trajectories.
 
 It is written from the documents alone and shares nothing with the program: lines, names and cues by docs/LANGUAGE.md,
-the order of refusals and fault lines by docs/COMMANDS.md, curves, rounding and bytes by docs/TRAJECTORY.md,
-separation and certificates by docs/SEPARATION.md. All numbers are whole, those of `choreo 2` too once they are read. It
-proves nothing; where it and the program differ, one of them is wrong.
+the order of refusals and fault lines by docs/COMMANDS.md, curves, rounding and bytes by docs/TRAJECTORY.md. All numbers
+are whole, those of `choreo 2` too once they are read. It proves nothing; where it and the program differ, one of them is
+wrong.
 """
 from __future__ import annotations
 
@@ -19,7 +19,6 @@ from hemtoghai.language.quantities import MICROMETRES, MILLIMETRES, MILLISECONDS
 Row = list[int]  # the control values of a curve on an axis
 Segment = tuple[int, list[Row]]  # milliseconds, and the rows of x, y, z and yaw
 LONGEST_TEXT = 1048576
-LONGEST_CERTIFICATE = 400000000
 MEMORY = 4096
 MOST_DRONES = 32
 MOST_CUES = 1000
@@ -528,29 +527,6 @@ class Flown:
     def room(self) -> int:
         """How many bytes of a drone's memory the show may take."""
         return MEMORY - self.show.settings["memory"][1]
-
-    def plan(self) -> str:
-        memory, offset = self.show.settings["memory"]
-        (trajectory,) = self.show.settings["trajectory"]
-        out = "plan 1\n"
-        for name, segments, data in zip(self.names, self.sent, self.data()):
-            out += "drone %s bytes %d pieces %d\ndata %s\n" % (name, len(data), len(segments), digits(data))
-            for word, packet in packets(memory, offset, trajectory, data, len(segments)):
-                out += "%s %s\n" % (word, digits(packet))
-        return out + "end\n"
-
-
-def digits(data: bytes) -> str:
-    return data.hex(" ").upper()
-
-
-def packets(memory: int, offset: int, trajectory: int, data: bytes, pieces: int) -> Iterator[tuple[str, bytes]]:
-    """The packets that write a trajectory's bytes, define it and start it (docs/RADIO.md), each with its word."""
-    for begin in range(0, len(data), 24):
-        address = (offset + begin).to_bytes(4, "little")
-        yield "write", bytes([0x4E, memory]) + address + data[begin:begin + 24]
-    yield "define", bytes([0x8C, 6, trajectory, 1, 1]) + offset.to_bytes(4, "little") + bytes([pieces])
-    yield "start", bytes([0x8C, 5, 0, 0, 0, trajectory, 0, 0, 0x80, 0x3F])
 
 
 def parts_of(whole: bytes) -> tuple[bytes, bytes | None, list[int]]:
