@@ -4,7 +4,7 @@ from __future__ import annotations
 import argparse
 import re
 import sys
-from collections.abc import Sequence
+from collections.abc import Callable, Sequence
 from fractions import Fraction
 from typing import Any, NoReturn, TypeVar
 
@@ -48,14 +48,17 @@ def parser(text: str | None) -> argparse.ArgumentParser:
                   formatter_class=argparse.RawDescriptionHelpFormatter)
 
 
+def whole(what: str, least: int, most: int) -> Callable[[str], int]:
+    """What reads a whole number of an option within its limits, which `what` has places for: it is said of others."""
+    def read(word: str) -> int:
+        if not (word.isdigit() and len(word) < 10 and least <= int(word) <= most):
+            raise argparse.ArgumentTypeError("%s, not %s" % (what % (least, most), word))
+        return int(word)
+    return read
+
+
 def add_depth(words: argparse.ArgumentParser, text: str = "as for check: 0 to 8, without it 6") -> None:
-    words.add_argument("--depth", type=depth, default=choreo.DEPTH, metavar="D", help=text)
-
-
-def depth(word: str) -> int:
-    if not word.isdigit() or len(word) > 9 or int(word) > 8:
-        raise argparse.ArgumentTypeError("the depth is 0 to 8, not %s" % word)
-    return int(word)
+    words.add_argument("--depth", type=whole("the depth is %d to %d", 0, 8), default=choreo.DEPTH, metavar="D", help=text)
 
 
 def read_front(path: str, most: int) -> bytes:

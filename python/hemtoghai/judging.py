@@ -10,7 +10,7 @@ import json
 import operator
 import os
 import re
-from collections.abc import Iterable, Iterator, Mapping
+from collections.abc import Iterator, Mapping
 from dataclasses import dataclass, field
 from functools import cached_property
 from typing import Any, Optional, Union
@@ -195,26 +195,20 @@ def told(words: list[str], text: bytes) -> tuple[int, str]:
     return answer.status, answer.output.decode()
 
 
-def placed(flown: Any, found: Iterable[meetings.Meeting]) -> tuple[Blocked, ...]:
-    """Places in which drones are blocked, with the one that is named before the others, in the order of distances."""
-    out = []
-    for number, it in enumerate(found):
+def blocked_of(text: bytes, deep: int) -> tuple[tuple[Blocked, ...], bool]:
+    """The places in which drones of a show are blocked that `check` refuses, that first in which they are nearest, and
+    whether these are all."""
+    flown, out = choreo.flown_of(text), []
+    found = meetings.meetings_of(told, flown, text, deep)
+    if found is None or not found[0]:
+        raise Unusable("the program doesn't name the places of a show that it refuses")
+    for number, it in enumerate(found[0]):
         cue, names = flown.cues[it.cue], (flown.names[it.i], flown.names[it.j])
         lines = {cue.number, *(cue.acts[name][0] for name in names if name in cue.acts)}
         places = place_of(flown, it.i, it.cue, it.at), place_of(flown, it.j, it.cue, it.at)
         out.append(Blocked(*names, it.cue + 1, it.begin, it.end, it.nearest, places, it.share, it.touch, it.cause,
                            tuple(sorted(lines)), not number))
-    return tuple(sorted(out, key=lambda place: place.share))
-
-
-def blocked_of(text: bytes, deep: int) -> tuple[tuple[Blocked, ...], bool]:
-    """The places in which drones of a show are blocked that `check` refuses, that first in which they are nearest, and
-    whether these are all."""
-    flown = choreo.flown_of(text)
-    found = meetings.meetings_of(told, flown, text, deep)
-    if found is None or not found[0]:
-        raise Unusable("the program doesn't name the places of a show that it refuses")
-    return placed(flown, found[0]), found[1]
+    return tuple(sorted(out, key=lambda place: place.share)), found[1]
 
 
 CAUTION = re.compile(r"line (\d+), (?:cue (\d+)|the end): (\S+) ")

@@ -21,10 +21,10 @@ import re
 from collections.abc import Callable
 from math import ceil, dist
 
-from hemtoghai.companion import flown_of, known_names, many, parser, put_show, say, set_tool, stop
+from hemtoghai.companion import flown_of, known_names, many, parser, put_show, say, set_tool, stop, whole
 from hemtoghai.language import choreo
 from hemtoghai.language.lines import header, line_in, NEWEST
-from hemtoghai.language.quantities import Counts, listed_units, MICROMETRES, MILLISECONDS, TENTHS, value_of
+from hemtoghai.language.quantities import Counts, listed, MICROMETRES, MILLISECONDS, TENTHS, value_of
 from hemtoghai.writing.figures import grid, micrometres, Path, piece, Place, ring, turn, wave
 
 KINDS = "ring", "rows", "turn", "wave"
@@ -40,7 +40,7 @@ def quantity(counts: Counts, least: int, most: int) -> Callable[[str], int]:
         value = value_of(counts, word)
         if value is None or not least <= value <= most:
             raise argparse.ArgumentTypeError("%s is no %s here: write its number with %s right after it" % (
-                word, counts.kind, listed_units(counts)))
+                word, counts.kind, listed(counts.units)))
         return value
     return read
 
@@ -48,12 +48,7 @@ def quantity(counts: Counts, least: int, most: int) -> Callable[[str], int]:
 LENGTH = quantity(MICROMETRES, -32000000, 32000000)
 ANGLE = quantity(TENTHS, -36000, 36000)
 TIME = quantity(MILLISECONDS, 100, 1000000)
-
-
-def count(word: str) -> int:
-    if not word.isdigit() or len(word) > 2 or not 1 <= int(word) <= choreo.MOST_DRONES:
-        raise argparse.ArgumentTypeError("a show has 1 to %d drones, not %s" % (choreo.MOST_DRONES, word))
-    return int(word)
+COUNT = whole("a show has %d to %d drones", 1, choreo.MOST_DRONES)
 
 
 # ---- a show that begins
@@ -72,9 +67,9 @@ def begin(kind: str, words: list[str]) -> int:
         reader.add_argument("--radius", type=LENGTH, metavar="R", help="of the ring; without it so that neighbours are "
                             "60cm apart, and at least 50cm")
     else:
-        reader.add_argument("--columns", type=count, metavar="N", help="drones in a row; without it as many as rows")
+        reader.add_argument("--columns", type=COUNT, metavar="N", help="drones in a row; without it as many as rows")
         reader.add_argument("--spacing", type=LENGTH, default=600000, metavar="D", help="between two; without it 60cm")
-    reader.add_argument("count", type=count, metavar="COUNT", help="how many drones, 1 to 32")
+    reader.add_argument("count", type=COUNT, metavar="COUNT", help="how many drones, 1 to 32")
     options = reader.parse_args(words)
     number, centre = options.count, (0, 0, options.height / 1e6)
     if kind == "ring":

@@ -19,8 +19,8 @@ import sys
 from typing import Any
 
 from hemtoghai import program
-from hemtoghai.companion import (add_depth, ask_check, ask_dynamics, missing, parser, read_file, without_program,
-                                 words_and_show)
+from hemtoghai.companion import (add_depth, ask_check, ask_dynamics, missing, parser, read_file, whole,
+                                 without_program, words_and_show)
 from hemtoghai.language.choreo import Flown
 from hemtoghai.seeing import drawing
 from hemtoghai.seeing.page import page_of
@@ -65,16 +65,10 @@ def picture_of(options: argparse.Namespace, text: bytes, flown: Flown) -> dict[s
     }
 
 
-def step(word: str) -> int:
-    if not word.isdigit() or len(word) > 9 or not 1 <= int(word) <= 60000:
-        raise ValueError
-    return int(word)
-
-
 def main(words: list[str]) -> int:
     reader = parser(__doc__)
     add_depth(reader)
-    reader.add_argument("--step", type=step, metavar="MS",
+    reader.add_argument("--step", type=whole("a step is %d to %d", 1, 60000), metavar="MS",
                         help="milliseconds from one sample to the next, 1 to 60000; without it by the show's length")
     reader.add_argument("--regions", metavar="FILE", help="boxes and volumes to draw: the regions of `boxes`")
     reader.add_argument("--svg", action="store_true", help="one drawing in place of a page")

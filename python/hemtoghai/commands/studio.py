@@ -24,7 +24,7 @@ import threading
 from typing import Any
 
 from hemtoghai import program
-from hemtoghai.companion import add_depth, parser, read_file, stop, tool_name
+from hemtoghai.companion import add_depth, parser, read_file, stop, tool_name, whole
 from hemtoghai.language import choreo
 from hemtoghai.language.cures import cure_in, shown
 from hemtoghai.seeing.page import page_of, read
@@ -162,12 +162,6 @@ class Studio:
         return found
 
 
-def port(word: str) -> int:
-    if not re.fullmatch("[0-9]{1,5}", word) or not 1 <= int(word) <= 65535:
-        raise argparse.ArgumentTypeError("a port is 1 to 65535, not %s" % word)
-    return int(word)
-
-
 def server_of(options: argparse.Namespace) -> Server:
     """The server, on the port that is wanted, else on the usual one of this file or one that is free: by its port a
     browser knows which page may see the text that wasn't saved the last time."""
@@ -205,7 +199,7 @@ def read_words(words: list[str]) -> argparse.Namespace:
     reader = parser(__doc__)
     add_depth(reader)
     reader.add_argument("--watch", action="store_true", help="no editor: the page follows the file")
-    reader.add_argument("--port", type=port, metavar="N",
+    reader.add_argument("--port", type=whole("a port is %d to %d", 1, 65535), metavar="N",
                         help="the port; without it one that is the same each time for this file")
     reader.add_argument("--no-open", action="store_true", help="open no browser")
     reader.add_argument("--regions", metavar="FILE", help="a room and the obstacles in it: the regions of `boxes`")

@@ -11,9 +11,9 @@ from collections.abc import Iterator
 from fractions import Fraction
 
 from hemtoghai.language.choreo import ACTS, form_of, is_name, LINES, Number, number_of, parts_of, YAW
-from hemtoghai.language.quantities import Counts, FAR, in_unit, KINDS, value_of, written
+from hemtoghai.language.quantities import Counts, FAR, in_unit, KINDS, listed, value_of, written
 from hemtoghai.language.text_cures import (alone_row, around, block_row, byte_row, count_row, fixed_row, header_row,
-                                           length_row, listed, LONGEST_SHOWN, name_row, names_row, open_row, Row,
+                                           length_row, LONGEST_SHOWN, name_row, names_row, open_row, Row,
                                            show_row, unit_row, word_row, words_of)
 from hemtoghai.program import TOP
 

@@ -8,6 +8,7 @@ degrees; with no digit more than it takes, and `0` without a unit.
 from __future__ import annotations
 
 import re
+from collections.abc import Iterable
 from typing import NamedTuple
 
 FAR = 10 ** 12  # a number of more than twelve digits, which is beyond every range of the language
@@ -31,9 +32,9 @@ TENTHS = Counts("tenths of a degree", "angle", "deg", {"deg": 1})
 KINDS = {unit: counts.kind for counts in (MICROMETRES, MILLISECONDS, TENTHS) for unit in counts.units}
 
 
-def listed_units(counts: Counts) -> str:
-    """The units of a place, in words."""
-    *others, last = counts.units
+def listed(words: Iterable[str]) -> str:
+    """Words in a row, as the units of a place."""
+    *others, last = words
     return ", ".join(others) + " or " * bool(others) + last
 
 

@@ -11,7 +11,7 @@ from typing import NamedTuple
 
 from hemtoghai.language import choreo
 from hemtoghai.language.choreo import ACTS, ARCS, is_name, Line, LINES, PLACES
-from hemtoghai.language.quantities import KINDS
+from hemtoghai.language.quantities import KINDS, listed
 
 Row = list[str]  # what a fault means, its commonest cause or nothing, and its cure
 
@@ -58,11 +58,6 @@ def words_of(line: bytes) -> list[str]:
 
 def short_word(word: str) -> str:
     return word if len(word) <= LONGEST_SHOWN else word[:LONGEST_SHOWN] + ".."
-
-
-def listed(words: Iterable[str]) -> str:
-    *others, last = words
-    return ", ".join(others) + " or " * bool(others) + last
 
 
 def names_listed(names: Sequence[str]) -> str:
