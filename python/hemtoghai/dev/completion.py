@@ -146,17 +146,20 @@ complete -o filenames -F _show show ./show hemtoghai
 """
 
 
-def names(word: Word) -> str:
-    return " ".join(option.name for option in word.options)
+def filled(words: list[Word], case: str, first: str, choice: str) -> tuple[str, str, str]:
+    """All words in a row, and by these forms a line for the options of each word and one for those of few choices."""
+    cases = [case % (it.name, " ".join(option.name for option in it.options), first % " ".join(it.first) if it.first else "")
+             for it in words]
+    few = [choice % (it.name, option.name, " ".join(option.choices))
+           for it in words for option in it.options if option.choices]
+    return " ".join([*(it.name for it in words), *FRONT]), "\n".join(cases), "\n".join(few)
 
 
 def bash(words: list[Word]) -> str:
     """The completion for Bash."""
-    cases = ["  %s) options='%s'%s ;;" % (it.name, names(it), " first='%s'" % " ".join(it.first) if it.first else "")
-             for it in words]
-    few = ["  '%s %s') mapfile -t COMPREPLY < <(compgen -W '%s' -- \"$word\"); return ;;" % (
-        it.name, option.name, " ".join(option.choices)) for it in words for option in it.options if option.choices]
-    return BASH % (" ".join([*(it.name for it in words), *FRONT]), " ".join(BEFORE), "\n".join(cases), "\n".join(few))
+    front, cases, few = filled(words, "  %s) options='%s'%s ;;", " first='%s'",
+                               "  '%s %s') mapfile -t COMPREPLY < <(compgen -W '%s' -- \"$word\"); return ;;")
+    return BASH % (front, " ".join(BEFORE), cases, few)
 
 
 # ---- Zsh
@@ -193,11 +196,8 @@ if [[ $zsh_eval_context[-1] == loadautofunc ]]; then _show "$@"; else compdef _s
 
 def zsh(words: list[Word]) -> str:
     """The completion for Zsh."""
-    few = ["  ('%s %s') compadd %s; return ;;" % (it.name, option.name, " ".join(option.choices))
-           for it in words for option in it.options if option.choices]
-    cases = ["  (%s) options=(%s)%s ;;" % (it.name, names(it), " first=(%s)" % " ".join(it.first) if it.first else "")
-             for it in words]
-    return ZSH % (" ".join([*(it.name for it in words), *FRONT]), " ".join(BEFORE), "\n".join(few), "\n".join(cases))
+    front, cases, few = filled(words, "  (%s) options=(%s)%s ;;", " first=(%s)", "  ('%s %s') compadd %s; return ;;")
+    return ZSH % (front, " ".join(BEFORE), few, cases)
 
 
 # ---- Fish

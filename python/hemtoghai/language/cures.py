@@ -33,12 +33,10 @@ NUMBERS = {
                   "at most 1000, which is one second; drones that start farther apart can't be judged"),
     ("stray", 1): ("`stray`", "millimetres", "micrometres in place of millimetres, which coordinates are in",
                    "at most 1000, which is one metre"),
-    ("ellipsoid", 1): ("R of `ellipsoid`", "millimetres",
-                       "micrometres in place of millimetres, which coordinates are in",
-                       "the half axis to the side, at most 2000, which is two metres: `ellipsoid 120 300`"),
-    ("ellipsoid", 2): ("H of `ellipsoid`", "millimetres",
-                       "micrometres in place of millimetres, which coordinates are in",
-                       "the half axis up and down, at most 2000, which is two metres: `ellipsoid 120 300`"),
+    **{("ellipsoid", at): (
+        f"{axis} of `ellipsoid`", "millimetres", "micrometres in place of millimetres, which coordinates are in",
+        f"the half axis {way}, at most 2000, which is two metres: `ellipsoid 120 300`")
+       for at, axis, way in ((1, "R", "to the side"), (2, "H", "up and down"))},
     ("repeat", 1): ("the count of a `repeat`", "turns", "",
                     "take a count of at least 1; a show has at most 1,000 cues"),
     ("perform", 3): ("TURNS of `perform`", "quarter turns counter-clockwise", "degrees in place of quarter turns",

@@ -376,24 +376,20 @@ def line_at(show: choreo.Show, number: int) -> tuple[Line, list[Line]]:
 def unknown_row(show: choreo.Show, line: Line, inside: list[Line], row: str) -> Row:
     """The row of a name that nothing has."""
     name, drones = line.values[0], show.names
-    if row == "unknown-name at":
-        return [f"no drone is called `{name}`, which has a place here", "", meant(name, drones, "drone") +
-                f"; or declare it: `drone {name} X Y Z YAW`"]
-    if row == "unknown-name form":
-        return [f"no formation is called `{name}`", "", meant(name, list(show.formations), "formation")]
-    if row == "unknown-name figure":
-        return [f"no figure is called `{name}`", "", meant(name, list(show.figures), "figure")]
-    if row == "unknown-name performer":
-        name = next(it for it in line.values[6:] if it not in drones)
-        return [f"no drone is called `{name}`, which shall perform", "", meant(name, drones, "drone") +
-                f"; or declare it: `drone {name} X Y Z YAW`"]
+    if row in ("unknown-name form", "unknown-name figure"):
+        kind, known = ("formation", show.formations) if row.endswith("form") else ("figure", show.figures)
+        return [f"no {kind} is called `{name}`", "", meant(name, list(known), kind)]
     if row == "unknown-name act in a figure":
         roles, figure = inside[0].values[1:], inside[0].values[0]
         cause = f"a drone's name inside the figure `{figure}`" if name in drones else ""
         return [f"no role of the figure `{figure}` is called `{name}`", cause, meant(name, roles, "role")]
-    cure = f"write a line for each drone: {names_listed(drones)}" if name in ("all", "everyone", "each") else (
-        meant(name, drones, "drone") + f"; or declare it: `drone {name} X Y Z YAW`")
-    return [f"no drone is called `{name}`", "", cure]
+    if row == "unknown-name performer":
+        name = next(it for it in line.values[6:] if it not in drones)
+    what = {"unknown-name at": ", which has a place here", "unknown-name performer": ", which shall perform"}.get(row, "")
+    if not what and name in ("all", "everyone", "each"):
+        return [f"no drone is called `{name}`", "", f"write a line for each drone: {names_listed(drones)}"]
+    return [f"no drone is called `{name}`{what}", "", meant(name, drones, "drone") +
+            f"; or declare it: `drone {name} X Y Z YAW`"]
 
 
 def doubled_row(at: Around, show: choreo.Show, line: Line, inside: list[Line], row: str) -> Row | None:

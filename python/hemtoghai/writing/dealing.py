@@ -72,15 +72,13 @@ def naming_lines(flown: choreo.Flown) -> list[choreo.Line]:
     return [line for line in choreo.inside(flown.show.top) if line.kind in ("act", "perform")]
 
 
+def span_of(line: choreo.Line) -> slice:
+    """Where the names of an act or a perform stand among its values."""
+    return slice(1) if line.kind == "act" else slice(6, None)
+
+
 def names_of(line: choreo.Line) -> list[str]:
-    return line.values[:1] if line.kind == "act" else line.values[6:]
-
-
-def rename(line: choreo.Line, names: list[str]) -> None:
-    if line.kind == "act":
-        line.values[:1] = names
-    else:
-        line.values[6:] = names
+    return list(line.values[span_of(line)])
 
 
 def performers(flown: choreo.Flown, lost: set[int] | None = None) -> list[dict[str, str]]:
@@ -116,7 +114,7 @@ def carry(flown: choreo.Flown, written: dict[int, list[str]]) -> list[int]:
         alike = len({tuple(plays[k][name] for name in names) for k in played}) == 1
         for line in lines:
             own = written[line.number]
-            rename(line, [plays[played[0]][name] for name in own] if alike else list(own))
+            line.values[span_of(line)] = [plays[played[0]][name] for name in own] if alike else own
         # A drone that stays where it is may come from anywhere.
         unsure += [line.number for line in lines if not alike and line.values[1] not in ("hold", "turn")]
     return sorted(unsure)
@@ -142,7 +140,7 @@ class Dealt:
         self.still: set[int] = set()
         self.unsure: list[int] = []
         self.lost: set[int] = set()
-        self.written = {line.number: list(names_of(line)) for line in naming_lines(flown)}
+        self.written = {line.number: names_of(line) for line in naming_lines(flown)}
 
     def renamed(self) -> list[choreo.Line]:
         """The lines of acts and performs that are flown by other drones than were written."""
