@@ -23,11 +23,10 @@ from hemtoghai.streams import shown
 from hemtoghai.writing.dealing import costs, dealt, form_lines, total
 from hemtoghai.writing.flyable import small
 from hemtoghai.writing.meetings import Meeting, meetings_of
-from hemtoghai.writing.remedies import ENOUGH, lift_all, lifted, remedies, Remedy, written
-from hemtoghai.writing.trials import cause_of, Stage, stage_of, Trials
+from hemtoghai.writing.remedies import ENOUGH, lift_all, remedies, written
+from hemtoghai.writing.trials import cause_of, Helped, Remedy, Stage, stage_of, Trials
 
 MOST_CURES = 40
-Helped = tuple[Remedy, list[str]]  # what helps, and the names of those that are still blocked then
 
 
 def act_words(flown: Flown, lines: list[bytes], drone: int, cue: int) -> str:
@@ -85,27 +84,27 @@ def layers(trials: Trials, cue: int, pairs: list[tuple[int, int]]) -> Remedy | N
     return None
 
 
-STANDS: list[Stage] = [(1, {})]
-
-
 def helps(trials: Trials, i: int, j: int, cue: int, begins_so: bool) -> tuple[list[str], list[Helped]]:
     """At which ends of a cue two drones would be blocked if they stood there, in words, of two that may be where it
     begins; and, where at none, what helps them, tried against all others of the cue: each remedy with the names of those
     that are still blocked. Those that help most come first, and of these the ones that make the show least longer."""
-    flown, found = trials.flown, []
-    own = [(drone, remedy) for drone in (i, j) for remedy in remedies(flown, drone, cue)]
-    others = {drone: [k for k in range(len(flown.names)) if k != drone] for drone in (i, j)}
-    stands = [*STANDS, stage_of(flown, cue), *STANDS]
-    standing, told = trials.told(cue, stands, [(i, j)]) or {} if begins_so else {}, []
+    flown, known = trials.flown, trials.helped
+    stands: list[Stage] = [(1, {}), stage_of(flown, cue), (1, {})]
+    standing = trials.told(cue, stands, [(i, j)]) or {} if begins_so else {}
     if not begins_so or standing.get((i, j, 0)):
-        standing, *told = trials.each(cue, [stands, *(remedy.stages for _, remedy in own)], [
-            (drone, other) for drone in (i, j) for other in others[drone]])
-    for (drone, remedy), known in zip(own, told):
-        left = [flown.names[other] for other in others[drone] if not all(
-            known.get((drone, other, stage)) for stage in range(len(remedy.stages)))]
-        if not {flown.names[i], flown.names[j]} & {*left}:
-            found.append((remedy, left))
+        new = {drone: list(remedies(flown, drone, cue)) for drone in (i, j) if (drone, cue) not in known}
+        others = {drone: [k for k in range(len(flown.names)) if k != drone] for drone in new}
+        ways = [stands, *(remedy.stages for own in new.values() for remedy in own)]
+        standing, *told = trials.each(cue, ways, list(dict.fromkeys(
+            [(i, j), *((drone, other) for drone in new for other in others[drone])])))
+        for drone, own in new.items():
+            known[drone, cue] = [(remedy, [flown.names[other] for other in others[drone] if not all(
+                said.get((drone, other, stage)) for stage in range(len(remedy.stages)))])
+                for remedy, said in zip(own, told)]
+            told = told[len(own):]
     ends = [word for word, stage in (("begins", 0), ("ends", 2)) if standing.get((i, j, stage)) is False]
+    names = {flown.names[i], flown.names[j]}
+    found = [row for drone in (i, j) for row in known.get((drone, cue), ()) if not names & set(row[1])]
     return ends, [] if ends else sorted(found, key=lambda row: (len(row[1]), row[0].takes))
 
 

@@ -3,26 +3,15 @@
 from __future__ import annotations
 
 from collections.abc import Iterator
-from dataclasses import dataclass
 
 from hemtoghai.language import choreo
 from hemtoghai.language.lines import line_in
-from hemtoghai.writing.trials import FORM, Stage, stage_of
+from hemtoghai.writing.trials import FORM, Remedy, Stage, stage_of
 
 LOW = 300  # millimetres; nothing is advised that flies below
 # With a tenth more than the ellipsoids need a direction is found: docs/LANGUAGE.md, How much room is enough.
 ENOUGH = 1.1
 LEAST_LIFT, EASY_LIFT = 2000, 700  # milliseconds for a way up or down of so many millimetres: less than 1 m/s
-
-
-@dataclass(frozen=True)
-class Remedy:
-    """What drones do else in a cue."""
-    how: str  # it is written: "wait", "first" or "lift"
-    lifts: dict[int, int]  # by drone how many millimetres it flies higher: 0 where it waits or goes first
-    words: str
-    stages: list[Stage]  # what all fly in place of the cue
-    takes: int  # milliseconds
 
 
 def lift_time(by: int) -> int:

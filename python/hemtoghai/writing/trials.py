@@ -4,7 +4,7 @@ from __future__ import annotations
 
 from collections import Counter
 from collections.abc import Callable
-from dataclasses import dataclass
+from dataclasses import dataclass, field
 from functools import cached_property
 from itertools import accumulate
 
@@ -31,6 +31,19 @@ def rows_of(stage: Stage) -> str:
     return "\n".join(["cue %d" % stage[0], *map(" ".join, stage[1].values()), "end"])
 
 
+@dataclass(frozen=True)
+class Remedy:
+    """What drones do else in a cue."""
+    how: str  # it is written: "wait", "first" or "lift"
+    lifts: dict[int, int]  # by drone how many millimetres it flies higher: 0 where it waits or goes first
+    words: str
+    stages: list[Stage]  # what all fly in place of the cue
+    takes: int  # milliseconds
+
+
+Helped = tuple[Remedy, list[str]]  # what helps, and the names of those that are still blocked then
+
+
 @dataclass
 class Trials:
     """Asks the program about a show whose cues are flown otherwise; `slots` counts the pairs in cues that it was asked
@@ -39,6 +52,7 @@ class Trials:
     flown: Flown
     deep: int
     slots: int = 0
+    helped: dict[tuple[int, int], list[Helped]] = field(default_factory=dict)  # what is known, by a drone and a cue
 
     @property
     def may_ask(self) -> bool:
