@@ -1,14 +1,17 @@
 """The flight director as a process: its frames, what `direct` says to a small flight, and flights in which it dies, lies,
 hangs or takes the ways for no flight."""
 import io
+import os
+import re
 import struct
 import tempfile
 import types
 import unittest
+import unittest.mock
 
 import common
 import flights
-from hemtoghai.flying import bridge, clock, director, watched, ways
+from hemtoghai.flying import bridge, clock, director, home, watched, ways
 from hemtoghai.flying.crazyradio import Trouble
 from hemtoghai.flying.director import Cause, Ended, Noted, Order, Over, To
 from test_fly import HIGH, WORDS, last_heights
@@ -76,6 +79,7 @@ SAID = [
     ("02 05", To(None, Order(director.HALT))),
     ("03 01 04", Noted(1, director.LATE)),
     ("03 02 06", Noted(2, director.OUTSIDE)),
+    ("03 04 07", Noted(4, director.UNCOVERED)),
     ("04 03", Over(True, True)),
     ("04 01", Over(True, False)),
     ("04 00", Over(False, False)),
@@ -126,12 +130,71 @@ class Notes(unittest.TestCase):
                              "b is at (2.30, -0.00, 1.00) m, outside of the room of show and ways")
 
 
+    def page(self):
+        """The faults of notes by their numbers, and whether each is grave in the steps before and after the show, as
+        docs/PROMISES.md has them."""
+        with open(os.path.join(common.TOP, "docs", "PROMISES.md")) as file:
+            text = file.read()
+        frame, = re.findall(r"(?m)^\| 3 \| a note \| .*; fault: (.*) \|$", text)
+        rows = text[text.index("| Fault | Noted | Grave |"):].split("\n\n")[0].split("\n")[2:]
+        grave = {row.split("|")[1].strip(): row.split("|")[3].strip().startswith("yes") for row in rows}
+        return dict(row.split(" ") for row in frame.split(", ")), grave
+
+    def test_all_of_the_page(self):
+        faults, grave = self.page()
+        self.assertEqual(len(faults), 8)
+        self.assertEqual(list(faults.values()), list(director.FAULTS))
+        self.assertEqual(set(faults.values()), set(grave))
+        for number, word in faults.items():
+            name = {"lost": "WRONG"}.get(word, word.upper())
+            self.assertEqual(director.said_by(io.BytesIO(bytes([3, 0, int(number)]))), Noted(0, getattr(director, name)))
+
+    def test_what_is_done(self):
+        # On the ways each grave fault has all land, in words that name its drone, where it has one. So does a landing that
+        # is waited for: what is flown then isn't for the director to choose. Who is silent is for the bridge to judge.
+        faults, grave = self.page()
+        state = types.SimpleNamespace(where=lambda: (0.0, 0.0, 1.0))
+        for number, word in faults.items():
+            it = types.SimpleNamespace(names=["a", "b"], in_show=False, refusals={}, to_arm=set(), wrong_with=lambda k: None,
+                                       far_words=lambda k: "b is 200 mm from its way", unfit=lambda k, flags: None,
+                                       fleet=types.SimpleNamespace(states=[None, state]))
+            if word == "silent":
+                self.assertIsNone(bridge.Bridge.note(it, 1, int(number)))
+                continue
+            self.assertEqual(grave[word], word != "uncovered")
+            with self.assertRaises(Trouble, msg=word) as raised:
+                bridge.Bridge.note(it, 2 if word == "uncovered" else 1, int(number))
+            self.assertRegex(str(raised.exception), "^the flight director waits with the landing: none of its windows covers it$"
+                             if word == "uncovered" else "^b ", word)
+
+
+class Landing(unittest.TestCase):
+    def test_one_that_is_ordered(self):
+        # The director orders it of both, or says that it waits with it, that it has ended, or nothing: then it begins at
+        # once without the director.
+        lands = [To(k, Order(director.SINK, (0,), 4001)) for k in range(2)]
+        for frames, seconds, words in ((lands, 4.001, []), ([Noted(0, director.ASTRAY), *lands], 4.001, []),
+                                       ([Noted(2, director.UNCOVERED), *lands], None, ["it begins without it"]),
+                                       ([lands[0], Ended(8)], None, ["it begins without it"]),
+                                       ([lands[0], None, lands[1]], None, ["it begins without it"])):
+            said, heard, waiting = [], [], list(frames)
+            it = types.SimpleNamespace(
+                ways=types.SimpleNamespace(floors=[0, 0], descent=4001), begun=0, all=[0, 1], out=set(), deaf=set,
+                up=lambda drones: drones, seconds_down=lambda drones: 3.0,
+                director=types.SimpleNamespace(is_well=True, hear=heard.append, wait=lambda seconds: waiting.pop(0)))
+            it.is_landing = lambda order: home.Home.is_landing(it, order)
+            with unittest.mock.patch.object(home, "say", said.append):
+                self.assertEqual(home.Home.landing_ordered(it), seconds)
+            self.assertEqual([line.split(": ")[1] for line in said], words)
+            self.assertEqual(heard, [b"\x04\x01"])
+
+
 class Frames(unittest.TestCase):
     def test_what_is_said(self):
         for data, said in SAID:
             stream = io.BytesIO(bytes.fromhex(data))
             self.assertEqual((director.said_by(stream), stream.read()), (said, b""), data)
-        for data in ("", "00", "06", "01 00 07", "02 09", "01 00 01 e8 03", "03 01", "05 03 01 02 2c", "45"):
+        for data in ("", "00", "06", "01 00 07", "02 09", "01 00 01 e8 03", "03 01", "03 01 08", "05 03 01 02 2c", "45"):
             with self.assertRaises((struct.error, KeyError), msg=data):
                 director.said_by(io.BytesIO(bytes.fromhex(data)))
 

@@ -149,7 +149,8 @@ class Bridge(Home):
             raise Trouble("the flight director ended: status %s" % said.status)
 
     def note(self, k: int, fault: int) -> None:
-        """Raises a fault that the director finds: who left its way, and what flying/watched.py doesn't find."""
+        """Raises a fault that the director finds. Who is silent, and in the show who is astray, is for
+        flying/watched.py to judge."""
         name = self.names[k] if k < len(self.names) else "a drone"
         if fault == director.REFUSED:
             raise Trouble("; ".join(self.refusals.values()) or "%s refuses an order" % name)
@@ -163,6 +164,8 @@ class Bridge(Home):
         if fault == director.OUTSIDE:
             x, y, z = self.fleet.states[k].where()
             raise Trouble(f"{name} is at ({x:.2f}, {y:.2f}, {z:.2f}) m, outside of the room of show and ways")
+        if fault == director.UNCOVERED:
+            raise Trouble("the flight director waits with the landing: none of its windows covers it")
         if fault == director.ASTRAY and not self.in_show:
             raise Trouble(self.wrong_with(k) or self.far_words(k))
         if fault == director.ASTRAY and self.ways.rules.show_stray:

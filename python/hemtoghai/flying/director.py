@@ -22,7 +22,8 @@ ARM, RISE, GO_TO, SINK, START, HALT, DISARM, GROUP = range(8)  # orders
 # What follows the first byte of a frame, and of an order, in the forms of `struct`.
 FRAMES = {TO_ONE: "B", TO_ALL: "", NOTE: "BB", OVER: "B", CAUSE: "BBBH", END: "B"}
 ORDERS = {ARM: "", RISE: "hI", GO_TO: "hhhhI", SINK: "hI", START: "B", HALT: "", DISARM: "", GROUP: "B"}
-SILENT, ASTRAY, WRONG, REFUSED, LATE, UNSURE, OUTSIDE = range(7)  # faults; the director calls WRONG `lost`
+FAULTS = "silent", "astray", "lost", "refused", "late", "unsure", "outside", "uncovered"  # by their numbers
+SILENT, ASTRAY, WRONG, REFUSED, LATE, UNSURE, OUTSIDE, UNCOVERED = range(len(FAULTS))  # WRONG is `lost`
 NOT_FLOWN = 8  # the status of a flight to whose director nothing happened
 MOST_MS, MOST_AGE, MOST_MM = 65535, 65535, 32767
 HANGS = 5.0  # seconds for which the process may read nothing of what waits for it
@@ -46,7 +47,7 @@ class To(NamedTuple):
 
 
 class Noted(NamedTuple):
-    """A fault of a drone."""
+    """A fault of a drone, or with the number of drones of none."""
     drone: int
     fault: int
 
@@ -96,6 +97,8 @@ def said_by(stream: IO[bytes]) -> Said:
         return To(numbers[0] if numbers else None, order_of(stream))
     if kind == OVER:
         return Over(bool(numbers[0] & 1), bool(numbers[0] & 2))
+    if kind == NOTE and numbers[1] >= len(FAULTS):
+        raise KeyError(numbers[1])
     return Noted(*numbers) if kind == NOTE else Cause(*numbers) if kind == CAUSE else Ended(*numbers)
 
 

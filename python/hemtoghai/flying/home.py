@@ -15,7 +15,7 @@ from hemtoghai.flying import clock, firmware, landings
 from hemtoghai.flying.crazyradio import Trouble
 from hemtoghai.flying.crew import Interrupted, say
 from hemtoghai.flying.descent import LANDING
-from hemtoghai.flying.director import Director, Ended, LAND as TO_LAND, Order, signal, SINK, To
+from hemtoghai.flying.director import Director, Ended, LAND as TO_LAND, Noted, Order, signal, SINK, To, UNCOVERED
 from hemtoghai.flying.stages import (apart, GO_TO, judge_stages, LAND, LATE, Leg, milliseconds_for, MOST, PEAK,
                                      Place, place_of, Rules, SAME_FLOOR, Stage)
 from hemtoghai.flying.watched import Watched
@@ -66,7 +66,7 @@ class Home(Watched):
         self.director.hear(signal(TO_LAND))
         while left:
             said = self.director.wait(max(0.0, until - clock.now()))
-            if said is None or isinstance(said, Ended):
+            if said is None or isinstance(said, Ended) or isinstance(said, Noted) and said.fault == UNCOVERED:
                 say("the flight director doesn't order the landing: it begins without it")
                 return None
             if isinstance(said, To) and said.drone is not None and self.is_landing(said.order):
