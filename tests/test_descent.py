@@ -20,6 +20,52 @@ class Clock(unittest.TestCase):
             self.assertEqual(state.is_new, at >= 30.0, at)  # its stamps went back from 14900 to 100
 
 
+class Same(unittest.TestCase):
+    """Samples that have one place and one set of variances, to the last bit."""
+
+    def of(self, rows):
+        """A drone that said these rows of x and variance, a tenth of a second apart; where none is given it sends none."""
+        state = fleet.State()
+        for k, (x, variance) in enumerate(rows):
+            values = {"stateEstimate.x": x, "stateEstimate.y": 0.0, "stateEstimate.z": 0.0, "pm.vbat": 4.0 - k / 100}
+            values.update({} if variance is None else {name: variance for name in fleet.VARIANCES})
+            state.take(values, clock.now() - (len(rows) - 1 - k) / 10, 100 * k)
+        return state
+
+    def test_for_how_long(self):
+        # Ten tenths of a second between eleven samples are a second; one other bit, of a place or a variance, is news.
+        other = 1.0 + 2 ** -23  # the next single-precision number after 1
+        for rows, seconds in (([(1.0, None)] * 10, 0.0), ([(1.0, None)] * 11, 1.0), ([(1.0, 2e-5)] * 11, 1.0),
+                              ([(1.0, None), (other, None)] * 10, 0.0), ([(1.0, 2e-5), (1.0, 2.006e-5)] * 10, 0.0),
+                              ([(1.0, None)] * 20 + [(other, None)], 0.0), ([(1.0, None)] * 3 + [(other, None)] * 16, 1.5),
+                              ([(float("nan"), None)] * 20, 0.0)):
+            self.assertAlmostEqual(self.of(rows).same_for(), seconds, 2, rows)
+
+    def test_what_is_said(self):
+        # At its floor and above it, frozen and not; of a wreck its supervisor says that it doesn't fly.
+        said, names = [], ["a"]
+        for x, frozen in ((0.0, True), (0.0, False), (1.0, True), (1.0, False)):
+            state = self.of([(0.0, 2e-5)] * 30)
+            state.place, state.measured = [0.0, 0.0, x], clock.now()
+            state.same_since = state.same_since if frozen else state.heard
+            it = descent.Descent(types.SimpleNamespace(names=names, states=[state], cut=None, has_said=lambda k: True), [0.0],
+                                 1.5, types.SimpleNamespace())
+            self.assertEqual(it.is_down(0), x == 0.0 and not frozen)
+            with unittest.mock.patch.object(descent, "say", said.append):
+                it.account()
+                state.info = firmware.IS_TUMBLED
+                self.assertTrue(it.is_down(0))
+                it.account()
+        same, wreck = "end: a: said the same place for 2.9 s, (0.00, 0.00, %s) m: not known whether it is down", ", it says, at (0.00, 0.00, %s) m, "
+        there, away = "0.00", "1.00"
+        bare, fallen = "and doesn't say whether it is armed", "disarmed, and has tumbled"
+        self.assertEqual(said, [
+            same % there, "end: a: doesn't fly any more" + wreck % there + fallen,
+            "end: a: down" + wreck % there + bare, "end: a: down" + wreck % there + fallen,
+            same % away, "end: a: doesn't fly any more" + wreck % away + fallen,
+            "end: a: IN THE AIR, it said 0.0 s ago, at (0.00, 0.00, 1.00) m", "end: a: doesn't fly any more" + wreck % away + fallen])
+
+
 class Orders(unittest.TestCase):
     def test_a_go_to_that_is_said_again(self):
         # it takes what is left, by 0.3 s less at most, and never less than half; of other orders nothing changes

@@ -29,12 +29,14 @@ cue 2000
 end
 """
 PADS = "a 0 0 0\nb 1500000 0 0\nc 5000000 0 0\nd 6500000 0 0\n"
+# Of a drone whose samples have one place no line says that it is in the air, or down: in truth it has landed.
+SAME = r"end: b: said the same place for \d+\.\d s, \(-?\d\.\d\d, 0\.00, \d\.\d\d\) m: not known whether it is down\n"
 SWAPPED = r"FAULT: ([ab] is \d+ mm from its (curve|way)(; )?)+; (landing all|flying on)"
 # By a name the words of a flight, its show, its status, what it says, and how high b is in the end, in truth.
 FAULTS = {
-    "frozen going up": (b("frozen:1"), TWO, 1, [r"FAULT: b is \d+ mm from its way; landing all", "end: b: IN THE AIR, it said"], 0),
-    "frozen waiting": (b("frozen:1.9"), TWO, 1, [r"FAULT: b is \d+ mm from its", "end: b: IN THE AIR, it said"], 0),
-    "frozen in the show": (b("frozen:8"), UNDER, 1, [r"FAULT: b is \d+ mm from its curve; landing all", "end: b: IN THE AIR"], 0),
+    "frozen going up": (b("frozen:1"), TWO, 1, [r"FAULT: b is \d+ mm from its way; landing all", SAME], 0),
+    "frozen waiting": (b("frozen:1.9"), TWO, 1, [r"FAULT: b is \d+ mm from its", SAME], 0),
+    "frozen in the show": (b("frozen:8"), UNDER, 1, [r"FAULT: b is \d+ mm from its curve; landing all", SAME], 0),
     "slow": (b("slow"), TWO, 1, ["FAULT: b doesn't answer the start, and may have taken it; landing all\n", "landed\n"], 0),
     "restarts": (b("restarts:1.5"), TWO, 1, ["FAULT: b started anew in flight; landing all\n"], 0),
     "dark": (b("dark:1.5"), TWO, 1, ["FAULT: b is silent for 3.1 s; landing all", "end: b: NOT KNOWN: silent for"], 0),

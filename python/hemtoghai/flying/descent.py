@@ -46,8 +46,12 @@ class Descent:
 
     def stands(self, k: int) -> bool:
         """Whether a drone says that it is on its floor. One that has tumbled lies wherever it is."""
+        return self.is_fresh(k) and (self.is_at_floor(k) or self.fleet.states[k].says(firmware.WRECKED))
+
+    def is_at_floor(self, k: int) -> bool:
+        """Whether a drone's place is at its floor, and is news."""
         state = self.fleet.states[k]
-        return self.is_fresh(k) and (abs(state.where()[2] - self.floors[k]) <= DOWN or state.says(firmware.WRECKED))
+        return abs(state.where()[2] - self.floors[k]) <= DOWN and not state.same_for()
 
     def flies(self, k: int) -> bool:
         """Whether a drone says that it flies, or did a moment ago. One that has disarmed itself doesn't."""
@@ -91,6 +95,8 @@ class Descent:
                 words = "NOT KNOWN: %s: IT MAY BE IN THE AIR" % (
                     "silent for %.1f s, and was at %s then" % (age, at) if state.senseless is None else
                     "sends a place that is no number, and was at %s %.1f s ago" % (at, age))
+            elif not self.is_down(k) and state.same_for():
+                words = "said the same place for %.1f s, %s: not known whether it is down" % (state.same_for(), at)
             elif not self.is_down(k) and state.where()[2] < self.floors[k] - DOWN:
                 words = "NOT KNOWN: it believes to be below its floor, at %s: IT MAY BE IN THE AIR" % at
             elif not self.is_down(k):
@@ -101,8 +107,7 @@ class Descent:
 
     def words_down(self, k: int) -> str:
         """How one is down: a wreck may lie elsewhere, and may be falling still."""
-        is_there = abs(self.fleet.states[k].where()[2] - self.floors[k]) <= DOWN
-        return "down" if is_there else "doesn't fly any more"
+        return "down" if self.is_at_floor(k) else "doesn't fly any more"
 
     def words_armed(self, k: int) -> str:
         state = self.fleet.states[k]

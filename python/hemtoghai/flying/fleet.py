@@ -31,6 +31,7 @@ WRAP = 2 ** 24  # milliseconds after which a drone's stamps begin anew
 LEAP, FASTEST = 0.3, 10.0  # metres, and metres a second: what is farther from one sample to the next nobody flew
 NEW = 1000  # milliseconds by which stamps go back, without a wrap, of a drone that started anew
 HISTORY = 20  # samples that are kept to see whether a drone is settled
+STUCK = 1.0  # seconds of samples with one place from which on they are no news
 
 Look = Callable[[], None]  # what looks after a flight while others wait
 Table = Dict[str, Tuple[int, int]]  # by an item's name its number and its type
@@ -53,7 +54,8 @@ class State:
     clock. `between` are the milliseconds between its last two samples, and `has_leapt` is whether its place was ever
     farther from the one before than a drone flies meanwhile. `variance` is the greatest of its last sample, in m^2, or
     None, and `unsure` since when it is greater than the greatest in flight, or None. `is_new` is whether it started
-    anew: its stamps began at 0 again."""
+    anew: its stamps began at 0 again. `estimate` are its last place and variances, and `same_since` is when these were
+    heard first."""
 
     def __init__(self) -> None:
         self.place: Optional[List[float]] = None
@@ -70,6 +72,8 @@ class State:
         self.least: Optional[float] = None
         self.variance: Optional[float] = None
         self.unsure: Optional[float] = None
+        self.estimate: List[float] = []
+        self.same_since = math.inf
         self.is_new = False
         self.least_volts, self.between, self.has_leapt, self.most_variance = 0.0, 0, False, math.inf
 
@@ -85,6 +89,8 @@ class State:
         self.place, self.info, self.yaw = place, None if info is None else int(info), values.get("stateEstimate.yaw")
         self.senseless, self.places, self.volts = None, (self.places + [place])[-HISTORY:], volts
         spread = [values[name] for name in VARIANCES if name in values]
+        self.same_since = self.same_since if self.estimate == [*place, *spread] else at
+        self.estimate = [*place, *spread]
         self.variance = max(v if math.isfinite(v) else math.inf for v in spread) if spread else None
         is_sure = self.variance is None or self.variance <= self.most_variance
         self.unsure = None if is_sure else at if self.unsure is None else self.unsure
@@ -105,6 +111,12 @@ class State:
         """Its last place; each drone that flies has one."""
         assert self.place is not None
         return self.place
+
+    def same_for(self) -> float:
+        """For how many seconds its samples have had one place and one set of variances, to the last bit; 0 below STUCK.
+        A real estimate always jitters in its last digit, so these samples say nothing of where it is now."""
+        seconds = (self.heard or 0.0) - self.same_since
+        return seconds if seconds >= STUCK else 0.0
 
     def is_empty(self, seconds: float) -> bool:
         """Whether the voltage was too low for so long: under thrust single samples sag."""

@@ -100,6 +100,7 @@ NOISE = 0.67
 STOPPING = "falls", "restarts", "dark"  # faults by which motors stop
 LATE, DYING, PUSHED, ROOM = 1.3, 3.0, 0.12, 20  # of slow, sinks, pushed and small: seconds, seconds, metres, bytes
 LAG, FAR = 1.0, 25.0  # of lags and misled: seconds, metres
+JITTER = 4e-6  # metres of an estimate's last digit, which is another one with each sample
 
 
 def carried_on(speed: float, seconds: float) -> float:
@@ -164,7 +165,7 @@ class Drone:
         self.twin: Optional["Drone"] = None  # of its address
         self.stuck_at: Optional[List[float]] = None  # the place that it says again and again
         self.later: List[Tuple[float, bytes]] = []  # answers that come late, and when
-        self.rebooted = False
+        self.rebooted, self.jitter = False, 0.0
         if "memory" in faults:
             self.memories.insert(2, (0x11, self.memory_bytes(b"\xFF" * 8192)))
         self.phase, self.booted = world.chance.random() * 7, clock.now() - 10 - 50 * world.chance.random()
@@ -460,7 +461,8 @@ class Drone:
         if item == "yaw":
             return self.yaw + (90.0 if "turned" in self.faults else 0.0)
         if group == "stateEstimate":
-            return self.estimate(now)["xyz".index(item)]
+            self.jitter = 0.0 if self.jitter or self.past("frozen", now) else JITTER
+            return self.estimate(now)["xyz".index(item)] + self.jitter
         if group == "kalman":
             return 0.05 if "unsettled" in self.faults else 0.00002 + 0.02 * self.past("doubts", now)
         return self.volts(now) if name == "pm.vbat" else self.supervisor(now)
