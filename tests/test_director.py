@@ -210,6 +210,30 @@ class Frames(unittest.TestCase):
         self.assertEqual((director.answer(1, 5), director.signal(director.STOP)), (b"\x03\x01\x05", b"\x04\x02"))
 
 
+class Rests(unittest.TestCase):
+    def test_who_ends_it(self):
+        # What the director says ends it at once, a new sample after 20 ms, and nothing after 50 ms.
+        for says, stirs, seconds in ((0.005, None, 0.005), (0.030, None, 0.030), (None, 0.005, 0.02), (None, 0.030, 0.030),
+                                     (0.010, 0.005, 0.010), (None, None, 0.05), (0.060, 0.070, 0.05)):
+            common.begin_clock()
+            it = types.SimpleNamespace(said=clock.Queue(), has_news=False)
+
+            def later(after, call):
+                def run():
+                    clock.wait(after)
+                    call()
+                if after is not None:
+                    clock.Task(run)
+            later(says, lambda: it.said.put(Over(True, True)))
+            later(stirs, lambda: director.Director.stir(it))
+            begin = clock.now()
+            director.Director.rest(it, 0.02, 0.05)
+            self.assertAlmostEqual(clock.now() - begin, seconds, 4, (says, stirs))
+            self.assertFalse(it.has_news)
+        clock.used().end()
+        clock.use(clock.REAL)
+
+
 @common.wants_program
 class Process(unittest.TestCase):
     def setUp(self):

@@ -20,7 +20,7 @@ from hemtoghai.flying.home import Home
 from hemtoghai.flying.stages import Leg, TAKE_OFF
 from hemtoghai.flying.ways import Ways
 
-LOOK = 0.05  # seconds between two looks at all drones
+SOON, LOOK = 0.02, 0.05  # seconds between two looks at all drones: at least, and at most
 AT_ONCE = 8  # samples that the director is told at once in the show
 MOST_TOLD = 200  # milliseconds that it is told at once
 TICK = 0.001  # seconds: it is told whole milliseconds
@@ -42,6 +42,7 @@ class Bridge(Home):
     def __init__(self, fleet: Fleet, ways: Ways, watch: Watch) -> None:
         super().__init__(fleet, ways, watch)
         self.director = ways.begin_director()
+        fleet.stirs = self.director.stir
         self.told_at, self.went, self.due_by = clock.now(), 0.0, math.inf
         self.over: Optional[Over] = None
         self.told: List[Tuple[Optional[float], int]] = [(None, 0)] * len(self.names)
@@ -129,7 +130,7 @@ class Bridge(Home):
             self.take(said_last)
         if self.told_at > self.due_by:  # it was told so: a machine that stood still isn't to blame
             raise Trouble("the flight director doesn't go on")
-        clock.wait(LOOK)
+        self.director.rest(SOON, LOOK)
 
     # ---- what the director says
 

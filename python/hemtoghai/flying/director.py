@@ -135,7 +135,7 @@ class Director(Piped):
         """Raises program.Unusable or OSError where it can't be started."""
         self.waiting, self.since, self.is_well, self.lock = b"", clock.now(), True, threading.Lock()
         self.said: "clock.Queue[Said]" = clock.Queue()
-        self.held, self.is_through = b"", False
+        self.held, self.is_through, self.has_news = b"", False, False
         super().__init__([program.runs(), "direct", *words], stderr=subprocess.DEVNULL, start_new_session=True)
         self.writes_to = self.input.fileno()
         # What it has to read before a flight is written however long it judges that.
@@ -177,6 +177,19 @@ class Director(Piped):
             return self.said.get(seconds)
         except clock.Empty:
             return None
+
+    def stir(self) -> None:
+        """Has somebody look who rests: there is something to tell it."""
+        with self.said.changed:
+            self.has_news = True
+            self.said.changed.notify_all()
+
+    def rest(self, least: float, most: float) -> None:
+        """Waits until it says something; after the least of these seconds also until there is something to tell it."""
+        with self.said.changed:
+            if not self.said.changed.wait_for(lambda: self.said.items, least):
+                self.said.changed.wait_for(lambda: self.said.items or self.has_news, most - least)
+            self.has_news = False
 
     def take(self, data: bytes) -> None:
         """Takes frames as far as they are whole. What is none, and what is cut off, is its end."""

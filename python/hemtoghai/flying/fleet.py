@@ -214,6 +214,7 @@ class Fleet:
         self.heard_broadcast: Set[int] = set()
         self.lock = threading.Lock()
         self.every, self.revived = 100, [0.0] * len(self.names)
+        self.stirs: Look = lambda: None  # is called for each sample
         self.told_off = [-math.inf] * len(self.names)  # when each was told to disarm, or to stop, last
         radio.listeners.append(self.came)
 
@@ -241,6 +242,7 @@ class Fleet:
         at = clock.now()
         if state.take(dict(zip((name for name, _ in kinds), values)), at, stamp):
             self.log.put(at, self.names[drone], state.where(), stamp, state.variance)
+        self.stirs()
 
     def table(self, drone: int, port: int) -> Table:
         """A drone's table of parameters or logs: numbers and types by name. Equal tables are read once."""

@@ -29,8 +29,8 @@ class Watched(Descent):
     seen armed. `aims` has where each was told to go last, `unheard` who didn't answer that and where it was told to be
     before, and `leg`, `begun`, `stage_began` and `stage_ends` the leg that is flown, its stage, when its orders went
     out, and when it has ended. `moves` are what each flies outside of the show, and `took` after how many seconds it
-    answered the order to. `zero` is when the show was started, and `slack` the seconds after it within which all
-    have."""
+    answered the order to. `looked` has by which sample each was measured last. `zero` is when the show was started, and
+    `slack` the seconds after it within which all have."""
 
     def __init__(self, fleet: Fleet, ways: Ways, watch: Watch) -> None:
         super().__init__(fleet, [floor / 1000 for floor in ways.floors], ways.options.silence, watch)
@@ -39,6 +39,7 @@ class Watched(Descent):
         self.zero: Optional[float] = None
         self.strays, self.far = [0.0] * len(self.names), [0.0] * len(self.names)
         self.far_since: Dict[int, float] = {}
+        self.looked: Dict[int, float] = {}
         self.silence, self.quiet = Silence(len(self.names)), [0.0] * len(self.names)
         self.armed: Set[int] = set()
         self.silent: Set[int] = set()
@@ -217,11 +218,13 @@ class Watched(Descent):
         return mover.distance(self.at(k), t - late - SOONER, t + SOONER)
 
     def measure(self) -> None:
-        """Looks how far drones are from their curves, or from what they fly on the ways, as far as they are heard."""
+        """Looks by each new sample how far drones are from their curves, or from what they fly on the ways."""
         late, now, promised = self.options.late, clock.now(), self.ways.rules.show_stray
         for k, (state, curve) in enumerate(zip(self.fleet.states, self.curves)):
-            if k in self.silent or state.heard is None or state.measured is None or now - state.heard > 1:
+            if k in self.silent or state.heard is None or state.measured is None or (
+                    now - state.heard > 1 or state.heard == self.looked.get(k)):
                 continue
+            self.looked[k] = state.heard
             if self.in_show:
                 t, enough = 1000 * (state.measured - (self.zero or 0.0)), min(self.options.stray, promised) / 4
                 self.far[k] = curve.nearest(self.at(k), t - late - 50 - 1000 * self.slack, t + late, enough)[0]
