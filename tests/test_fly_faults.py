@@ -39,7 +39,7 @@ FAULTS = {
     "frozen in the show": (b("frozen:8"), UNDER, 1, [r"FAULT: b is \d+ mm from its curve; landing all", SAME], 0),
     "slow": (b("slow"), TWO, 1, ["FAULT: b doesn't answer the start, and may have taken it; landing all\n", "landed\n"], 0),
     "restarts": (b("restarts:1.5"), TWO, 1, ["FAULT: b started anew in flight; landing all\n"], 0),
-    "dark": (b("dark:1.5"), TWO, 1, ["FAULT: b is silent for 3.1 s; landing all", "end: b: NOT KNOWN: silent for"], 0),
+    "dark": (b("dark:1.5"), TWO, 1, ["FAULT: b is silent for 3.0 s; landing all", "end: b: NOT KNOWN: silent for"], 0),
     "sinks going up": (b("sinks:1"), TWO, 1, [r"FAULT: b is \d+ mm from its way; landing all\n"], 0),
     "sinks in the show": (b("sinks:8"), UNDER, 1, [r"FAULT: b is \d+ mm from its curve; landing all\n"], 0),
     "swapped": (b("swapped:1"), TWO, 1, [SWAPPED], 0),

@@ -44,7 +44,7 @@ def rules(stray=30, late=40):
 
 def up(pads, firsts, given=None):
     """The way up of drones d0, d1 and so on."""
-    return legs.way_up(["d%d" % k for k in range(len(pads))], pads, firsts, [0] * len(pads), given or rules())
+    return routes.Planner(["d%d" % k for k in range(len(pads))], pads, firsts, [0] * len(pads), given or rules()).plan()
 
 
 def check(text):

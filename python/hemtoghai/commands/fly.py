@@ -27,7 +27,7 @@ from typing import Dict, List, Sequence, Tuple
 
 from hemtoghai import outputs, program
 from hemtoghai.companion import ask_check, flown_of, missing, parser, stop
-from hemtoghai.flying import clock, crazyradio, finite, legs
+from hemtoghai.flying import clock, crazyradio, finite, firmware, legs
 from hemtoghai.flying.crazyradio import Trouble
 from hemtoghai.flying.bridge import Bridge
 from hemtoghai.flying.crew import Cut, Interrupted, say, TELLER, Watch
@@ -211,7 +211,7 @@ def fly(radio: crazyradio.Radio, flown: Flown, text: bytes, pads: Sequence[Place
             bridge.director.kill()
         if ways:
             ways.over = True
-        fleet.end_logs()
+        fleet.tell(range(len(fleet.names)), firmware.LOGS, 1, firmware.RESET_LOGS)
         log.close(status == 0)
         if options.log and log.fault is None:
             say("places are in %s: %s flown %s %s judges them" % (

@@ -102,10 +102,8 @@ class Bridge(Home):
             else:
                 self.refusals[drone] = words
             self.director.hear(director.answer(drone, 0 if words is None else MUTE))
-            if stage and stage == self.begun and 1000 * seconds > self.ways.rules.late and not self.is_said_late:
-                self.is_said_late = True
-                say("OUTSIDE OF WHAT WAS JUDGED: commands within %.0f ms, and %d were judged" % (
-                    1000 * seconds, self.ways.rules.late))
+            if stage and stage == self.begun and not self.is_said_late:
+                self.is_said_late = self.say_late(1000 * seconds)
 
     def look(self) -> None:
         """Notes who is armed, and who has landed."""
@@ -277,7 +275,7 @@ class Bridge(Home):
         if faults:
             raise Trouble("not flown: " + ", ".join(faults))
         if not self.options.unicast:
-            self.fleet.clear_groups()
+            self.fleet.radio.broadcast(firmware.packet(firmware.COMMANDER, 0, firmware.group()), 3)
 
     def say_go(self, is_taken: Callable[[], bool], least: float = REPLIES) -> None:
         """Says go until the director takes it, but not for long."""
@@ -448,7 +446,7 @@ class Bridge(Home):
             raise
         finally:
             self.director.kill()
-            self.fleet.leave_groups()
+            self.fleet.tell(self.all, firmware.COMMANDER, 0, firmware.group())
 
     def land_anyhow(self) -> None:
         """Lands all after a fault of this program: as always, and where that fails too by bare commands."""

@@ -228,7 +228,7 @@ class Descent:
         if not drones:
             return
         self.fleet.radio.drop()
-        self.fleet.rest(drones)
+        self.fleet.tell(drones, firmware.COMMANDER, 0, firmware.STOP)  # some let motors idle until then
         wrong = self.fleet.disarm(drones)
         self.still_armed = (self.still_armed - {self.names[k] for k in drones}) | set(wrong)
         auto = [k for k in drones if self.fleet.states[k].says(firmware.AUTO_ARM)]

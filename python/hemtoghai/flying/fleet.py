@@ -260,11 +260,6 @@ class Fleet:
             self.tables[key] = found
         return self.tables[key]
 
-    def versions(self, drone: int) -> Tuple[int, str]:
-        """A drone's protocol and firmware."""
-        protocol = self.radio.ask(drone, firmware.PLATFORM, 1, firmware.ASK_PROTOCOL, least=2)[1]
-        return protocol, firmware.text_of(self.radio.ask(drone, firmware.PLATFORM, 1, firmware.ASK_FIRMWARE, 1))
-
     def set(self, drone: int, name: str, value: int) -> None:
         """Sets a parameter; nothing is done where a drone hasn't it."""
         found = self.table(drone, firmware.PARAMETERS).get(name)
@@ -318,14 +313,6 @@ class Fleet:
                 what = "have a log made" if made else "begin its log"
                 raise Trouble(f"{self.names[drone]} refuses to {what}: status {status}, "
                               f"{REFUSALS.get(status, 'which this tool does not know')}")
-
-    def end_settling(self) -> None:
-        """Has all drones send their variances no more but with their places."""
-        self.radio.each(lambda drone: self.radio.ask(drone, firmware.LOGS, 1, firmware.stop_block(SETTLING), 2))
-
-    def end_logs(self) -> None:
-        for drone in range(len(self.names)):
-            self.radio.send(drone, firmware.packet(firmware.LOGS, 1, firmware.RESET_LOGS))
 
     def deaf(self) -> List[int]:
         """The drones that answer no broadcast of three, which take all out of every group, as they begin."""
@@ -384,14 +371,10 @@ class Fleet:
         measured = self.states[drone].measured
         return measured is not None and measured > self.told_off[drone]
 
-    def clear_groups(self) -> None:
-        """Takes all that hear a broadcast on these channels out of all groups."""
-        self.radio.broadcast(firmware.packet(firmware.COMMANDER, 0, firmware.group()), 3)
-
-    def leave_groups(self) -> None:
-        """Takes each drone out of all groups, and waits for no answer."""
-        for drone in range(len(self.names)):
-            self.radio.send(drone, firmware.packet(firmware.COMMANDER, 0, firmware.group()))
+    def tell(self, drones: Iterable[int], port: int, channel: int, data: bytes) -> None:
+        """Sends a packet to each of these drones, and waits for no answer."""
+        for drone in drones:
+            self.radio.send(drone, firmware.packet(port, channel, data))
 
     def start(self, trajectory: int, group: int, copies: int, by_broadcast: bool) -> Started:
         """Starts a trajectory in all drones of a group, by a broadcast that each hears at once, or one by one. Nobody
@@ -399,12 +382,10 @@ class Fleet:
         question after the start and not the start didn't take it. That question takes it out of the group again."""
         with self.lock:
             self.started = {}
-        raw = firmware.packet(firmware.COMMANDER, 0, firmware.start(trajectory, group))
-        drones = range(len(self.names))
-        begin = clock.now()
-        for drone in [] if by_broadcast else drones:
-            self.radio.send(drone, raw)
-        begin, end = self.radio.broadcast(raw, copies) if by_broadcast else (begin, clock.now())
+        begin, drones, data = clock.now(), range(len(self.names)), firmware.start(trajectory, group)
+        self.tell([] if by_broadcast else drones, firmware.COMMANDER, 0, data)
+        begin, end = (self.radio.broadcast(firmware.packet(firmware.COMMANDER, 0, data), copies) if by_broadcast else
+                      (begin, clock.now()))
         mute = self.radio.failures(drones, lambda drone: self.radio.pass_by(drone, 1))
         with self.lock:
             return Started(begin, end, dict(self.started), set(mute) - set(self.started))
@@ -431,21 +412,13 @@ class Fleet:
         return (max(answered), [k for k, why in failures.items() if isinstance(why, Dead)],
                 {k: str(why) for k, why in failures.items() if not isinstance(why, Dead)})
 
-    def rest(self, drones: Iterable[int]) -> None:
-        """Has the commanders of drones that are down stop: some let motors idle until then."""
-        for drone in drones:
-            self.radio.send(drone, firmware.packet(firmware.COMMANDER, 0, firmware.STOP))
-
     def cut(self) -> None:
         """Stops all motors, at once and for good: each drone falls, and has to be started anew."""
         self.radio.drop()
         self.told_off = [clock.now()] * len(self.names)
-        for raw in (firmware.packet(firmware.PLACES, 1, firmware.EMERGENCY_STOP),
-                    firmware.packet(firmware.COMMANDER, 0, firmware.STOP)):
-            for drone in range(len(self.names)):
-                self.radio.send(drone, raw)
-            self.beside(raw, 2)
+        for where in ((firmware.PLACES, 1, firmware.EMERGENCY_STOP), (firmware.COMMANDER, 0, firmware.STOP)):
+            self.tell(range(len(self.names)), *where)
+            self.beside(firmware.packet(*where), 2)
             for _ in range(2):
-                for drone in range(len(self.names)):
-                    self.radio.send(drone, raw)
+                self.tell(range(len(self.names)), *where)
         clock.wait(0.5)

@@ -28,7 +28,7 @@ ANSWERS = 0.4  # seconds in which `check` has to answer where drones fly on mean
 OLD = 0.2  # seconds that a sample may be old by which a landing is judged
 ORDERED = 0.2  # seconds in which the director has to order a landing
 SLOWER = 2.0  # seconds that its landing may take longer than all need
-NO_ANSWER = "`check` didn't answer in time"
+NO_ANSWER: Optional[str] = "`check` didn't answer in time"
 
 
 class Apart(Exception):
@@ -107,8 +107,7 @@ class Home(Watched):
                     fault, "" if free is None or self.deaf() or self.off() else " to %.1f s" % (free / 1000),
                     landings.short(why)))
                 self.is_said = True
-            for words in self.noted():
-                say("FAULT besides: %s" % words)
+            self.say_more()
             clock.wait(0.1)
         return True
 
@@ -145,10 +144,10 @@ class Home(Watched):
         mover, _ = self.moves[k]
         if not self.is_fresh(k) or k in self.unheard or k in self.deaf():
             return landings.Column(self.unheard.get(k, here[k]), self.aims[k])
-        speed = self.speed_aside(k)
+        speed = self.speed(k, 2)
         if self.stage_ends > clock.now():
             speed = max(speed, 1000 * PEAK * apart(mover.first, mover.last) / mover.milliseconds)
-        return landings.Column(here[k], here[k], landings.carried(speed) + speed * (LATE / 1000 + OLD))
+        return landings.Column(here[k], here[k], landings.carried(speed, LATE / 1000 + OLD))
 
     def refusal_aside(self) -> Optional[str]:
         """Why landings from the ways aren't apart for the reason alone that nobody is above or below another, whatever
@@ -167,9 +166,8 @@ class Home(Watched):
         """Why not all may land now on the ways, or None: by what was judged beforehand, by columns that are apart, or
         else by `check`, which hasn't long."""
         why = self.refusal_ready()
-        if why is None or self.refusal_aside() is None:
-            return None
-        return self.soon(self.refusal_here, why)
+        is_apart = why is None or self.refusal_aside() is None
+        return None if is_apart else self.meanwhile(self.refusal_here, ANSWERS, why)
 
     def refusal_here(self) -> Optional[str]:
         """Why not all may land straight down from where they are on the ways, or None: with how far they are carried
@@ -205,16 +203,11 @@ class Home(Watched):
     def refusal_of_stage(self, kind: str, at: Dict[int, Place], to: Dict[int, Place],
                          ways: List[float]) -> Optional[str]:
         """Why some may not go so far to places from where they fly now, or None."""
-        speed = max(map(self.speed, to), default=0.0)
-        more = landings.carried(speed) + speed * (LATE / 1000 + OLD + ANSWERS)
+        more = landings.carried(max(map(self.speed, to), default=0.0), LATE / 1000 + OLD + ANSWERS)
         if self.ways.rules.stray + more > MOST:
             return landings.TOO_FAR
         leg = Leg(self.names, at, self.ways.yaws, Rules(self.flown.show.settings, self.ways.rules.aim + more))
         return judge_stages(leg, [Stage(kind, milliseconds_for(kind, ways), to)], self.ways.pads, at)
-
-    def soon(self, refusal: Callable[[], Optional[str]], late: Optional[str]) -> Optional[str]:
-        """A refusal that `check` says, or this where it takes too long."""
-        return self.meanwhile(refusal, ANSWERS, late)
 
     # ---- on the ways: home by a way that is judged
 
@@ -223,20 +216,22 @@ class Home(Watched):
         its end, and all come down from there by a way that is judged: the way that they came, the rest of the way
         down, or a new one. What is left to do is a landing of who isn't down: why that isn't shown apart, or None."""
         self.watch.lands = self.watch.was_pressed  # a first Ctrl-C lands who can
-        try:
-            return self.home(front)
-        except Interrupted:
-            self.watch.lands = True
-        self.fleet.radio.drop()
-        why, front = self.refusal_now(), "Ctrl-C, once more stops the motors"
-        if why is None:
-            return None
-        able = self.able()
-        say(f"{front}; a landing of all now isn't shown apart ({landings.short(why)}); "
-            f"landing now: {self.words_of(able) or 'nobody'}")
-        if able:
-            self.bring_down(sorted(able))
-        return self.home(front)
+        while True:
+            try:
+                return self.home(front)
+            except Apart:
+                return None
+            except Interrupted:
+                self.watch.lands = True
+            self.fleet.radio.drop()
+            why, front = self.refusal_now(), "Ctrl-C, once more stops the motors"
+            if why is None:
+                return None
+            able = self.able()
+            say(f"{front}; a landing of all now isn't shown apart ({landings.short(why)}); "
+                f"landing now: {self.words_of(able) or 'nobody'}")
+            if able:
+                self.bring_down(sorted(able))
 
     def land_away(self) -> None:
         """Says who is outside of the room, and lands those there who flew out and are clear of all others."""
@@ -270,7 +265,7 @@ class Home(Watched):
             able.discard(worst)
 
     def home(self, front: str) -> Optional[str]:
-        """The same, as far as the crew says nothing."""
+        """The same, as far as the crew says nothing; raises Apart where all may land."""
         self.fleet.radio.drop()
         why = self.refusal_now()
         if why is None:
@@ -284,8 +279,8 @@ class Home(Watched):
         elif self.stage_ends > clock.now():
             say("%s; a landing of all now isn't shown apart (%s): the stage that is flown goes to its end first" % (
                 front, landings.short(why)))
-            if self.far_since and self.lands_sooner():
-                return None
+            if self.far_since:  # somebody isn't where it should be
+                self.pause(self.stage_ends - LEAD / 1000, self.look_apart)
         self.pause(self.stage_ends)
         self.wait_heard()
         why = NO_ANSWER if gone_back else self.refusal_ready()
@@ -293,13 +288,10 @@ class Home(Watched):
             why = self.meanwhile(self.refusal_here)
         return self.go_home(front, why) if why else None
 
-    def lands_sooner(self) -> bool:
-        """Looks, while a stage is flown on which somebody isn't where it should be, whether all may land."""
-        while clock.now() < self.stage_ends - LEAD / 1000:
-            if self.refusal_now() is None:
-                return True
-            self.pause(clock.now() + 0.05)
-        return False
+    def look_apart(self) -> None:
+        """Ends the way home where all may land by now."""
+        if self.refusal_now() is None:
+            raise Apart
 
     def go_home(self, front: str, why: str) -> Optional[str]:
         """Flies a judged way home from where all are at rest, and may not land for a reason; why not all may land in
@@ -310,11 +302,8 @@ class Home(Watched):
             if leg is None:
                 break
             say("%s; a landing of all isn't shown apart (%s): all come down %s" % (front, landings.short(why), words))
-            try:
-                if not any(self.home_stage(stage, self.look_more) for stage in leg.stages):
-                    return self.meanwhile(self.refusal_here) if self.up(self.all) else None
-            except Apart:
-                return None
+            if not any(self.home_stage(stage, self.look_more) for stage in leg.stages):
+                return self.meanwhile(self.refusal_here) if self.up(self.all) else None
             self.wait_heard()
             refusal = self.meanwhile(self.refusal_here)
             if refusal is None:
@@ -325,12 +314,16 @@ class Home(Watched):
         return why
 
     def look_more(self) -> None:
-        """Says what is wrong besides on the way home, and ends it where all may land by then."""
+        """Says what is wrong besides on the way home, which may end it."""
+        if self.say_more():
+            self.look_apart()
+
+    def say_more(self) -> List[str]:
+        """Says what is wrong besides."""
         more = self.noted()
         for words in more:
             say(f"FAULT besides: {words}")
-        if more and self.refusal_now() is None:
-            raise Apart
+        return more
 
     def wait_heard(self) -> None:
         """Waits until all say again where they are, but not for long: where it is, is known of nobody else."""
@@ -351,8 +344,8 @@ class Home(Watched):
         to = {k: place for k, place in enumerate(self.ways.firsts) if k in at and at[k] != self.ways.pads[k]}
         ways = [math.dist(at[k], place) for k, place in to.items()]
         mute = [k for k in to if not self.is_fresh(k)]
-        doubt = "%s silent, and may fly the show" % self.words_of(mute) if mute else self.soon(
-            lambda: self.refusal_of_stage(GO_TO, at, to, ways), NO_ANSWER)
+        doubt = "%s silent, and may fly the show" % self.words_of(mute) if mute else self.meanwhile(
+            lambda: self.refusal_of_stage(GO_TO, at, to, ways), ANSWERS, NO_ANSWER)
         say("%s; a landing of all now isn't shown apart (%s): all go back to their first places%s" % (
             front, landings.short(why), ", which is NOT JUDGED: %s" % landings.short(doubt) if doubt else ""))
         self.home_stage(Stage(GO_TO, milliseconds_for(GO_TO, ways), to))
@@ -417,13 +410,18 @@ class Home(Watched):
             self.unheard.pop(drone, None)
             self.took[drone] = clock.now() - self.moves[drone][1]
         mute = [str(why) for why in self.fleet.radio.failures(list(stage.to), go, self.watch.look).values()]
-        late = 1000 * max(self.took.values(), default=0.0)
-        if late > self.ways.rules.late and len(stage.to) > 1:
-            say(f"OUTSIDE OF WHAT WAS JUDGED: commands within {late:.0f} ms, and {self.ways.rules.late} were judged")
+        self.say_late(1000 * max(self.took.values(), default=0.0) if len(stage.to) > 1 else 0.0)
         for words in mute:
             say(words)
         self.pause(clock.now() + seconds + 1, look)
         return mute
+
+    def say_late(self, late: float) -> bool:
+        """Says it where a stage's commands were answered later than was judged, in milliseconds; whether they were."""
+        is_late = late > self.ways.rules.late
+        if is_late:
+            say(f"OUTSIDE OF WHAT WAS JUDGED: commands within {late:.0f} ms, and {self.ways.rules.late} were judged")
+        return is_late
 
     # ---- down from the end of the show, where some can't come
 

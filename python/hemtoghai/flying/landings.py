@@ -42,9 +42,9 @@ Cubic = List[List[float]]  # four control points
 Moving = Union[Curve, "Mover"]  # what has a place at each time, in mm
 
 
-def carried(speed: float) -> float:
-    """How far a drone is carried on, in mm, by its speed in mm a second."""
-    return speed * speed / (2000 * BRAKE) + REACT * speed
+def carried(speed: float, seconds: float = 0.0) -> float:
+    """How far a drone is carried on, in mm, by its speed in mm a second, of which it is told after so many seconds."""
+    return speed * speed / (2000 * BRAKE) + (REACT + seconds) * speed
 
 
 def meet(a: Sequence[float], b: Sequence[float], c: Sequence[float], d: Sequence[float]) -> bool:

@@ -12,12 +12,6 @@ from hemtoghai.flying.stages import Leg, NoWay as NoWay, Place, place_of, Rules 
 from hemtoghai.language.choreo import Flown
 
 
-def way_up(names: Sequence[str], pads: Sequence[Place], firsts: Sequence[Place], yaws: Sequence[int],
-           rules: Rules) -> Leg:
-    """The leg from pads to first places; raises NoWay."""
-    return Planner(names, pads, firsts, yaws, rules).plan()
-
-
 def way_down(names: Sequence[str], pads: Sequence[Place], lasts: Sequence[Place], yaws: Sequence[int], rules: Rules,
              fixed: Iterable[int] = ()) -> Leg:
     """The leg from last places to pads, which is a way up backwards; raises NoWay. Who ends the show at the height of
@@ -52,7 +46,7 @@ def way_of(name: str, flown: Flown, pads: Sequence[Place], rules: Rules, is_belo
     begins or ends at its pad: the flight director takes none that doesn't rise and land."""
     firsts, lasts, begin, end = places_of(flown)
     if name == "up":
-        leg = way_up(flown.names, pads, firsts, begin, rules)
+        leg = Planner(flown.names, pads, firsts, begin, rules).plan()
     else:
         leg = down(flown.names, pads, lasts, begin, rules, is_below)
     still = [leg.names[k] for k in leg.begin if not any(k in stage.to for stage in leg.stages)]

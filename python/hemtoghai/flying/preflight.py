@@ -6,7 +6,7 @@ from typing import Iterator, List, Mapping, Sequence, Tuple
 from hemtoghai.flying import clock, firmware, others
 from hemtoghai.flying.crazyradio import trajectory_memories, Trouble
 from hemtoghai.flying.crew import say
-from hemtoghai.flying.fleet import Fleet, HISTORY, State
+from hemtoghai.flying.fleet import Fleet, HISTORY, SETTLING, State
 from hemtoghai.flying.stages import Place, place_of
 from hemtoghai.language import choreo
 
@@ -21,7 +21,8 @@ Looks = Tuple[str, str, List[str]]  # a drone's firmware, its trajectory memorie
 
 def looked_over(fleet: Fleet, drone: int, options: argparse.Namespace, memory: int) -> Looks:
     """Looks a drone over that was heard, and sets it up."""
-    protocol, version = fleet.versions(drone)
+    protocol, = fleet.radio.ask(drone, firmware.PLATFORM, 1, firmware.ASK_PROTOCOL, least=2)[1:2]
+    version = firmware.text_of(fleet.radio.ask(drone, firmware.PLATFORM, 1, firmware.ASK_FIRMWARE, 1))
     if protocol < OLDEST:
         return version, "", ["protocol %d is older than this tool knows" % protocol]
     memories = trajectory_memories(fleet.radio.memories(drone))
@@ -157,5 +158,5 @@ def preflight(fleet: Fleet, flown: choreo.Flown, pads: Sequence[Place], hall: Ma
                 state.place[0], state.place[1], state.place[2]))
     if faults:
         raise Trouble("not flown:\n  " + "\n  ".join(faults))
-    fleet.end_settling()
+    fleet.radio.each(lambda drone: fleet.radio.ask(drone, firmware.LOGS, 1, firmware.stop_block(SETTLING), 2))
     return [place_of(1000 * sum(row) / len(row) for row in zip(*state.places)) for state in fleet.states]

@@ -20,6 +20,7 @@ FAR_FOR = 0.3  # seconds for which a drone has to be far from where it should be
 SOONER = 50  # milliseconds by which a sample may be younger than its drone's clock says
 GAP = 0.3  # seconds without a sample, or three of its samples' time, after which a drone may not hear of a landing
 UNHEARD = 0.5  # seconds that the sample of one that didn't answer may be old
+ROOM = 200  # by which a drone may be farther outside of the box of show and ways than it may stray
 Found = TypeVar("Found")
 
 
@@ -59,12 +60,8 @@ class Watched(Descent):
         """Where a drone says that it is."""
         return [1000 * v for v in self.fleet.states[k].where()]
 
-    def speed(self, k: int) -> float:
-        return 1000 * self.fleet.states[k].speed()
-
-    def speed_aside(self, k: int) -> float:
-        """Its speed as seen from above."""
-        return 1000 * self.fleet.states[k].speed(2)
+    def speed(self, k: int, axes: int = 3) -> float:
+        return 1000 * self.fleet.states[k].speed(axes)
 
     def since(self, begin: Optional[float]) -> float:
         """The milliseconds since an instant; 0 where it didn't come."""
@@ -88,12 +85,9 @@ class Watched(Descent):
 
     def away(self) -> Set[int]:
         """Who is outside of the room of show and ways, or believes so: nobody waits for it."""
-        return {k for k in self.all if self.is_away(k)}
-
-    def is_away(self, k: int) -> bool:
-        limit = max(self.options.stray, self.ways.rules.stray)
-        return (self.flying and k not in self.landed and self.fleet.states[k].place is not None
-                and not self.ways.has_room(self.at(k), limit))
+        wide = ROOM + max(self.options.stray, self.ways.rules.stray)
+        return {k for k in self.all if self.flying and k not in self.landed and self.fleet.states[k].place and not all(
+            low - wide <= v <= high + wide for v, (low, high) in zip(self.at(k), self.ways.box))}
 
     def misled(self) -> Set[int]:
         """Who believes to be outside of the room, and can't have flown there: it may be where it was."""
@@ -132,7 +126,7 @@ class Watched(Descent):
         limit, out, away = self.ways.rules.show_stray or self.options.stray, {}, self.away()
         for k in self.all:
             if k not in self.silent | away and (k in self.out or self.far[k] > limit):
-                out[k] = place_of(self.at(k)), landings.carried(self.speed(k)) + self.speed(k) * LATE / 1000
+                out[k] = place_of(self.at(k)), landings.carried(self.speed(k), LATE / 1000)
         return out
 
     # ---- faults
@@ -199,10 +193,6 @@ class Watched(Descent):
                 self.silent.discard(k)
                 say("%s is heard again" % self.names[k])
 
-    def limit(self) -> float:
-        """How far a drone may be from where it should be, in mm."""
-        return float(self.options.stray if self.in_show else max(self.options.stray, self.ways.rules.stray))
-
     def begin_moves(self, at: Dict[int, Place], stage: Stage) -> None:
         """The orders of a stage go out now, to drones that are at places: what each of them flies from here on."""
         now = clock.now()
@@ -220,6 +210,7 @@ class Watched(Descent):
     def measure(self) -> None:
         """Looks by each new sample how far drones are from their curves, or from what they fly on the ways."""
         late, now, promised = self.options.late, clock.now(), self.ways.rules.show_stray
+        limit = self.options.stray if self.in_show else max(self.options.stray, self.ways.rules.stray)
         for k, (state, curve) in enumerate(zip(self.fleet.states, self.curves)):
             if k in self.silent or state.heard is None or state.measured is None or (
                     now - state.heard > 1 or state.heard == self.looked.get(k)):
@@ -231,7 +222,7 @@ class Watched(Descent):
                 self.strays[k] = max(self.strays[k], self.far[k])
             else:
                 self.far[k] = self.far_on_way(k, state.measured)
-            if self.far[k] <= self.limit():
+            if self.far[k] <= limit:
                 self.far_since.pop(k, None)
             else:
                 self.far_since.setdefault(k, now)

@@ -17,7 +17,6 @@ from hemtoghai.language.choreo import Flown, flown_of
 from hemtoghai.writing.figures import least
 
 STARTS = range(0, 2001, 400)  # milliseconds after a start, at which it is judged as one that not all took
-ROOM = 200  # by which a drone may be farther outside of the box of show and ways than it may stray
 PATIENCE = 120  # seconds for which a take-off waits until landings on the ways are judged
 # Why the flight director takes three shows for no flight, by the numbers of its causes and by the way or the seam.
 CAUSES = (("isn't the drone of the way up", "isn't the drone of the way down"),
@@ -77,10 +76,6 @@ class Ways:
         self.broken: List[Tuple[int, Optional[str]]] = []
         self.preparing: Optional[clock.Task] = None
         self.is_prepared = self.over = self.flies = False
-
-    def has_room(self, place: Sequence[float], stray: float) -> bool:
-        """Whether a place is where a drone of this flight can be, if it strays by so much."""
-        return all(low - stray - ROOM <= v <= high + stray + ROOM for v, (low, high) in zip(place, self.box))
 
     def way(self, name: str) -> Leg:
         """The way up or down; raises Trouble."""
