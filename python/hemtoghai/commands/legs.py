@@ -37,10 +37,8 @@ def summed_up(leg: Leg, path: str, name: str, show: str, top: int) -> bytes:
     print(f"way {name}: {many(len(leg.stages), 'stage')}, {leg.milliseconds() / 1000:.1f} s; {words}; {shown(path)}")
     if leg.why_below:
         print("  below the last places, since there is no way to the pads: %s" % leg.why_below)
-    for line in leg.lines():
+    for line in leg.lines(top):
         print(line)
-    if leg.top() > top:
-        print("  goes up to %.2f m, and the show to %.2f: --ceiling keeps it lower" % (leg.top() / 1000, top / 1000))
     return leg.text([f"# The way {name} of {os.path.basename(show)}, by {COMMAND} legs; {words}."])
 
 

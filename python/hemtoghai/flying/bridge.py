@@ -29,7 +29,6 @@ GOES = 3.0  # seconds for which a go is said again: it counts only where all dro
 REPLY, REPLIES = 0.2, 1.0  # seconds in which the director answers a go that it takes, and least ones for all
 PLACES = 8.0  # seconds in which all have to be at their first places, once the way up is over
 ENDS = 1.0  # seconds in which all is heard that the director said before it ended
-PATIENCE = 12.0  # seconds after the end of a step until which the director has begun the next one, or said who is late
 MUTE = 255  # the status that the director is told of a drone that refuses, or has no answer
 
 
@@ -37,13 +36,13 @@ class Bridge(Home):
     """A flight by the director. `told_at` is up to when it was told of the time, `went` the same at the last go, and
     `told` what it was told of each drone last. `ahead` are by drone the stages in which orders come, `to_arm` who was
     told to arm, `sinking` who was told to land on the way down, `refusals` what drones refused, and `came` the answers
-    that the director wasn't told yet. `due_by` is when it has to have said something."""
+    that the director wasn't told yet."""
 
     def __init__(self, fleet: Fleet, ways: Ways, watch: Watch) -> None:
         super().__init__(fleet, ways, watch)
         self.director = ways.begin_director()
         fleet.stirs = self.director.stir
-        self.told_at, self.went, self.due_by = clock.now(), 0.0, math.inf
+        self.told_at, self.went = clock.now(), 0.0
         self.over: Optional[Over] = None
         self.told: List[Tuple[Optional[float], int]] = [(None, 0)] * len(self.names)
         self.ahead: List[Deque[Tuple[Leg, int]]] = [deque(self.stages_of(k)) for k in self.all]
@@ -126,8 +125,6 @@ class Bridge(Home):
             if said_last is None:
                 raise Trouble("the flight director takes nothing any more")
             self.take(said_last)
-        if self.told_at > self.due_by:  # it was told so: a machine that stood still isn't to blame
-            raise Trouble("the flight director doesn't go on")
         self.director.rest(SOON, LOOK)
 
     # ---- what the director says
@@ -139,7 +136,6 @@ class Bridge(Home):
             self.start(said.order.group)
         elif isinstance(said, To) and said.order.kind == director.DISARM:
             self.disarm(self.all)
-            self.due_by = clock.now() + PATIENCE
         elif isinstance(said, Noted):
             self.note(said.drone, said.fault)
         elif isinstance(said, Over):
@@ -171,9 +167,6 @@ class Bridge(Home):
             say("OUTSIDE OF THE PROMISE since %.1f s: %s is off its curve, and the show's `stray` is %d" % (
                 max(0.0, self.since(self.zero) / 1000 - 0.3), name, self.ways.rules.show_stray))
 
-    def is_led(self) -> bool:
-        return self.director.is_well and not self.in_show
-
     def unfit(self, k: int, flags: int) -> Optional[str]:
         """How a drone isn't as the next step wants it, which may want some of its flags, or None."""
         name, lacks = self.names[k], flags & ~self.flags(k)
@@ -192,7 +185,6 @@ class Bridge(Home):
             self.give(k, lambda since: self.fleet.command(k, group, "join the flight's group", since))
         elif order.kind == director.ARM:
             self.to_arm.add(k)
-            self.due_by = clock.now() + PATIENCE
             self.give(k, lambda since: self.fleet.ask_arm(k, since))
         elif self.ahead[k]:
             self.lead(k, order)
@@ -228,7 +220,6 @@ class Bridge(Home):
         self.leg, self.begun, self.stage_began, self.stage_ends = leg, number + 1, now, now + seconds + 1
         self.unheard, self.rising, self.is_said_late = {}, set(), len(stage.to) == 1
         self.begin_moves(leg.places(number), stage)
-        self.due_by = math.inf if stage is self.ways.up.stages[-1] else now + seconds + PATIENCE
         if stage.kind == TAKE_OFF:
             self.flying, self.rising = True, set(stage.to)
             self.watch.flies = True
@@ -336,7 +327,7 @@ class Bridge(Home):
         self.slack = min(0.5, answered)
         self.say_spread(1000 * (end - begin), 1000 * answered)
         self.aims.update(enumerate(self.ways.lasts))
-        self.in_show, self.due_by = True, self.ends() + PATIENCE
+        self.in_show = True
 
     def say_spread(self, spread: float, answered: float) -> None:
         """Says how far apart starts may be, in milliseconds; raises where that is too far."""

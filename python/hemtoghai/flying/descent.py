@@ -102,12 +102,10 @@ class Descent:
             elif not self.is_down(k):
                 words = "IN THE AIR, it said %.1f s ago, at %s" % (age, at)
             else:
-                words = "%s, it says, at %s, %s" % (self.words_down(k), at, self.words_armed(k))
+                # a wreck may lie elsewhere, and may be falling still
+                words = "%s, it says, at %s, %s" % (
+                    "down" if self.is_at_floor(k) else "doesn't fly any more", at, self.words_armed(k))
             say("end: %s: %s" % (name, words))
-
-    def words_down(self, k: int) -> str:
-        """How one is down: a wreck may lie elsewhere, and may be falling still."""
-        return "down" if self.is_at_floor(k) else "doesn't fly any more"
 
     def words_armed(self, k: int) -> str:
         state = self.fleet.states[k]

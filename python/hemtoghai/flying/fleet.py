@@ -6,8 +6,9 @@ import contextlib
 import csv
 import math
 import threading
+from collections import deque
 from functools import partial
-from typing import Callable, Dict, Iterable, List, NamedTuple, Optional, Sequence, Set, TextIO, Tuple
+from typing import Callable, Deque, Dict, Iterable, List, NamedTuple, Optional, Sequence, Set, TextIO, Tuple
 
 from hemtoghai.flying import clock, finite, firmware
 from hemtoghai.flying.crazyradio import ANSWER, Dead, Radio, Trouble
@@ -143,27 +144,21 @@ class Log:
     last line says whether the flight was kept, ways and all."""
 
     def __init__(self, path: Optional[str], tell: Callable[[str], None]) -> None:
-        self.path, self.tell, self.lock, self.over = path, tell, threading.Lock(), clock.Event()
-        self.waiting: List[Tuple[float, str, Sequence[float], int, Optional[float]]] = []
+        self.path, self.tell, self.over = path, tell, clock.Event()
+        self.waiting: Deque[Tuple[float, str, Sequence[float], int, Optional[float]]] = deque()
         self.fault: object = None
         self.zero: Optional[float] = None
         self.task: Optional[clock.Task] = None
         self.last = finite.FAULT
         if path:
             file = open(path, "w", newline="", encoding="utf-8")
-            self.put_rows(file, [["time", "drone", "x", "y", "z", "stamp", "variance"]])
+            file.write("time,drone,x,y,z,stamp,variance\r\n")
+            file.flush()
             self.task = clock.Task(lambda: self.run(file))
 
     def put(self, at: float, name: str, place: Sequence[float], stamp: int, variance: Optional[float] = None) -> None:
         if self.path and self.fault is None:
-            with self.lock:
-                self.waiting.append((at, name, place, stamp, variance))
-
-    @staticmethod
-    def put_rows(file: TextIO, rows: Iterable[Sequence[object]]) -> None:
-        """Writes rows, and nothing of them stays here."""
-        csv.writer(file).writerows(rows)
-        file.flush()
+            self.waiting.append((at, name, place, stamp, variance))
 
     def run(self, file: TextIO) -> None:
         """Writes what waits, five times a second, until the log is closed or can't be written."""
@@ -182,11 +177,11 @@ class Log:
         zero = self.zero
         if zero is None:
             return
-        with self.lock:
-            rows, self.waiting = self.waiting, []
-        self.put_rows(file, [["%.4f" % (at - zero), name, *("%.5f" % v for v in place), stamp,
-                              "" if variance is None else f"{variance:.3g}"]
-                             for at, name, place, stamp, variance in rows])
+        rows = [self.waiting.popleft() for _ in range(len(self.waiting))]
+        csv.writer(file).writerows(["%.4f" % (at - zero), name, *("%.5f" % v for v in place), stamp,
+                                    "" if variance is None else f"{variance:.3g}"]
+                                   for at, name, place, stamp, variance in rows)
+        file.flush()
 
     def close(self, is_kept: bool = False) -> None:
         """Has all written that waits, by the time of its last sample where nothing was started, but not for long. Last

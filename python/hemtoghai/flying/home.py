@@ -15,7 +15,7 @@ from hemtoghai.flying import clock, firmware, landings
 from hemtoghai.flying.crazyradio import Trouble
 from hemtoghai.flying.crew import Interrupted, say
 from hemtoghai.flying.descent import LANDING
-from hemtoghai.flying.director import Director, Ended, LAND as TO_LAND, Noted, Order, signal, SINK, To, UNCOVERED
+from hemtoghai.flying.director import Ended, LAND as TO_LAND, Noted, Order, signal, SINK, To, UNCOVERED
 from hemtoghai.flying.stages import (apart, GO_TO, judge_stages, LAND, LATE, Leg, milliseconds_for, MOST, PEAK,
                                      Place, place_of, Rules, SAME_FLOOR, Stage)
 from hemtoghai.flying.watched import Watched
@@ -39,7 +39,6 @@ class Home(Watched):
     """Brings all home. `doubt` is why a landing that begins now isn't shown apart, `landed_at` the show's time when the
     last one began, `is_said` whether the fault was said, `told_away` who was said to be outside of the room, and
     `takes` the milliseconds that `check` takes."""
-    director: Director
     doubt: Optional[str] = None
     landed_at = 0.0
     told_away: Set[int] = set()

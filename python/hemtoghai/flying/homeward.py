@@ -6,7 +6,7 @@ pause and the way down are one show, which `check` judges and `upload` sends. A 
 long before the pause is over. One that doesn't comes down where the others stand on their pads, or come down as it
 does: both are judged. Millimetres and milliseconds.
 """
-from typing import Dict, List, Mapping, Optional, Sequence, Tuple
+from typing import Dict, Mapping, Optional, Tuple
 
 from hemtoghai.flying.stages import judge_stages, LAND, Leg, Place, refusal_of, Stage
 from hemtoghai.language.choreo import Flown
@@ -18,19 +18,14 @@ PAUSE = 60000
 ABOVE = 50  # above its pad, where a drone ends: no landing is in a trajectory
 
 
-def above_pads(stages: Sequence[Stage]) -> List[Stage]:
-    """The same stages, with each landing ending above the pad."""
-    return [Stage(stage.kind, stage.milliseconds, {
-        k: (x, y, z + ABOVE * (stage.kind == LAND)) for k, (x, y, z) in stage.to.items()}) for stage in stages]
-
-
 def text_of(flown: Flown, text: bytes, down: Leg) -> bytes:
-    """The text of a show that goes on with a pause and a way down."""
+    """The text of a show that goes on with a pause and a way down, whose landings end above the pads."""
     form = flown.show.form
     rows = [line_in(form, "cue", PAUSE), "end"]
-    for stage in above_pads(down.stages):
+    for stage in down.stages:
+        above = ABOVE * (stage.kind == LAND)
         rows += [line_in(form, "cue", stage.milliseconds)]
-        rows += [line_in(form, "act", flown.names[k], "move", 1000 * x, 1000 * y, 1000 * z, down.yaws[k])
+        rows += [line_in(form, "act", flown.names[k], "move", 1000 * x, 1000 * y, 1000 * (z + above), down.yaws[k])
                  for k, (x, y, z) in stage.to.items()]
         rows += ["end"]
     return text.rstrip(b"\r\n") + b"\n" + "\n".join(rows).encode() + b"\n"

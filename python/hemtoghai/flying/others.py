@@ -7,7 +7,7 @@ or rate, which hears no broadcast of this flight either, and one that is switche
 or a radio: how a dongle is shared, and what it gives back, is from memory (70 %).
 """
 from functools import partial
-from typing import Dict, Iterable, Iterator, List, Mapping, Sequence, Tuple
+from typing import Dict, Iterable, List, Mapping, Sequence, Tuple
 
 from hemtoghai.flying import clock
 from hemtoghai.flying.crazyradio import RATES
@@ -84,10 +84,5 @@ def others(uris: Iterable[str], hall: Mapping[str, str]) -> Tuple[List[str], Lis
     """Who is on besides the drones of the flight, in words, and why that isn't known to the end."""
     asked = to_ask(uris, hall)
     found, why = heard(asked)
-    return list(words_of(dict.fromkeys(asked[uri] for uri in found))), why
-
-
-def words_of(names: Iterable[str]) -> Iterator[str]:
-    """A line for each who is on and isn't in the show."""
-    for name in names:
-        yield f"{name} is on, and isn't in the show: switch it off, it hears what all are told"
+    return [f"{name} is on, and isn't in the show: switch it off, it hears what all are told"
+            for name in dict.fromkeys(asked[uri] for uri in found)], why

@@ -60,12 +60,9 @@ class Script:
         self.said += text
         self.changed.notify_all()
 
-    def was_said(self, words: str) -> bool:
-        return words in self.said
-
     def run(self) -> None:
         for row in self.rows:
-            self.changed.wait_for(partial(self.was_said, row.words))
+            self.changed.wait_for(lambda: row.words in self.said)
             clock.wait(row.seconds)
             self.said = ""
             self.done.append([clock.now(), None])

@@ -15,8 +15,9 @@ import concurrent.futures
 import subprocess
 import threading
 from itertools import combinations
-from math import ceil, dist
-from typing import Callable, Dict, Iterable, Iterator, List, Mapping, Optional, Sequence, Tuple, TypeVar, Union
+from math import ceil, dist, inf
+from typing import (Callable, Dict, Iterable, Iterator, List, Mapping, NamedTuple, Optional, Sequence, Tuple, TypeVar,
+                    Union)
 
 from hemtoghai import program
 from hemtoghai.companion import missing, no_program
@@ -44,11 +45,11 @@ class NoWay(Exception):
     """Why there is no leg: words for people."""
 
 
-class Stage:
+class Stage(NamedTuple):
     """Drones that fly one command each, to a place each, all in the same time."""
-
-    def __init__(self, kind: str, milliseconds: int, to: Dict[int, Place]) -> None:
-        self.kind, self.milliseconds, self.to = kind, milliseconds, to
+    kind: str
+    milliseconds: int
+    to: Dict[int, Place]
 
     def without(self, drones: Iterable[int]) -> "Stage":
         return Stage(self.kind, self.milliseconds, {k: place for k, place in self.to.items() if k not in drones})
@@ -211,12 +212,17 @@ class Leg:
         """The highest that the leg goes, in mm."""
         return max(place[2] for place in self.all_places())
 
-    def lines(self) -> Iterator[str]:
+    def lines(self, top: float = inf) -> Iterator[str]:
+        """Its stages for people, and what is to be said of it beside a show that goes up so high."""
         for number, stage in enumerate(self.stages, 1):
             at = self.places(number - 1)
             rows = ["%s to (%.2f, %.2f, %.2f)" % (self.names[k], x / 1000, y / 1000, z / 1000)
                     for k, (x, y, z) in stage.to.items() if stage.kind != LAND or (x, y, z) != at[k]]
             yield "%3d. %-8s %5.1f s  %s" % (number, stage.kind, stage.milliseconds / 1000, "; ".join(rows))
+        if self.hint:
+            yield "  it would be shorter so: %s" % self.hint
+        if self.top() > top:
+            yield f"  goes up to {self.top() / 1000:.2f} m, and the show to {top / 1000:.2f}: --ceiling keeps it lower"
 
 
 def stage_texts(names: Sequence[str], yaws: Sequence[int], stage: Stage, standing: Iterable[int],

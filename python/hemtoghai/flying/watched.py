@@ -10,6 +10,7 @@ from hemtoghai.flying import clock, firmware, landings
 from hemtoghai.flying.crazyradio import Silence, Trouble
 from hemtoghai.flying.crew import say, Watch
 from hemtoghai.flying.descent import Descent
+from hemtoghai.flying.director import Director
 from hemtoghai.flying.fleet import Fleet
 from hemtoghai.flying.routes import LIFT
 from hemtoghai.flying.stages import LATE, Place, place_of, Stage
@@ -32,6 +33,7 @@ class Watched(Descent):
     out, and when it has ended. `moves` are what each flies outside of the show, and `took` after how many seconds it
     answered the order to. `looked` has by which sample each was measured last. `zero` is when the show was started, and
     `slack` the seconds after it within which all have."""
+    director: Director
 
     def __init__(self, fleet: Fleet, ways: Ways, watch: Watch) -> None:
         super().__init__(fleet, [floor / 1000 for floor in ways.floors], ways.options.silence, watch)
@@ -157,7 +159,7 @@ class Watched(Descent):
 
     def is_led(self) -> bool:
         """Whether the flight director watches drones on the ways, and says itself who left them."""
-        return False
+        return self.director.is_well and not self.in_show
 
     def is_out(self, k: int) -> bool:
         """Whether a drone says that it doesn't fly any more."""

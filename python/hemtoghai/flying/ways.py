@@ -176,8 +176,7 @@ class Ways:
             return None
         leg.names, leg.yaws = self.flown.names, self.yaws
         leg.begin = {drones[n]: place for n, place in leg.begin.items()}
-        for stage in leg.stages:
-            stage.to = {drones[n]: place for n, place in stage.to.items()}
+        leg.stages = [stage._replace(to={drones[n]: place for n, place in stage.to.items()}) for stage in leg.stages]
         return leg
 
     def dealt_anew(self, at: Dict[int, Place], hold: Set[int], wrecks: Set[int]) -> Optional[Dict[int, Place]]:
@@ -204,13 +203,8 @@ class Ways:
         for name, leg in (("up", self.up), ("down", self.down)):
             say("way %s: %.1f s, judged %s" % (name, leg.milliseconds() / 1000,
                                                "as a whole" if leg.whole else "stage by stage"))
-            for line in leg.lines():
+            for line in leg.lines(top):
                 say(line)
-            if leg.hint:
-                say("  it would be shorter so: %s" % leg.hint)
-            if leg.top() > top:
-                say("  goes up to %.2f m, and the show to %.2f: --ceiling keeps it lower" % (
-                    leg.top() / 1000, top / 1000))
         if self.options.home:
             say(f"NO WAY HOME WITHOUT RADIO: {self.no_home}" if self.no_home else
                 f"without radio all come home by themselves, from {homeward.PAUSE / 1000:g} s after the show's end on, "
