@@ -157,6 +157,7 @@ class Notes(unittest.TestCase):
         for number, word in faults.items():
             it = types.SimpleNamespace(names=["a", "b"], in_show=False, refusals={}, to_arm=set(), wrong_with=lambda k: None,
                                        far_words=lambda k: "b is 200 mm from its way", unfit=lambda k, flags: None,
+                                       is_news=lambda k: True,
                                        fleet=types.SimpleNamespace(states=[None, state]))
             if word == "silent":
                 self.assertIsNone(bridge.Bridge.note(it, 1, int(number)))

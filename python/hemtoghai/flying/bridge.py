@@ -77,6 +77,7 @@ class Bridge(Home):
         it was told before, or until the show's time begins, in the middle of when drones may have started."""
         states, passed = self.fleet.states, int(1000 * (clock.now() - self.told_at))
         if not self.director.is_free() or passed < 0:
+            self.raise_all(self.faults())  # while it doesn't read nobody else finds them
             return
         # A machine that stood still makes that good bit by bit, so that drones aren't late whom it couldn't hear.
         passed = min(passed, MOST_TOLD)
@@ -152,6 +153,8 @@ class Bridge(Home):
         if fault == director.LATE:
             raise Trouble(k < len(self.names) and self.unfit(k, director.ARMED * (k in self.to_arm)) or
                           "%s isn't as the next step wants it for long enough" % name)
+        if fault in (director.WRONG, director.UNSURE):
+            self.is_news(k)
         if fault == director.WRONG:
             raise Trouble(self.wrong_with(k) or "%s is lost" % name)
         if fault == director.UNSURE:

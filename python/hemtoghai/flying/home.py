@@ -516,6 +516,7 @@ class Home(Watched):
 
     def words_after(self, why: BaseException) -> str:
         """Does what a fault or a Ctrl-C wants; the words for the landing that follows."""
+        self.leads = False
         if isinstance(why, Interrupted):
             words, front = "Ctrl-C: landing all; once more stops the motors", "Ctrl-C, once more stops the motors"
         else:

@@ -34,6 +34,7 @@ class Watched(Descent):
     answered the order to. `looked` has by which sample each was measured last. `zero` is when the show was started, and
     `slack` the seconds after it within which all have."""
     director: Director
+    leads = True  # whether it is the director that finds faults: until the first one
 
     def __init__(self, fleet: Fleet, ways: Ways, watch: Watch) -> None:
         super().__init__(fleet, [floor / 1000 for floor in ways.floors], ways.options.silence, watch)
@@ -159,7 +160,7 @@ class Watched(Descent):
 
     def is_led(self) -> bool:
         """Whether the flight director watches drones on the ways, and says itself who left them."""
-        return self.director.is_well and not self.in_show
+        return self.leads and not self.in_show
 
     def is_out(self, k: int) -> bool:
         """Whether a drone says that it doesn't fly any more."""
@@ -167,15 +168,17 @@ class Watched(Descent):
         return (state.says(firmware.WRECKED) or k in self.armed and state.denies(firmware.IS_ARMED)
                 or state.is_new and self.flying)
 
-    def faults(self) -> Iterator[str]:
+    def faults(self) -> List[str]:
         """What is wrong with drones that are heard, and wasn't said before; that one is out is said once more."""
-        for k in self.all:
-            words = None if k in self.silent | self.out else self.wrong_with(k)
-            is_out = words is not None and self.is_out(k)
-            if words and (is_out or k not in self.failed):
-                self.failed.add(k)
-                self.out |= {k} if is_out else set()
-                yield words
+        found = {k: self.wrong_with(k) for k in self.all if k not in self.silent | self.out}
+        return [words for k, words in found.items() if words and self.is_news(k)]
+
+    def is_news(self, k: int) -> bool:
+        """Notes that a drone has a fault; whether that wasn't said before."""
+        is_new, is_out = k not in self.failed, self.is_out(k)
+        self.failed.add(k)
+        self.out |= {k} if is_out else set()
+        return is_new or is_out
 
     def listen(self) -> Iterator[str]:
         """Looks who is silent, says so, and yields it where that is a fault: on the ways, and where it is asked for."""
@@ -230,19 +233,21 @@ class Watched(Descent):
                 self.far_since.setdefault(k, now)
 
     def noted(self) -> List[str]:
-        """Looks at all drones, and what is pressed; the faults that are new."""
+        """Looks at all drones, and what is pressed; the faults that are new, and aren't for the director to find."""
         self.watch.look()
         if self.flying:
             self.measure()
-        return [*self.listen(), *self.faults()]
+        return [*self.listen(), *([] if self.leads else self.faults())]
 
     # ---- waits in which the crew is heard
 
     def guard(self) -> None:
         """Raises what is pressed, or the faults of drones that are new."""
-        new = self.noted()
-        if new:
-            raise Trouble("; ".join(new))
+        self.raise_all(self.noted())
+
+    def raise_all(self, faults: List[str]) -> None:
+        if faults:
+            raise Trouble("; ".join(faults))
 
     def pause(self, until: float, look: Callable[[], None] = lambda: None) -> None:
         """Waits until an instant; a second Ctrl-C ends it, and what a look raises."""
