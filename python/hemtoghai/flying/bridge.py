@@ -366,14 +366,13 @@ class Bridge(Home):
             "not shown apart, %s" % landings.short(why)))
 
     def down(self) -> None:
-        """Has all come down as the director says it; where one is silent or doesn't fly, by a way that keeps clear of
-        it, which the director hasn't."""
+        """Has all come down as the director says it; where one is silent, by a way that keeps clear of it, which the
+        director hasn't."""
         if self.in_show:
             self.leave_show()
-            gone = self.silent | self.out
-            if gone:
+            if self.silent:
                 if self.ways.rules.show_stray:
-                    say(f"THE PROMISE WAS VOID in this flight: of {self.words_of(gone)} it isn't known")
+                    say(f"THE PROMISE WAS VOID in this flight: of {self.words_of(self.silent)} it isn't known")
                 self.come_down()
                 return
         while self.over is None:

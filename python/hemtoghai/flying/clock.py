@@ -21,21 +21,25 @@ class Empty(Exception):
 
 
 class Condition:
-    """What may change, and who waits for it. In a `with` of it one thread alone is at work."""
+    """What may change, and who waits for it, in real time. In a `with` of it one thread alone is at work."""
+
+    def __init__(self) -> None:
+        self.real = threading.Condition()
 
     def __enter__(self) -> "Condition":
-        raise NotImplementedError
+        self.real.__enter__()
+        return self
 
     def __exit__(self, *why: object) -> None:
-        raise NotImplementedError
+        self.real.release()
 
     def wait_for(self, is_so: Callable[[], object], seconds: Optional[float] = None) -> bool:
         """Waits until something is so, but no longer than these seconds; whether it is."""
-        raise NotImplementedError
+        return bool(self.real.wait_for(lambda: bool(is_so()), seconds))
 
     def notify_all(self) -> None:
         """Has all look who wait."""
-        raise NotImplementedError
+        self.real.notify_all()
 
 
 class Process(Protocol):
@@ -58,7 +62,7 @@ class Clock:
         time.sleep(max(0.0, seconds))
 
     def condition(self) -> Condition:
-        return RealCondition()
+        return Condition()
 
     def begin(self, work: Work) -> None:
         """Has a thread do some work."""
@@ -89,24 +93,6 @@ class Clock:
 
     def pay(self, shares: int) -> None:
         """Waits for what is owed, of which so many shares were side by side."""
-
-
-class RealCondition(Condition):
-    def __init__(self) -> None:
-        self.real = threading.Condition()
-
-    def __enter__(self) -> Condition:
-        self.real.__enter__()
-        return self
-
-    def __exit__(self, *why: object) -> None:
-        self.real.release()
-
-    def wait_for(self, is_so: Callable[[], object], seconds: Optional[float] = None) -> bool:
-        return bool(self.real.wait_for(lambda: bool(is_so()), seconds))
-
-    def notify_all(self) -> None:
-        self.real.notify_all()
 
 
 REAL = Clock()

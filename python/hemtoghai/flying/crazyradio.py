@@ -290,36 +290,34 @@ class Radio:
             self.changed.notify_all()
 
     def each(self, work: Callable[[int], Any], look: Optional[Work] = None) -> List[Any]:
-        """What a function gives for each drone, side by side; the first failure is raised once all have ended. All the
-        while `look` is called, where one is given, and what it raises ends the wait."""
-        out, failed = [None] * len(self.names), list[Exception]()
+        """What a function gives for each drone, side by side; the first failure is raised once all have ended."""
+        out: Dict[int, Any] = {}
+        drones = range(len(self.names))
+        for why in self.failures(drones, lambda drone: out.update({drone: work(drone)}), look).values():
+            raise why
+        return [out[drone] for drone in drones]
+
+    def failures(self, drones: Sequence[int], work: Callable[[int], object],
+                 look: Optional[Work] = None) -> Dict[int, Trouble]:
+        """Does something for these drones, side by side; by drone what kept it from being done. All the while `look` is
+        called, where one is given, and what it raises ends the wait. What is no Trouble is raised once all have ended."""
+        out: Dict[int, Trouble] = {}
+        others: List[Exception] = []
 
         def run(drone: int) -> None:
             try:
-                out[drone] = work(drone)
+                work(drone)
+            except Trouble as why:
+                out[drone] = why
             except Exception as error:
-                failed.append(error)
-        for task in [clock.Task(partial(run, drone)) for drone in range(len(self.names))]:
+                others.append(error)
+        for task in [clock.Task(partial(run, drone)) for drone in drones]:
             while task.is_alive():
                 task.join(0.02 if look else None)
                 if look:
                     look()
-        if failed:
-            raise failed[0]
-        return out
-
-    def failures(self, drones: Sequence[int], work: Callable[[int], object],
-                 look: Optional[Work] = None) -> Dict[int, Trouble]:
-        """Does something for these drones, side by side; by drone what kept it from being done. `look` is as above."""
-        out: Dict[int, Trouble] = {}
-
-        def run(drone: int) -> None:
-            try:
-                if drone in drones:
-                    work(drone)
-            except Trouble as why:
-                out[drone] = why
-        self.each(run, look)
+        for error in others:
+            raise error
         return out
 
     def memories(self, drone: int) -> List[Tuple[int, int]]:
