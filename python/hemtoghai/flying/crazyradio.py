@@ -300,7 +300,7 @@ class Radio:
     def failures(self, drones: Sequence[int], work: Callable[[int], object],
                  look: Optional[Work] = None) -> Dict[int, Trouble]:
         """Does something for these drones, side by side; by drone what kept it from being done. All the while `look` is
-        called, where one is given, and what it raises ends the wait. What is no Trouble is raised once all have ended."""
+        called, where one is given, and what it raises ends the wait. Other faults are raised once all have ended."""
         out: Dict[int, Trouble] = {}
         others: List[Exception] = []
 

@@ -17,12 +17,12 @@ import threading
 from copy import copy
 from itertools import combinations, groupby
 from math import ceil, dist, hypot
-from typing import Callable, Dict, Iterable, Iterator, List, Optional, Sequence, Set, Tuple, Union
+from typing import Callable, Dict, Iterable, Iterator, List, NamedTuple, Optional, Sequence, Set, Tuple, Union
 
 from hemtoghai.companion import begins, value
 from hemtoghai.flying.routes import LIFT
-from hemtoghai.flying.stages import (apart, LAND, LATE, Leg, milliseconds_for, MOST, Place, place_of, refusal_of, Rules,
-                                     SAME_FLOOR, side_by_side, Stage, stage_texts, standing_apart)
+from hemtoghai.flying.stages import (apart, LAND, LATE, Leg, milliseconds_for, MOST, off_line, Place, place_of,
+                                     refusal_of, Rules, SAME_FLOOR, side_by_side, Stage, stage_texts, standing_apart)
 from hemtoghai.geometry.curves import Curve, curves_of, ease
 from hemtoghai.language.choreo import Flown
 
@@ -54,28 +54,19 @@ def meet(a: Sequence[float], b: Sequence[float], c: Sequence[float], d: Sequence
     return side(a, b, c) * side(a, b, d) < 0 and side(c, d, a) * side(c, d, b) < 0
 
 
-def aside(place: Sequence[float], a: Sequence[float], b: Sequence[float]) -> float:
-    """How far a place is from a line, as seen from above."""
-    x, y = b[0] - a[0], b[1] - a[1]
-    size = x * x + y * y
-    share = ((place[0] - a[0]) * x + (place[1] - a[1]) * y) / size if size > 0 else 0.0
-    share = min(1.0, max(0.0, share))
-    return apart(place, (a[0] + share * x, a[1] + share * y))
-
-
-class Column:
+class Column(NamedTuple):
     """What a drone may be above of while it comes straight down, or stays on its way: a line, and how far aside."""
-
-    def __init__(self, begin: Sequence[float], end: Sequence[float], reach: float = 0.0) -> None:
-        self.begin, self.end, self.reach = begin, end, reach
+    begin: Sequence[float]
+    end: Sequence[float]
+    reach: float = 0.0
 
     def apart(self, other: "Column") -> float:
         """How far two columns are from each other at least."""
-        if meet(self.begin, self.end, other.begin, other.end):
+        a, b, c, d = (place[:2] for place in (*self[:2], *other[:2]))
+        if meet(a, b, c, d):
             return 0.0
-        return min(aside(self.begin, other.begin, other.end), aside(self.end, other.begin, other.end),
-                   aside(other.begin, self.begin, self.end), aside(other.end, self.begin, self.end)
-                   ) - self.reach - other.reach
+        far = min(off_line(a, c, d), off_line(b, c, d), off_line(c, a, b), off_line(d, a, b))
+        return far - self.reach - other.reach
 
 
 class Landings:
@@ -364,12 +355,7 @@ class Mover:
 
     def distance(self, place: Sequence[float], low: float, high: float) -> float:
         """How far a place is from where it is between two times, which is a straight line."""
-        a, b = self.at(max(low, self.begin)), self.at(max(high, self.begin))
-        way = [w - v for v, w in zip(a, b)]
-        size = sum(v * v for v in way)
-        share = sum((p - v) * w for p, v, w in zip(place, a, way)) / size if size > 0 else 0.0
-        share = min(1.0, max(0.0, share))
-        return dist(place, [v + share * w for v, w in zip(a, way)])
+        return off_line(place, self.at(max(low, self.begin)), self.at(max(high, self.begin)))
 
 
 def cubic_of(mover: Moving, begin: float, end: float) -> Cubic:

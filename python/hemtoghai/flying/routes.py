@@ -10,11 +10,11 @@ Where it refuses all of them, they are looked for anew with more room. No search
 finds the same. Millimetres and milliseconds.
 """
 import re
-from math import dist, sqrt
+from math import dist
 from typing import Dict, Iterable, List, Optional, Sequence, Tuple
 
-from hemtoghai.flying.stages import (apart, GO_TO, Leg, milliseconds_for, NoWay, PEAK, Place, place_of, Rules, Stage,
-                                     TAKE_OFF)
+from hemtoghai.flying.stages import (apart, GO_TO, Leg, milliseconds_for, NoWay, off_line, PEAK, Place, place_of, Rules,
+                                     Stage, TAKE_OFF)
 from hemtoghai.writing import dealing
 
 GROUND, LIFT = 50, 200  # a first place is this near to the pad and flown from there, or at least so high above it
@@ -29,11 +29,7 @@ Way = List[Place]
 
 def nearest(one: Sequence[Sequence[float]], two: Sequence[Sequence[float]], sizes: Sequence[float]) -> float:
     """How near two come that go straight in step, each from its first place to its second: 1 is at the sizes."""
-    begin = [(v - w) / size for v, w, size in zip(one[0], two[0], sizes)]
-    step = [(v - w) / size - a for v, w, size, a in zip(one[1], two[1], sizes, begin)]
-    square = sum(v * v for v in step)
-    u = min(1.0, max(0.0, -sum(v * w for v, w in zip(begin, step)) / square)) if square else 0.0
-    return sqrt(sum((v + u * w) ** 2 for v, w in zip(begin, step)))
+    return off_line((0, 0, 0), *([(v - w) / size for v, w, size in zip(*row, sizes)] for row in zip(one, two)))
 
 
 class Planner:

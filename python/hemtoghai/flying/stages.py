@@ -150,6 +150,14 @@ def apart(one: Sequence[float], other: Sequence[float]) -> float:
     return dist(one[:2], other[:2])
 
 
+def off_line(place: Sequence[float], a: Sequence[float], b: Sequence[float]) -> float:
+    """How far a place is from the straight line between two others."""
+    way = [w - v for v, w in zip(a, b)]
+    square = sum(v * v for v in way)
+    share = sum((p - v) * w for p, v, w in zip(place, a, way)) / square if square > 0 else 0.0
+    return dist(place, [v + min(1.0, max(0.0, share)) * w for v, w in zip(a, way)])
+
+
 class Leg:
     """A way of all drones: where they begin, and its stages. Drones turn to `yaws` in it, from `first_yaws`. `whole` is
     whether `check` accepts it as one show, `why_below` why it doesn't lead to the pads, where it doesn't, and `hint`
