@@ -155,10 +155,8 @@ class Bridge(Home):
                           "%s isn't as the next step wants it for long enough" % name)
         if fault in (director.WRONG, director.UNSURE):
             self.is_news(k)
-        if fault == director.WRONG:
-            raise Trouble(self.wrong_with(k) or "%s is lost" % name)
-        if fault == director.UNSURE:
-            raise Trouble(self.wrong_with(k) or "%s isn't sure of its place any more" % name)
+            raise Trouble(self.wrong_with(k) or "%s is %s" % (
+                name, "lost" if fault == director.WRONG else "not sure of its place any more"))
         if fault == director.OUTSIDE:
             x, y, z = self.fleet.states[k].where()
             raise Trouble(f"{name} is at ({x:.2f}, {y:.2f}, {z:.2f}) m, outside of the room of show and ways")

@@ -503,16 +503,14 @@ class Home(Watched):
 
     def near_pairs(self, t: float) -> Iterator[Tuple[str, str]]:
         """The pairs that are nearer from above than their ellipsoids, with how far they may be carried on."""
-        places, carried, deaf = [self.at(k) for k in self.all], [0.0] * len(self.names), self.deaf()
+        columns, deaf = [landings.Column(self.at(k), self.at(k)) for k in self.all], self.deaf()
         for k in self.all if self.in_show else ():
-            carried[k] = landings.carried(math.hypot(*self.ways.landings.speed(k, min(t, self.flown.milliseconds))))
-            if k in deaf:
-                places[k] = self.curves[k].at(t)
-        for i in self.all:
-            for j in range(i):
-                far = apart(places[i], places[j]) - carried[i] - carried[j]
-                if far <= 2 * self.ways.rules.radius and not {i, j} <= self.landed:
-                    yield self.names[j], self.names[i]
+            place = self.curves[k].at(t) if k in deaf else self.at(k)
+            speed = math.hypot(*self.ways.landings.speed(k, min(t, self.flown.milliseconds)))
+            columns[k] = landings.Column(place, place, landings.carried(speed))
+        for j, i in combinations(self.all, 2):
+            if columns[i].apart(columns[j]) <= 2 * self.ways.rules.radius and not {i, j} <= self.landed:
+                yield self.names[j], self.names[i]
 
     def words_after(self, why: BaseException) -> str:
         """Does what a fault or a Ctrl-C wants; the words for the landing that follows."""
