@@ -109,7 +109,7 @@ class Last(unittest.TestCase):
         radio = crazyradio.Radio(self.flown.names, where)
         self.addCleanup(radio.close)
         it = fleet.Fleet(radio, fleet.Log(None, self.said.append))
-        radio.each(lambda drone: it.begin_logs(drone, every, (fleet.FLIGHT,)))
+        radio.each(lambda drone: it.begin_logs(drone, every))
         until = clock.now() + 5
         while clock.now() < until and any(state.place is None for state in it.states):
             clock.wait(0.02)

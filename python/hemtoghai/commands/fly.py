@@ -32,7 +32,7 @@ from hemtoghai.flying.crazyradio import Trouble
 from hemtoghai.flying.bridge import Bridge
 from hemtoghai.flying.crew import Cut, Interrupted, say, TELLER, Watch
 from hemtoghai.flying.descent import Descent, EARLY, LANDING
-from hemtoghai.flying.fleet import Fleet, FLIGHT, Log
+from hemtoghai.flying.fleet import Fleet, Log
 from hemtoghai.flying.own_clock import OwnClock
 from hemtoghai.flying.preflight import look_for_others, preflight
 from hemtoghai.flying.script import Script
@@ -233,7 +233,7 @@ def only(radio: crazyradio.Radio, floors: Dict[str, Place], options: argparse.Na
         _, quiet, refused = fleet.land(descent.floors, descent.all, options.sink, watch.look)
         say("told to land, in %g s%s%s" % (options.sink, "; NO ANSWER: " + descent.words_of(quiet) if quiet else "",
                                            "; REFUSED: " + ", ".join(refused.values()) if refused else ""))
-        for why in radio.failures(heard, lambda k: fleet.begin_logs(k, EVERY, (FLIGHT,))).values():
+        for why in radio.failures(heard, lambda k: fleet.begin_logs(k, EVERY)).values():
             say(str(why))
         descent.wait_down(heard, options.sink)
         return 0 if descent.land(LANDING) else EARLY

@@ -96,10 +96,6 @@ def start_block(block: int, milliseconds: int) -> bytes:
     return bytes([3, block, max(1, min(255, milliseconds // 10))])
 
 
-def stop_block(block: int) -> bytes:
-    return bytes([4, block])
-
-
 def logged(data: bytes, kinds: Iterable[int]) -> Optional[Tuple[int, int, Tuple[float, ...]]]:
     """A block's number, the drone's milliseconds, which wrap at 2^24, and its values; None where it is too short."""
     form = "<" + "".join(LOG_TYPES[kind] for kind in kinds)

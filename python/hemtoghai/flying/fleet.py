@@ -14,14 +14,13 @@ from hemtoghai.flying import clock, finite, firmware
 from hemtoghai.flying.crazyradio import ANSWER, Dead, Radio, Trouble
 from hemtoghai.flying.stages import LATE, SAME_FLOOR
 
-FLIGHT, SETTLING = 1, 2  # log blocks
+FLIGHT = 1  # the log block
 MARK = 0x5A  # a byte by which the answer to a broadcast is told from others
 VARIANCES = ["kalman.varPX", "kalman.varPY", "kalman.varPZ"]
 # A block has 26 bytes: three places of four bytes, the volts, two of the supervisor, and four halves.
-LOGGED = {FLIGHT: ["stateEstimate.x", "stateEstimate.y", "stateEstimate.z", "pm.vbat", "supervisor.info",
-                   "stateEstimate.yaw", *VARIANCES],
-          SETTLING: VARIANCES}
-HALVES = ("stateEstimate.yaw", *VARIANCES)  # are sent in two bytes in flight
+LOGGED = ["stateEstimate.x", "stateEstimate.y", "stateEstimate.z", "pm.vbat", "supervisor.info", "stateEstimate.yaw",
+          *VARIANCES]
+HALVES = ("stateEstimate.yaw", *VARIANCES)  # are sent in two bytes
 OPTIONAL = ("supervisor.info", *HALVES)  # old firmware hasn't them all
 REVIVE = 1.0  # seconds without samples of a drone whose link is heard, after which its blocks are made anew
 AGAIN = 0.05  # seconds after which a landing that isn't answered is commanded again
@@ -93,6 +92,7 @@ class State:
         self.same_since = self.same_since if self.estimate == [*place, *spread] else at
         self.estimate = [*place, *spread]
         self.variance = max(v if math.isfinite(v) else math.inf for v in spread) if spread else None
+        self.variances = (self.variances + ([] if self.variance is None else [self.variance]))[-HISTORY:]
         is_sure = self.variance is None or self.variance <= self.most_variance
         self.unsure = None if is_sure else at if self.unsure is None else self.unsure
         self.low = None if volts >= self.least_volts else self.low if self.low is not None else at
@@ -204,7 +204,7 @@ class Fleet:
         self.radio, self.names, self.log = radio, radio.names, log
         self.states = [State() for _ in self.names]
         self.tables: Dict[Tuple[int, int, int], Table] = {}
-        self.kinds: List[Dict[int, List[Tuple[str, int]]]] = [{} for _ in self.names]
+        self.kinds: List[List[Tuple[str, int]]] = [[] for _ in self.names]
         self.started: Dict[int, Tuple[float, int]] = {}
         self.heard_broadcast: Set[int] = set()
         self.lock = threading.Lock()
@@ -223,17 +223,13 @@ class Fleet:
                 self.started[drone] = clock.now(), data[3]
         if (port, channel) == (firmware.COMMANDER, 0) and data[:3] == firmware.group() + bytes([MARK]):
             self.heard_broadcast.add(drone)
-        kinds = self.kinds[drone].get(data[0]) if data else None
-        if (port, channel) != (firmware.LOGS, 2) or not kinds:
+        kinds, state = self.kinds[drone], self.states[drone]
+        if (port, channel, data[:1]) != (firmware.LOGS, 2, bytes([FLIGHT])) or not kinds:
             return
-        found, state = firmware.logged(data, [kind for _, kind in kinds]), self.states[drone]
+        found = firmware.logged(data, [kind for _, kind in kinds])
         if found is None:
             return
-        block, stamp, values = found
-        if block == SETTLING:
-            most = max(values) if all(map(math.isfinite, values)) else math.inf
-            state.variances = (state.variances + [most])[-HISTORY:]
-            return
+        _, stamp, values = found
         at = clock.now()
         if state.take(dict(zip((name for name, _ in kinds), values)), at, stamp):
             self.log.put(at, self.names[drone], state.where(), stamp, state.variance)
@@ -282,32 +278,29 @@ class Fleet:
     def try_logs(self, drone: int) -> None:
         """Makes a drone's logs anew, if it lets that be done."""
         with contextlib.suppress(Exception):
-            self.begin_logs(drone, self.every, (FLIGHT,))
+            self.begin_logs(drone, self.every)
 
-    def begin_logs(self, drone: int, milliseconds: int, blocks: Sequence[int] = (FLIGHT, SETTLING)) -> None:
-        """Has a drone send its places, battery and estimator's variances."""
+    def begin_logs(self, drone: int, milliseconds: int, wanted: Sequence[str] = ()) -> None:
+        """Has a drone send its places and battery, and the estimator's variances where it has them, or these are
+        wanted."""
         self.every = milliseconds
         table = self.table(drone, firmware.LOGS)
         self.radio.ask(drone, firmware.LOGS, 1, firmware.RESET_LOGS, 1)
-        for block in blocks:
-            names = LOGGED[block]
-            missing = [name for name in names if name not in table and (block == SETTLING or name not in OPTIONAL)]
-            items = [(name, *table[name]) for name in names if name in table]
-            strange = [name for name, _, kind in items if kind not in firmware.LOG_TYPES]
-            if missing or strange:
-                raise Trouble("%s has no log %s, or of a type that this tool doesn't know: another firmware or "
-                              "estimator?" % (self.names[drone], ", ".join(missing + strange)))
-            sent = [firmware.HALF if (block, kind) == (FLIGHT, firmware.FLOAT) and name in HALVES else kind
-                    for name, _, kind in items]
-            self.kinds[drone][block] = [(name, kind) for (name, *_), kind in zip(items, sent)]
-            made, begun = (self.radio.ask(drone, firmware.LOGS, 1, data, 2, least=3)[2] for data in (
-                firmware.create_block(block, [(*it[1:], kind) for it, kind in zip(items, sent)]),
-                firmware.start_block(block, milliseconds)))
-            if made or begun:
-                status = made or begun
-                what = "have a log made" if made else "begin its log"
-                raise Trouble(f"{self.names[drone]} refuses to {what}: status {status}, "
-                              f"{REFUSALS.get(status, 'which this tool does not know')}")
+        missing = [name for name in LOGGED if name not in table and (name in wanted or name not in OPTIONAL)]
+        items = [(name, *table[name]) for name in LOGGED if name in table]
+        strange = [name for name, _, kind in items if kind not in firmware.LOG_TYPES]
+        if missing or strange:
+            raise Trouble("%s has no log %s, or of a type that this tool doesn't know: another firmware or "
+                          "estimator?" % (self.names[drone], ", ".join(missing + strange)))
+        sent = [firmware.HALF if kind == firmware.FLOAT and name in HALVES else kind for name, _, kind in items]
+        self.kinds[drone] = [(name, kind) for (name, *_), kind in zip(items, sent)]
+        made, begun = (self.radio.ask(drone, firmware.LOGS, 1, data, 2, least=3)[2] for data in (
+            firmware.create_block(FLIGHT, [(*it[1:], kind) for it, kind in zip(items, sent)]),
+            firmware.start_block(FLIGHT, milliseconds)))
+        if made or begun:
+            status, what = made or begun, "have a log made" if made else "begin its log"
+            raise Trouble(f"{self.names[drone]} refuses to {what}: status {status}, "
+                          f"{REFUSALS.get(status, 'which this tool does not know')}")
 
     def deaf(self) -> List[int]:
         """The drones that answer no broadcast of three, which take all out of every group, as they begin."""

@@ -6,7 +6,7 @@ from typing import Iterator, List, Mapping, Sequence, Tuple
 from hemtoghai.flying import clock, firmware, others
 from hemtoghai.flying.crazyradio import trajectory_memories, Trouble
 from hemtoghai.flying.crew import say
-from hemtoghai.flying.fleet import Fleet, HISTORY, SETTLING, State
+from hemtoghai.flying.fleet import Fleet, HISTORY, State, VARIANCES
 from hemtoghai.flying.stages import Place, place_of
 from hemtoghai.language import choreo
 
@@ -28,7 +28,7 @@ def looked_over(fleet: Fleet, drone: int, options: argparse.Namespace, memory: i
     memories = trajectory_memories(fleet.radio.memories(drone))
     words = " ".join(map(str, memories))
     fleet.set(drone, "commander.enHighLevel", 1)
-    fleet.begin_logs(drone, options.every)
+    fleet.begin_logs(drone, options.every, VARIANCES)
     return version, words, [] if memory in memories else [
         "its trajectory memory is %s, and the show's line `memory` names %d" % (words or "missing", memory)]
 
@@ -158,5 +158,4 @@ def preflight(fleet: Fleet, flown: choreo.Flown, pads: Sequence[Place], hall: Ma
                 state.place[0], state.place[1], state.place[2]))
     if faults:
         raise Trouble("not flown:\n  " + "\n  ".join(faults))
-    fleet.radio.each(lambda drone: fleet.radio.ask(drone, firmware.LOGS, 1, firmware.stop_block(SETTLING), 2))
     return [place_of(1000 * sum(row) / len(row) for row in zip(*state.places)) for state in fleet.states]
