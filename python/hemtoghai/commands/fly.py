@@ -36,7 +36,7 @@ from hemtoghai.flying.fleet import Fleet, Log
 from hemtoghai.flying.own_clock import OwnClock
 from hemtoghai.flying.preflight import look_for_others, preflight
 from hemtoghai.flying.script import Script
-from hemtoghai.flying.simulation import begin_clock, set_simulation, simulated
+from hemtoghai.flying.simulation import set_simulation, settings_of, simulated
 from hemtoghai.flying.stages import Place
 from hemtoghai.flying.uploads import ENDS, Traffic, uploaded, wanted_packets
 from hemtoghai.flying.ways import Ways
@@ -283,7 +283,7 @@ def main(words: list[str]) -> int:
     outputs.refuse(filter(None, [options.log]), options.force,
                    filter(None, [options.show, options.pads, options.radio, options.script]))
     if options.simulate:
-        begin_clock(options)
+        clock.use(OwnClock(settings_of(options.sim)["speed"] or 0.0))
     watch, script = Watch(options.yes), None
     radios: List[crazyradio.Radio] = []
     signal.signal(signal.SIGPIPE, signal.SIG_IGN)

@@ -8,7 +8,7 @@ does: both are judged. Millimetres and milliseconds.
 """
 from typing import Dict, Mapping, Optional, Tuple
 
-from hemtoghai.flying.stages import judge_stages, LAND, Leg, Place, refusal_of, Stage
+from hemtoghai.flying.stages import judge_stages, LAND, Leg, Place, refusal_of
 from hemtoghai.language.choreo import Flown
 from hemtoghai.language.lines import line_in
 
@@ -34,10 +34,7 @@ def text_of(flown: Flown, text: bytes, down: Leg) -> bytes:
 def alone(down: Leg, drone: int, pads: Mapping[int, Place]) -> Leg:
     """The way down of one drone, where all others stand on their pads."""
     at: Dict[int, Place] = {k: down.begin[k] if k == drone else pads[k] for k in down.begin}
-    leg = Leg(down.names, at, down.yaws, down.rules)
-    leg.stages = [Stage(stage.kind, stage.milliseconds, {drone: stage.to[drone]}) for stage in down.stages
-                  if drone in stage.to]
-    return leg
+    return down.rest(0, at, set(at) - {drone})
 
 
 def judged(flown: Flown, text: bytes, down: Leg, pads: Dict[int, Place]) -> Tuple[Optional[bytes], Optional[str]]:

@@ -317,7 +317,10 @@ class Landings:
         for k, mover in movers.items():
             out.append("drone %s %d %d %d 0" % (self.names[k], *(round(1000 * v) for v in mover.at(times[0]))))
         for milliseconds, cue in cues:
-            out += ["cue %d" % milliseconds, *curve_lines(self.names, cue), "end"]
+            moves = {k: [round(1000 * v) for point in points[1:] for v in point] for k, points in cue.items()
+                     if max(dist(points[0], point) for point in points) > 0.01}
+            out += ["cue %d" % milliseconds, *("%s curve %s 0" % (self.names[k], " ".join(map(str, row)))
+                                               for k, row in moves.items()), "end"]
         return ("\n".join(out) + "\n").encode()
 
 
@@ -371,12 +374,6 @@ def off_by(mover: Moving, cubic: Cubic, begin: float, end: float) -> float:
     """How far a cubic is from a curve, at seven instants."""
     return max(dist(mover.at(begin + n / 8 * (end - begin)), [value(axis, n / 8) for axis in zip(*cubic)])
                for n in range(1, 8))
-
-
-def curve_lines(names: Sequence[str], cue: Dict[int, Cubic]) -> Iterator[str]:
-    for k, points in cue.items():
-        if max(dist(points[0], point) for point in points) > 0.01:
-            yield "%s curve %s 0" % (names[k], " ".join("%d" % round(1000 * v) for point in points[1:] for v in point))
 
 
 def short(line: str) -> str:

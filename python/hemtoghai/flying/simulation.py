@@ -6,8 +6,7 @@ import sys
 from typing import Dict, Iterator, List, Optional, Sequence, Set, Tuple
 
 from hemtoghai.companion import stop
-from hemtoghai.flying import clock, finite, legs
-from hemtoghai.flying.own_clock import OwnClock
+from hemtoghai.flying import finite, legs
 from hemtoghai.language.choreo import Flown
 from hemtoghai.program import PACKAGE
 
@@ -18,11 +17,6 @@ ADDRESS = "radio://%d/80/2M/E7E7E7E7%02X"  # of a dongle's drone
 STRANGER = 0x80  # the first stranger's last byte
 
 Faults = Dict[str, Dict[str, float]]  # by a drone's name its faults, and their numbers
-
-
-def begin_clock(options: argparse.Namespace) -> None:
-    """Has all that is simulated go by a clock of its own: as fast as it can, or where a speed is given no faster."""
-    clock.use(OwnClock(settings_of(options.sim)["speed"] or 0.0))
 
 
 def set_simulation(flown: Flown, pads: Sequence[Tuple[int, int, int]], options: argparse.Namespace) -> Dict[str, str]:
