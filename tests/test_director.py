@@ -169,6 +169,37 @@ class Notes(unittest.TestCase):
                              if word == "uncovered" else "^b ", word)
 
 
+class Leads(unittest.TestCase):
+    def of(self, leads, **more):
+        """What watches two drones of which b has tumbled, while the director leads or not."""
+        it = types.SimpleNamespace(leads=leads, flying=False, silent=set(), out=set(), failed=set(), all=[0, 1], listen=lambda: [],
+                                   watch=types.SimpleNamespace(look=lambda: None), is_out=lambda k: k == 1,
+                                   wrong_with=lambda k: "b has tumbled" if k == 1 else None, **more)
+        for name in ("is_news", "faults", "noted", "raise_all"):
+            setattr(it, name, types.MethodType(getattr(watched.Watched, name), it))
+        return it
+
+    def test_who_finds_faults(self):
+        # Until the first fault it is the director's to find them, and from then on Python's: who is out is said once.
+        self.assertEqual((self.of(True).noted(), self.of(False).noted()), ([], ["b has tumbled"]))
+        it = self.of(False)
+        self.assertEqual((it.noted(), it.noted(), it.out, it.failed), (["b has tumbled"], [], {1}, {1}))
+
+    def test_a_fault_that_was_said(self):
+        # It is no news any more, but where the drone doesn't fly any more.
+        it = self.of(False)
+        self.assertEqual([it.is_news(k) for k in (0, 0, 1, 1)], [True, False, True, True])
+
+    def test_a_director_that_reads_nothing(self):
+        # Nobody else finds a fault meanwhile.
+        for is_free in (True, False):
+            it = self.of(True, told_at=clock.now() + 10, fleet=types.SimpleNamespace(states=[]),
+                         director=types.SimpleNamespace(is_free=lambda: is_free))
+            with self.assertRaises(Trouble) as raised:
+                bridge.Bridge.tell(it)
+            self.assertEqual(str(raised.exception), "b has tumbled")
+
+
 class Landing(unittest.TestCase):
     def test_one_that_is_ordered(self):
         # The director orders it of both, or says that it waits with it, that it has ended, or nothing: then it begins at
