@@ -126,30 +126,39 @@ fn fault_in(alloc: Global, bytes: &[u8], pieces: u8) -> Option<CodecFault> {
     }
 }
 
-#[test]
-fn first_faults(rt: HostRuntime) -> Result<(), Fail> {
-    let cases: [(&[u8], u8, Option<CodecFault>); 9] = [
-        (&[], 0, None),
-        (&[], 1, Some(CodecFault::Short { at: 8 })),
-        (&[3], 1, Some(CodecFault::Short { at: 9 })),
-        (&[3, 0xE8], 1, Some(CodecFault::Short { at: 9 })),
-        (&[0, 0, 0], 1, Some(CodecFault::ZeroDuration { at: 9 })),
-        (&[3, 0, 0, 1], 1, Some(CodecFault::ZeroDuration { at: 9 })),
-        (&[0, 0, 0, 0], 2, Some(CodecFault::ZeroDuration { at: 9 })),
-        (&[0, 1, 0, 0], 2, Some(CodecFault::Short { at: 12 })),
-        (
-            &[2, 0xE8, 3, 1, 0, 2, 0, 3],
-            1,
-            Some(CodecFault::Short { at: 15 }),
-        ),
-    ];
-    for (bytes, pieces, fault) in cases {
-        let all = after_start(rt.alloc(), bytes)?;
-        assert!(rt; fault_in(rt.alloc(), &all, pieces) == fault);
+// Bytes after the start, how many segments are read, and the first fault.
+const FAULTS: &[(&[u8], u8, Option<CodecFault>)] = &[
+    (&[], 0, None),
+    (&[], 1, Some(CodecFault::Short { at: 8 })),
+    (&[3], 1, Some(CodecFault::Short { at: 9 })),
+    (&[3, 0xE8], 1, Some(CodecFault::Short { at: 9 })),
+    (&[0, 0, 0], 1, Some(CodecFault::ZeroDuration { at: 9 })),
+    (&[3, 0, 0, 1], 1, Some(CodecFault::ZeroDuration { at: 9 })),
+    (&[0, 0, 0, 0], 2, Some(CodecFault::ZeroDuration { at: 9 })),
+    (&[0, 1, 0, 0], 2, Some(CodecFault::Short { at: 12 })),
+    (
+        &[2, 0xE8, 3, 1, 0, 2, 0, 3],
+        1,
+        Some(CodecFault::Short { at: 15 }),
+    ),
+];
+
+// The number of the first row with another fault; none where there is no such row.
+fn wrong_fault(alloc: Global) -> Result<Option<usize>, AllocError> {
+    for (k, (bytes, pieces, fault)) in FAULTS.iter().enumerate() {
+        let all = after_start(alloc, bytes)?;
+        if fault_in(alloc, &all, *pieces) != *fault {
+            return Ok(Some(k));
+        }
     }
+    Ok(None)
+}
+
+#[test]
+fn first_faults(rt: HostRuntime) {
+    assert_eq!(rt; wrong_fault(rt.alloc()).unwrap_or(Some(0)), None);
     assert!(rt; fault_in(rt.alloc(), &[], 1) == Some(CodecFault::Short { at: 0 }));
     assert!(rt; fault_in(rt.alloc(), &[0; 7], 1) == Some(CodecFault::Short { at: 6 }));
-    Ok(())
 }
 
 // How many numbers an element of this kind has.
@@ -164,29 +173,40 @@ fn numbers_of(kind: u8) -> u8
     }
 }
 
-#[test]
-fn each_header(rt: HostRuntime) -> Result<(), Fail> {
-    for header in 0..=255 {
-        let count = numbers_of(header % 4)
-            + numbers_of(header / 4 % 4)
-            + numbers_of(header / 16 % 4)
-            + numbers_of(header / 64);
-        let mut bytes = after_start(rt.alloc(), &[header, 0xE8, 3])?;
-        for n in 0..count {
-            bytes.push(n + 1)?;
-            bytes.push(0)?;
+// Whether bytes with this header are read, and are written the same again.
+fn is_kept(alloc: Global, header: u8) -> Result<bool, AllocError> {
+    let count = numbers_of(header % 4)
+        + numbers_of(header / 4 % 4)
+        + numbers_of(header / 16 % 4)
+        + numbers_of(header / 64);
+    let mut bytes = after_start(alloc, &[header, 0xE8, 3])?;
+    for n in 0..count {
+        bytes.push(n + 1)?;
+        bytes.push(0)?;
+    }
+    bytes.extend_from_slice(&[0; 3])?;
+    match decode(alloc, &bytes, 1) {
+        Ok((t, used)) => {
+            let back = encode(alloc, &t)?;
+            Ok(used == 11 + 2 * usize::from(count) && back.as_slice() == bytes.as_slice())
         }
-        bytes.extend_from_slice(&[0; 3])?;
-        match decode(rt.alloc(), &bytes, 1) {
-            Ok((t, used)) => {
-                assert!(rt; used == 11 + 2 * usize::from(count), "header {header}");
-                let back = encode(rt.alloc(), &t)?;
-                assert!(rt; back.as_slice() == bytes.as_slice(), "header {header}");
-            }
-            Err(fault) => assert!(rt; Some(fault) == None, "header {header}"),
+        Err(_) => Ok(false),
+    }
+}
+
+// The first header that isn't kept.
+fn wrong_header(alloc: Global) -> Option<u8> {
+    for header in 0..=255 {
+        if !matches!(is_kept(alloc, header), Ok(true)) {
+            return Some(header);
         }
     }
-    Ok(())
+    None
+}
+
+#[test]
+fn each_header(rt: HostRuntime) {
+    assert_eq!(rt; wrong_header(rt.alloc()), None);
 }
 
 // The hold of this many milliseconds.
