@@ -4,7 +4,6 @@ ghost use Rattle.std.specs.Prelude.{◌≡◌, ◌≤◌};
 use command_words::{Command, command_of, help_text};
 use fleet_math::{Depth, Fine};
 use std::alloc::{AllocError, Global};
-use std::test::Fail;
 
 // The command that the words of a line are, which one space each divides.
 fn command(alloc: Global, line: &str) -> Result<Option<Command>, AllocError> {
@@ -148,18 +147,24 @@ fn studies() -> [(&'static str, Command); 15] {
     ]
 }
 
-#[test]
-fn words_that_are_a_command(rt: HostRuntime) -> Result<(), Fail> {
-    for (line, wanted) in commands() {
-        assert!(rt; command(rt.alloc(), line)? == Some(wanted));
+fn is_command(alloc: Global, line: &str, wanted: Command) -> bool {
+    match command(alloc, line) {
+        Ok(found) => found == Some(wanted),
+        Err(_) => false,
     }
-    for (line, wanted) in studies() {
-        assert!(rt; command(rt.alloc(), line)? == Some(wanted));
-    }
-    Ok(())
 }
 
-const NO_COMMANDS: [&str; 84] = [
+#[test]
+fn words_that_are_a_command(rt: HostRuntime) {
+    for (line, wanted) in commands() {
+        assert!(rt; is_command(rt.alloc(), line, wanted), "{line}");
+    }
+    for (line, wanted) in studies() {
+        assert!(rt; is_command(rt.alloc(), line, wanted), "{line}");
+    }
+}
+
+const NO_COMMANDS: &[&str] = &[
     "",
     "Compile",
     "compil",
@@ -247,39 +252,45 @@ const NO_COMMANDS: [&str; 84] = [
 ];
 
 #[test]
-fn words_that_are_no_command(rt: HostRuntime) -> Result<(), Fail> {
+fn words_that_are_no_command(rt: HostRuntime) {
     for line in NO_COMMANDS {
-        assert!(rt; command(rt.alloc(), line)?.is_none());
+        assert!(rt; matches!(command(rt.alloc(), line), Ok(None)), "{line}");
     }
     assert!(rt; command_of(&Vec::new(rt.alloc())).is_none());
-    Ok(())
+}
+
+const FORMS: &[&[u8]] = &[
+    b"help",
+    b"check [--depth D]",
+    b"compile [--depth D]",
+    b"certify [--depth D]",
+    b"play [--depth D] [--step MS]",
+    b"report [--depth D]",
+    b"verify",
+    b"rehearse [--depth D] [--start] [--readback]",
+    b"upload [--depth D] [--start] [--readback]",
+    b"direct [--depth D] [--near MM] [--at MM] [--silence MS] [--floor MM] [--descent MS] [--then land|fly]",
+    b"drill N [--depth D]",
+    b"boxes [--depth D]",
+    b"speed [--depth D] [--limit V]",
+    b"explain [--depth D] [--fine E] [--all]",
+    b"dynamics [--depth D] [--accel A] [--jump J]",
+    b"version",
+];
+
+// What comes after a line of a text that begins with it.
+fn after<'a>(text: &'a [u8], line: &[u8]) -> Option<&'a [u8]> {
+    text.strip_prefix(line)?.strip_prefix(b"\n".as_slice())
 }
 
 #[test]
 fn the_forms_of_the_commands(rt: HostRuntime) {
-    let lines: [&[u8]; 16] = [
-        b"help",
-        b"check [--depth D]",
-        b"compile [--depth D]",
-        b"certify [--depth D]",
-        b"play [--depth D] [--step MS]",
-        b"report [--depth D]",
-        b"verify",
-        b"rehearse [--depth D] [--start] [--readback]",
-        b"upload [--depth D] [--start] [--readback]",
-        b"direct [--depth D] [--near MM] [--at MM] [--silence MS] [--floor MM] [--descent MS] [--then land|fly]",
-        b"drill N [--depth D]",
-        b"boxes [--depth D]",
-        b"speed [--depth D] [--limit V]",
-        b"explain [--depth D] [--fine E] [--all]",
-        b"dynamics [--depth D] [--accel A] [--jump J]",
-        b"version",
-    ];
     let mut rest = help_text();
-    for line in lines {
-        let is_next = rest.starts_with(line) && rest[line.len()..].starts_with(b"\n".as_slice());
-        assert!(rt; is_next);
-        rest = &rest[line.len() + 1..];
+    for line in FORMS {
+        match after(rest, line) {
+            Some(others) => rest = others,
+            None => panic!(rt; "not {line:?}"),
+        }
     }
     assert!(rt; rest.is_empty());
 }

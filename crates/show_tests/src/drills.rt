@@ -1,6 +1,6 @@
 //! The drill's show by its description, and lines of its numbers.
 use drill_show::{drill_line, drill_text};
-use std::test::Fail;
+use std::alloc::{AllocError, Global};
 
 const ONE: &[u8] = b"choreo 1\n\
     drone d1 0 0 1000000 0\n\
@@ -41,12 +41,15 @@ const TWO: &[u8] = b"choreo 1\n\
     end\n\
     end\n";
 
+fn is_drill(alloc: Global, drones: u8, wanted: &[u8]) -> Result<bool, AllocError> {
+    let text = drill_text(alloc, drones.max(1).min(32))?;
+    Ok(text.as_slice() == wanted)
+}
+
 #[test]
-fn small_drills(rt: HostRuntime) -> Result<(), Fail> {
-    let one = drill_text(rt.alloc(), 1)?;
-    let two = drill_text(rt.alloc(), 2)?;
-    assert!(rt; one.as_slice() == ONE && two.as_slice() == TWO);
-    Ok(())
+fn small_drills(rt: HostRuntime) {
+    assert!(rt; matches!(is_drill(rt.alloc(), 1, ONE), Ok(true)));
+    assert!(rt; matches!(is_drill(rt.alloc(), 2, TWO), Ok(true)));
 }
 
 // Some of the 171 lines, by their numbers from 0.
@@ -75,36 +78,61 @@ const LINES: &[(usize, &str)] = &[
     (170, "end"),
 ];
 
-#[test]
-fn the_largest_drill(rt: HostRuntime) -> Result<(), Fail> {
-    let text = String::from_utf8(drill_text(rt.alloc(), 32)?)?;
-    assert!(rt; text.len() == 5362 && text.split('\n').count() == 172);
-    for &(number, wanted) in LINES {
-        assert!(rt; text.split('\n').nth(number) == Some(wanted));
-    }
-    Ok(())
+// Whether the largest drill has this line, and as many bytes and lines as it must.
+fn has_line(alloc: Global, number: usize, wanted: &str) -> Result<bool, AllocError> {
+    let bytes = drill_text(alloc, 32)?;
+    let Ok(text) = str::from_utf8(&bytes) else {
+        return Ok(false);
+    };
+    let is_whole = text.len() == 5362 && text.split('\n').count() == 172;
+    Ok(is_whole && text.split('\n').nth(number) == Some(wanted))
 }
 
 #[test]
+fn the_largest_drill(rt: HostRuntime) {
+    for &(number, wanted) in LINES {
+        assert!(rt;
+            matches!(has_line(rt.alloc(), number, wanted), Ok(true)),
+            "{wanted}"
+        );
+    }
+}
+
+// Numbers, and the line of them.
+const NUMBERS: &[(u8, u16, u16, u32, u32, u32, &[u8])] = &[
+    (
+        16,
+        40,
+        120,
+        8816,
+        392,
+        4800,
+        b"drones 16 cues 40 pairs 120 bytes 8816 packets 392 nodes 4800\n",
+    ),
+    (
+        1,
+        40,
+        0,
+        411,
+        19,
+        0,
+        b"drones 1 cues 40 pairs 0 bytes 411 packets 19 nodes 0\n",
+    ),
+    (
+        255,
+        65_535,
+        65_535,
+        4_294_967_295,
+        4_294_967_295,
+        4_294_967_295,
+        b"drones 255 cues 65535 pairs 65535 bytes 4294967295 packets 4294967295 nodes 4294967295\n",
+    ),
+];
+
+#[test]
 fn lines_of_numbers(rt: HostRuntime) {
-    assert!(rt;
-        drill_line(16, 40, 120, 8816, 392, 4800).bytes()
-            == b"drones 16 cues 40 pairs 120 bytes 8816 packets 392 nodes 4800\n".as_slice()
-    );
-    assert!(rt;
-        drill_line(1, 40, 0, 411, 19, 0).bytes()
-            == b"drones 1 cues 40 pairs 0 bytes 411 packets 19 nodes 0\n".as_slice()
-    );
-    assert!(rt;
-        drill_line(
-            255,
-            65_535,
-            65_535,
-            4_294_967_295,
-            4_294_967_295,
-            4_294_967_295
-        )
-        .bytes()
-            == b"drones 255 cues 65535 pairs 65535 bytes 4294967295 packets 4294967295 nodes 4294967295\n".as_slice()
-    );
+    for &(drones, cues, pairs, bytes, packets, nodes, wanted) in NUMBERS {
+        let line = drill_line(drones, cues, pairs, bytes, packets, nodes);
+        assert!(rt; line.bytes() == wanted, "{drones} drones");
+    }
 }

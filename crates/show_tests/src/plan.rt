@@ -5,7 +5,6 @@ ghost use Rattle.show_plan.specs.Fitting.{IsValidFitted};
 use choreo_reader::read_show;
 use cue_grid::GridFault;
 use figure_expand::AxisValue;
-use fleet_io::Lines;
 use fleet_math::MOST_TEXT;
 use show_plan::{FitError, Fitted, PlanFault, fit, plan_text};
 use std::alloc::Global;
@@ -18,24 +17,14 @@ pub fn fitted_of(alloc: Global, text: &[u8]) -> Result<Fitted, Option<PlanFault>
     if text.len() > MOST_TEXT {
         return Err(None);
     }
-    let show = match read_show(alloc, text) {
-        Ok(show) => show,
-        Err(_) => return Err(None),
-    };
-    match fit(alloc, &show) {
-        Ok(fitted) => Ok(fitted),
-        Err(FitError::Fault { fault }) => Err(Some(fault)),
-        Err(FitError::Memory) => Err(None),
+    match read_show(alloc, text) {
+        Ok(show) => match fit(alloc, &show) {
+            Ok(fitted) => Ok(fitted),
+            Err(FitError::Fault { fault }) => Err(Some(fault)),
+            Err(FitError::Memory) => Err(None),
+        },
+        Err(_) => Err(None),
     }
-}
-
-/// What becomes of a text: how many cues it has, its milliseconds, how many bytes its first drone has, and whether they
-/// begin as wanted; a fault; or something else.
-#[derive(Clone, Copy, PartialEq, Eq)]
-enum Outcome {
-    Fits(u16, u32, usize, bool),
-    Fault(PlanFault),
-    Other,
 }
 
 // The bytes that the first drone is sent, where there is memory for them.
@@ -49,97 +38,123 @@ fn first_bytes(alloc: Global, fitted: &Fitted) -> Option<Vec<u8>>
     encode(alloc, &sent[0]).ok()
 }
 
-fn outcome_of(alloc: Global, text: &[u8], wanted: &[u8]) -> Outcome {
-    let fitted = match fitted_of(alloc, text) {
-        Ok(fitted) => fitted,
-        Err(Some(fault)) => return Outcome::Fault(fault),
-        Err(None) => return Outcome::Other,
+// A show; the first bytes of the first drone, or all where as many are given as there are; how many cues it has, its
+// milliseconds, and how many bytes its first drone has.
+type Row = (&'static [u8], &'static [u8], u16, u32, usize);
+
+fn fits(alloc: Global, row: &Row) -> bool {
+    let (text, wanted, cues, duration, count) = *row;
+    let Ok(fitted) = fitted_of(alloc, text) else {
+        return false;
     };
-    match first_bytes(alloc, &fitted) {
-        Some(bytes) => {
-            let begins = bytes.starts_with(wanted);
-            Outcome::Fits(fitted.cues, fitted.duration, bytes.len(), begins)
-        }
-        None => Outcome::Other,
-    }
+    let Some(bytes) = first_bytes(alloc, &fitted) else {
+        return false;
+    };
+    fitted.cues == cues
+        && fitted.duration == duration
+        && bytes.len() == count
+        && bytes.starts_with(wanted)
 }
 
-// Shows, the first bytes of the first drone, or all where as many are given as there are, and what becomes of the show.
-const BYTES_OF_SHOWS: &[(&[u8], &[u8], Outcome)] = &[
+const BYTES_OF_SHOWS: &[Row] = &[
     // one move
     (
         b"choreo 1\ndrone solo 0 0 1000000 0\ncue 2000\nsolo move 1000000 0 1000000 0\nend\n",
         b"\x00\x00\x00\x00\xE8\x03\x00\x00\x03\xD0\x07\x00\x00\x00\x00\x00\x00\xE8\x03\xE8\x03\xE8\x03\xE8\x03\x00\x00\
         \x00",
-        Outcome::Fits(1, 2000, 28, true),
+        1,
+        2000,
+        28,
     ),
     // the greatest start
     (
         b"choreo 1\ndrone solo 32767499 0 1000000 0\ncue 2000\nsolo move 1000000 0 1000000 0\nend\n",
         b"\xFF\x7F\x00\x00\xE8\x03\x00\x00",
-        Outcome::Fits(1, 2000, 28, true),
+        1,
+        2000,
+        28,
     ),
     // the least start
     (
         b"choreo 1\ndrone solo -32768500 0 1000000 0\ncue 2000\nsolo move 1000000 0 1000000 0\nend\n",
         b"\x00\x80",
-        Outcome::Fits(1, 2000, 28, true),
+        1,
+        2000,
+        28,
     ),
     // as much room as the bytes take
     (
         b"choreo 1\nmemory 2 4068\ndrone solo 0 0 1000000 0\ncue 2000\nsolo move 1000000 0 1000000 0\nend\n",
         b"\x00\x00\x00\x00\xE8\x03\x00\x00\x03\xD0\x07",
-        Outcome::Fits(1, 2000, 28, true),
+        1,
+        2000,
+        28,
     ),
     // 255 holds of a second: three segments of 65 seconds, and one of 60
     (
         b"choreo 1\ndrone solo 0 0 1000000 0\nrepeat 255\ncue 1000\nend\nend\n",
         b"\x00\x00\x00\x00\xE8\x03\x00\x00\x00\xE8\xFD\x00\xE8\xFD\x00\xE8\xFD\x00\x60\xEA\x00\x00\x00",
-        Outcome::Fits(255, 255_000, 23, true),
+        255,
+        255_000,
+        23,
     ),
     // 1,000 cues
     (
         b"choreo 1\ndrone solo 0 0 1000000 0\nrepeat 1000\ncue 1000\nend\nend\n",
         b"\x00\x00\x00\x00\xE8\x03\x00\x00\x00\xE8\xFD\x00\xE8\xFD",
-        Outcome::Fits(1000, 1_000_000, 59, true),
+        1000,
+        1_000_000,
+        59,
     ),
     // 127 times there and back
     (
         b"choreo 1\ndrone solo 0 0 1000000 0\nrepeat 127\ncue 1000\nsolo line 100000 0 1000000 0\nend\ncue 1000\n\
         solo line 0 0 1000000 0\nend\nend\n",
         b"\x00\x00\x00\x00\xE8\x03\x00\x00\x01\xE8\x03\x64\x00",
-        Outcome::Fits(254, 254_000, 1281, true),
+        254,
+        254_000,
+        1281,
     ),
     // holds of 40,000, 30,000 and 30,000 ms are joined from the left
     (
         b"choreo 1\ndrone solo 0 0 1000000 0\ncue 40000\nend\ncue 30000\nend\ncue 30000\nend\n",
         b"\x00\x00\x00\x00\xE8\x03\x00\x00\x00\x40\x9C\x00\x60\xEA\x00\x00\x00",
-        Outcome::Fits(3, 100_000, 17, true),
+        3,
+        100_000,
+        17,
     ),
     // a turn is no hold
     (
         b"choreo 1\ndrone solo 0 0 1000000 0\ncue 1000\nend\ncue 1000\nsolo turn 900\nend\ncue 1000\nend\n",
         b"\x00\x00\x00\x00\xE8\x03\x00\x00\x00\xE8\x03",
-        Outcome::Fits(3, 3000, 34, true),
+        3,
+        3000,
+        34,
     ),
     // what rounds to a hold is one
     (
         b"choreo 1\ndrone solo 0 0 1000000 0\ncue 1000\nend\ncue 1000\nsolo move 400 0 1000000 0\nend\ncue 1000\nend\n",
         b"\x00\x00\x00\x00\xE8\x03\x00\x00\x00\xB8\x0B\x00\x00\x00",
-        Outcome::Fits(3, 3000, 14, true),
+        3,
+        3000,
+        14,
     ),
     // a quarter arc
     (
         b"choreo 1\ndrone solo 1000000 0 1000000 0\ncue 1000\nsolo arc ccw 0 0 0\nend\n",
         b"\xE8\x03\x00\x00\xE8\x03\x00\x00\x0A\xE8\x03\xE8\x03\x28\x02\x00\x00\x28\x02\xE8\x03\xE8\x03\x00\x00\x00",
-        Outcome::Fits(1, 1000, 26, true),
+        1,
+        1000,
+        26,
     ),
     // a quarter circle from rest to rest
     (
         b"choreo 1\ndrone solo 1000000 0 1000000 0\ncue 1000\nsolo swing ccw 0 0 0\nend\n",
         b"\xE8\x03\x00\x00\xE8\x03\x00\x00\x0F\xE8\x03\xE8\x03\xE8\x03\x27\x04\xB9\x02\x00\x00\x00\x00\x00\x00\x00\x00\
         \x00\x00\xB9\x02\x27\x04\xE8\x03\xE8\x03\xE8\x03\x00\x00\x00",
-        Outcome::Fits(1, 1000, 42, true),
+        1,
+        1000,
+        42,
     ),
     // a quarter circle from an arc to rest, with yaw
     (
@@ -147,21 +162,25 @@ const BYTES_OF_SHOWS: &[(&[u8], &[u8], Outcome)] = &[
         b"\xE8\x03\x00\x00\xE8\x03\x00\x00\xCF\xD0\x07\xE8\x03\xE6\x02\xFC\x01\xBB\x00\x72\x00\x00\x00\x00\x00\xD9\x01\
         \x11\x03\xCF\x03\xE2\x03\xE8\x03\xE8\x03\xE8\x03\x01\x01\xD7\x01\x83\x02\x03\x03\x59\x03\x84\x03\x84\x03\x00\
         \x00\x00",
-        Outcome::Fits(1, 2000, 56, true),
+        1,
+        2000,
+        56,
     ),
     // a figure in a frame
     (
         b"choreo 1\ndrone solo 0 0 1000000 0\nfigure go p\ncue 1000\np line 1000000 0 1000000 0\nend\nend\n\
         perform go y 1 0 0 500000 solo\n",
         b"\x00\x00\x00\x00\xE8\x03\x00\x00\x54\xE8\x03\xE8\x03\xDC\x05\x84\x03\x00\x00\x00",
-        Outcome::Fits(1, 1000, 20, true),
+        1,
+        1000,
+        20,
     ),
 ];
 
 #[test]
 fn bytes_of_shows(rt: HostRuntime) {
-    for &(text, wanted, outcome) in BYTES_OF_SHOWS {
-        assert!(rt; outcome_of(rt.alloc(), text, wanted) == outcome);
+    for (k, row) in BYTES_OF_SHOWS.iter().enumerate() {
+        assert!(rt; fits(rt.alloc(), row), "row {k}");
     }
 }
 
@@ -243,17 +262,17 @@ const REFUSALS: &[(&[u8], PlanFault)] = &[
     ),
 ];
 
-#[test]
-fn refusals(rt: HostRuntime) {
-    for &(text, fault) in REFUSALS {
-        assert!(rt; outcome_of(rt.alloc(), text, b"") == Outcome::Fault(fault));
+fn is_refused(alloc: Global, text: &[u8], wanted: PlanFault) -> bool {
+    match fitted_of(alloc, text) {
+        Err(Some(fault)) => fault == wanted,
+        _ => false,
     }
 }
 
-fn plan_of(alloc: Global, text: &[u8]) -> Option<Lines> {
-    match fitted_of(alloc, text) {
-        Ok(fitted) => plan_text(alloc, &fitted).ok(),
-        Err(_) => None,
+#[test]
+fn refusals(rt: HostRuntime) {
+    for &(text, fault) in REFUSALS {
+        assert!(rt; is_refused(rt.alloc(), text, fault), "{text:?}");
     }
 }
 
@@ -311,12 +330,19 @@ const PLANS: &[(&[u8], &[u8])] = &[
     ),
 ];
 
+fn is_plan(alloc: Global, text: &[u8], wanted: &[u8]) -> bool {
+    let Ok(fitted) = fitted_of(alloc, text) else {
+        return false;
+    };
+    match plan_text(alloc, &fitted) {
+        Ok(plan) => plan.bytes() == wanted,
+        Err(_) => false,
+    }
+}
+
 #[test]
 fn plans(rt: HostRuntime) {
     for &(text, wanted) in PLANS {
-        match plan_of(rt.alloc(), text) {
-            Some(plan) => assert!(rt; plan.bytes() == wanted),
-            None => panic!(rt; "no plan of {text:?}"),
-        }
+        assert!(rt; is_plan(rt.alloc(), text, wanted), "{text:?}");
     }
 }

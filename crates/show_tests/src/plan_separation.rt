@@ -7,37 +7,32 @@ use sep_parts::Slot;
 use show_plan::{BlockedPart, SeparationFault, certificate, count_nodes};
 use std::alloc::Global;
 
-/// What is answered for a show: whether its certificate has the wanted text; a fault; or something else.
-#[derive(Clone, Copy, PartialEq, Eq)]
-enum Answer {
-    Certified(bool),
-    Fault(SeparationFault),
-    Other,
-}
-
-fn answer_of(alloc: Global, show: &[u8], depth: u8, wanted: &[u8]) -> Answer {
-    if depth > 8 {
-        return Answer::Other;
-    }
+// Whether a show has a certificate with this text, and so many nodes at depth 6.
+fn is_certified(alloc: Global, show: &[u8], depth: u8, wanted: &[u8], nodes: u32) -> bool {
     let Ok(fitted) = fitted_of(alloc, show) else {
-        return Answer::Other;
+        return false;
     };
-    let cert = match certificate(alloc, &fitted, Depth::make(depth)) {
-        Ok(cert) => cert,
-        Err(fault) => return Answer::Fault(fault),
+    let Ok(cert) = certificate(alloc, &fitted, Depth::make(depth.min(8))) else {
+        return false;
     };
+    let is_counted = matches!(count_nodes(alloc, &fitted, Depth::make(6)), Ok(n) if n == nodes);
     match write_certificate(alloc, &cert) {
-        Ok(text) => Answer::Certified(text.as_slice() == wanted),
-        Err(_) => Answer::Other,
+        Ok(text) => is_counted && text.as_slice() == wanted,
+        Err(_) => false,
     }
 }
 
-// How many nodes are counted at depth 6, where no part is blocked.
-fn nodes_of(alloc: Global, show: &[u8]) -> Option<u32> {
+// Whether this is the first blocked part of the drones a and b, and of all.
+fn is_blocked(alloc: Global, show: &[u8], depth: u8, cue: u16, index: u16) -> bool {
     let Ok(fitted) = fitted_of(alloc, show) else {
-        return None;
+        return false;
     };
-    count_nodes(alloc, &fitted, Depth::make(6)).ok()
+    let slot = Slot { a: 0, b: 1, cue };
+    let part = BlockedPart { slot, index };
+    match certificate(alloc, &fitted, Depth::make(depth.min(8))) {
+        Ok(_) => false,
+        Err(fault) => fault == SeparationFault::Blocked { part },
+    }
 }
 
 // One drone steps aside and passes under the other.
@@ -66,40 +61,45 @@ const TWICE: &[u8] =
     b"choreo 1\ndrone a 0 0 1000000 0\ndrone b 5000000 0 1000000 0\ndrone c 9000000 0 1000000 0\ncue 3000\n\
     b move 9000000 0 1000000 0\nend\ncue 3000\nb move 0 0 1000000 0\nend\n";
 
+// A show, a depth, the text of its certificate, and how many nodes are counted.
+const APART: &[(&[u8], u8, &[u8], u32)] = &[
+    (ASIDE, 6, b"version 2\ncertificate 6\n58\n46\n00\n", 3),
+    (ALONE, 8, b"version 2\ncertificate 8\n", 0),
+    (STEEP, 6, b"version 2\ncertificate 6\n93\n", 1),
+];
+
 #[test]
 fn drones_that_keep_apart(rt: HostRuntime) {
-    let rows: [(&[u8], u8, &[u8]); 3] = [
-        (ASIDE, 6, b"version 2\ncertificate 6\n58\n46\n00\n"),
-        (ALONE, 8, b"version 2\ncertificate 8\n"),
-        (STEEP, 6, b"version 2\ncertificate 6\n93\n"),
-    ];
-    for (show, depth, wanted) in rows {
-        let answer = answer_of(rt.alloc(), show, depth, wanted);
-        assert!(rt; answer == Answer::Certified(true));
-    }
-}
-
-#[test]
-fn nodes_are_counted(rt: HostRuntime) {
-    assert!(rt; nodes_of(rt.alloc(), ASIDE) == Some(3));
-    assert!(rt; nodes_of(rt.alloc(), ALONE) == Some(0));
-    assert!(rt; nodes_of(rt.alloc(), ACROSS) == None);
-}
-
-// The first blocked part by pair and then by cue: the pair a and b, the cue and the index of the part.
-#[test]
-fn drones_that_come_too_near(rt: HostRuntime) {
-    for (show, depth, cue, index) in [
-        (ACROSS, 6, 0, 28),
-        (ACROSS, 0, 0, 0),
-        (NEAR, 6, 0, 0),
-        (TWICE, 0, 1, 0),
-    ] {
-        let slot = Slot { a: 0, b: 1, cue };
-        let part = BlockedPart { slot, index };
+    for &(show, depth, wanted, nodes) in APART {
         assert!(rt;
-            answer_of(rt.alloc(), show, depth, b"")
-                == Answer::Fault(SeparationFault::Blocked { part })
+            is_certified(rt.alloc(), show, depth, wanted, nodes),
+            "{show:?}"
         );
     }
+}
+
+// A show, a depth, and the first blocked part by pair and then by cue, of the pair a and b: the cue and the index.
+const BLOCKED: &[(&[u8], u8, u16, u16)] = &[
+    (ACROSS, 6, 0, 28),
+    (ACROSS, 0, 0, 0),
+    (NEAR, 6, 0, 0),
+    (TWICE, 0, 1, 0),
+];
+
+fn has_no_count(alloc: Global, show: &[u8]) -> bool {
+    match fitted_of(alloc, show) {
+        Ok(fitted) => count_nodes(alloc, &fitted, Depth::make(6)).is_err(),
+        Err(_) => false,
+    }
+}
+
+#[test]
+fn drones_that_come_too_near(rt: HostRuntime) {
+    for &(show, depth, cue, index) in BLOCKED {
+        assert!(rt;
+            is_blocked(rt.alloc(), show, depth, cue, index),
+            "cue {cue}, part {index}"
+        );
+    }
+    assert!(rt; has_no_count(rt.alloc(), ACROSS));
 }

@@ -54,29 +54,44 @@ fn words_and_inputs(rt: HostRuntime) {
     assert!(rt; usage && read && large);
 }
 
+// A line, an axis and a value; and what is written.
+const RANGES: &[(u32, u8, i64, &[u8])] = &[
+    (
+        2,
+        0,
+        -32_768_501,
+        b"error 3 line 2 out-of-range x -32768501\n",
+    ),
+    (2, 3, 32_768, b"error 3 line 2 out-of-range yaw 32768\n"),
+    (
+        7,
+        1,
+        32_767_500,
+        b"error 3 line 7 out-of-range y 32767500\n",
+    ),
+    (
+        8,
+        2,
+        32_767_500,
+        b"error 3 line 8 out-of-range z 32767500\n",
+    ),
+    (
+        4_294_967_295,
+        3,
+        i64::MIN,
+        b"error 3 line 4294967295 out-of-range yaw -9223372036854775808\n",
+    ),
+];
+
+fn says_range(line: u32, axis: u8, value: i64, wanted: &[u8]) -> bool {
+    let axis = axis.min(3);
+    says(&Refusal::Range { line, axis, value }, wanted, 3)
+}
+
 #[test]
 fn numbers_out_of_range(rt: HostRuntime) {
-    let rows = [
-        (
-            (2, 0, -32_768_501),
-            b"error 3 line 2 out-of-range x -32768501\n".as_slice(),
-        ),
-        ((2, 3, 32_768), b"error 3 line 2 out-of-range yaw 32768\n"),
-        (
-            (7, 1, 32_767_500),
-            b"error 3 line 7 out-of-range y 32767500\n",
-        ),
-        (
-            (8, 2, 32_767_500),
-            b"error 3 line 8 out-of-range z 32767500\n",
-        ),
-        (
-            (4_294_967_295, 3, i64::MIN),
-            b"error 3 line 4294967295 out-of-range yaw -9223372036854775808\n",
-        ),
-    ];
-    for ((line, axis, value), wanted) in rows {
-        assert!(rt; says(&Refusal::Range { line, axis, value }, wanted, 3));
+    for &(line, axis, value, wanted) in RANGES {
+        assert!(rt; says_range(line, axis, value, wanted), "{wanted:?}");
     }
 }
 
@@ -276,68 +291,73 @@ fn accelerations_and_jumps(rt: HostRuntime) {
     assert!(rt; on_x && on_z);
 }
 
+// A faulty line, what is wrong with it, and what is written.
+const WORDS: &[(u32, LineKind, &[u8])] = &[
+    (5, LineKind::BadByte, b"error 3 line 5 bad-byte\n"),
+    (1, LineKind::Header, b"error 3 line 1 header\n"),
+    (2, LineKind::BadWord, b"error 3 line 2 bad-word\n"),
+    (3, LineKind::BadName, b"error 3 line 3 bad-name\n"),
+    (4, LineKind::BadCount, b"error 3 line 4 bad-count\n"),
+    (6, LineKind::BadNumber, b"error 3 line 6 bad-number\n"),
+    (7, LineKind::Range, b"error 3 line 7 range\n"),
+    (
+        4_294_967_295,
+        LineKind::DoubleSetting,
+        b"error 3 line 4294967295 double-setting\n",
+    ),
+    (11, LineKind::Nesting, b"error 3 line 11 nesting\n"),
+    (9, LineKind::EmptyBlock, b"error 3 line 9 empty-block\n"),
+    (10, LineKind::NoEnd, b"error 3 line 10 no-end\n"),
+];
+
+fn says_word(line: u32, kind: LineKind, wanted: &[u8]) -> bool {
+    says(&Refusal::Line { line, kind }, wanted, 3)
+}
+
 #[test]
 fn each_word_of_a_line(rt: HostRuntime) {
-    let rows = [
-        (
-            5,
-            LineKind::BadByte,
-            b"error 3 line 5 bad-byte\n".as_slice(),
-        ),
-        (1, LineKind::Header, b"error 3 line 1 header\n"),
-        (2, LineKind::BadWord, b"error 3 line 2 bad-word\n"),
-        (3, LineKind::BadName, b"error 3 line 3 bad-name\n"),
-        (4, LineKind::BadCount, b"error 3 line 4 bad-count\n"),
-        (6, LineKind::BadNumber, b"error 3 line 6 bad-number\n"),
-        (7, LineKind::Range, b"error 3 line 7 range\n"),
-        (
-            4_294_967_295,
-            LineKind::DoubleSetting,
-            b"error 3 line 4294967295 double-setting\n",
-        ),
-        (11, LineKind::Nesting, b"error 3 line 11 nesting\n"),
-        (9, LineKind::EmptyBlock, b"error 3 line 9 empty-block\n"),
-        (10, LineKind::NoEnd, b"error 3 line 10 no-end\n"),
-    ];
-    for (line, kind, wanted) in rows {
-        assert!(rt; says(&Refusal::Line { line, kind }, wanted, 3));
+    for &(line, kind, wanted) in WORDS {
+        assert!(rt; says_word(line, kind, wanted), "{wanted:?}");
     }
+}
+
+// A fault of names or cues, and what is written.
+const GRID: &[(GridFault, &[u8])] = &[
+    (GridFault::NoDrone { line: 1 }, b"error 3 line 1 no-drone\n"),
+    (
+        GridFault::TooManyDrones { line: 34 },
+        b"error 3 line 34 too-many-drones\n",
+    ),
+    (
+        GridFault::DoubleName { line: 3 },
+        b"error 3 line 3 double-name\n",
+    ),
+    (
+        GridFault::UnknownName { line: 8 },
+        b"error 3 line 8 unknown-name\n",
+    ),
+    (
+        GridFault::DoubleAct { line: 5 },
+        b"error 3 line 5 double-act\n",
+    ),
+    (
+        GridFault::RoleCount { line: 8 },
+        b"error 3 line 8 role-count\n",
+    ),
+    (GridFault::NoCue { line: 1 }, b"error 3 line 1 no-cue\n"),
+    (
+        GridFault::TooManyCues { line: 3 },
+        b"error 3 line 3 too-many-cues\n",
+    ),
+];
+
+fn says_grid(fault: GridFault, wanted: &[u8]) -> bool {
+    says(&Refusal::Grid { fault }, wanted, 3)
 }
 
 #[test]
 fn names_and_cues(rt: HostRuntime) {
-    let rows = [
-        (
-            GridFault::NoDrone { line: 1 },
-            b"error 3 line 1 no-drone\n".as_slice(),
-        ),
-        (
-            GridFault::TooManyDrones { line: 34 },
-            b"error 3 line 34 too-many-drones\n",
-        ),
-        (
-            GridFault::DoubleName { line: 3 },
-            b"error 3 line 3 double-name\n",
-        ),
-        (
-            GridFault::UnknownName { line: 8 },
-            b"error 3 line 8 unknown-name\n",
-        ),
-        (
-            GridFault::DoubleAct { line: 5 },
-            b"error 3 line 5 double-act\n",
-        ),
-        (
-            GridFault::RoleCount { line: 8 },
-            b"error 3 line 8 role-count\n",
-        ),
-        (GridFault::NoCue { line: 1 }, b"error 3 line 1 no-cue\n"),
-        (
-            GridFault::TooManyCues { line: 3 },
-            b"error 3 line 3 too-many-cues\n",
-        ),
-    ];
-    for (fault, wanted) in rows {
-        assert!(rt; says(&Refusal::Grid { fault }, wanted, 3));
+    for &(fault, wanted) in GRID {
+        assert!(rt; says_grid(fault, wanted), "{wanted:?}");
     }
 }

@@ -1,83 +1,80 @@
 //! Reports written by hand.
-ghost use Rattle.std.specs.Prelude.{◌≡◌, ◌≤◌, length, IfOk};
+ghost use Rattle.std.specs.Prelude.{IfOk};
 ghost use Rattle.std.specs.List.{All};
 ghost use Rattle.std.specs.Str.{IsAscii};
 
 use arrayvec::ArrayVec;
 use report_text::report_text;
 use std::alloc::{AllocError, Global};
-use std::test::Fail;
 
+// The name of these bytes, where they are ASCII.
 fn named(bytes: &[u8]) -> ArrayVec<u8, 16>
-    requires { length bytes.now ≤ 16 }
-    ensures { result.items ≡ bytes.now }
+    ensures { IsAscii result.items }
 {
     let mut name = ArrayVec::new();
-    name.try_extend_from_slice(bytes).unwrap();
+    if bytes.is_ascii() {
+        let _ = name.try_extend_from_slice(bytes);
+    }
     name
 }
 
-#[test]
-fn two_drones(rt: HostRuntime) -> Result<(), Fail> {
-    let names = [named(b"a"), named(b"b")];
-    let text = report_text(rt.alloc(), &[34, 62], 3, &names, 9000, 3, &[3, 4])?;
-    assert!(rt;
-        text.as_slice()
-            == b"{\"bytes\":[34,62],\"cues\":3,\"drones\":[\"a\",\"b\"],\
-            \"duration_ms\":9000,\"nodes\":3,\"packets\":[3,4]}\n"
-                .as_slice()
-    );
-    Ok(())
-}
-
-#[test]
-fn one_drone(rt: HostRuntime) -> Result<(), Fail> {
-    let names = [named(b"solo")];
-    let text = report_text(rt.alloc(), &[28], 1, &names, 2000, 0, &[3])?;
-    assert!(rt;
-        text.as_slice()
-            == b"{\"bytes\":[28],\"cues\":1,\"drones\":[\"solo\"],\
-            \"duration_ms\":2000,\"nodes\":0,\"packets\":[3]}\n"
-                .as_slice()
-    );
-    Ok(())
-}
-
-// A name, 32 times.
-fn repeated(alloc: Global, name: &[u8]) -> Result<Vec<ArrayVec<u8, 16>>, AllocError>
-    requires ascii { IsAscii name.now }
-    requires few { length name.now ≤ 16 }
+fn names_of(alloc: Global, words: &[&[u8]]) -> Result<Vec<ArrayVec<u8, 16>>, AllocError>
     ensures { IfOk result (λ names. All (λ name. IsAscii name.items) names.items) }
 {
     let mut names = Vec::new(alloc);
-    for _drone in 0..32 {
-        names.push(named(name))?;
+    for word in words {
+        names.push(named(word))?;
     }
     Ok(names)
 }
 
-// Each number as large as a show lets it be.
-#[test]
-fn the_largest_show(rt: HostRuntime) -> Result<(), Fail> {
-    let names = repeated(rt.alloc(), b"sixteen_bytes_of")?;
-    let bytes = [
-        4096, 4095, 4094, 4093, 4092, 4091, 4090, 4089, 4088, 4087, 4086, 4085, 4084, 4083, 4082,
-        4081, 4080, 4079, 4078, 4077, 4076, 4075, 4074, 4073, 4072, 4071, 4070, 4069, 4068, 4067,
-        4066, 4065,
-    ];
-    let packets = [172; 32];
-    let text = report_text(
-        rt.alloc(),
-        &bytes,
+// The bytes of each drone, the cues, the names, the milliseconds, the nodes, the packets of each drone, and the report.
+type Row<'a> = (
+    &'a [u32],
+    u32,
+    &'a [&'a [u8]],
+    u32,
+    u32,
+    &'a [u32],
+    &'a [u8],
+);
+
+const LONG: &[u8] = b"sixteen_bytes_of";
+
+const REPORTS: &[Row] = &[
+    (
+        &[34, 62],
+        3,
+        &[b"a", b"b"],
+        9000,
+        3,
+        &[3, 4],
+        b"{\"bytes\":[34,62],\"cues\":3,\"drones\":[\"a\",\"b\"],\
+        \"duration_ms\":9000,\"nodes\":3,\"packets\":[3,4]}\n",
+    ),
+    (
+        &[28],
+        1,
+        &[b"solo"],
+        2000,
+        0,
+        &[3],
+        b"{\"bytes\":[28],\"cues\":1,\"drones\":[\"solo\"],\
+        \"duration_ms\":2000,\"nodes\":0,\"packets\":[3]}\n",
+    ),
+    // Each number as large as a show lets it be.
+    (
+        &[
+            4096, 4095, 4094, 4093, 4092, 4091, 4090, 4089, 4088, 4087, 4086, 4085, 4084, 4083,
+            4082, 4081, 4080, 4079, 4078, 4077, 4076, 4075, 4074, 4073, 4072, 4071, 4070, 4069,
+            4068, 4067, 4066, 4065,
+        ],
         1000,
-        &names,
+        &[LONG; 32],
         65_535_000,
         64_631_280,
-        &packets,
-    )?;
-    assert!(rt;
-        text.as_slice()
-            == b"{\"bytes\":[4096,4095,4094,4093,4092,4091,4090,4089,4088,4087,4086,4085,4084,4083,4082,4081,\
+        &[172; 32],
+        b"{\"bytes\":[4096,4095,4094,4093,4092,4091,4090,4089,4088,4087,4086,4085,4084,4083,4082,4081,\
         4080,4079,4078,4077,4076,4075,4074,4073,4072,4071,4070,4069,4068,4067,4066,4065],\"cues\":10\
         00,\"drones\":[\"sixteen_bytes_of\",\"sixteen_bytes_of\",\"sixteen_bytes_of\",\"sixteen_bytes_of\",\"\
         sixteen_bytes_of\",\"sixteen_bytes_of\",\"sixteen_bytes_of\",\"sixteen_bytes_of\",\"sixteen_bytes_\
@@ -87,8 +84,20 @@ fn the_largest_show(rt: HostRuntime) -> Result<(), Fail> {
         \"sixteen_bytes_of\",\"sixteen_bytes_of\",\"sixteen_bytes_of\",\"sixteen_bytes_of\",\"sixteen_bytes\
         _of\",\"sixteen_bytes_of\",\"sixteen_bytes_of\",\"sixteen_bytes_of\",\"sixteen_bytes_of\"],\"duratio\
         n_ms\":65535000,\"nodes\":64631280,\"packets\":[172,172,172,172,172,172,172,172,172,172,172,172\
-        ,172,172,172,172,172,172,172,172,172,172,172,172,172,172,172,172,172,172,172,172]}\n"
-                .as_slice()
-    );
-    Ok(())
+        ,172,172,172,172,172,172,172,172,172,172,172,172,172,172,172,172,172,172,172,172]}\n",
+    ),
+];
+
+fn is_report(alloc: Global, row: &Row) -> Result<bool, AllocError> {
+    let (bytes, cues, words, duration_ms, nodes, packets, wanted) = *row;
+    let names = names_of(alloc, words)?;
+    let text = report_text(alloc, bytes, cues, &names, duration_ms, nodes, packets)?;
+    Ok(text.as_slice() == wanted)
+}
+
+#[test]
+fn reports(rt: HostRuntime) {
+    for (k, row) in REPORTS.iter().enumerate() {
+        assert!(rt; matches!(is_report(rt.alloc(), row), Ok(true)), "row {k}");
+    }
 }

@@ -1,6 +1,6 @@
 use Rattle.std.specs.List.{All}
 use Rattle.std.specs.Str.{IsAscii}
-use Rattle.show_tests.proofs.reports.repeated.Given as goal
+use Rattle.show_tests.proofs.reports.names_of.Given as goal
 
-abbrev pub invariant-loop-drone : goal.invariant-loop-drone
-invariant-loop-drone l = All (λ name. IsAscii name.items) l.names.items
+abbrev pub invariant-loop-word : goal.invariant-loop-word
+invariant-loop-word l = All (λ name. IsAscii name.items) l.names.items
