@@ -1,5 +1,7 @@
 -- How far the numbers of points and acts are from 0.
-use Rattle.figure_expand.proofs.Prelude.{common_steps, ◌≡◌, ℕ, zero, suc, ◌+◌, ◌*◌, ◌^◌, ◌<◌, ◌≤◌, Bool, true, false, ℤ, pos, ◌+ℤ◌, ◌-ℤ◌, List, [], ◌∷◌, length, get_or, to_z, of_z, w64, arith, refl, sym, ap, subst, ◌∙◌, All, ints, to_z-of_z, All-nil, All-cons, All-get_or, All-tail, at, Point, Act, DroneLine, FitsFrame, FitsPoint, FitsCoordinate, FitsAct, Job, Cue, mirrored, turned_once, turned, IsUpTo, IsPointUpTo, IsShiftUpTo, FitsJob, FitJobs, FitsCue, FitCues, act_in, act_of, end_of, start_points, points_after, FitsYaw, FitsTriple, IsActUpTo, reach, AreInReach, Ease, arc_points, eased_points}
+use Rattle.figure_expand.specs.declared.shapes.Quarter.{Quarter}
+use Rattle.figure_expand.specs.Steps.{IsQuarterSmall}
+use Rattle.figure_expand.proofs.Prelude.{common_steps, ◌≡◌, ℕ, zero, suc, ◌+◌, ◌*◌, ◌^◌, ◌<◌, ◌≤◌, Bool, true, false, ℤ, pos, ◌+ℤ◌, ◌-ℤ◌, List, [], ◌∷◌, length, get_or, to_z, of_z, w64, arith, refl, sym, ap, subst, ◌∙◌, All, ints, to_z-of_z, All-nil, All-cons, All-get_or, All-tail, at, Point, Act, DroneLine, FitsFrame, FitsPoint, FitsCoordinate, FitsAct, Job, Cue, mirrored, turned_once, turned, IsUpTo, IsPointUpTo, IsShiftUpTo, FitsJob, FitJobs, FitsCue, FitCues, act_in, act_of, end_of, start_points, points_after, FitsYaw, FitsTriple, IsActUpTo, reach, AreInReach}
 use Rattle.fleet_math.specs.Limits.{most_cues}
 use Rattle.choreo_show.specs.declared.parts.Frame.{Frame}
 use Rattle.choreo_show.specs.declared.parts.Mirror.{Mirror}
@@ -201,11 +203,9 @@ way_told present centre v p c small is =
 pub sense_kept : (f : ℤ → ℤ) (x v w : ℤ) → IsUpTo (2 ^ 41) w → w ≡ f (to_z w64 (of_z w64 v)) → to_z w64 (of_z w64 v) ≡ x → to_z w64 (of_z w64 w) ≡ f x
 sense_kept f x v w small is told = kept w (wider (2 ^ 41) (2 ^ 43) w (omega arith) small) ∙ is ∙ ap f told
 
-pub same_arc : (p p' c c' v v' w w' : ℤ) → p ≡ p' → c ≡ c' → v ≡ v' → w ≡ w' → arc_points p c v w ≡ arc_points p' c' v' w'
-same_arc p p' c c' v v' w w' e f g h = rw (e, f, g, h) refl
-
-pub same_eased : (how : Ease) (c c' v v' w w' : ℤ) → c ≡ c' → v ≡ v' → w ≡ w' → eased_points how c v w ≡ eased_points how c' v' w'
-same_eased how c c' v v' w w' f g h = rw (f, g, h) refl
+-- each of two quarter circles
+pub quarter_small : (qs : List Quarter) (x y d : Quarter) (k : ℕ) → k < 2 → qs ≡ x ∷ y ∷ [] → All IsQuarterSmall qs → IsQuarterSmall (get_or qs k d)
+quarter_small qs x y d k inside is small = small k d (omega (arith, inside, ap length is))
 
 -- the four points of an arc, as they are kept in 64 bits
 pub arc_kept : (present centre w first second : ℤ) → IsUpTo (2 ^ 40) present → IsUpTo (2 ^ 28) centre → IsUpTo (2 ^ 41) w → IsUpTo (2 ^ 41) first → IsUpTo (2 ^ 41) second →

@@ -4,3 +4,4 @@ pub mod Controls
 pub mod Expanded
 pub mod Flown
 pub mod Bounds
+pub mod Steps

@@ -5,12 +5,12 @@ ghost use Rattle.std.specs.List.{All};
 ghost use Rattle.mm_rounding.specs.declared.piece.Axis.TheVariants.{One, Two, Four, Eight};
 ghost use Rattle.choreo_show.specs.declared.parts.Act.TheVariants as act;
 ghost use Rattle.cue_grid.specs.Frames.{IsUpTo, IsPointUpTo};
-ghost use Rattle.figure_expand.specs.Acts.{handle, arc_points, arc_on, shares, millionths, eased_point, eased_points};
-ghost use Rattle.figure_expand.specs.Acts.{eased_on};
+ghost use Rattle.figure_expand.specs.Acts.{handle, arc_points, shares, millionths, eased_point, eased_points};
 ghost use Rattle.figure_expand.specs.Controls.{axes_of};
 ghost use Rattle.figure_expand.specs.Written.{from_rest, forty_seconds, squares, squares_left, yaw_in, yaw_out};
 ghost use Rattle.figure_expand.specs.Written.{eased_yaw, end_of};
 ghost use Rattle.figure_expand.specs.Bounds.{IsActUpTo, AreSmall};
+ghost use Rattle.figure_expand.specs.Steps.{IsQuarterSmall, quarter_on};
 
 use choreo_show::{Act, Ease, Point};
 use mm_rounding::Axis;
@@ -29,36 +29,27 @@ fn handle(s: i64) -> i64
     (HANDLE * s + MILLION / 2).div_euclid(MILLION)
 }
 
-// The way from the centre to the end on x, for the way from the centre to the start.
-fn end_x(ccw: bool, vx: i64, vy: i64) -> i64
-    requires x { IsUpTo (2 ^ 41) vx }
-    requires y { IsUpTo (2 ^ 41) vy }
-    ensures value { result ≡ (if ccw then neg_ℤ vy else vy) }
-    ensures small { IsUpTo (2 ^ 41) result }
-{
-    if ccw { -vy } else { vy }
+// A quarter circle on one axis: the present value, the centre, and the ways from there to the start and to the end.
+#[derive(Clone, Copy)]
+pub(crate) struct Quarter {
+    present: i64,
+    centre: i64,
+    first: i64,
+    last: i64,
 }
 
-// The same on y.
-fn end_y(ccw: bool, vx: i64, vy: i64) -> i64
-    requires x { IsUpTo (2 ^ 41) vx }
-    requires y { IsUpTo (2 ^ 41) vy }
-    ensures value { result ≡ (if ccw then vx else neg_ℤ vx) }
-    ensures small { IsUpTo (2 ^ 41) result }
+fn arc_points(q: &Quarter) -> [i64; 4]
+    requires { IsQuarterSmall q.now }
+    ensures { result ≡ arc_points q.now.present q.now.centre q.now.first q.now.last }
 {
-    if ccw { vx } else { -vx }
-}
-
-fn arc_points(present: i64, centre: i64, v: i64, w: i64) -> [i64; 4]
-    requires present { IsUpTo (2 ^ 40) present }
-    requires centre { IsUpTo (2 ^ 28) centre }
-    requires v { IsUpTo (2 ^ 41) v }
-    requires w { IsUpTo (2 ^ 41) w }
-    ensures { result ≡ arc_points present centre v w }
-{
-    let first = handle(w);
-    let second = handle(v);
-    [present, present + first, centre + w + second, centre + w]
+    let first = handle(q.last);
+    let second = handle(q.first);
+    [
+        q.present,
+        q.present + first,
+        q.centre + q.last + second,
+        q.centre + q.last,
+    ]
 }
 
 // From the centre to a coordinate of the present point.
@@ -71,28 +62,45 @@ fn way(present: i64, centre: i64) -> i64
     present - centre
 }
 
-fn arc_x(p: &Point, ccw: bool, cx: i64, cy: i64) -> [i64; 4]
-    requires point { IsPointUpTo (2 ^ 40) p.now }
-    requires x { IsUpTo (2 ^ 28) cx }
-    requires y { IsUpTo (2 ^ 28) cy }
-    ensures { result ≡ arc_on p.now ccw cx cy 0 }
+// A way, or the same way back.
+fn turned(back: bool, way: i64) -> i64
+    requires { IsUpTo (2 ^ 41) way }
+    ensures value { result ≡ (if back then neg_ℤ way else way) }
+    ensures small { IsUpTo (2 ^ 41) result }
 {
-    let vx = way(p.x, cx);
-    let vy = way(p.y, cy);
-    let wx = end_x(ccw, vx, vy);
-    arc_points(p.x, cx, vx, wx)
+    if back { -way } else { way }
 }
 
-fn arc_y(p: &Point, ccw: bool, cx: i64, cy: i64) -> [i64; 4]
+// The quarter circle from the present point around a centre, on x and on y.
+fn quarters(p: &Point, ccw: bool, cx: i64, cy: i64) -> [Quarter; 2]
     requires point { IsPointUpTo (2 ^ 40) p.now }
     requires x { IsUpTo (2 ^ 28) cx }
     requires y { IsUpTo (2 ^ 28) cy }
-    ensures { result ≡ arc_on p.now ccw cx cy 1 }
+    ensures exact { result ≡ quarter_on p.now ccw cx cy 0 ∷ quarter_on p.now ccw cx cy 1 ∷ [] }
+    ensures small { All IsQuarterSmall result }
 {
     let vx = way(p.x, cx);
     let vy = way(p.y, cy);
-    let wy = end_y(ccw, vx, vy);
-    arc_points(p.y, cy, vy, wy)
+    let x = Quarter {
+        present: p.x,
+        centre: cx,
+        first: vx,
+        last: turned(ccw, vy),
+    };
+    let y = Quarter {
+        present: p.y,
+        centre: cy,
+        first: vy,
+        last: turned(!ccw, vx),
+    };
+    [x, y]
+}
+
+fn last_point(q: &Quarter) -> i64
+    requires { IsQuarterSmall q.now }
+    ensures { result ≡ q.now.centre +ℤ q.now.last }
+{
+    q.centre + q.last
 }
 
 // How many millionths of the way from the centre to the start, and of the way from the centre to the end, are in each
@@ -152,52 +160,26 @@ fn millionths(share: u32, s: i64) -> i64
     (i64::from(share) * s + MILLION / 2).div_euclid(MILLION)
 }
 
-fn eased_point(centre: i64, v: i64, w: i64, share: &(u32, u32)) -> i64
-    requires centre { IsUpTo (2 ^ 28) centre }
-    requires v { IsUpTo (2 ^ 41) v }
-    requires w { IsUpTo (2 ^ 41) w }
+fn eased_point(q: &Quarter, share: &(u32, u32)) -> i64
+    requires quarter { IsQuarterSmall q.now }
     requires share { AreSmall share.now }
-    ensures { result ≡ eased_point centre v w share.now }
+    ensures { result ≡ eased_point q.now.centre q.now.first q.now.last share.now }
 {
-    let first = millionths(share.0, v);
-    let second = millionths(share.1, w);
-    centre + first + second
+    let first = millionths(share.0, q.first);
+    let second = millionths(share.1, q.last);
+    q.centre + first + second
 }
 
-fn eased_points(ease: Ease, centre: i64, v: i64, w: i64) -> [i64; 8]
-    requires centre { IsUpTo (2 ^ 28) centre }
-    requires v { IsUpTo (2 ^ 41) v }
-    requires w { IsUpTo (2 ^ 41) w }
-    ensures { result ≡ eased_points ease centre v w }
+fn eased_points(ease: Ease, q: &Quarter) -> [i64; 8]
+    requires { IsQuarterSmall q.now }
+    ensures { result ≡ eased_points ease q.now.centre q.now.first q.now.last }
 {
     let table = shares(ease);
     let mut points = [0; 8];
     for k in 0..8 {
-        points[k] = eased_point(centre, v, w, &table[k]);
+        points[k] = eased_point(q, &table[k]);
     }
     points
-}
-
-fn eased_x(p: &Point, ease: Ease, ccw: bool, cx: i64, cy: i64) -> [i64; 8]
-    requires point { IsPointUpTo (2 ^ 40) p.now }
-    requires x { IsUpTo (2 ^ 28) cx }
-    requires y { IsUpTo (2 ^ 28) cy }
-    ensures { result ≡ eased_on p.now ease ccw cx cy 0 }
-{
-    let vx = way(p.x, cx);
-    let vy = way(p.y, cy);
-    eased_points(ease, cx, vx, end_x(ccw, vx, vy))
-}
-
-fn eased_y(p: &Point, ease: Ease, ccw: bool, cx: i64, cy: i64) -> [i64; 8]
-    requires point { IsPointUpTo (2 ^ 40) p.now }
-    requires x { IsUpTo (2 ^ 28) cx }
-    requires y { IsUpTo (2 ^ 28) cy }
-    ensures { result ≡ eased_on p.now ease ccw cx cy 1 }
-{
-    let vx = way(p.x, cx);
-    let vy = way(p.y, cy);
-    eased_points(ease, cy, vy, end_y(ccw, vx, vy))
 }
 
 fn still(v: i64) -> Axis
@@ -346,13 +328,13 @@ pub(crate) fn axes(p: &Point, act: &Act) -> [Axis; 4]
         ],
         Act::Turn { yaw } => [still(p.x), still(p.y), still(p.z), rest(p.yaw, *yaw)],
         Act::Arc { ccw, cx, cy, yaw } => {
-            let x = Axis::Four {
-                v: arc_x(p, *ccw, *cx, *cy),
-            };
-            let y = Axis::Four {
-                v: arc_y(p, *ccw, *cx, *cy),
-            };
-            [x, y, still(p.z), even(p.yaw, *yaw)]
+            let [x, y] = quarters(p, *ccw, *cx, *cy);
+            [
+                Axis::Four { v: arc_points(&x) },
+                Axis::Four { v: arc_points(&y) },
+                still(p.z),
+                even(p.yaw, *yaw),
+            ]
         }
         Act::Eased {
             ease,
@@ -361,13 +343,17 @@ pub(crate) fn axes(p: &Point, act: &Act) -> [Axis; 4]
             cy,
             yaw,
         } => {
-            let x = Axis::Eight {
-                v: eased_x(p, *ease, *ccw, *cx, *cy),
-            };
-            let y = Axis::Eight {
-                v: eased_y(p, *ease, *ccw, *cx, *cy),
-            };
-            [x, y, still(p.z), eased_yaw(*ease, p.yaw, *yaw)]
+            let [x, y] = quarters(p, *ccw, *cx, *cy);
+            [
+                Axis::Eight {
+                    v: eased_points(*ease, &x),
+                },
+                Axis::Eight {
+                    v: eased_points(*ease, &y),
+                },
+                still(p.z),
+                eased_yaw(*ease, p.yaw, *yaw),
+            ]
         }
         Act::Curve { p1, p2, to } => [
             curve(p.x, p1[0], p2[0], to.x),
@@ -379,18 +365,16 @@ pub(crate) fn axes(p: &Point, act: &Act) -> [Axis; 4]
 }
 
 // Where a quarter circle ends, from the present point: an eased one ends where `arc` does.
-#[tactic(auto, unfolding(crate::specs::Written::end_of))]
 fn arc_end(p: &Point, ccw: bool, cx: i64, cy: i64, yaw: i64) -> Point
     requires point { IsPointUpTo (2 ^ 40) p.now }
     requires x { IsUpTo (2 ^ 28) cx }
     requires y { IsUpTo (2 ^ 28) cy }
     ensures { result ≡ end_of p.now (act.Arc ccw cx cy yaw) }
 {
-    let x = arc_x(p, ccw, cx, cy);
-    let y = arc_y(p, ccw, cx, cy);
+    let [x, y] = quarters(p, ccw, cx, cy);
     Point {
-        x: x[3],
-        y: y[3],
+        x: last_point(&x),
+        y: last_point(&y),
         z: p.z,
         yaw,
     }

@@ -5,5 +5,5 @@ use Rattle.figure_expand.proofs.shapes.eased_points.Given as goal
 abbrev pub invariant-loop-k : goal.invariant-loop-k
 invariant-loop-k l = record {
   same_length : length l.points ≡ 8;
-  done : take l.k l.points ≡ map (eased_point l.centre l.v l.w) (take l.k l.table);
+  done : take l.k l.points ≡ map (eased_point l.q.centre l.q.first l.q.last) (take l.k l.table);
 }
