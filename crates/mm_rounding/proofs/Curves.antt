@@ -1,15 +1,9 @@
 -- A curve and the curve of its rounded control values are within half a millimetre: the hull property of their difference.
-use Rattle.mm_rounding.proofs.Prelude.{◌≡◌, ℕ, zero, suc, ◌+◌, ◌-◌, ◌<◌, ◌≤◌, ℤ, pos, neg_ℤ, ◌+ℤ◌, ◌-ℤ◌, ◌*ℤ◌, ◌≤ℤ◌, List, [], ◌∷◌, map, length, arith, refl, sym, ap, ◌∙◌, subst, ints, at, bern, bernstein, IsNear, bernstein-mix, bernstein-at_least, bernstein-same, bernstein-zero, bernstein-suc, cong_add, millimetres, position}
+use Rattle.mm_rounding.proofs.Prelude.{◌≡◌, ℕ, zero, suc, ◌+◌, ◌-◌, ◌<◌, ◌≤◌, ℤ, pos, neg_ℤ, ◌+ℤ◌, ◌-ℤ◌, ◌*ℤ◌, ◌≤ℤ◌, List, [], ◌∷◌, map, length, get_or-map, length-map, arith, sym, ap, ◌∙◌, subst, ints, at, bern, bernstein, IsNear, bernstein-mix, bernstein-at_least, bernstein-same, bernstein-zero, bernstein-suc, cong_add, millimetres, position}
 use Rattle.fleet_math.specs.Sums.{power}
 use Rattle.fleet_math.proofs.RingLemmas.{ring, linear, le_mul_ℤ, mul_assoc_ℤ, mul_left_comm_ℤ, mul_comm_ℤ, mul_add_ℤ, zero_mul_ℤ}
 use Rattle.fleet_math.proofs.SumLemmas.{power-add}
 use Rattle.mm_rounding.proofs.Millimetres.{millimetres_near}
-
--- the rounded numbers at their places
-pub at-map : (v : List ℤ) (k : ℕ) → k < length v → at (map millimetres v) k ≡ millimetres (at v k)
-at-map [] k small = absurd (omega arith)
-at-map (x ∷ v) zero small = refl
-at-map (x ∷ v) (suc k) small = at-map v k (omega arith)
 
 -- a power of a number that is not negative
 power_positive : (c : ℤ) (k : ℕ) → pos 0 ≤ℤ c → pos 0 ≤ℤ power c k
@@ -44,7 +38,7 @@ pub near_curve : (v : List ℤ) (a c : ℕ) → 1 ≤ length v → length v ≤ 
 near_curve v a c some few within =
     let n : ℕ = length v - 1 in
     let p : ℤ = power (pos c) (8 - length v) in
-    let same_length : length (map millimetres v) ≡ length v = length-mapped v in
+    let same_length : length (map millimetres v) ≡ length v = length-map v millimetres in
     let decoded : position (map millimetres v) a c ≡ p *ℤ bernstein n (at (map millimetres v)) (pos a) (pos c) =
     ap (λ (m : ℕ). power (pos c) (8 - m) *ℤ bernstein (m - 1) (at (map millimetres v)) (pos a) (pos c)) same_length in
     let seven : p *ℤ power (pos c) n ≡ power (pos c) 7 = seventh (pos c) (length v) some few in
@@ -52,18 +46,14 @@ near_curve v a c some few within =
     let below_whole : pos a ≤ℤ pos c = omega (arith, ints) in
     let scale : pos 0 ≤ℤ p = power_positive (pos c) (8 - length v) (omega (arith, ints)) in
     let low = half n (pos 1000) (neg_ℤ (pos 1)) (at (map millimetres v)) (at v) (pos a) (pos c) p positive below_whole scale
-    (λ k small. let e : at (map millimetres v) k ≡ millimetres (at v k) = at-map v k (omega arith) in rw e (below (at v k))) in
+    (λ k small. let e : at (map millimetres v) k ≡ millimetres (at v k) = get_or-map millimetres v k (pos 0) (pos 0) (omega arith) in rw e (below (at v k))) in
     let high = half n (pos 1) (neg_ℤ (pos 1000)) (at v) (at (map millimetres v)) (pos a) (pos c) p positive below_whole scale
-    (λ k small. let e : at (map millimetres v) k ≡ millimetres (at v k) = at-map v k (omega arith) in rw e (above (at v k))) in
+    (λ k small. let e : at (map millimetres v) k ≡ millimetres (at v k) = get_or-map millimetres v k (pos 0) (pos 0) (omega arith) in rw e (above (at v k))) in
     rw (decoded) (record {
       below = lower (p *ℤ power (pos c) n) (power (pos c) 7) (p *ℤ bernstein n (at (map millimetres v)) (pos a) (pos c)) (p *ℤ bernstein n (at v) (pos a) (pos c)) seven low;
       above = upper (p *ℤ power (pos c) n) (power (pos c) 7) (p *ℤ bernstein n (at v) (pos a) (pos c)) (p *ℤ bernstein n (at (map millimetres v)) (pos a) (pos c)) seven high;
     })
   where
-    length-mapped : (v : List ℤ) → length (map millimetres v) ≡ length v
-    length-mapped [] = refl
-    length-mapped (x ∷ v) = ap suc (length-mapped v)
-
     below : (v : ℤ) → neg_ℤ (pos 500) ≤ℤ (pos 1000 *ℤ millimetres v +ℤ neg_ℤ (pos 1) *ℤ v)
     below v = omega (arith, ints, millimetres_near v)
 

@@ -1,5 +1,5 @@
 -- An element is the curve of its control values.
-use Rattle.mm_rounding.proofs.Prelude.{get_or, ◌≡◌, ℕ, zero, suc, ◌<◌, ◌≤◌, Bool, true, false, cond, ◌&&◌, Some, None, if◌then◌else◌, nat_le, ℤ, pos, List, [], ◌∷◌, map, length, arith, refl, sym, ap, ◌∙◌, subst, take, list_all, All, by_lt, at, IsNear, Constant, Linear, Cubic, Seven, millimetres, is_short, short, shorts, controls, first_control, rounded, all_equal, after_first, element_of, fits, fitted, axis_on, segment_of, IsAxis, position, KeepsNear, KeepsEqual, last_control, EndsThere, IsPiece, StaysNear, set, take_all}
+use Rattle.mm_rounding.proofs.Prelude.{get_or, ◌≡◌, ℕ, zero, suc, ◌<◌, ◌≤◌, Bool, true, false, cond, ◌&&◌, Some, None, if◌then◌else◌, nat_le, ℤ, pos, List, [], ◌∷◌, map, length, length-map, arith, refl, sym, ap, ◌∙◌, subst, take, list_all, All, by_lt, at, IsNear, Constant, Linear, Cubic, Seven, millimetres, is_short, short, shorts, controls, first_control, rounded, axis_in, number_in, all_equal, after_first, element_of, fits, fitted, axis_on, segment_of, IsAxis, position, KeepsNear, KeepsEqual, last_control, EndsThere, IsPiece, StaysNear, set, take_all}
 use Rattle.std.specs.Ordering.{int_eq}
 use Rattle.std.proofs.lemmas.Bool.{and_parts}
 use Rattle.std.proofs.lemmas.Bool.Decides.{Decides-int_eq, nat_tests}
@@ -63,15 +63,11 @@ keeps_equal (Two v) is a c some within = by_test v (all_equal v) (Linear (at v 1
 keeps_equal (Four v) is a c some within = by_test v (all_equal v) (Cubic (after_first v)) a c (omega arith) (omega arith) refl (behind v (omega arith))
 keeps_equal (Eight v) is a c some within = by_test v (all_equal v) (Seven (after_first v)) a c (omega arith) (omega arith) refl (behind v (omega arith))
 
-length-mapped : (v : List ℤ) → length (map millimetres v) ≡ length v
-length-mapped [] = refl
-length-mapped (x ∷ v) = ap suc (length-mapped v)
-
 pub rounded_is_axis : (axis : Axis) → IsAxis axis → IsAxis (rounded axis)
 rounded_is_axis (One v) is = tt
-rounded_is_axis (Two v) is = length-mapped v ∙ is
-rounded_is_axis (Four v) is = length-mapped v ∙ is
-rounded_is_axis (Eight v) is = length-mapped v ∙ is
+rounded_is_axis (Two v) is = length-map v millimetres ∙ is
+rounded_is_axis (Four v) is = length-map v millimetres ∙ is
+rounded_is_axis (Eight v) is = length-map v millimetres ∙ is
 
 -- the curve of the rounded control values is near
 near_controls : (axis : Axis) → IsAxis axis → (a c : ℕ) → a ≤ c → IsNear (position (controls axis) a c) (position (controls (rounded axis)) a c) c
@@ -177,15 +173,21 @@ all_fitted ms a b d e x y z w some is_x is_y is_z is_w =
     let at_w = fitted_is e w is_w in
     rw (long, at_x.0, at_y.0, at_z.0, at_w.0, at_x.1, at_y.1, at_z.1, at_w.1) refl
 
--- a third axis that does not fit leaves nothing
-pub third_unfitted : (ms : ℕ) (a b d e : Axis) (x y : Element) (s : Segment) → (ms ≡ 0 → ⊥) → Some x ≡ fitted a → Some y ≡ fitted b → None ≡ fitted d →
-    None ≡ (if nat_le 1 ms && list_all fits (a ∷ b ∷ d ∷ e ∷ []) then Some s else None)
-third_unfitted ms a b d e x y s some is_x is_y is_z =
-    let long : nat_le 1 ms ≡ true = some_time ms some in
-    let at_x = fitted_is a x is_x in
-    let at_y = fitted_is b y is_y in
-    let at_z = unfitted d is_z in
-    rw (long, at_x.0, at_y.0, at_z) refl
+-- an axis that does not fit leaves nothing
+pub axis_unfitted : (ms : ℕ) (axes : List Axis) (k : ℕ) (d : Axis) (s : Segment) → k < length axes → None ≡ fitted (get_or axes k d) → None ≡ (if nat_le 1 ms && list_all fits axes then Some s else None)
+axis_unfitted ms axes k d s inside is = rw (among axes k (unfitted (get_or axes k d) is) inside) (nothing (nat_le 1 ms))
+  where
+    never : (b : Bool) → (b && false) ≡ false
+    never true = refl
+    never false = refl
+
+    among : (axes : List Axis) (k : ℕ) → fits (get_or axes k d) ≡ false → k < length axes → list_all fits axes ≡ false
+    among [] k is inside = absurd (omega arith)
+    among (a ∷ axes) zero is inside = rw is refl
+    among (a ∷ axes) (suc k) is inside = rw (among axes k is (omega arith)) (never (fits a))
+
+    nothing : (b : Bool) → None ≡ cond (b && false) (Some s) None
+    nothing b = rw (never b) refl
 
 -- ---- ends
 
@@ -206,10 +208,7 @@ ends_by_test v true e some is whole = constant_ends v some is
 ends_by_test v false e some is whole = ap (last_value (at v 0)) whole
 
 two_behind : (v : List ℤ) → length v ≡ 2 → at v 1 ∷ [] ≡ after_first v
-two_behind [] many = absurd (omega arith)
-two_behind (x ∷ []) many = absurd (omega arith)
-two_behind (x ∷ y ∷ []) many = refl
-two_behind (x ∷ y ∷ z ∷ v) many = absurd (omega arith)
+two_behind v many = ap after_first (two v many)
 
 -- An element ends at the last control value.
 pub ends_there : (axis : Axis) → IsAxis axis → EndsThere axis (element_of axis)
@@ -236,6 +235,24 @@ rounded_edges (One v) is = (refl, refl)
 rounded_edges (Two v) is = edges_of v (omega arith)
 rounded_edges (Four v) is = edges_of v (omega arith)
 rounded_edges (Eight v) is = edges_of v (omega arith)
+
+-- ---- units
+
+pub in_millimetres : (axis : Axis) → axis_in 1 axis ≡ rounded axis
+in_millimetres (One v) = refl
+in_millimetres (Two v) = refl
+in_millimetres (Four v) = refl
+in_millimetres (Eight v) = refl
+
+each_as_it_is : (v : List ℤ) → map (number_in 0) v ≡ v
+each_as_it_is [] = refl
+each_as_it_is (x ∷ v) = ap (λ (xs : List ℤ). x ∷ xs) (each_as_it_is v)
+
+pub as_it_is : (axis : Axis) → axis_in 0 axis ≡ axis
+as_it_is (One v) = refl
+as_it_is (Two v) = ap Two (each_as_it_is v)
+as_it_is (Four v) = ap Four (each_as_it_is v)
+as_it_is (Eight v) = ap Eight (each_as_it_is v)
 
 -- ---- pieces
 

@@ -3,15 +3,20 @@
 ghost use Rattle.std.specs.Prelude.{◌≡◌, ◌≤◌, ◌*ℤ◌, ◌-ℤ◌, pos, neg_ℤ, map, length, IfSome};
 ghost use Rattle.fleet_math.specs.Numbers.{IsIn};
 ghost use Rattle.mm_rounding.specs.declared.piece.Axis.TheVariants.{Two, Four, Eight};
-ghost use Rattle.mm_rounding.specs.Rounding.{millimetres, short, shorts, rounded, all_equal, element_of, fitted};
+ghost use Rattle.mm_rounding.specs.Rounding.{millimetres, short, shorts, all_equal, element_of, fitted};
 ghost use Rattle.mm_rounding.specs.Rounding.{rounding};
-ghost use Rattle.mm_rounding.specs.Near.{StaysNear};
+ghost use Rattle.mm_rounding.specs.Steps.{axis_in, number_in};
 
 use crate::piece::{Axis, MicroPiece};
 use traj_codec::{Element, Segment};
 
 // Micrometres in a millimetre.
 const MICROMETRES: i64 = 1000;
+
+// The unit of an axis.
+const AS_IT_IS: usize = 0;
+
+const MILLIMETRES: usize = 1;
 
 // Micrometres in whole millimetres, a half up. The sum `v + 500` may not fit 64 bits, and a division in 128 bits takes
 // several times as long; so what is rounded up is found by the remainder.
@@ -43,27 +48,20 @@ pub fn to_mm(v: i64) -> Option<i16>
     short(millimetres(v))
 }
 
-// Each number in whole millimetres, where all of these fit two bytes.
-fn short_millimetres<const N: usize>(v: &[i64; N]) -> Option<[i16; N]>
-    ensures { result ≡ shorts (map millimetres v.now) }
+// The number in two bytes, where it fits: in whole millimetres, or as it is.
+fn number<const UNIT: usize>(v: i64) -> Option<i16>
+    ensures { result ≡ short (number_in UNIT v) }
 {
-    let mut row = [0; N];
-    for k in 0..N {
-        match to_mm(v[k]) {
-            Some(number) => row[k] = number,
-            None => return None,
-        }
-    }
-    Some(row)
+    if UNIT == AS_IT_IS { short(v) } else { to_mm(v) }
 }
 
-// Each number in two bytes, where all fit.
-fn shorts<const N: usize>(v: &[i64; N]) -> Option<[i16; N]>
-    ensures { result ≡ shorts v.now }
+// Each of these, where all fit.
+fn numbers<const N: usize, const UNIT: usize>(v: &[i64; N]) -> Option<[i16; N]>
+    ensures { result ≡ shorts (map (number_in UNIT) v.now) }
 {
     let mut row = [0; N];
     for k in 0..N {
-        match short(v[k]) {
+        match number::<UNIT>(v[k]) {
             Some(number) => row[k] = number,
             None => return None,
         }
@@ -113,48 +111,24 @@ fn seven(v: &[i16; 8]) -> Element
     }
 }
 
-// The element of an axis of x, y or z, where it can hold each control value in whole millimetres.
-fn rounded_element(axis: &Axis) -> Option<Element>
-    ensures { result ≡ fitted (rounded axis.now) }
+// The element of an axis, where it can hold each control value: in whole millimetres, or as it is.
+fn element<const UNIT: usize>(axis: &Axis) -> Option<Element>
+    ensures { result ≡ fitted (axis_in UNIT axis.now) }
 {
     match axis {
-        Axis::One { v } => match to_mm(*v) {
+        Axis::One { v } => match number::<UNIT>(*v) {
             Some(_) => Some(Element::Constant),
             None => None,
         },
-        Axis::Two { v } => match short_millimetres(v) {
+        Axis::Two { v } => match numbers::<2, UNIT>(v) {
             Some(row) => Some(linear(&row)),
             None => None,
         },
-        Axis::Four { v } => match short_millimetres(v) {
+        Axis::Four { v } => match numbers::<4, UNIT>(v) {
             Some(row) => Some(cubic(&row)),
             None => None,
         },
-        Axis::Eight { v } => match short_millimetres(v) {
-            Some(row) => Some(seven(&row)),
-            None => None,
-        },
-    }
-}
-
-// The element of an axis, where it can hold each control value.
-fn element(axis: &Axis) -> Option<Element>
-    ensures { result ≡ fitted axis.now }
-{
-    match axis {
-        Axis::One { v } => match short(*v) {
-            Some(_) => Some(Element::Constant),
-            None => None,
-        },
-        Axis::Two { v } => match shorts(v) {
-            Some(row) => Some(linear(&row)),
-            None => None,
-        },
-        Axis::Four { v } => match shorts(v) {
-            Some(row) => Some(cubic(&row)),
-            None => None,
-        },
-        Axis::Eight { v } => match shorts(v) {
+        Axis::Eight { v } => match numbers::<8, UNIT>(v) {
             Some(row) => Some(seven(&row)),
             None => None,
         },
@@ -171,10 +145,10 @@ pub fn round_piece(p: &MicroPiece) -> Option<Segment>
     if p.ms == 0 {
         return None;
     }
-    let x = rounded_element(&p.axes[0])?;
-    let y = rounded_element(&p.axes[1])?;
-    let z = rounded_element(&p.axes[2])?;
-    let yaw = element(&p.axes[3])?;
+    let x = element::<MILLIMETRES>(&p.axes[0])?;
+    let y = element::<MILLIMETRES>(&p.axes[1])?;
+    let z = element::<MILLIMETRES>(&p.axes[2])?;
+    let yaw = element::<AS_IT_IS>(&p.axes[3])?;
     Some(Segment {
         ms: p.ms,
         elements: [x, y, z, yaw],
