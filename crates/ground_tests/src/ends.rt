@@ -16,12 +16,11 @@ fn counting(alloc: Global, len: u32) -> Result<Vec<u8>, AllocError> {
 }
 
 // A source over a reader of std loses no byte and gives none twice, in reads of more than 4,096 bytes too.
-fn a_reader_gives_all(alloc: Global) -> Result<bool, AllocError> {
-    let bytes = counting(alloc, 10_000)?;
-    let mut source = StdSource::make(bytes.as_slice());
+fn a_reader_gives_all(alloc: Global, bytes: &[u8]) -> bool {
+    let mut source = StdSource::make(bytes);
     match all_of(alloc, &mut source) {
-        Ok(given) => Ok(given == bytes),
-        Err(_) => Ok(false),
+        Ok(given) => given.as_slice() == bytes,
+        Err(_) => false,
     }
 }
 
@@ -43,16 +42,21 @@ fn a_reader_gives_parts(alloc: Global) -> Result<bool, AllocError> {
     Ok(are_parts(alloc, &mut source, wanted.as_slice(), b"rest"))
 }
 
-fn a_source_that_never_fails(alloc: Global) -> Result<bool, AllocError> {
-    let mut source = SureSource::make(Vec::from_slice(alloc, b"a\n%%\nb")?);
-    Ok(are_parts(alloc, &mut source, b"a\n", b"b"))
+fn a_source_that_never_fails(alloc: Global) -> bool {
+    match Vec::from_slice(alloc, b"a\n%%\nb") {
+        Ok(bytes) => are_parts(alloc, &mut SureSource::make(bytes), b"a\n", b"b"),
+        Err(_) => false,
+    }
 }
 
 #[test]
 fn sources(rt: HostRuntime) {
-    assert!(rt; matches!(a_reader_gives_all(rt.alloc()), Ok(true)));
+    let Ok(bytes) = counting(rt.alloc(), 10_000) else {
+        panic!(rt; "out of memory");
+    };
+    assert!(rt; a_reader_gives_all(rt.alloc(), bytes.as_slice()));
     assert!(rt; matches!(a_reader_gives_parts(rt.alloc()), Ok(true)));
-    assert!(rt; matches!(a_source_that_never_fails(rt.alloc()), Ok(true)));
+    assert!(rt; a_source_that_never_fails(rt.alloc()));
 }
 
 // Whether bytes are written by a sink, at once and then in two parts.
@@ -64,22 +68,29 @@ fn are_written<K: Sink>(sink: &mut K, bytes: &[u8]) -> Result<(), Failed> {
 }
 
 // A sink over a writer of std hands on each byte once, in writes of more than 4,096 bytes too.
-fn a_writer_takes_all(alloc: Global) -> Result<bool, AllocError> {
-    let bytes = counting(alloc, 10_000)?;
+fn a_writer_takes_all(alloc: Global, bytes: &[u8]) -> bool {
     let mut written = Vec::new(alloc);
-    let done = are_written(&mut StdSink::make(&mut written), &bytes).is_ok();
-    let Some(rest) = written.as_slice().strip_prefix(bytes.as_slice()) else {
-        return Ok(false);
-    };
-    Ok(done && rest == bytes.as_slice())
+    are_written(&mut StdSink::make(&mut written), bytes).is_ok() && is_twice(&written, bytes)
 }
 
-fn a_sink_that_never_fails(alloc: Global) -> Result<bool, AllocError> {
-    let mut sink = SureSink::make(alloc, 5)?;
-    let first = write_whole(&mut sink, b"for") == Ok(());
-    let second = write_whole(&mut sink, b"wards") == Ok(());
-    let last = sink.write(b"!") == Ok(1);
-    Ok(first && second && last && sink.kept() == b"forwa".as_slice())
+// Whether a text is these bytes, and then the same once more.
+fn is_twice(text: &[u8], bytes: &[u8]) -> bool {
+    match text.strip_prefix(bytes) {
+        Some(rest) => rest == bytes,
+        None => false,
+    }
+}
+
+fn a_sink_that_never_fails(alloc: Global) -> bool {
+    match SureSink::make(alloc, 5) {
+        Ok(mut sink) => {
+            write_whole(&mut sink, b"for").is_ok()
+                && write_whole(&mut sink, b"wards").is_ok()
+                && matches!(sink.write(b"!"), Ok(1))
+                && sink.kept() == b"forwa".as_slice()
+        }
+        Err(_) => false,
+    }
 }
 
 // The room, the number of the write that fails, whether all went out, and what did.
@@ -89,26 +100,29 @@ const WRITES: &[(usize, u64, bool, &[u8])] = &[
     (7, 0, false, b"forward"),
 ];
 
-fn writes(
-    alloc: Global,
-    room: usize,
-    fails: u64,
-    done: bool,
-    written: &[u8],
-) -> Result<bool, AllocError> {
-    let fails = Vec::from_slice(alloc, &[fails])?;
-    let mut sink = MemSink::make(alloc, room, 3, fails)?;
-    let is_done = write_whole(&mut sink, b"forwards").is_ok();
-    Ok(is_done == done && sink.written() == written)
+// A sink with this room, three bytes a write, whose write with this number fails.
+fn sink_of(alloc: Global, room: usize, fails: u64) -> Result<MemSink, AllocError> {
+    MemSink::make(alloc, room, 3, Vec::from_slice(alloc, &[fails])?)
+}
+
+fn writes(alloc: Global, row: &(usize, u64, bool, &[u8])) -> bool {
+    match sink_of(alloc, row.0, row.1) {
+        Ok(mut sink) => {
+            write_whole(&mut sink, b"forwards").is_ok() == row.2 && sink.written() == row.3
+        }
+        Err(_) => false,
+    }
 }
 
 #[test]
 fn sinks(rt: HostRuntime) {
-    assert!(rt; matches!(a_writer_takes_all(rt.alloc()), Ok(true)));
-    assert!(rt; matches!(a_sink_that_never_fails(rt.alloc()), Ok(true)));
-    for &(room, fails, done, written) in WRITES {
-        let found = writes(rt.alloc(), room, fails, done, written);
-        assert!(rt; matches!(found, Ok(true)), "{written:?}");
+    let Ok(bytes) = counting(rt.alloc(), 10_000) else {
+        panic!(rt; "out of memory");
+    };
+    assert!(rt; a_writer_takes_all(rt.alloc(), bytes.as_slice()));
+    assert!(rt; a_sink_that_never_fails(rt.alloc()));
+    for (k, row) in WRITES.iter().enumerate() {
+        assert!(rt; writes(rt.alloc(), row), "row {k}");
     }
 }
 

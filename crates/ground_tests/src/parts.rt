@@ -36,15 +36,17 @@ fn are_parts(
     wanted: &[u8],
     marker: bool,
     rest: &[u8],
-) -> Result<bool, AllocError> {
-    let mut source = source_of(alloc, input, cut, 0)?;
+) -> bool {
+    let Ok(mut source) = source_of(alloc, input, cut, 0) else {
+        return false;
+    };
     match two_parts(alloc, &mut source) {
-        Ok((first, second)) => Ok(
+        Ok((first, second)) => {
             first.marker == marker
                 && first.bytes.as_slice() == wanted
-                && second.bytes.as_slice() == rest,
-        ),
-        Err(_) => Ok(false),
+                && second.bytes.as_slice() == rest
+        }
+        Err(_) => false,
     }
 }
 
@@ -55,7 +57,7 @@ fn parts_under_any_cut(rt: HostRuntime) {
     for &(input, wanted, marker, rest) in PARTS_UNDER_ANY_CUT {
         for &cut in CUTS {
             let found = are_parts(rt.alloc(), input, cut, wanted, marker, rest);
-            assert!(rt; matches!(found, Ok(true)), "{input:?} by {cut}");
+            assert!(rt; found, "{input:?} by {cut}");
         }
     }
 }
@@ -76,21 +78,23 @@ fn is_first(
     limit: usize,
     fails: u64,
     wanted: Result<&[u8], IoFault>,
-) -> Result<bool, AllocError> {
-    let mut source = source_of(alloc, input, 2, fails)?;
+) -> bool {
+    let Ok(mut source) = source_of(alloc, input, 2, fails) else {
+        return false;
+    };
     let mut parts = Parts::make();
     let found = match parts.text(alloc, &mut source, limit.min(LIMIT)) {
-        Ok(part) => wanted == Ok(part.bytes.as_slice()),
-        Err(fault) => wanted == Err(fault),
+        Ok(part) => matches!(wanted, Ok(bytes) if part.bytes.as_slice() == bytes),
+        Err(fault) => matches!(wanted, Err(other) if fault == other),
     };
-    Ok(found && parts.sound() == wanted.is_ok())
+    found && parts.sound() == wanted.is_ok()
 }
 
 #[test]
 fn refusals(rt: HostRuntime) {
     for &(input, limit, fails, wanted) in REFUSALS {
         let found = is_first(rt.alloc(), input, limit, fails, wanted);
-        assert!(rt; matches!(found, Ok(true)), "{input:?} within {limit}");
+        assert!(rt; found, "{input:?} within {limit}");
     }
 }
 
@@ -115,34 +119,37 @@ fn are_next<S: Source>(parts: &mut Parts, source: &mut S) -> bool {
     !parts.lines() && parts.ended() && parts.sound()
 }
 
-fn come_after_a_part(alloc: Global, cut: usize) -> Result<bool, AllocError> {
-    let mut source = source_of(alloc, b"a\n%%\nb\n%%", cut, 0)?;
+fn come_after_a_part(alloc: Global, cut: usize) -> bool {
+    let Ok(mut source) = source_of(alloc, b"a\n%%\nb\n%%", cut, 0) else {
+        return false;
+    };
     let mut parts = Parts::make();
     let is_part = match parts.text(alloc, &mut source, 10) {
         Ok(part) => part.bytes.as_slice() == b"a\n".as_slice(),
         Err(_) => false,
     };
-    Ok(is_part && parts.lines() && are_next(&mut parts, &mut source))
+    is_part && parts.lines() && are_next(&mut parts, &mut source)
 }
 
 // A failed read ends the calls.
-fn fails_between_bytes(alloc: Global) -> Result<bool, AllocError> {
-    let mut source = source_of(alloc, b"ab", 1, 2)?;
+fn fails_between_bytes(alloc: Global) -> bool {
+    let Ok(mut source) = source_of(alloc, b"ab", 1, 2) else {
+        return false;
+    };
     let mut parts = Parts::make();
-    let first = next_byte(&mut parts, &mut source) == Ok(Some(b'a'));
-    let second = next_byte(&mut parts, &mut source) == Err(Failed);
-    Ok(first && second && !parts.sound())
+    matches!(next_byte(&mut parts, &mut source), Ok(Some(b'a')))
+        && matches!(next_byte(&mut parts, &mut source), Err(Failed))
+        && !parts.sound()
 }
+
+const CUTS_AFTER: &[usize] = &[1, 2, 3, 100];
 
 #[test]
 fn bytes_after_a_part(rt: HostRuntime) {
-    for &cut in [1, 2, 3, 100].as_slice() {
-        assert!(rt;
-            matches!(come_after_a_part(rt.alloc(), cut), Ok(true)),
-            "by {cut}"
-        );
+    for &cut in CUTS_AFTER {
+        assert!(rt; come_after_a_part(rt.alloc(), cut), "by {cut}");
     }
-    assert!(rt; matches!(fails_between_bytes(rt.alloc()), Ok(true)));
+    assert!(rt; fails_between_bytes(rt.alloc()));
 }
 
 // What `part_bytes` gives of an input to its end: its bytes, and `^` for each marker line.
@@ -220,25 +227,21 @@ const READS_LITTLE: &[(&[u8], Option<IoFault>, usize)] = &[
 ];
 
 // How many bytes of 20,000 a reader takes for a part of at most 10 bytes.
-fn reads_so(
-    alloc: Global,
-    front: &[u8],
-    wanted: Option<IoFault>,
-    left: usize,
-) -> Result<bool, AllocError> {
-    let mut bytes = Vec::from_slice(alloc, front)?;
-    bytes.extend_from_slice(&[b'x'; 20000])?;
+fn reads_so(alloc: Global, front: &[u8], wanted: Option<IoFault>, left: usize) -> bool {
+    let Ok(mut bytes) = Vec::from_slice(alloc, front) else {
+        return false;
+    };
+    if bytes.extend_from_slice(&[b'x'; 20000]).is_err() {
+        return false;
+    }
     let mut source = MemSource::make(bytes, 20100, Vec::new(alloc));
     let fault = Parts::make().text(alloc, &mut source, 10).err();
-    Ok(fault == wanted && source.read(&mut [0u8; 20100]) == Ok(left))
+    fault == wanted && source.read(&mut [0u8; 20100]) == Ok(left)
 }
 
 #[test]
 fn reads_little(rt: HostRuntime) {
     for &(front, wanted, left) in READS_LITTLE {
-        assert!(rt;
-            matches!(reads_so(rt.alloc(), front, wanted, left), Ok(true)),
-            "{front:?}"
-        );
+        assert!(rt; reads_so(rt.alloc(), front, wanted, left), "{front:?}");
     }
 }
