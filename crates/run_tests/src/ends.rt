@@ -3,7 +3,6 @@
 use fleet_io::{MemSink, MemSource, SureSink, SureSource};
 use show_run::{run, run_surely};
 use std::alloc::{AllocError, Global};
-use std::test::Fail;
 
 pub const SHOW: &[u8] =
     b"choreo 1\ndrone solo 0 0 1000000 0\ncue 2000\nsolo move 1000000 0 1000000 0\nend\n";
@@ -118,7 +117,7 @@ type Failure<'a> = (
     &'a [u8],
 );
 
-const FAILURES: [Failure; 23] = [
+const FAILURES: &[Failure] = &[
     ("compile", SHOW, b"", manner!(30, 1), FINE, 6, READ, b""),
     ("compile", SHOW, b"", manner!(30, 2), FINE, 6, READ, b""),
     ("compile", SHOW, b"", manner!(40, 3), FINE, 6, READ, b""),
@@ -197,15 +196,14 @@ fn fails_so(alloc: Global, row: &Failure) -> Result<bool, AllocError> {
 }
 
 #[test]
-fn failures(rt: HostRuntime) -> Result<(), Fail> {
-    for row in &FAILURES {
-        assert!(rt; fails_so(rt.alloc(), row)?);
+fn failures(rt: HostRuntime) {
+    for (k, row) in FAILURES.iter().enumerate() {
+        assert!(rt; matches!(fails_so(rt.alloc(), row), Ok(true)), "row {k}");
     }
-    Ok(())
 }
 
 // A word, the status, and what is written, over ends that never fail.
-const SURE: [(&str, u8, &[u8]); 3] = [
+const SURE: &[(&str, u8, &[u8])] = &[
     ("check", 0, b"ok drones 1 cues 1 duration_ms 2000\n"),
     ("compile", 0, PLAN),
     ("upload", 8, b"P\x01\x1eN\x02\x00"),
@@ -222,9 +220,11 @@ fn ends_so(alloc: Global, word: &str, status: u8, written: &[u8]) -> Result<bool
 }
 
 #[test]
-fn ends_that_never_fail(rt: HostRuntime) -> Result<(), Fail> {
-    for (word, status, written) in SURE {
-        assert!(rt; ends_so(rt.alloc(), word, status, written)?);
+fn ends_that_never_fail(rt: HostRuntime) {
+    for &(word, status, written) in SURE {
+        assert!(rt;
+            matches!(ends_so(rt.alloc(), word, status, written), Ok(true)),
+            "{word}"
+        );
     }
-    Ok(())
 }

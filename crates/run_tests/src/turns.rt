@@ -2,7 +2,6 @@
 //! each write. What is written then is the line of a failed read, or a prefix of the row's output by arithmetic.
 use crate::ends::{ANSWERS, APART, DEFINE_AND_END, FIRST, Manner, PLAN, SHOW, run_over};
 use std::alloc::{AllocError, Global};
-use std::test::Fail;
 
 const CUT: usize = 16;
 
@@ -33,7 +32,7 @@ type Row<'a> = (&'a [&'a str], &'a [u8], &'a [u8], u8, &'a [&'a [u8]]);
 const CERTIFICATE: &[u8] = b"%%\ncertificate 6\nr\nl\na\n";
 
 // The rows of the commands that read their input to its end.
-const TO_THE_END: [Row; 15] = [
+const TO_THE_END: &[Row] = &[
     (
         &["check"],
         APART,
@@ -113,13 +112,15 @@ greatest acceleration 1878895 0 0 jump 0 0 0\n",
 
 const NO_CUE: &[u8] = b"error 3 line 1 no-cue\n";
 
-// The rows of the commands that don't.
-const OTHERS: [Row; 4] = [
+// The rows of the commands that read nothing.
+const OTHERS: &[Row] = &[
     (&["help"], b"", b"", 0, &[HELP]),
     (&["drill", "2"], b"", b"", 0, &[DRILL]),
-    (&["upload"], SHOW, ANSWERS, 0, &[FIRST, DEFINE, END]),
     (&["version"], b"", b"", 0, &[VERSION]),
 ];
+
+// The upload reads until it is done.
+const UPLOAD: Row = (&["upload"], SHOW, ANSWERS, 0, &[FIRST, DEFINE, END]);
 
 // The frame of the define, and the end frame of an upload that is done.
 const DEFINE: &[u8] = b"\x50\x01\x0A\x8C\x06\x00\x01\x01\x00\x00\x00\x00\x01";
@@ -183,31 +184,49 @@ fn fails_at_each_read(alloc: Global, row: &Row) -> Result<bool, AllocError> {
 }
 
 #[test]
-fn each_write_fails(rt: HostRuntime) -> Result<(), Fail> {
-    for row in &TO_THE_END {
-        assert!(rt; fails_at_each_write(rt.alloc(), row)?);
+fn each_write_fails(rt: HostRuntime) {
+    for (k, row) in TO_THE_END.iter().enumerate() {
+        assert!(rt;
+            matches!(fails_at_each_write(rt.alloc(), row), Ok(true)),
+            "row {k}"
+        );
     }
-    for row in &OTHERS {
-        assert!(rt; fails_at_each_write(rt.alloc(), row)?);
+    for (k, row) in OTHERS.iter().enumerate() {
+        assert!(rt;
+            matches!(fails_at_each_write(rt.alloc(), row), Ok(true)),
+            "other {k}"
+        );
     }
-    Ok(())
+    assert!(rt; matches!(fails_at_each_write(rt.alloc(), &UPLOAD), Ok(true)));
+}
+
+// Whether all is written where the first read would fail.
+fn reads_nothing(alloc: Global, row: &Row) -> Result<bool, AllocError> {
+    match row.4.first() {
+        Some(whole) => is_met(alloc, row, 1, 0, row.3, whole),
+        None => Ok(false),
+    }
 }
 
 #[test]
-fn each_read_fails(rt: HostRuntime) -> Result<(), Fail> {
-    for row in &TO_THE_END {
-        assert!(rt; fails_at_each_read(rt.alloc(), row)?);
+fn each_read_fails(rt: HostRuntime) {
+    for (k, row) in TO_THE_END.iter().enumerate() {
+        assert!(rt;
+            matches!(fails_at_each_read(rt.alloc(), row), Ok(true)),
+            "row {k}"
+        );
     }
-    // These read nothing.
-    assert!(rt; is_met(rt.alloc(), &OTHERS[0], 1, 0, 0, HELP)?);
-    assert!(rt; is_met(rt.alloc(), &OTHERS[1], 1, 0, 0, DRILL)?);
-    assert!(rt; is_met(rt.alloc(), &OTHERS[3], 1, 0, 0, VERSION)?);
-    Ok(())
+    for (k, row) in OTHERS.iter().enumerate() {
+        assert!(rt;
+            matches!(reads_nothing(rt.alloc(), row), Ok(true)),
+            "other {k}"
+        );
+    }
 }
 
 // Five reads bring the show and the marker line, two the three answers, and after them the upload is done: the read
 // that fails, the status, and what is written, in two halves.
-const READS_OF_AN_UPLOAD: [(u64, u8, &[u8], &[u8]); 8] = [
+const READS_OF_AN_UPLOAD: &[(u64, u8, &[u8], &[u8])] = &[
     (1, 6, b"", NOT_READ),
     (2, 6, b"", NOT_READ),
     (3, 6, b"", NOT_READ),
@@ -230,19 +249,21 @@ fn uploads_so(
 ) -> Result<bool, AllocError> {
     let mut wanted = Vec::from_slice(alloc, begun)?;
     wanted.extend_from_slice(end)?;
-    is_met(alloc, &OTHERS[2], read, 0, status, wanted.as_slice())
+    is_met(alloc, &UPLOAD, read, 0, status, wanted.as_slice())
 }
 
 #[test]
-fn each_read_of_an_upload_fails(rt: HostRuntime) -> Result<(), Fail> {
-    for (read, status, begun, end) in READS_OF_AN_UPLOAD {
-        assert!(rt; uploads_so(rt.alloc(), read, status, begun, end)?);
+fn each_read_of_an_upload_fails(rt: HostRuntime) {
+    for &(read, status, begun, end) in READS_OF_AN_UPLOAD {
+        assert!(rt;
+            matches!(uploads_so(rt.alloc(), read, status, begun, end), Ok(true)),
+            "read {read}"
+        );
     }
-    Ok(())
 }
 
 // Second texts that a marker line ends, which may not be there.
-const MARKED: [Row; 3] = [
+const MARKED: &[Row] = &[
     (
         &["verify"],
         APART,
@@ -283,9 +304,8 @@ fn stops_after(alloc: Global, row: &Row) -> Result<bool, AllocError> {
 }
 
 #[test]
-fn no_read_after_a_second_marker_line(rt: HostRuntime) -> Result<(), Fail> {
-    for row in &MARKED {
-        assert!(rt; stops_after(rt.alloc(), row)?);
+fn no_read_after_a_second_marker_line(rt: HostRuntime) {
+    for (k, row) in MARKED.iter().enumerate() {
+        assert!(rt; matches!(stops_after(rt.alloc(), row), Ok(true)), "row {k}");
     }
-    Ok(())
 }
