@@ -492,7 +492,7 @@ class Page(Led):
         with tempfile.TemporaryDirectory() as folder:
             program = os.path.join(folder, "program")
             with open(program, "w") as file:
-                file.write("#!/bin/sh\nif [ $1 = explain ]; then cat > /dev/null; echo touch pair a b cue 1 at 15 of 32\n"
+                file.write("#!/bin/sh\nif [ $1 = explain -a $2 != --all ]; then cat > /dev/null; echo touch pair a b cue 1 at 15 of 32\n"
                            "else exec %s \"$@\"; fi\n" % STAND_IN)
             os.chmod(program, 0o755)
             self.open(NEAR, "--program", program)
