@@ -109,27 +109,29 @@ def crate_of(line: str) -> str:
 
 
 def lay_out(room: str, crate: str) -> str:
-    """Puts the sources of a crate and of those below it into a folder of their own; the crate's folder there."""
-    below = crates_below(crate)
-    os.makedirs(os.path.join(room, "crates"))
+    """Puts the sources of a crate and of those below it into a folder, which may have some already; the crate's folder
+    there."""
+    below, place = crates_below(crate), os.path.join(room, "crates")
+    os.makedirs(place, exist_ok=True)
+    there = set(os.listdir(place))
+    for it in set(below) - there:
+        shutil.copytree(os.path.join(CRATES, it), os.path.join(place, it), ignore=no_sources, copy_function=link)
     with open(os.path.join(TOP, "crates.txt"), encoding="utf-8") as lines:
-        kept = [line for line in lines if crate_of(line) in below]
+        kept = [line for line in lines if crate_of(line) in there.union(below)]
     with open(os.path.join(room, "crates.txt"), "w", encoding="utf-8") as file:
         file.writelines(kept)
-    for it in below:
-        shutil.copytree(os.path.join(CRATES, it), os.path.join(room, "crates", it), ignore=no_sources, copy_function=link)
-    return os.path.join(room, "crates", crate)
+    return os.path.join(place, crate)
 
 
 def begin_in(room: str, crate: str) -> subprocess.Popen[bytes]:
-    """Begins to prove a crate in a folder of its own, with the libraries below the crate and what was kept of the
-    crate itself. One job is enough also where no other crate is ready: with four, `rt` has copies of the prover check
-    some functions each, every copy loads all libraries, and show_run took 477 processor seconds in place of 258."""
+    """Begins to prove a crate in a folder apart, with the libraries below the crate and what was kept of the crate
+    itself. One job is enough also where no other crate is ready: with four, `rt` has copies of the prover check some
+    functions each, every copy loads all libraries, and show_run took 477 processor seconds in place of 258."""
     folder = lay_out(room, crate)
     for it in crates_below(crate):
-        library = os.path.join(CRATES, it, LIBRARY)
-        if it != crate and os.path.isdir(library):
-            shutil.copytree(library, os.path.join(room, "crates", it, LIBRARY), copy_function=link)
+        library, place = (os.path.join(top, it, LIBRARY) for top in (CRATES, os.path.dirname(folder)))
+        if it != crate and os.path.isdir(library) and not os.path.isdir(place):
+            shutil.copytree(library, place, copy_function=link)
     move(os.path.join(CRATES, crate, "out"), os.path.join(folder, "out"))
     with open(os.path.join(room, "log"), "wb") as log:
         return start(["rt", "lib", "--jobs", "1"], folder, stdin=subprocess.DEVNULL, stdout=log, stderr=log)
@@ -209,36 +211,35 @@ class Watch:
 
 def prove(below: Crates, most: int, rooms: str, watch: Watch) -> None:
     """Proves all crates but the last, lower ones first, side by side. While `rt` works on a crate it keeps others out of
-    its folder and of all below it, so each is proved in a folder of its own."""
+    its folder and of all below it, so each is proved in a folder apart, which the next one then takes over."""
     waiting, done = [crate for crate in in_order(below) if crate != LAST], set[str]()
-    running: dict[str, subprocess.Popen[bytes]] = {}
-
-    def room_of(crate: str) -> str:
-        return os.path.join(rooms, crate)
+    running: dict[str, tuple[subprocess.Popen[bytes], str]] = {}
+    free = [os.path.join(rooms, str(number)) for number in range(most)]
 
     def take_back(crate: str) -> None:
-        move(os.path.join(room_of(crate), "crates", crate, "out"), os.path.join(CRATES, crate, "out"))
+        move(os.path.join(running[crate][1], "crates", crate, "out"), os.path.join(CRATES, crate, "out"))
     try:
         while waiting or running:
             ready = [crate for crate in waiting if done.issuperset(below[crate])]
             for crate in ready[:max(0, watch.lanes(most) - len(running))]:
                 waiting.remove(crate)
                 watch.begin(crate)
-                running[crate] = begin_in(room_of(crate), crate)
+                room = free.pop()
+                running[crate] = begin_in(room, crate), room
             watch.wait(0.2)
             end_if_told()
-            for crate in [crate for crate in running if running[crate].poll() is not None]:
-                failed = running.pop(crate).returncode
+            for crate in [crate for crate in running if running[crate][0].poll() is not None]:
                 take_back(crate)
-                if failed:
-                    with open(os.path.join(room_of(crate), "log"), errors="replace") as log:
+                process, room = running.pop(crate)
+                if process.returncode:
+                    with open(os.path.join(room, "log"), errors="replace") as log:
                         complain(log.read())
                     stop("%s was not proved" % crate)
-                shutil.rmtree(room_of(crate), ignore_errors=True)
+                free.append(room)
                 watch.progress.end(crate)
                 done.add(crate)
     finally:
-        for crate, process in running.items():
+        for crate, (process, _) in running.items():
             end(process)
             take_back(crate)
 
