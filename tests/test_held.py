@@ -46,7 +46,7 @@ class Faults(unittest.TestCase):
 
     def test_known_definitions_are_reached(self) -> None:
         names = {(place[0], self.held.name_of(place)) for place in self.reached}
-        for place in (("sep_parts", "Apart.ShareNoPoint"), ("fleet_math", "Near.IsNearOver"),
+        for place in (("sep_parts", "Apart.ShareNoPoint"), ("whole_numbers", "Near.IsNearOver"),
                       ("upload_model", "Drones.handled")):
             self.assertTrue(place in names, place)
 

@@ -844,21 +844,22 @@ class Meanwhile(Place):
 
 class Progresses(unittest.TestCase):
     """Times of four crates: 3, 17, 10 and 29 seconds by the table, the last above the middle two, those above the first."""
-    BELOW = {"listed": [], "halving": ["listed"], "fleet_math": ["listed"], "mm_rounding": ["halving", "fleet_math"]}
+    BELOW = {"listed": [], "drill_show": ["listed"], "whole_numbers": ["listed"],
+             "mm_rounding": ["drill_show", "whole_numbers"]}
 
     def test_span(self):
-        left = {"listed": 3.0, "halving": 17.0, "fleet_math": 10.0, "mm_rounding": 29.0}
+        left = {"listed": 3.0, "drill_show": 17.0, "whole_numbers": 10.0, "mm_rounding": 29.0}
         for most, wanted in ((1, 59), (2, 49), (8, 49)):
             self.assertEqual(progress.span(self.BELOW, left, set(), most), wanted)
         # What was begun goes on first, also where its chain is the shorter one: 10, then 17, then 29.
         left["listed"] = 0.0
-        self.assertEqual(progress.span(self.BELOW, left, {"fleet_math"}, 1), 56)
-        self.assertEqual(progress.span(self.BELOW, {**left, "halving": 0.0}, {"fleet_math"}, 1), 39)
+        self.assertEqual(progress.span(self.BELOW, left, {"whole_numbers"}, 1), 56)
+        self.assertEqual(progress.span(self.BELOW, {**left, "drill_show": 0.0}, {"whole_numbers"}, 1), 39)
         self.assertEqual(progress.span(self.BELOW, dict.fromkeys(left, 0.0), set(), 4), 0)
 
     def test_words(self):
         build = progress.Progress(self.BELOW, 2)
-        self.assertEqual(build.cost, {"listed": 3, "halving": 17, "fleet_math": 10, "mm_rounding": 29})
+        self.assertEqual(build.cost, {"listed": 3, "drill_show": 17, "whole_numbers": 10, "mm_rounding": 29})
         self.assertEqual(build.words(), "proof 0 %, about a minute left")
         # 3 of 59; 300 seconds for 3 and 60 for 60 are 5.71 for one, so 263 for the 17 and 29 of the longest chain
         build.took["listed"] = 300.0
@@ -867,7 +868,7 @@ class Progresses(unittest.TestCase):
         build.took["listed"] = 0.1
         self.assertEqual(build.words(), "proof 5 %, about a minute left")
         # One that took 340 seconds for 17, and still goes on, does: 400 for 77, by 10 and 29. Of it a twentieth is left.
-        build.begun["halving"] = time.monotonic() - 340
+        build.begun["drill_show"] = time.monotonic() - 340
         self.assertEqual(build.words(), "proof 32 %, about 3 minutes left")
 
     def test_table(self):

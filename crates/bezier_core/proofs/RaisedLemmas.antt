@@ -1,6 +1,6 @@
 -- Raising the degree, one degree at a time, gives the control values that the definition tells.
 use Rattle.bezier_core.proofs.Prelude.{common_steps, ◌≡◌, ℕ, zero, suc, ◌<◌, ◌≤◌, ◌+◌, ◌-◌, ◌*◌, ◌/◌, ◌^◌, ℤ, pos, ◌+ℤ◌, ◌*ℤ◌, arith, refl, sym, ◌∙◌, ap, subst, ints, sum_below, power, choose, bernstein, ring, linear, mul_add_ℤ, add_mul_ℤ, mul_assoc_ℤ, one_mul_ℤ, zero_mul_ℤ, mul_zero_ℤ, mul_comm_ℤ, raised_once, bernstein-raised_once, bernstein-same, bernstein-scale, choose_above, by_lt, IsWithin, fact, raised_value}
-use Rattle.fleet_math.proofs.SumLemmas.{sum_below-same, sum_below-add, sum_below-scale}
+use Rattle.whole_numbers.proofs.SumLemmas.{sum_below-same, sum_below-add, sum_below-scale}
 use Rattle.bezier_core.proofs.BlendLemmas.{within_mul}
 
 -- the control values of degree n + r, by r steps

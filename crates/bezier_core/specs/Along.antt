@@ -1,6 +1,6 @@
 -- A curve in space seen along a direction: the weighted sum of its three coordinates.
 use Rattle.std.specs.Prelude.{ℕ, ℤ, ◌+ℤ◌, ◌*ℤ◌, List, [], slice_index_or}
-use Rattle.fleet_math.specs.Bernstein.{at}
+use Rattle.whole_numbers.specs.Bernstein.{at}
 use Rattle.bezier_core.specs.declared.Bez.{Bez}
 
 -- the control values of the curve at place i, and none past the end

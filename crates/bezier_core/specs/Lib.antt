@@ -2,3 +2,6 @@ pub mod Curves
 pub mod Raised
 pub mod Along
 pub mod Steps
+pub mod Places
+pub mod Part
+pub mod HalvingSteps

@@ -1,7 +1,7 @@
 -- Raising the degree: the same curve, written with eight control values, times 5,040 so that they stay whole numbers.
 use Rattle.std.specs.Prelude.{ℕ, zero, suc, ◌-◌, ◌*◌, ◌/◌, ℤ, pos, ◌*ℤ◌, List, [], ◌∷◌, length}
-use Rattle.fleet_math.specs.Sums.{sum_below}
-use Rattle.fleet_math.specs.Bernstein.{at, choose}
+use Rattle.whole_numbers.specs.Sums.{sum_below}
+use Rattle.whole_numbers.specs.Bernstein.{at, choose}
 
 -- the product of 1 to n
 abbrev pub fact : ℕ → ℕ

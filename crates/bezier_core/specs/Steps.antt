@@ -1,7 +1,7 @@
 -- Words for the proofs of the loops alone: how much room the single steps of `value` and `to_eight` have. No public
 -- clause cites them.
 use Rattle.std.specs.Prelude.{ℕ, ◌≤◌, ◌^◌, List, ℤ, pos, neg_ℤ, ◌*ℤ◌, ◌≤ℤ◌, ◌<ℤ◌}
-use Rattle.fleet_math.specs.Bernstein.{at}
+use Rattle.whole_numbers.specs.Bernstein.{at}
 
 -- z lies from -m to m, both ends in
 abbrev pub IsWithin : ℤ → ℤ → Type 0

@@ -2,17 +2,24 @@
 //!
 //! A curve is its control values, and what is said of it is its Bernstein sum: `value` is that sum, `to_eight` writes
 //! the curve with eight control values, `minus` and `along` subtract curves and look at them along a direction, all
-//! exactly. Three laws say what that means for the curve's values. The definitions of the sums are `fleet_math`'s.
+//! exactly. Three laws say what that means for the curve's values. The definitions of the sums are `whole_numbers`'s.
+//!
+//! `halve` gives both halves of a curve, and halving again and again reaches each dyadic part of it; a `Place` names
+//! such a part. Two laws say that halving gives the control values that the polar form has for the part.
 #![tactic(auto)]
 
 ghost use Rattle.std.specs.Prelude.{◌≡◌, ℕ, ◌+◌, ◌-◌, ◌*◌, ◌^◌, ◌<◌, ◌≤◌, ℤ, pos, neg_ℤ, ◌+ℤ◌, ◌-ℤ◌, ◌*ℤ◌, ◌≤ℤ◌, All};
-ghost use Rattle.fleet_math.specs.Numbers.{IsBelow, IsIn};
-ghost use Rattle.fleet_math.specs.Sums.{power};
-ghost use Rattle.fleet_math.specs.Bernstein.{at, bern, bernstein};
+ghost use Rattle.whole_numbers.specs.Numbers.{IsBelow, IsIn};
+ghost use Rattle.whole_numbers.specs.Sums.{power};
+ghost use Rattle.whole_numbers.specs.Bernstein.{at, bern, bernstein};
 ghost use Rattle.bezier_core.specs.Curves.{IsLength};
 ghost use Rattle.bezier_core.specs.Raised.{eight, fact, raised, raised_value};
 ghost use Rattle.bezier_core.specs.Along.{along_value, controls};
 ghost use Rattle.bezier_core.specs.Steps.{IsWithin, HasRoom, FitsTimes};
+
+mod halves;
+
+pub use halves::{Place, chain_law, half_law, halve, halve_short};
 
 /// The control values of a curve of degree `N - 1`, of any unit. `N` is 1, 2, 4 or 8.
 #[derive(Clone, Copy)]

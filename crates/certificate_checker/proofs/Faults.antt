@@ -1,7 +1,7 @@
 -- The first fault that the machine finds in trees is that of the definition.
 use Rattle.certificate_checker.proofs.Prelude.{◌≡◌, inl, inr, ℕ, suc, ◌+◌, ◌≤◌, ◌<◌, Bool, true, false, cond, nat_lt, arith, refl, sym, ◌∙◌, ap, subst, List, [], ◌∷◌, ◌++◌, append-nil, append_assoc, length, All, Option, Some, None, ℤ, nat_tests, All-head, All-tail, Node, Split, Leaf, Rules, Raised, difference, following, IsTree, Tree, preorder, IsAhead, next_ahead, CertFault, Missing, Extra, first_fault_of, node_fault, spelled_fault, tree_fault, Judged, Clear, Wrong, after_node, at_places, before_tree, with_node, with_tree}
 use Rattle.std.specs.Option.{option_or}
-use Rattle.halving.specs.declared.Place.{Place}
+use Rattle.bezier_core.specs.declared.halves.Place.{Place}
 use Rattle.sep_parts.specs.declared.slot.Slot.{Slot}
 use Rattle.sep_parts.specs.Levels.{left_half, right_half, root}
 use Rattle.sep_parts.specs.Trees.Tree.{leaf, split}

@@ -14,10 +14,10 @@ use crate::tables::Tables;
 use crate::verdict::Verdict;
 use bezier_core::Bez;
 use fleet_curves::{Curves, Difference};
-use fleet_math::Depth;
 use sep_certificate::CertFault;
 use sep_parts::{Node, Slot, Waiting};
 use std::marker::Model;
+use whole_numbers::Depth;
 
 /// The pair and cue whose tree comes next, the places of that tree that are still to be judged, with the parts of the
 /// curves there, and the number of whole trees; or the first fault. Contracts see what is judged, and the difference of

@@ -15,9 +15,9 @@ use crate::tables::Tables;
 use crate::verdict::Verdict;
 use arrayvec::ArrayVec;
 use fleet_curves::Curves;
-use fleet_math::Depth;
 use sep_certificate::depth_of;
 use sep_parts::Node;
+use whole_numbers::Depth;
 
 /// The line that is read: the first one; the one with the depth of version 2; one of a tree; or none, after a faulty
 /// one.

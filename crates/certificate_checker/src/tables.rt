@@ -9,10 +9,10 @@ ghost use Rattle.sep_parts.specs.Versions.{IsVersion, known_in, table_of};
 ghost use Rattle.sep_certificate.specs.Certificates.{node_fault};
 
 use fleet_curves::Difference;
-use fleet_math::Depth;
 use sep_certificate::{CertFault, node_fault};
 use sep_parts::{Clearance, DIRECTIONS, Level, Node, Ruler, Slot, WIDE};
 use std::marker::Model;
+use whole_numbers::Depth;
 
 /// The directions of both versions of certificates, with their thresholds for a clearance.
 #[derive(Drop)]

@@ -1,6 +1,7 @@
 -- Lines whose entries and faults were worked out by hand from the page of the language.
-use Rattle.choreo_lines.proofs.Prelude.{◌≡◌, List, [], ◌∷◌, Some, Ok, arith, refl, ℕ, ℤ, ◌≤ℤ◌, pos, neg_ℤ, true, false, codes, values_in, names_in, act_in, act_line, row_line, entry_of, kind_in, Says, inr, IsNumber, number_of, quantity_is_read, Whole, Units}
-use Rattle.quantities.specs.declared.unit.Counts.TheVariants.{Milliseconds}
+use Rattle.choreo_lines.proofs.Prelude.{◌≡◌, List, [], ◌∷◌, Some, Ok, arith, refl, ℕ, ℤ, ◌≤ℤ◌, pos, neg_ℤ, true, false, codes, values_in, names_in, act_in, act_line, row_line, entry_of, kind_in, Says, inr, IsNumber, number_of, Whole, Units}
+use Rattle.choreo_lines.proofs.QuantityLaws.{quantity_is_read}
+use Rattle.choreo_lines.specs.declared.unit.Counts.TheVariants.{Milliseconds}
 use Rattle.choreo_lines.specs.declared.line.LineKind.TheVariants as kind
 use Rattle.choreo_lines.specs.declared.line.Place.TheVariants.{Top, InRepeat, InCue, InFigureCue}
 use Rattle.choreo_lines.specs.declared.line.Entry.TheVariants as entry

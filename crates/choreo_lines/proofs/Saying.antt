@@ -1,11 +1,12 @@
 -- The words of a line say an entry exactly where the line is read as that entry.
-use Rattle.choreo_lines.proofs.Prelude.{common_steps, ◌≡◌, ℕ, suc, ◌+◌, ◌≤◌, Bool, true, false, List, [], ◌∷◌, ◌++◌, map, take, drop, Some, None, Option, Result, Ok, Err, refl, sym, ap, subst, ◌∙◌, cond, arith, eqb-true, eq-eqb, le-leb, ◌&&◌, ◌==◌, length, nat_le, nat_abs, ℤ, pos, negsuc, ◌≤ℤ◌, IsTrue, and_parts, leb-true, drop_all, take_all, append-nil, Name, is_name, Word, word, Row, row_of, act_places, has_count, act_of, Fits, AllFit, name_of, act_fields, act_with, keyword_in, fields_of, entry_with, ◌>>=◌, judged, name_in, mirror_in, smooth_in, ccw_in, value_in, values_in, names_in, act_by, act_in, act_line, row_line, entry_of, Holds, AllHold, SaysAct, Says, may_say, LineKind, Keyword, Place, Entry, Act, Form, Want, Value, number_in as number_read, read_is_quantity, quantity_is_read, Whole, Units, Smooth, Ccw, Number}
+use Rattle.choreo_lines.proofs.Prelude.{common_steps, ◌≡◌, ℕ, suc, ◌+◌, ◌≤◌, Bool, true, false, List, [], ◌∷◌, ◌++◌, map, take, drop, Some, None, Option, Result, Ok, Err, refl, sym, ap, subst, ◌∙◌, cond, arith, eqb-true, eq-eqb, le-leb, ◌&&◌, ◌==◌, length, nat_le, nat_abs, ℤ, pos, negsuc, ◌≤ℤ◌, IsTrue, and_parts, leb-true, drop_all, take_all, append-nil, Name, is_name, Word, word, Row, row_of, act_places, has_count, act_of, Fits, AllFit, name_of, act_fields, act_with, keyword_in, fields_of, entry_with, ◌>>=◌, judged, name_in, mirror_in, smooth_in, ccw_in, value_in, values_in, names_in, act_by, act_in, act_line, row_line, entry_of, Holds, AllHold, SaysAct, Says, may_say, LineKind, Keyword, Place, Entry, Act, Form, Want, Value, number_in as number_read, Whole, Units, Smooth, Ccw, Number}
+use Rattle.choreo_lines.proofs.QuantityLaws.{read_is_quantity, quantity_is_read}
 use Rattle.choreo_lines.specs.Fields.{quantity_in}
 use Rattle.std.proofs.lemmas.Slice.Eq.{bytes_eq-Decides}
 use Rattle.text_lines.specs.declared.number.NumberFault.{NumberFault}
 use Rattle.text_lines.proofs.NumberLaws.{read_is_number, number_is_read}
-use Rattle.quantities.specs.declared.unit.Counts.{Counts}
-use Rattle.quantities.specs.Quantities.{quantity_in as quantity_read}
+use Rattle.choreo_lines.specs.declared.unit.Counts.{Counts}
+use Rattle.choreo_lines.specs.Quantities.{quantity_in as quantity_read}
 use Rattle.choreo_lines.proofs.Reading.{two, passed, name_read, acted, Rowed, rowed, IsRead, read_of, read_entry}
 use Rattle.choreo_lines.specs.declared.line.LineKind.TheVariants as kind
 use Rattle.choreo_lines.specs.declared.line.Keyword.TheVariants as first

@@ -2,8 +2,8 @@
 use Rattle.std.specs.Prelude.{◌≡◌, Bool, true, false, List, [], ◌∷◌, length, drop, ◌==◌, nat_le, Option, Some, None}
 use Rattle.std.specs.Prelude.{Result, Ok, Err, ℤ, bytes_eq, codes, if◌then◌else◌}
 use Rattle.text_lines.specs.Numbers.{number_in as number_read}
-use Rattle.quantities.specs.Quantities.{quantity_in as quantity_read}
-use Rattle.quantities.specs.declared.unit.Counts.{Counts}
+use Rattle.choreo_lines.specs.Quantities.{quantity_in as quantity_read}
+use Rattle.choreo_lines.specs.declared.unit.Counts.{Counts}
 use Rattle.text_lines.specs.declared.number.NumberFault.{NumberFault}
 use Rattle.text_lines.specs.declared.number.NumberFault.TheVariants.{NotANumber, OutOfRange}
 use Rattle.choreo_show.specs.Name.{Name, is_name}

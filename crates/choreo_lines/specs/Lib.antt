@@ -4,3 +4,7 @@ pub mod Values
 pub mod Fields
 pub mod Says
 pub mod Steps
+pub mod Units
+pub mod Quantities
+pub mod QuantityLaws
+pub mod QuantitySteps

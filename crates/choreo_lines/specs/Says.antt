@@ -1,7 +1,7 @@
 -- What the words of a line say, and what a line may say where it stands.
 use Rattle.std.specs.Prelude.{◌≡◌, Bool, true, false, List, [], ◌∷◌, length, Some, codes, IsTrue}
 use Rattle.text_lines.specs.Numbers.{IsNumber}
-use Rattle.quantities.specs.Quantities.{IsQuantityIn}
+use Rattle.choreo_lines.specs.Quantities.{IsQuantityIn}
 use Rattle.choreo_show.specs.Name.{is_name}
 use Rattle.choreo_lines.specs.FirstWord.{keyword_of}
 use Rattle.choreo_lines.specs.Table.{row_of, has_count, act_of, act_places}

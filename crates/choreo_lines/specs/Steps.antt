@@ -1,7 +1,7 @@
 -- Words that no public contract cites.
 use Rattle.std.specs.Prelude.{ℕ, ◌+◌, Bool, List, [], ◌∷◌, Option, Some, None, Result, Ok, ℤ, pos, neg_ℤ, ◌≤ℤ◌}
 use Rattle.std.specs.Prelude.{bytes_eq, if◌then◌else◌}
-use Rattle.quantities.specs.declared.unit.Counts.TheVariants.{Micrometres, TenthsOfADegree}
+use Rattle.choreo_lines.specs.declared.unit.Counts.TheVariants.{Micrometres, TenthsOfADegree}
 use Rattle.choreo_lines.specs.Fields.{ccw_in, quantity_in, values_in, ◌>>=◌, act_with}
 use Rattle.choreo_lines.specs.Table.{Word, word, act_places}
 use Rattle.choreo_lines.specs.declared.table.Form.{Form}

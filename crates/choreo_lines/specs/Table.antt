@@ -2,8 +2,8 @@
 -- stands.
 use Rattle.std.specs.Prelude.{ℕ, ◌+◌, Bool, true, false, ◌&&◌, List, [], ◌∷◌, length, get_or, ◌==◌, nat_le, Option}
 use Rattle.std.specs.Prelude.{Some, None, pos, neg_ℤ, bytes_eq, codes, if◌then◌else◌}
-use Rattle.fleet_math.specs.Limits.{most_drones}
-use Rattle.quantities.specs.declared.unit.Counts.TheVariants.{Micrometres, Millimetres, Milliseconds, TenthsOfADegree}
+use Rattle.whole_numbers.specs.Limits.{most_drones}
+use Rattle.choreo_lines.specs.declared.unit.Counts.TheVariants.{Micrometres, Millimetres, Milliseconds, TenthsOfADegree}
 use Rattle.choreo_lines.specs.declared.table.Want.{Want}
 use Rattle.choreo_lines.specs.declared.table.Want.TheVariants as want
 use Rattle.choreo_lines.specs.declared.table.ActWord.{ActWord}

@@ -12,8 +12,8 @@ ghost use Rattle.choreo_lines.specs.Steps.{quarter_in as quarter_in_of};
 use crate::field::{ccw, nth, quantity};
 use crate::line::LineKind;
 use crate::table::{ActWord, Form};
+use crate::unit::Counts;
 use choreo_show::{Act, Ease, Point};
-use quantities::Counts;
 use text_lines::Token;
 
 /// How far from the origin a coordinate may be, in micrometres.

@@ -6,10 +6,11 @@ ghost use Rattle.choreo_lines.specs.Table.{word};
 ghost use Rattle.choreo_lines.specs.Fields as spec;
 
 use crate::line::LineKind;
+use crate::quantity::quantity_in;
 use crate::table::{Form, Value, Want};
+use crate::unit::Counts;
 use crate::word::is_name;
 use choreo_show::{Mirror, Name, name_kept};
-use quantities::{Counts, quantity_in};
 use text_lines::{LARGE, NumberFault, Token, word_at};
 
 // What is wrong with a line that has no number, or one out of range, in the place of a number.

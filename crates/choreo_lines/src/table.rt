@@ -8,10 +8,10 @@ ghost use Rattle.choreo_lines.specs.Table as spec;
 ghost use Rattle.choreo_lines.specs.declared.line.Place.TheVariants.{InCue, InFigureCue};
 
 use crate::line::{Keyword, Place};
+use crate::unit::Counts;
 use crate::word::keyword;
 use choreo_show::{Ease, Mirror, Name};
-use fleet_math::MOST_DRONES;
-use quantities::Counts;
+use whole_numbers::MOST_DRONES;
 
 /// How many places the longest line has, which is that of a curve.
 pub const MOST_PLACES: usize = 10;

@@ -2,7 +2,7 @@
 
 ghost use Rattle.std.specs.Prelude.{◌≡◌, ℕ, List, Ok, Some, take, drop, ◌+◌, ◌<◌, ◌≤◌, length, OnOk, IfOk, MatchResult};
 ghost use Rattle.std.specs.Prelude.{◌++◌, ◌∷◌, []};
-ghost use Rattle.fleet_math.specs.Limits.{most_text};
+ghost use Rattle.whole_numbers.specs.Limits.{most_text};
 ghost use Rattle.choreo_show.specs.Plain.{block_of, body_of, plain as plain_show, PlainShow, ◌⨾◌};
 ghost use Rattle.choreo_reader.specs.Grammar.{StandsFor};
 ghost use Rattle.choreo_show.specs.Plain as plain;
@@ -30,9 +30,9 @@ use crate::fault::ShowFault;
 use crate::token::{first_bad_line, line_words};
 use choreo_lines::{Entry, Form, LineError, LineKind, Place, entry_of};
 use choreo_show::{ActLine, Block, DroneLine, Figure, Formation, Listed, Name, Settings, Show};
-use fleet_math::MOST_DRONES;
 use std::alloc::{AllocError, Global};
 use text_lines::{Token, split_line, word_at};
+use whole_numbers::MOST_DRONES;
 
 /// How many repeats may stand inside each other (docs/LANGUAGE.md, "A repeat").
 const MOST_NESTED: usize = 8;

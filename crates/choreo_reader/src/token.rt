@@ -1,7 +1,7 @@
 //! The words of a show's text.
 
 ghost use Rattle.std.specs.Prelude.{◌≡◌, ◌≤◌, length, [], ◌∷◌, MatchOption, None, Some, OnOk};
-ghost use Rattle.fleet_math.specs.Limits.{most_text};
+ghost use Rattle.whole_numbers.specs.Limits.{most_text};
 ghost use Rattle.choreo_lines.specs.declared.line.LineKind.TheVariants as kind;
 ghost use Rattle.text_lines.specs.declared.token.Comments.TheVariants.{FromHash};
 ghost use Rattle.text_lines.specs.Lines.{between_feeds};

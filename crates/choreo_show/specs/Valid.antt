@@ -1,7 +1,7 @@
 -- Which shows are valid: those whose lines, names, numbers and counts are as the language lets them be.
 use Rattle.std.specs.Prelude.{ℕ, ◌+◌, ◌==◌, if◌then◌else◌, ◌<◌, ◌≤◌, ℤ, pos, neg_ℤ, ◌≤ℤ◌, List, [], ◌∷◌, ◌++◌, map}
 use Rattle.std.specs.Prelude.{length, IsTrue}
-use Rattle.fleet_math.specs.Limits.{most_drones}
+use Rattle.whole_numbers.specs.Limits.{most_drones}
 use Rattle.choreo_show.specs.Name.{Name, is_name}
 use Rattle.choreo_show.specs.Plain as plain
 use Rattle.choreo_show.specs.Plain.{Body, PlainFigure, PlainShow, has_block, most_nested}

@@ -4,7 +4,7 @@ use Rattle.std.specs.Prelude.{nat_le, bytes_eq, codes, slice_index_or, slice_set
 use Rattle.std.specs.Prelude.{if◌then◌else◌, ◌==◌}
 use Rattle.std.specs.Option.{option_map, option_and_then}
 use Rattle.std.specs.List.{list_any}
-use Rattle.fleet_math.specs.Limits.{most_depth, most_drones, most_fine}
+use Rattle.whole_numbers.specs.Limits.{most_depth, most_drones, most_fine}
 use Rattle.text_lines.specs.Numbers.{natural_of}
 use Rattle.command_words.specs.declared.command.Command.{Command}
 use Rattle.command_words.specs.declared.command.Command.TheVariants.{Help, Version, Check, Compile, Certify, Play}

@@ -5,7 +5,7 @@ ghost use Rattle.command_words.specs.Commands.{IsCommand, command_of, drill_in, 
 ghost use Rattle.command_words.specs.declared.options.Options.{Options};
 
 use crate::options::{OptionName, number_from, options_for};
-use fleet_math::{Depth, Fine, MOST_DRONES};
+use whole_numbers::{Depth, Fine, MOST_DRONES};
 
 /// What the program is asked for. `depth` says into how small parts a cue is cut: at most into 2^depth.
 /// `start` says whether the drones are started, `readback` whether the memories are read back before that. The forms

@@ -5,7 +5,7 @@
 //! [`words_law`] that a list of words is read as options exactly where it is these options, one after the other.
 //! [`help_text`] is the forms of all commands.
 //!
-//! It stands on `text_lines` for the numbers that words are, and on `fleet_math` for the number of drones.
+//! It stands on `text_lines` for the numbers that words are, and on `whole_numbers` for the number of drones.
 #![tactic(auto)]
 
 ghost use Rattle.command_words.specs.Commands.{WordsLaw};

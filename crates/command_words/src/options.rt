@@ -7,8 +7,8 @@ ghost use Rattle.command_words.specs.Commands.{most_limit, near_in, no_options, 
 ghost use Rattle.command_words.specs.Commands.{silence_in, step_in, takes, then_of, value_of, word_of};
 ghost use Rattle.command_words.specs.Steps.{AreInRange, IsInRange};
 
-use fleet_math::{Depth, Fine, MOST_DEPTH, MOST_FINE};
 use text_lines::natural;
+use whole_numbers::{Depth, Fine, MOST_DEPTH, MOST_FINE};
 
 const DEFAULT_DEPTH: u32 = 6;
 

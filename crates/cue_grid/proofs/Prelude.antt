@@ -22,7 +22,7 @@ pub use Rattle.choreo_show.specs.declared.show.Block.{Block}
 pub use Rattle.choreo_show.specs.declared.show.DroneLine.{DroneLine}
 pub use Rattle.choreo_show.specs.declared.show.Figure.{Figure}
 pub use Rattle.choreo_show.specs.declared.show.Formation.{Formation}
-pub use Rattle.fleet_math.specs.Limits.{most_cues, most_drones}
+pub use Rattle.whole_numbers.specs.Limits.{most_cues, most_drones}
 pub use Rattle.indexmap.specs.IndexSet.{insert_key}
 pub use Rattle.cue_grid.specs.Counts.{body_count, count_in, count_of_figure, figure_count, line_if_over, none_performed, over_at, perform_count}
 pub use Rattle.cue_grid.specs.Cues.{Playing, cue_of, cues_in, cues_of, cues_of_figure, grid_of, job_of, player, times_over}

@@ -1,6 +1,6 @@
 -- How many cues there are, without writing them out.
 use Rattle.std.specs.Prelude.{ℕ, ◌+◌, ◌*◌, List, Option, Some, None, nat_lt, if◌then◌else◌}
-use Rattle.fleet_math.specs.Limits.{most_cues}
+use Rattle.whole_numbers.specs.Limits.{most_cues}
 use Rattle.choreo_show.specs.Plain as plain
 use Rattle.choreo_show.specs.Name.{Name}
 use Rattle.choreo_show.specs.Plain.{Body, PlainFigure, PlainShow}

@@ -1,7 +1,7 @@
 -- Which grids are valid: those of which every count and every number is as the language lets it be.
 use Rattle.std.specs.Prelude.{◌≡◌, ℕ, ◌≤◌, List, [], ◌∷◌, length}
 use Rattle.std.specs.List.{All}
-use Rattle.fleet_math.specs.Limits.{most_cues, most_drones}
+use Rattle.whole_numbers.specs.Limits.{most_cues, most_drones}
 use Rattle.choreo_show.specs.Valid.{FitsPoint, FitsFrame, FitsAct}
 use Rattle.choreo_show.specs.declared.show.DroneLine.{DroneLine}
 use Rattle.cue_grid.specs.declared.grid.Job.{Job}

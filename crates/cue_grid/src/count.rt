@@ -1,7 +1,7 @@
 //! How many cues there are, without writing them out: each number stops one above the limit.
 
 ghost use Rattle.std.specs.Prelude.{◌≡◌, ◌*◌, ◌≤◌, ◌+◌, min};
-ghost use Rattle.fleet_math.specs.Limits.{most_cues};
+ghost use Rattle.whole_numbers.specs.Limits.{most_cues};
 ghost use Rattle.choreo_show.specs.Plain.{block_of, body_of};
 ghost use Rattle.choreo_show.specs.Plain as plain;
 ghost use Rattle.cue_grid.specs.Shown.{shown};
@@ -10,7 +10,7 @@ ghost use Rattle.cue_grid.specs.Counts.{figure_count as figure_count_of, body_co
 
 use crate::lookup::Lookup;
 use choreo_show::Block;
-use fleet_math::MOST_CUES;
+use whole_numbers::MOST_CUES;
 
 /// The line of the first block with which the number of cues exceeds the limit.
 pub fn over_line(show: &Lookup, body: &[Block]) -> Option<u32>

@@ -18,8 +18,8 @@ use crate::faults::name_fault;
 use crate::grid::{Grid, GridFault, UnrollError};
 use crate::lookup::Lookup;
 use choreo_show::{DroneLine, Listed, Show, copy_of};
-use fleet_math::MOST_DRONES;
 use std::alloc::{AllocError, Global};
+use whole_numbers::MOST_DRONES;
 
 /// The cues of a show in order, repeats written out and figures played by their drones, or its first fault. A drone
 /// without an act in a cue holds. What is returned is a valid grid, whose starts have names as the language has them,

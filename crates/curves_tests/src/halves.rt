@@ -1,7 +1,6 @@
 //! Halves of curves that were computed elsewhere, by the double sum over whole numbers without a bound.
 
-use bezier_core::Bez;
-use halving::{Place, halve};
+use bezier_core::{Bez, Place, halve};
 use std::test::Fail;
 
 // A curve, its first half and its second half: a step, waves, and the first half of the waves.

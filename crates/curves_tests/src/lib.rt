@@ -1,4 +1,4 @@
-//! Tests of the crates of curves, against values from outside: `fleet_math`, `bezier_core`, `halving`, `traj_codec`,
+//! Tests of the crates of curves, against values from outside: `whole_numbers`, `bezier_core`, `halving`, `traj_codec`,
 //! `fleet_curves` and `integer_player`. They stand in a crate of their own, so that each of these is proved once. It
 //! hands nothing out.
 #![tactic(auto)]

@@ -1,9 +1,9 @@
 //! Floors, roots and differences that were computed elsewhere, by whole numbers without a bound.
 
 ghost use Rattle.std.specs.Prelude.{◌≡◌, ◌^◌, true};
-ghost use Rattle.fleet_math.specs.Numbers.{IsBelow};
+ghost use Rattle.whole_numbers.specs.Numbers.{IsBelow};
 
-use fleet_math::{abs_diff, floor_div, least_root_above};
+use whole_numbers::{abs_diff, floor_div, least_root_above};
 
 // Two numbers, and the floor of their quotient.
 const FLOORS: &[(i128, i128, i128)] = &[

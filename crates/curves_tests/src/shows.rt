@@ -3,7 +3,7 @@ ghost use Rattle.std.specs.Prelude.{◌≡◌, ◌<◌, ◌≤◌, All, length, 
 ghost use Rattle.integer_player.specs.Played.{IsPlayable, duration_of};
 
 use crate::positions::traj;
-use fleet_io::{Failed, MemSink};
+use byte_streams::{Failed, MemSink};
 use integer_player::{Name, play};
 use std::alloc::{AllocError, Global};
 use std::test::Fail;

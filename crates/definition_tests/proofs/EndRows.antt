@@ -3,8 +3,8 @@ use Rattle.definition_tests.proofs.Prelude.{◌≡◌, ℕ, zero, suc, ◌+◌, 
 use Rattle.std.proofs.lemmas.Bool.Decides.{nat_tests}
 use Rattle.std.proofs.lemmas.Nat.{mul-le}
 use Rattle.std.proofs.lemmas.List.Sums.{sum_by-cons}
-use Rattle.fleet_math.specs.Decoded as plain
-use Rattle.fleet_math.proofs.EdgeLemmas.{decoded-at_end, decoded-at_start, moment_from-edge}
+use Rattle.whole_numbers.specs.Decoded as plain
+use Rattle.whole_numbers.proofs.EdgeLemmas.{decoded-at_end, decoded-at_start, moment_from-edge}
 use Rattle.traj_codec.specs.Positions.{decoded}
 use Rattle.definition_tests.specs.Ends.{EndsLaw, held_at}
 

@@ -1,10 +1,10 @@
 -- Texts of both forms, read.
 use Rattle.definition_tests.proofs.Prelude.{◌≡◌, inl, inr, ℕ, ◌*◌, ◌^◌, ◌<◌, ℤ, ◌≤ℤ◌, neg_ℤ, false, pos, List, [], ◌∷◌, ◌++◌, length, None, Some, codes, arith, refl, All-cons, All-nil, values_in, row_line, Whole, Units, PlainShow, fault, IsItem, Item, StandsFor, Blocks, Drone, ShowLaw, Fault, fault_at, line_of}
 use Rattle.text_lines.specs.Numbers.{natural_of}
-use Rattle.quantities.specs.Quantities.{IsQuantityIn}
-use Rattle.quantities.specs.Units.{Measure, measure_of}
-use Rattle.quantities.specs.declared.unit.Counts.{Counts}
-use Rattle.quantities.specs.declared.unit.Counts.TheVariants.{Micrometres, Milliseconds, TenthsOfADegree}
+use Rattle.choreo_lines.specs.Quantities.{IsQuantityIn}
+use Rattle.choreo_lines.specs.Units.{Measure, measure_of}
+use Rattle.choreo_lines.specs.declared.unit.Counts.{Counts}
+use Rattle.choreo_lines.specs.declared.unit.Counts.TheVariants.{Micrometres, Milliseconds, TenthsOfADegree}
 use Rattle.choreo_lines.specs.declared.line.LineKind.TheVariants as kind
 use Rattle.definition_tests.specs.Forms.{FormRows, at_height, moved, the_drone, unit_text, whole_text}
 

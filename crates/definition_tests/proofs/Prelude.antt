@@ -27,16 +27,16 @@ unfoldable pub use Rattle.figure_expand.specs.Expanded.{expanded}
 pub use Rattle.firmware_memory.specs.Decoded.{Carries, DecodesTo, last_value}
 unfoldable pub use Rattle.fleet_curves.specs.Raised.{difference, raised_of}
 pub use Rattle.fleet_curves.specs.Raised.{AreOneShow, CurvesStandFor, curves_at}
-pub use Rattle.fleet_math.proofs.BernsteinLemmas.{bernstein-mix, bernstein-same, bernstein-suc, bernstein-zero}
-pub use Rattle.fleet_math.proofs.RingLemmas.{le_mul_ℤ, linear, mul_assoc_ℤ, mul_comm_ℤ, mul_not_negative, mul_zero_ℤ, one_mul_ℤ, ring, zero_mul_ℤ}
-unfoldable pub use Rattle.fleet_math.specs.Bernstein.{bernstein}
-pub use Rattle.fleet_math.specs.Bernstein.{at, bern}
-unfoldable pub use Rattle.fleet_math.specs.Decoded.{decoded}
-pub use Rattle.fleet_math.specs.Decoded.{IsPiece}
-unfoldable pub use Rattle.fleet_math.specs.Moments.{moment}
-pub use Rattle.fleet_math.specs.Moments.{Moment, moment_from, time_before}
-pub use Rattle.fleet_math.specs.Sums.{power}
-unfoldable pub use Rattle.halving.specs.Part.{polar}
+pub use Rattle.whole_numbers.proofs.BernsteinLemmas.{bernstein-mix, bernstein-same, bernstein-suc, bernstein-zero}
+pub use Rattle.whole_numbers.proofs.RingLemmas.{le_mul_ℤ, linear, mul_assoc_ℤ, mul_comm_ℤ, mul_not_negative, mul_zero_ℤ, one_mul_ℤ, ring, zero_mul_ℤ}
+unfoldable pub use Rattle.whole_numbers.specs.Bernstein.{bernstein}
+pub use Rattle.whole_numbers.specs.Bernstein.{at, bern}
+unfoldable pub use Rattle.whole_numbers.specs.Decoded.{decoded}
+pub use Rattle.whole_numbers.specs.Decoded.{IsPiece}
+unfoldable pub use Rattle.whole_numbers.specs.Moments.{moment}
+pub use Rattle.whole_numbers.specs.Moments.{Moment, moment_from, time_before}
+pub use Rattle.whole_numbers.specs.Sums.{power}
+unfoldable pub use Rattle.bezier_core.specs.Part.{polar}
 pub use Rattle.link_dialogue.specs.Dialogues.{BeginsNone, DialogueGives, StopsAtEnd, Takes, items_bytes}
 unfoldable pub use Rattle.pair_search.specs.Search.{blocked_place, first_direction}
 pub use Rattle.pair_search.specs.Search.{IsClear}

@@ -1,6 +1,6 @@
 -- The control points that are flown are the exact ones, rounded.
 use Rattle.definition_tests.proofs.Prelude.{length-map, refl, ◌<◌, length, map, at, ℕ, zero, suc, ℤ, pos, neg_ℤ, ◌+ℤ◌, ◌-ℤ◌, ◌*ℤ◌, ◌≤ℤ◌, ◌<ℤ◌, List, [], ◌∷◌, arith, linear, mul_comm_ℤ, arc_points, eased_point, eased_points, handle, millionths, shares, arc_shares, exact_points, RoundsTable}
-use Rattle.fleet_math.specs.Numbers.{IsIn}
+use Rattle.whole_numbers.specs.Numbers.{IsIn}
 use Rattle.choreo_show.specs.declared.parts.Ease.{Ease}
 use Rattle.figure_expand.proofs.Eased.{floor_of_million}
 

@@ -1,7 +1,7 @@
 -- Small runs, computed.
 use Rattle.definition_tests.proofs.Prelude.{◌≡◌, ◌⊎◌, ℕ, ◌<◌, ◌≤◌, ◌++◌, pos, List, [], ◌∷◌, All, None, Some, Contains, ap, get_or, inl, inr, length, arith, refl, sym, ◌∙◌, common_steps, All-head, Option, bernstein, raised_value, polar, segment_speed, speed, speed_of, widest_part, widest_step, part_of, rest_of, Traj, PlainShow, Settings, FlyTheirOwn, Cut, cut_of, flight, stay, no_time, settings, no_text}
-use Rattle.fleet_io.specs.Causes.{Rose}
-use Rattle.fleet_io.specs.Taken.{AppendsFront}
+use Rattle.byte_streams.specs.Causes.{Rose}
+use Rattle.byte_streams.specs.Taken.{AppendsFront}
 use Rattle.refusals.specs.declared.refusal.Refusal.{Refusal}
 use Rattle.refusals.specs.Lines.{read_line}
 use Rattle.show_judge.specs.Outcome.{IsOutcomeOf, IsSound, ShowGives}

@@ -1,7 +1,7 @@
 -- What the definitions of a search and of a certificate say of depth.
 use Rattle.std.specs.Prelude.{◌≡◌, ℕ, ◌==◌, ◌&&◌, ℤ, pos, negsuc, List, [], ◌∷◌, Option, Some, None, if◌then◌else◌}
 use Rattle.bezier_core.specs.declared.Bez.{Bez}
-use Rattle.halving.specs.declared.Place.{Place}
+use Rattle.bezier_core.specs.declared.halves.Place.{Place}
 use Rattle.traj_codec.specs.declared.traj.Element.TheVariants.{Constant, Cubic}
 use Rattle.traj_codec.specs.declared.traj.Traj.{Traj}
 use Rattle.fleet_curves.specs.Raised.{difference, raised_of}

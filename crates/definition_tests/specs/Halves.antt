@@ -1,6 +1,6 @@
 -- What the definitions of half a millimetre say of small numbers.
 use Rattle.std.specs.Prelude.{pos, negsuc}
-use Rattle.fleet_math.specs.Near.{IsNear, IsNearOver}
+use Rattle.whole_numbers.specs.Near.{IsNear, IsNearOver}
 
 -- Half a millimetre is near, and a micrometre more is not; so on either side, and over denominators that differ.
 pub record HalfRows : Type 0 where

@@ -1,9 +1,9 @@
 -- How well `arc`, `swing`, `arc_in` and `arc_out` keep to their circle before their control points are rounded.
 use Rattle.std.specs.Prelude.{◌≡◌, ℕ, ◌-◌, ◌<◌, ◌≤◌, Bool, List, [], ◌∷◌, length, map, ℤ, pos, neg_ℤ, ◌+ℤ◌, ◌-ℤ◌, ◌*ℤ◌}
 use Rattle.std.specs.Prelude.{◌≤ℤ◌, if◌then◌else◌}
-use Rattle.fleet_math.specs.Numbers.{IsIn}
-use Rattle.fleet_math.specs.Sums.{power}
-use Rattle.fleet_math.specs.Bernstein.{at, bern}
+use Rattle.whole_numbers.specs.Numbers.{IsIn}
+use Rattle.whole_numbers.specs.Sums.{power}
+use Rattle.whole_numbers.specs.Bernstein.{at, bern}
 use Rattle.choreo_show.specs.declared.parts.Ease.{Ease}
 use Rattle.choreo_show.specs.declared.parts.Ease.TheVariants as ease
 use Rattle.figure_expand.specs.Acts.{arc_points, eased_points, shares}

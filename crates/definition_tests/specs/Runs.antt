@@ -2,10 +2,10 @@
 use Rattle.std.specs.Prelude.{◌≡◌, ℕ, Bool, true, List, [], ◌∷◌, ◌++◌, codes, pos, Option, Some, None}
 use Rattle.traj_codec.specs.declared.traj.Traj.{Traj}
 use Rattle.choreo_show.specs.Plain.{PlainShow}
-use Rattle.fleet_io.specs.Causes.{Rose}
-use Rattle.fleet_io.specs.Parts.{TakesFewAfter}
-use Rattle.fleet_io.specs.Taken.{AppendsFront, TakesAtMost, TakesFront}
-use Rattle.fleet_io.specs.Told.{Gives, IsInput, Told}
+use Rattle.byte_streams.specs.Causes.{Rose}
+use Rattle.byte_streams.specs.Parts.{TakesFewAfter}
+use Rattle.byte_streams.specs.Taken.{AppendsFront, TakesAtMost, TakesFront}
+use Rattle.byte_streams.specs.Told.{Gives, IsInput, Told}
 use Rattle.show_judge.specs.Headline.{FliesText, SaysOf, UploadsText}
 use Rattle.show_judge.specs.Input.{TakesOneText}
 use Rattle.show_judge.specs.Outcome.{IsComplete, IsOutcome, IsSafeOutcome, IsSound, IsVerb, OutcomeLaw}

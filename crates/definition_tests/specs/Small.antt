@@ -1,11 +1,11 @@
 -- Small definitions, at the value beside which a weaker one answers otherwise.
 use Rattle.std.specs.Prelude.{◌≡◌, ℕ, ◌≤◌, pos, List, [], ◌∷◌, ◌++◌, length, map, codes, nat_le, Option, Some, None, Ok}
 use Rattle.std.specs.Prelude.{if◌then◌else◌, true, false}
-use Rattle.fleet_math.specs.Bernstein.{at}
+use Rattle.whole_numbers.specs.Bernstein.{at}
 use Rattle.text_lines.specs.Marker.{part_of}
 use Rattle.text_lines.specs.Numbers.{digits_after}
 use Rattle.bezier_core.specs.declared.Bez.{Bez}
-use Rattle.halving.specs.declared.Place.{Place}
+use Rattle.bezier_core.specs.declared.halves.Place.{Place}
 use Rattle.traj_codec.specs.Joined.{hold, joined}
 use Rattle.traj_codec.specs.Spelling.{AreNumbers, IsTrajectory, header}
 use Rattle.traj_codec.specs.declared.traj.Element.TheVariants.{Constant, Linear}

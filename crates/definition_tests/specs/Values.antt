@@ -1,14 +1,14 @@
 -- Definitions of places, of lines and of packets, each at the value beside which a weaker one answers otherwise.
 use Rattle.std.specs.Prelude.{◌≡◌, ℕ, ℤ, pos, negsuc, List, [], ◌∷◌, ◌++◌, map, take, codes, true, false}
 use Rattle.std.specs.Prelude.{Some, None, Ok, replicate}
-use Rattle.fleet_math.specs.Bernstein.{at}
-use Rattle.fleet_math.specs.Moments.{Moment}
+use Rattle.whole_numbers.specs.Bernstein.{at}
+use Rattle.whole_numbers.specs.Moments.{Moment}
 use Rattle.text_lines.specs.Marker.{rest_of}
 use Rattle.text_lines.specs.Numbers.{is_digit}
 use Rattle.text_lines.specs.Words.{visible}
 use Rattle.text_lines.specs.declared.token.Comments.TheVariants.{FromHash}
-use Rattle.fleet_io.specs.Parts.{TakesFewAfter}
-use Rattle.fleet_io.specs.Told.{Gives}
+use Rattle.byte_streams.specs.Parts.{TakesFewAfter}
+use Rattle.byte_streams.specs.Told.{Gives}
 use Rattle.bezier_core.specs.Steps.{IsWithin}
 use Rattle.traj_codec.specs.Joined.{hold}
 use Rattle.traj_codec.specs.Positions.{decoded}

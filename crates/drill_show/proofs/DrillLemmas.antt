@@ -1,7 +1,7 @@
 -- Texts that are put together line by line.
 use Rattle.drill_show.proofs.Prelude.{◌≡◌, ℕ, suc, ◌+◌, ◌-◌, ◌<◌, ◌≤◌, List, [], ◌∷◌, ◌++◌, refl, ap, ◌∙◌, append_assoc, append-nil, arith, flat_map, range_with_len, codes, decimal, OnOk, digits, name_of, x_of, y_of, drone_line, shift_in, height_in, move_line, cue_lines, drill_text}
 use Rattle.std.specs.Prelude.{Result, Ok, Err, is_ok, if◌then◌else◌}
-use Rattle.fleet_io.specs.Words.{line}
+use Rattle.byte_streams.specs.Words.{line}
 
 -- what is to come after one more is less by it
 pub part_next : (f : ℕ → List ℕ) (text more : List ℕ) (i n : ℕ) → i < n → more ≡ text ++ f i →

@@ -2,7 +2,7 @@
 use Rattle.std.specs.Prelude.{ℕ, ◌+◌, ◌*◌, ◌/◌, ◌%◌, ◌==◌, List, [], ◌∷◌, ◌++◌, ◌||◌, ◌&&◌, codes, decimal}
 use Rattle.std.specs.Prelude.{if◌then◌else◌}
 use Rattle.std.specs.List.{flat_map, range_with_len}
-use Rattle.fleet_io.specs.Words.{line}
+use Rattle.byte_streams.specs.Words.{line}
 
 -- the name of drone i, which counts from 0
 abbrev pub name_of : ℕ → List ℕ

@@ -3,7 +3,7 @@
 //! [`drill_text`] is the text of the show of n drones, and [`drill_line`] the line of numbers that the command `drill`
 //! writes. `specs/Drill.antt` says byte by byte what they are.
 //!
-//! It stands on `fleet_io` for lines, and on `fleet_math` for the number of drones.
+//! It stands on `byte_streams` for lines, and on `whole_numbers` for the number of drones.
 #![tactic(auto)]
 
 mod line;

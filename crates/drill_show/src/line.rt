@@ -2,8 +2,8 @@
 ghost use Rattle.std.specs.Prelude.{◌≡◌};
 ghost use Rattle.drill_show.specs.Drill.{drill_line};
 
-use fleet_io::ShortLine;
-use fleet_io::Word::Number;
+use byte_streams::ShortLine;
+use byte_streams::Word::Number;
 
 /// What is said of a drill's show of this many drones and cues: how many pairs of drones it has, how many bytes the
 /// trajectories, how many packets without the starts, and how many nodes its certificate.

@@ -1,8 +1,8 @@
 //! The text of the drill's show.
 ghost use Rattle.std.specs.Prelude.{◌≡◌, ◌≤◌, ◌<◌, ◌++◌, [], ◌∷◌, codes, decimal, string_bytes, IfOk, OnOk};
 ghost use Rattle.std.specs.List.{flat_map, range_with_len};
-ghost use Rattle.fleet_math.specs.Limits.{most_drones};
-ghost use Rattle.fleet_io.specs.Words.{line};
+ghost use Rattle.whole_numbers.specs.Limits.{most_drones};
+ghost use Rattle.byte_streams.specs.Words.{line};
 ghost use Rattle.drill_show.specs.Drill.{cue_lines, drill_text, drone_line, height_in, move_line, shift_in, x_of, y_of};
 
 use std::alloc::{AllocError, Global};

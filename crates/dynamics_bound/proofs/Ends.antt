@@ -1,6 +1,6 @@
 -- The speeds at the two ends of a segment.
 use Rattle.dynamics_bound.proofs.Prelude.{rate_of, segment_rate, widest_in, all_within, ◌≡◌, ℕ, ◌-◌, ◌*◌, ◌^◌, ◌≤◌, ◌<◌, ℤ, pos, ◌-ℤ◌, ◌*ℤ◌, ◌≤ℤ◌, neg_ℤ, arith, refl, ◌∙◌, ap, List, length, All, ints, length-map, power, at, ring, linear, mul_not_negative, bernstein-at_zero, bernstein-at_end, raised, IsWithin, IsPiece, Traj, piece_on, pieces_on, points, duration, steps, piece_value, power_low, acceleration, after, HasVelocities, first_step, last_step}
-use Rattle.fleet_math.proofs.EdgeLemmas.{points-count}
+use Rattle.whole_numbers.proofs.EdgeLemmas.{points-count}
 use Rattle.dynamics_bound.proofs.Parts.{Departs, IsGentle, room_of, position, speed, gentle}
 use Rattle.dynamics_bound.proofs.Edges as ends
 use Rattle.dynamics_bound.proofs.Segments.{in_squares, in_time, lasts, slow_at}

@@ -1,6 +1,6 @@
 -- The same by the parts of a depth: what is known of both halves is known of the whole.
 use Rattle.dynamics_bound.proofs.Prelude.{◌-◌, AreWithin, within-half, within-whole, differences-part, pow-add, common_steps, ◌≡◌, ℕ, zero, suc, ◌+◌, ◌*◌, ◌^◌, ◌≤◌, ℤ, pos, ◌+ℤ◌, ◌-ℤ◌, ◌*ℤ◌, ◌≤ℤ◌, arith, refl, sym, ◌∙◌, ap, ints, by_lt_z, power, bernstein, ring, linear, one_mul_ℤ, bernstein-same, IsWithin, within_mul, part_value, blossom, bernstein-blossom, polar-first, left_half, right_half, steps, exchanged, minus_same, next_scale, polar-second, within_add, within_same, bend}
-use Rattle.halving.proofs.PartBounds.{bernstein-scaled}
+use Rattle.bezier_core.proofs.PartBounds.{bernstein-scaled}
 use Rattle.dynamics_bound.proofs.Tangents.{tangent}
 
 -- ---- the speeds of a half

@@ -13,16 +13,16 @@ unfoldable pub use Rattle.bezier_core.specs.Raised.{raised_value}
 pub use Rattle.bezier_core.specs.Raised.{raised}
 pub use Rattle.bezier_core.specs.Steps.{IsWithin}
 pub use Rattle.bezier_core.specs.declared.Bez.{Bez}
-pub use Rattle.fleet_math.proofs.BernsteinLemmas.{bernstein-at_end, bernstein-at_zero, bernstein-same, by_lt}
-pub use Rattle.fleet_math.proofs.RingLemmas.{le_mul_ℤ, linear, mul_assoc_ℤ, mul_comm_ℤ, mul_not_negative, one_mul_ℤ, ring, zero_mul_ℤ}
-unfoldable pub use Rattle.fleet_math.specs.Bernstein.{bernstein}
-pub use Rattle.fleet_math.specs.Bernstein.{at}
-pub use Rattle.fleet_math.specs.Decoded.{IsPiece, points_from}
-pub use Rattle.fleet_math.specs.Numbers.{IsBelow}
-pub use Rattle.fleet_math.specs.Sums.{power}
-pub use Rattle.halving.proofs.PolarLemmas.{bernstein-blossom, blossom, left_half, part-whole, polar-first, right_half}
-unfoldable pub use Rattle.halving.specs.Part.{polar}
-pub use Rattle.halving.specs.Part.{part_value}
+pub use Rattle.whole_numbers.proofs.BernsteinLemmas.{bernstein-at_end, bernstein-at_zero, bernstein-same, by_lt}
+pub use Rattle.whole_numbers.proofs.RingLemmas.{le_mul_ℤ, linear, mul_assoc_ℤ, mul_comm_ℤ, mul_not_negative, one_mul_ℤ, ring, zero_mul_ℤ}
+unfoldable pub use Rattle.whole_numbers.specs.Bernstein.{bernstein}
+pub use Rattle.whole_numbers.specs.Bernstein.{at}
+pub use Rattle.whole_numbers.specs.Decoded.{IsPiece, points_from}
+pub use Rattle.whole_numbers.specs.Numbers.{IsBelow}
+pub use Rattle.whole_numbers.specs.Sums.{power}
+pub use Rattle.bezier_core.proofs.PolarLemmas.{bernstein-blossom, blossom, left_half, part-whole, polar-first, right_half}
+unfoldable pub use Rattle.bezier_core.specs.Part.{polar}
+pub use Rattle.bezier_core.specs.Part.{part_value}
 pub use Rattle.speed_bound.proofs.Differences.{AreWithin, all_within, differences-part, within-half, within-whole}
 pub use Rattle.speed_bound.proofs.RateLemmas.{some_product, some_time}
 pub use Rattle.speed_bound.proofs.Rests.{pieces_formed}

@@ -2,8 +2,8 @@
 use Rattle.std.specs.Prelude.{◌≡◌, ℕ, zero, suc, ◌-◌, ◌*◌, ◌≤◌, ◌<◌, Bool, nat_lt, nat_eq, ◌&&◌, ℤ, pos, ◌-ℤ◌, ◌*ℤ◌}
 use Rattle.std.specs.Prelude.{unsigned_abs, List, length, if◌then◌else◌}
 use Rattle.std.specs.Int.{div_ceil}
-use Rattle.fleet_math.specs.Sums.{power}
-use Rattle.fleet_math.specs.Bernstein.{at}
+use Rattle.whole_numbers.specs.Sums.{power}
+use Rattle.whole_numbers.specs.Bernstein.{at}
 use Rattle.bezier_core.specs.Steps.{IsWithin}
 use Rattle.traj_codec.specs.declared.traj.Traj.{Traj}
 use Rattle.traj_codec.specs.Positions.{points}

@@ -1,6 +1,6 @@
 -- The lines that say how fast a drone's speed changes at most, and where it jumps.
 use Rattle.std.specs.Prelude.{ℕ, Bool, true, false, List, [], ◌∷◌, ◌++◌, codes, decimal}
-use Rattle.fleet_io.specs.Words.{line}
+use Rattle.byte_streams.specs.Words.{line}
 use Rattle.dynamics_bound.specs.declared.motion.Axes.{Axes}
 use Rattle.dynamics_bound.specs.declared.motion.Extremes.{Extremes}
 use Rattle.dynamics_bound.specs.declared.motion.Motion.{Motion}

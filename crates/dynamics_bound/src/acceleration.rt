@@ -5,9 +5,9 @@ ghost use Rattle.traj_codec.specs.Spelling.{HasDuration};
 ghost use Rattle.dynamics_bound.specs.Accelerations.{KeepsAcceleration, acceleration};
 
 use fleet_curves::formed_law;
-use fleet_math::Depth;
 use speed_bound::greatest_rate;
 use traj_codec::Traj;
+use whole_numbers::Depth;
 
 /// How fast the velocity of a trajectory changes at most within its segments on x, y and z, in micrometres per second
 /// squared: on each axis the greatest over its segments and their 2^`depth` parts of the least whole number that is not

@@ -6,8 +6,8 @@ ghost use Rattle.dynamics_bound.specs.Excesses.{IsWithinLimits, above, first_exc
 ghost use Rattle.dynamics_bound.specs.Steps.{three, walk_at};
 
 use crate::walk::Walk;
-use fleet_math::Depth;
 use traj_codec::Traj;
+use whole_numbers::Depth;
 
 /// No acceleration is above this.
 const MOST: u64 = 9_007_199_254_740_991;

@@ -11,7 +11,7 @@
 //! [`motion_of`] names all of that by the cues of a show, and [`put_motion`] and [`put_extremes`] write the lines that
 //! say it.
 //!
-//! The crate stands on `speed_bound` for the greatest rates of the second order, and on `fleet_io` for lines.
+//! The crate stands on `speed_bound` for the greatest rates of the second order, and on `byte_streams` for lines.
 #![tactic(auto)]
 
 mod acceleration;

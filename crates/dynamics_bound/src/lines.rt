@@ -3,8 +3,8 @@ ghost use Rattle.std.specs.Prelude.{◌≡◌, ◌++◌, OnOk};
 ghost use Rattle.dynamics_bound.specs.Lines.{extremes_line, motion_line, rest_word};
 
 use crate::motion::{Extremes, Motion};
-use fleet_io::Lines;
-use fleet_io::Word::{Bytes, Large};
+use byte_streams::Lines;
+use byte_streams::Word::{Bytes, Large};
 use std::alloc::AllocError;
 
 fn rest_word(is_at_rest: bool) -> &'static [u8]

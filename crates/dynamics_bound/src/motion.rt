@@ -1,6 +1,6 @@
 //! What is found of a trajectory: how fast its speed changes at most, and where it jumps, by the cues of a show.
 ghost use Rattle.std.specs.Prelude.{◌≡◌, ◌≤◌, length, sum, unsigned_abs, All};
-ghost use Rattle.fleet_math.specs.Limits.{most_segments, most_cues};
+ghost use Rattle.whole_numbers.specs.Limits.{most_segments, most_cues};
 ghost use Rattle.traj_codec.specs.Positions.{durations};
 ghost use Rattle.traj_codec.specs.Spelling.{HasDuration};
 ghost use Rattle.dynamics_bound.specs.Excesses.{IsWithinLimits};
@@ -9,8 +9,8 @@ ghost use Rattle.dynamics_bound.specs.Motions.{KeepsMotion, cue_from, cue_of, gr
 use crate::acceleration::bound;
 use crate::excess::Limits;
 use crate::jumping::{jumps, rests};
-use fleet_math::Depth;
 use traj_codec::{Segment, Traj};
+use whole_numbers::Depth;
 
 /// Three numbers, on x, y and z.
 #[derive(Clone, Copy)]

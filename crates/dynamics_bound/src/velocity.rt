@@ -2,7 +2,7 @@
 
 ghost use Rattle.std.specs.Prelude.{◌≡◌, ◌*◌, ◌^◌, ◌≤◌, ◌<◌, ◌∷◌, pos, ◌-ℤ◌, ◌*ℤ◌, unsigned_abs};
 ghost use Rattle.std.specs.Int.{div_ceil};
-ghost use Rattle.fleet_math.specs.Numbers.{IsBelow};
+ghost use Rattle.whole_numbers.specs.Numbers.{IsBelow};
 ghost use Rattle.bezier_core.specs.Steps.{IsWithin};
 ghost use Rattle.traj_codec.specs.Spelling.{stored};
 ghost use Rattle.dynamics_bound.specs.Edges.{first_step, jump_between, last_step};

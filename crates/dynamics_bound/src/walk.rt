@@ -9,9 +9,9 @@ ghost use Rattle.dynamics_bound.specs.Steps.{three, walk_at};
 
 use crate::velocity::{Velocity, first_velocity, jump_between, last_velocity};
 use fleet_curves::value_after;
-use fleet_math::Depth;
 use speed_bound::element_rate;
 use traj_codec::{Element, Traj};
+use whole_numbers::Depth;
 
 /// Where a walk is on an axis, in millimetres, and the velocity with which it arrives there.
 #[derive(Clone, Copy)]

@@ -1,7 +1,7 @@
 -- Eased arcs: they begin where the drone is, and end where `arc` ends.
 use Rattle.figure_expand.proofs.Prelude.{FitsSigned, of_z, to_z, to_z-of_z, w64, ◌≡◌, ℕ, zero, suc, ◌<◌, ◌≤◌, ◌^◌, Bool, All, All-from_recursion, IsUpTo, ℤ, pos, ◌+ℤ◌, ◌-ℤ◌, ◌*ℤ◌, List, [], ◌∷◌, length, map, take, get_or, set, ◌+◌, arith, refl, sym, ap, ◌∙◌, ints, at, Point, controls, Eight, end_of, neg_ℤ, negsuc, ◌≤ℤ◌, ◌<ℤ◌, take_all, le_mul_pos, Ease, eased_on, eased_points, millionths, shares, AreSmall, axis_with, eased_yaw, forty_seconds}
 use Rattle.std.specs.Int.{int_div_euclid}
-use Rattle.fleet_math.specs.Decoded.{last_value}
+use Rattle.whole_numbers.specs.Decoded.{last_value}
 use Rattle.choreo_show.specs.declared.parts.Act.TheVariants as act
 use Rattle.choreo_show.specs.declared.parts.Ease.TheVariants as ease
 

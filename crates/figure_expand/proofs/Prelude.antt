@@ -16,11 +16,11 @@ pub use Rattle.cue_grid.specs.Grids.{FitCues, FitJobs, FitsCue, FitsJob, IsGrid}
 pub use Rattle.cue_grid.specs.declared.grid.Cue.{Cue}
 pub use Rattle.cue_grid.specs.declared.grid.Grid.{Grid}
 pub use Rattle.cue_grid.specs.declared.grid.Job.{Job}
-pub use Rattle.fleet_math.proofs.BernsteinLemmas.{bernstein-mix, bernstein-same, bernstein-suc, bernstein-zero, cong_add}
-pub use Rattle.fleet_math.proofs.RingLemmas.{add_mul_ℤ, le_mul_pos, linear, mul_add_ℤ, mul_assoc_ℤ, mul_comm_ℤ, mul_zero_ℤ, one_mul_ℤ, ring}
-unfoldable pub use Rattle.fleet_math.specs.Bernstein.{bernstein}
-pub use Rattle.fleet_math.specs.Bernstein.{at, bern, weight}
-pub use Rattle.fleet_math.specs.Sums.{power}
+pub use Rattle.whole_numbers.proofs.BernsteinLemmas.{bernstein-mix, bernstein-same, bernstein-suc, bernstein-zero, cong_add}
+pub use Rattle.whole_numbers.proofs.RingLemmas.{add_mul_ℤ, le_mul_pos, linear, mul_add_ℤ, mul_assoc_ℤ, mul_comm_ℤ, mul_zero_ℤ, one_mul_ℤ, ring}
+unfoldable pub use Rattle.whole_numbers.specs.Bernstein.{bernstein}
+pub use Rattle.whole_numbers.specs.Bernstein.{at, bern, weight}
+pub use Rattle.whole_numbers.specs.Sums.{power}
 pub use Rattle.mm_rounding.specs.Rounding.{axis_on, controls, counted, first_control, is_short, millimetres, rounded, segment_of, short}
 pub use Rattle.mm_rounding.specs.declared.piece.Axis.{Axis}
 pub use Rattle.mm_rounding.specs.declared.piece.Axis.TheVariants.{Eight, Four, One, Two}

@@ -2,7 +2,7 @@
 use Rattle.figure_expand.specs.declared.shapes.Quarter.{Quarter}
 use Rattle.figure_expand.specs.Steps.{IsQuarterSmall}
 use Rattle.figure_expand.proofs.Prelude.{common_steps, ◌≡◌, ℕ, zero, suc, ◌+◌, ◌*◌, ◌^◌, ◌<◌, ◌≤◌, Bool, true, false, ℤ, pos, ◌+ℤ◌, ◌-ℤ◌, List, [], ◌∷◌, length, get_or, to_z, of_z, w64, arith, refl, sym, ap, subst, ◌∙◌, All, ints, to_z-of_z, All-nil, All-cons, All-get_or, All-tail, at, Point, Act, DroneLine, FitsFrame, FitsPoint, FitsCoordinate, FitsAct, Job, Cue, mirrored, turned_once, turned, IsUpTo, IsPointUpTo, IsShiftUpTo, FitsJob, FitJobs, FitsCue, FitCues, act_in, act_of, end_of, start_points, points_after, FitsYaw, FitsTriple, IsActUpTo, reach, AreInReach}
-use Rattle.fleet_math.specs.Limits.{most_cues}
+use Rattle.whole_numbers.specs.Limits.{most_cues}
 use Rattle.choreo_show.specs.declared.parts.Frame.{Frame}
 use Rattle.choreo_show.specs.declared.parts.Mirror.{Mirror}
 use Rattle.choreo_show.specs.declared.parts.Mirror.TheVariants as mirror

@@ -2,7 +2,7 @@
 use Rattle.std.specs.Prelude.{ℕ, zero, suc, Bool, not, List, [], ◌∷◌, map, ℤ, pos, neg_ℤ, ◌+ℤ◌, ◌-ℤ◌, ◌*ℤ◌}
 use Rattle.std.specs.Prelude.{if◌then◌else◌}
 use Rattle.std.specs.Int.{int_div_euclid}
-use Rattle.fleet_math.specs.Bernstein.{at}
+use Rattle.whole_numbers.specs.Bernstein.{at}
 use Rattle.choreo_show.specs.declared.parts.Point.{Point}
 use Rattle.choreo_show.specs.declared.parts.Frame.{Frame}
 use Rattle.choreo_show.specs.declared.parts.Mirror.{Mirror}

@@ -2,9 +2,9 @@
 -- tenths of a degree.
 use Rattle.std.specs.Prelude.{◌≡◌, ℕ, List, [], ◌∷◌, map, ℤ, pos, ◌+ℤ◌, ◌-ℤ◌, ◌*ℤ◌, ◌==◌, if◌then◌else◌}
 use Rattle.std.specs.Int.{int_div_euclid}
-use Rattle.fleet_math.specs.Sums.{power}
-use Rattle.fleet_math.specs.Bernstein.{at}
-use Rattle.fleet_math.specs.Decoded.{last_value}
+use Rattle.whole_numbers.specs.Sums.{power}
+use Rattle.whole_numbers.specs.Bernstein.{at}
+use Rattle.whole_numbers.specs.Decoded.{last_value}
 use Rattle.choreo_show.specs.declared.parts.Point.{Point}
 use Rattle.choreo_show.specs.declared.parts.Ease.{Ease}
 use Rattle.choreo_show.specs.declared.parts.Ease.TheVariants as ease

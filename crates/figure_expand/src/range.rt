@@ -3,7 +3,7 @@
 ghost use Rattle.std.specs.Prelude.{◌≡◌, ◌+◌, ◌<◌, ◌≤◌, ◌^◌, length, IfOk, IfSome};
 ghost use Rattle.std.specs.List.{All};
 ghost use Rattle.mm_rounding.specs.Rounding.{controls};
-ghost use Rattle.fleet_math.specs.Limits.{most_cues};
+ghost use Rattle.whole_numbers.specs.Limits.{most_cues};
 ghost use Rattle.cue_grid.specs.Frames.{IsPointUpTo};
 ghost use Rattle.cue_grid.specs.Grids.{FitJobs, FitCues, IsGrid};
 ghost use Rattle.figure_expand.specs.Bounds.{AreInReach};

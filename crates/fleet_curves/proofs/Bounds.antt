@@ -1,7 +1,7 @@
 -- How large raised control values are: their weights add up to 5,040.
 use Rattle.fleet_curves.proofs.Prelude.{◌≡◌, inl, inr, ℕ, zero, suc, ◌-◌, ◌*◌, ◌/◌, ◌^◌, ◌≤◌, ◌<◌, ℤ, pos, neg_ℤ, ◌*ℤ◌, ◌≤ℤ◌, arith, refl, List, length, All, lit<, ints, All-from_get_or, at, choose, IsBelow, raised, raised_value, at-eight, below_at}
-use Rattle.fleet_math.specs.Sums.{sum_below}
-use Rattle.fleet_math.proofs.RingLemmas.{linear, le_mul_pos, add_mul_ℤ, mul_neg_ℤ, zero_mul_ℤ}
+use Rattle.whole_numbers.specs.Sums.{sum_below}
+use Rattle.whole_numbers.proofs.RingLemmas.{linear, le_mul_pos, add_mul_ℤ, mul_neg_ℤ, zero_mul_ℤ}
 use Rattle.bezier_core.specs.Curves.{IsLength}
 use Rattle.bezier_core.specs.Steps.{IsWithin}
 

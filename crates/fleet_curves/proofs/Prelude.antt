@@ -11,8 +11,8 @@ pub use Rattle.bezier_core.specs.Along.{controls}
 unfoldable pub use Rattle.bezier_core.specs.Raised.{raised_value}
 pub use Rattle.bezier_core.specs.Raised.{eight, raised}
 pub use Rattle.bezier_core.specs.declared.Bez.{Bez}
-pub use Rattle.fleet_math.specs.Bernstein.{at, choose}
-pub use Rattle.fleet_math.specs.Numbers.{IsBelow}
+pub use Rattle.whole_numbers.specs.Bernstein.{at, choose}
+pub use Rattle.whole_numbers.specs.Numbers.{IsBelow}
 pub use Rattle.traj_codec.specs.Positions.{durations, element_on, piece_on, points, value_after}
 pub use Rattle.traj_codec.specs.Spelling.{stored}
 pub use Rattle.traj_codec.specs.declared.traj.Segment.{Segment}

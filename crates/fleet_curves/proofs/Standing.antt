@@ -1,6 +1,6 @@
 -- The curves that are made of trajectories stand for them: each is the raised curve of its control points.
 use Rattle.fleet_curves.proofs.Prelude.{common_steps, ◌≡◌, ℕ, zero, suc, ◌+◌, ◌*◌, ◌≤◌, ◌<◌, ℤ, arith, refl, sym, ◌∙◌, ap, subst, List, [], ◌∷◌, length, get_or, map, All, Some, slice_get, flat_map, get_or-append-add, All-head, All-tail, at, Bez, controls, raised, Segment, Traj, stored, durations, element_on, piece_on, points, value_after, Raised, AreOneShow, CurvesStandFor, curves_at, raised_in, raised_from, raised_traj, IsFormed}
-use Rattle.fleet_math.specs.Decoded.{points_from}
+use Rattle.whole_numbers.specs.Decoded.{points_from}
 use Rattle.std.proofs.Math.ListN.{get_or-append}
 
 -- there are as many durations as segments

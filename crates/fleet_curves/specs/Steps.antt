@@ -1,7 +1,7 @@
 -- Words of private steps and of what Curves keep. No public clause cites them.
 use Rattle.std.specs.Prelude.{◌≡◌, ℕ, ◌*◌, ◌^◌, ◌≤◌, ℤ, List, length, map, All}
-use Rattle.fleet_math.specs.Limits.{most_cues, most_drones}
-use Rattle.fleet_math.specs.Numbers.{IsBelow}
+use Rattle.whole_numbers.specs.Limits.{most_cues, most_drones}
+use Rattle.whole_numbers.specs.Numbers.{IsBelow}
 use Rattle.bezier_core.specs.declared.Bez.{Bez}
 use Rattle.traj_codec.specs.declared.traj.Segment.{Segment}
 use Rattle.traj_codec.specs.Spelling.{stored}

@@ -1,11 +1,11 @@
 //! The raised curves of a fleet.
 
 ghost use Rattle.std.specs.Prelude.{◌≡◌, ℕ, ◌+◌, ◌*◌, ◌^◌, ◌≤◌, ◌<◌, ℤ, ◌-ℤ◌, ◌++◌, ◌∷◌, [], All, IfOk, OnOk, length};
-ghost use Rattle.fleet_math.specs.Numbers.{IsBelow};
+ghost use Rattle.whole_numbers.specs.Numbers.{IsBelow};
 ghost use Rattle.bezier_core.specs.Curves.{IsLength};
-ghost use Rattle.fleet_math.specs.Bernstein.{at};
+ghost use Rattle.whole_numbers.specs.Bernstein.{at};
 ghost use Rattle.bezier_core.specs.Raised.{eight, raised};
-ghost use Rattle.fleet_math.specs.Limits.{most_cues, most_drones};
+ghost use Rattle.whole_numbers.specs.Limits.{most_cues, most_drones};
 ghost use Rattle.traj_codec.specs.Spelling.{stored};
 ghost use Rattle.traj_codec.specs.Positions.{element_on};
 ghost use Rattle.fleet_curves.specs.Raised.{CurvesStandFor, IsOneShow, curves_at, curves_of, difference, less};

@@ -1,7 +1,7 @@
 //! How far one drone is from another in a cue.
 
 ghost use Rattle.std.specs.Prelude.{◌≡◌, ◌^◌, All, length};
-ghost use Rattle.fleet_math.specs.Numbers.{IsBelow};
+ghost use Rattle.whole_numbers.specs.Numbers.{IsBelow};
 ghost use Rattle.fleet_curves.specs.Raised.{AreRaised, curves_of};
 
 use crate::widths::{narrowed, widened_rows};

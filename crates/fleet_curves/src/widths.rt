@@ -1,7 +1,7 @@
 //! Control values in rows of 32 bits.
 
 ghost use Rattle.std.specs.Prelude.{◌≡◌, ◌^◌, All};
-ghost use Rattle.fleet_math.specs.Numbers.{IsBelow};
+ghost use Rattle.whole_numbers.specs.Numbers.{IsBelow};
 ghost use Rattle.fleet_curves.specs.Raised.{curves_of};
 
 use bezier_core::Bez;

@@ -2,7 +2,7 @@
 
 ghost use Rattle.std.specs.Prelude.{◌≡◌, ℕ, Bool, ◌+◌, ◌<◌, ◌≤◌, ◌^◌, List, [], ◌∷◌, ◌++◌, length, map, Some, None, Ok};
 ghost use Rattle.std.specs.Prelude.{IfOk, IfErr, OnOk};
-ghost use Rattle.fleet_math.specs.Limits.{most_drones, most_text};
+ghost use Rattle.whole_numbers.specs.Limits.{most_drones, most_text};
 ghost use Rattle.text_lines.specs.Tokens.{words_in};
 ghost use Rattle.fleet_world.specs.Schedules.{number_of as number_word, place_from, event_with, number_to};
 ghost use Rattle.fleet_world.specs.Schedules.{alteration_of, event_of, events_of, schedule_of, ScheduleLaw};

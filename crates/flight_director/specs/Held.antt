@@ -1,6 +1,6 @@
 -- What the machine's functions are given.
 use Rattle.std.specs.Prelude.{◌≡◌, ℕ, ◌≤◌, ◌<◌, Bool, List, length, Option, Some, None, slice_get, All}
-use Rattle.fleet_math.specs.Limits.{most_drones}
+use Rattle.whole_numbers.specs.Limits.{most_drones}
 use Rattle.integer_player.specs.Played.{IsPlayable, duration_of}
 use Rattle.traj_codec.specs.declared.traj.Traj.{Traj}
 use Rattle.flight_model.specs.declared.flights.Orders.{Orders}

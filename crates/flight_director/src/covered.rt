@@ -9,8 +9,8 @@ ghost use Rattle.flight_model.specs.Directors.{are_listed as word_listed};
 
 use crate::risen::has_risen;
 use arrayvec::ArrayVec;
-use fleet_math::MOST_DRONES;
 use flight_model::{Flight, Sample, Track, Window};
+use whole_numbers::MOST_DRONES;
 
 // A drone may be deaf whose last sample is older, in milliseconds.
 const DEAF_MS: u32 = 300;

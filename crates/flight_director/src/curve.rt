@@ -2,7 +2,7 @@
 
 ghost use Rattle.std.specs.Prelude.{◌≡◌, ℕ, ◌^◌, ◌<◌, ◌≤◌, ◌*◌, ◌*ℤ◌, ◌-ℤ◌, pos, slice_get, All};
 ghost use Rattle.std.specs.List.{list_any};
-ghost use Rattle.fleet_math.specs.Numbers.{IsBelow};
+ghost use Rattle.whole_numbers.specs.Numbers.{IsBelow};
 ghost use Rattle.integer_player.specs.Played.{IsPlayable, duration_of, played};
 ghost use Rattle.flight_model.specs.Samples.{is_within as word_within, is_kept as word_kept, instants_near};
 ghost use Rattle.flight_model.specs.Samples.{instants_until, is_in_stretch as word_in, is_on_course as word_on};

@@ -1,7 +1,7 @@
 //! Distances in space.
 
 ghost use Rattle.std.specs.Prelude.{◌≡◌, ◌≤◌, ◌≤ℤ◌, pos};
-ghost use Rattle.fleet_math.specs.Numbers.{IsBelow};
+ghost use Rattle.whole_numbers.specs.Numbers.{IsBelow};
 ghost use Rattle.flight_model.specs.Samples.{square, is_short as word_short};
 
 fn squared(z: i64) -> i64

@@ -8,8 +8,8 @@ ghost use Rattle.flight_model.specs.Directors.{sample_notes};
 
 use crate::tracks::{is_astray, is_lost, is_silent, older};
 use arrayvec::ArrayVec;
-use fleet_math::MOST_DRONES;
 use flight_model::{Fault, Note, Sample, Track};
+use whole_numbers::MOST_DRONES;
 
 /// The most notes of one event.
 pub const MOST_NOTES: usize = MOST_DRONES + 1;

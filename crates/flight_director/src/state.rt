@@ -37,11 +37,11 @@ use crate::risen::{any_risen, has_risen};
 use crate::room::is_in_room;
 use crate::tracks::{age, all_disarmed, any_silent, later, off_with, renew};
 use arrayvec::ArrayVec;
-use fleet_math::MOST_DRONES;
 use flight_model::{
     Choice, Event, Fault, Flight, Frame, Note, Order, Orders, Phase, Sample, Signal, Step, Track,
 };
 use std::marker::Model;
+use whole_numbers::MOST_DRONES;
 
 /// The most frames of one event: its notes, and one order for each drone.
 pub const MOST_OUT: usize = MOST_NOTES + MOST_DRONES;

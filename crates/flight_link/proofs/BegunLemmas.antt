@@ -3,7 +3,7 @@ use Rattle.flight_link.proofs.Prelude.{◌≡◌, ℕ, zero, suc, ◌+◌, ◌-�
 use Rattle.std.proofs.lemmas.Bool.Decides.{nat_tests}
 use Rattle.std.proofs.Math.Seq.{set-append_seam, take-append-add}
 use Rattle.flight_model.specs.declared.events.Signal.TheVariants as signal
-use Rattle.flight_frames.specs.declared.events.FrameFault.TheVariants as fault
+use Rattle.flight_link.specs.declared.events.FrameFault.TheVariants as fault
 use Rattle.flight_link.proofs.EventLemmas.{by_cond, longer, same_size}
 
 -- ---- smaller bytes are read too

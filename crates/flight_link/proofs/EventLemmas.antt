@@ -6,7 +6,7 @@ use Rattle.std.proofs.lemmas.Slice.Eq.{bytes_eq-Decides}
 use Rattle.std.specs.Str.{bytes_eq}
 use Rattle.flight_model.specs.declared.events.Sample.{Sample}
 use Rattle.flight_model.specs.declared.events.Signal.TheVariants as signal
-use Rattle.flight_frames.specs.declared.events.FrameFault.TheVariants as fault
+use Rattle.flight_link.specs.declared.events.FrameFault.TheVariants as fault
 
 -- ---- how long they are
 

@@ -8,3 +8,4 @@ pub mod StatusLemmas
 pub mod OverLemmas
 pub mod OrderLemmas
 pub mod Rows
+mod FrameLaws

@@ -5,8 +5,8 @@ pub use Rattle.std.proofs.lemmas.List.{length-replicate, length-take, length-tak
 pub use Rattle.std.specs.List.{Contains}
 pub use Rattle.std.specs.Prelude.{FitsSigned, get_or, map, nat_le, nat_lt, slice_set, ℤ, ◌==◌, ◌↔◌}
 pub use Rattle.byteorder.specs.Endian.{little_bytes, little_number}
-pub use Rattle.flight_frames.specs.Frames.{FrameLaw, IsEvent, IsSample, answer_in, clock_in, event_bytes, event_in, flags, length_of, output_bytes, said_in, sample_in, seen_of, signal_in, signed}
-pub use Rattle.flight_frames.specs.declared.events.FrameFault.{FrameFault}
+pub use Rattle.flight_link.specs.Frames.{FrameLaw, IsEvent, IsSample, answer_in, clock_in, event_bytes, event_in, flags, length_of, output_bytes, said_in, sample_in, seen_of, signal_in, signed}
+pub use Rattle.flight_link.specs.declared.events.FrameFault.{FrameFault}
 unfoldable pub use Rattle.flight_model.specs.Directors.{happens, notes, says}
 pub use Rattle.flight_model.specs.Directors.{State, after, drones, frames_from, frames_of, frames_of_step, landings, next_step, sent, start}
 pub use Rattle.flight_model.specs.declared.events.Event.{Event}

@@ -7,7 +7,7 @@ use Rattle.flight_model.specs.declared.events.Event.{Event}
 use Rattle.flight_model.specs.declared.flights.Flight.{Flight}
 use Rattle.flight_model.specs.declared.states.Phase.TheVariants.{Ended}
 use Rattle.flight_model.specs.Directors.{after, drones, start}
-use Rattle.flight_frames.specs.Frames.{IsEvent, event_bytes}
+use Rattle.flight_link.specs.Frames.{IsEvent, event_bytes}
 use Rattle.flight_link.specs.Sends.{IsBegun, ended, sent_over}
 
 -- the dialogue of the director of a flight, whose items are events

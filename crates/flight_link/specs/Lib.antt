@@ -2,3 +2,4 @@ pub mod Sends
 pub mod Flights
 pub mod Orders
 pub mod Steps
+pub mod Frames

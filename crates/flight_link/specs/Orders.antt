@@ -6,7 +6,7 @@ use Rattle.flight_model.specs.declared.events.Event.{Event}
 use Rattle.flight_model.specs.declared.flights.Flight.{Flight}
 use Rattle.flight_model.specs.Directors.{drones, sent, start}
 use Rattle.flight_model.specs.Law.{ordered, orders_to}
-use Rattle.flight_frames.specs.Frames.{IsEvent}
+use Rattle.flight_link.specs.Frames.{IsEvent}
 use Rattle.flight_link.specs.Sends.{events_bytes, sent_over}
 use Rattle.link_dialogue.specs.Dialogues.{BeginsWith}
 use Rattle.flight_link.specs.Flights.{FlightFails, FlightGives}

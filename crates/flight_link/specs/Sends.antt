@@ -7,7 +7,7 @@ use Rattle.flight_model.specs.declared.events.Frame.{Frame}
 use Rattle.flight_model.specs.declared.events.Frame.TheVariants.{To, ToAll, Noted, Over}
 use Rattle.flight_model.specs.declared.flights.Flight.{Flight}
 use Rattle.flight_model.specs.Directors.{start, sent}
-use Rattle.flight_frames.specs.Frames.{IsEvent, event_bytes, output_bytes}
+use Rattle.flight_link.specs.Frames.{IsEvent, event_bytes, output_bytes}
 
 -- ---- out
 

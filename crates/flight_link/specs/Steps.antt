@@ -4,7 +4,7 @@ use Rattle.flight_model.specs.declared.events.Event.{Event}
 use Rattle.flight_model.specs.declared.flights.Flight.{Flight}
 use Rattle.flight_model.specs.Directors.{after, drones, start}
 use Rattle.flight_director.specs.Held.{Directed}
-use Rattle.flight_frames.specs.Frames.{IsEvent, event_bytes}
+use Rattle.flight_link.specs.Frames.{IsEvent, event_bytes}
 use Rattle.flight_link.specs.declared.begun.Fed.{Fed}
 use Rattle.flight_link.specs.declared.begun.Fed.TheVariants as fed_is
 use Rattle.flight_link.specs.Sends.{BeginsNoEvent, IsBegun}

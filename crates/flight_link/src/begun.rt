@@ -4,7 +4,8 @@ ghost use Rattle.std.specs.Prelude.{◌≡◌, ◌≤◌, ◌-◌, ◌++◌, [],
 ghost use Rattle.flight_link.specs.Sends.{IsBegun};
 ghost use Rattle.flight_link.specs.Steps.{FedGives};
 
-use flight_frames::{event_length, frame_law, read_event};
+use crate::events::{event_length, read_event};
+use crate::law::frame_law;
 use flight_model::Event;
 use std::marker::Model;
 

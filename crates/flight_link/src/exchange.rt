@@ -2,13 +2,13 @@
 
 ghost use Rattle.std.specs.Prelude.{◌≡◌, ◌≤◌, ◌++◌, [], ◌∷◌, ℕ, List, length, None, IsTrue, Contains};
 ghost use Rattle.std.specs.Io.KnownBytes.{Appends};
-ghost use Rattle.fleet_io.specs.Held.{buffer_bytes, stream};
-ghost use Rattle.fleet_io.specs.Told.{MayGive, Went, to_come};
+ghost use Rattle.byte_streams.specs.Held.{buffer_bytes, stream};
+ghost use Rattle.byte_streams.specs.Told.{MayGive, Went, to_come};
 ghost use Rattle.flight_model.specs.declared.events.Event.{Event};
 ghost use Rattle.flight_model.specs.declared.flights.Flight.{Flight};
 ghost use Rattle.flight_model.specs.Directors.{drones};
 ghost use Rattle.flight_director.specs.Held.{IsHeld};
-ghost use Rattle.flight_frames.specs.Frames.{IsEvent, event_bytes};
+ghost use Rattle.flight_link.specs.Frames.{IsEvent, event_bytes};
 ghost use Rattle.flight_link.specs.Sends.{end_in, end_of, ended};
 ghost use Rattle.link_dialogue.specs.Dialogues.{RunGives};
 ghost use Rattle.link_dialogue.specs.Machines.{TakesItem};
@@ -16,11 +16,11 @@ ghost use Rattle.flight_link.specs.Flights.{dialogue_of};
 ghost use Rattle.flight_link.specs.Steps.{Stands};
 
 use crate::begun::{Begun, Fed as EventFed};
+use crate::law::frame_law;
 use crate::output::{Bytes, put_all};
-use fleet_io::status::DONE;
-use fleet_io::{Parts, Sink, Source};
+use byte_streams::status::DONE;
+use byte_streams::{Parts, Sink, Source};
 use flight_director::{Director, Out};
-use flight_frames::frame_law;
 use flight_model::{Event, Flight, Frame};
 use link_dialogue::{Fed, Machine, Taken, run};
 

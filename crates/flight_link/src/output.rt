@@ -1,12 +1,12 @@
 //! Frames that go out.
 
 ghost use Rattle.std.specs.Prelude.{◌≡◌, ◌+◌, ◌≤◌, ◌++◌, length};
-ghost use Rattle.flight_frames.specs.Frames.{output_bytes};
+ghost use Rattle.flight_link.specs.Frames.{output_bytes};
 ghost use Rattle.flight_link.specs.Sends.{frames_bytes};
 
+use crate::frames::{FRAME_BYTES, frame_bytes};
 use arrayvec::ArrayVec;
 use flight_director::MOST_OUT;
-use flight_frames::{FRAME_BYTES, frame_bytes};
 use flight_model::Frame;
 
 // The most bytes that one event sends.

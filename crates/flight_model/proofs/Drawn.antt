@@ -1,11 +1,11 @@
 -- The orders draw the ways.
 use Rattle.flight_model.proofs.Prelude.{◌≡◌, ◌<◌, ◌≤◌, ◌∷◌, ◌∙◌, ◌||◌, ◌&&◌, [], List, Bool, true, false, not, cond, refl, sym, ap, subst, None, Some, Option, ℕ, zero, suc, inl, inr, ◌-◌, arith, length, ℤ, pos, ◌+ℤ◌, ◌*ℤ◌, map, int_le, list_any, common_steps, and_parts, at, bern, bernstein, stored, element_on, piece_on, Segment, Traj, Order, Leg, RestsOn, IsWay, IsWayUp, IsWayDown, after_segment, legs_from, legs_of, leg, same_on, moves, has_moved, will_move, go_to, is_vertical, first_move, last_move, up_order, down_order}
-use Rattle.fleet_math.specs.Sums.{power}
-use Rattle.fleet_math.specs.Moments.{Moment}
-use Rattle.fleet_math.specs.Decoded as plain
-unfoldable use Rattle.fleet_math.specs.Decoded.{decoded}
-use Rattle.fleet_math.proofs.BernsteinLemmas.{bernstein-suc, bernstein-zero, bernstein-same, bernstein-scale, cong_add}
-use Rattle.fleet_math.proofs.RingLemmas.{add_mul_ℤ, mul_comm_ℤ, one_mul_ℤ}
+use Rattle.whole_numbers.specs.Sums.{power}
+use Rattle.whole_numbers.specs.Moments.{Moment}
+use Rattle.whole_numbers.specs.Decoded as plain
+unfoldable use Rattle.whole_numbers.specs.Decoded.{decoded}
+use Rattle.whole_numbers.proofs.BernsteinLemmas.{bernstein-suc, bernstein-zero, bernstein-same, bernstein-scale, cong_add}
+use Rattle.whole_numbers.proofs.RingLemmas.{add_mul_ℤ, mul_comm_ℤ, one_mul_ℤ}
 use Rattle.traj_codec.specs.Positions as positions
 use Rattle.flight_model.specs.declared.events.Order.TheVariants as order
 use Rattle.flight_model.specs.Draws.{led_to, time_of, rest_points, obeyed, DrawLaw}

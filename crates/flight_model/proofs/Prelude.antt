@@ -10,8 +10,8 @@ pub use Rattle.std.proofs.lemmas.Option.{slice_get_within}
 pub use Rattle.std.specs.List.{flat_map, list_all, list_any, range_with_len}
 pub use Rattle.std.specs.Option.{option_map}
 pub use Rattle.std.specs.Prelude.{All, Contains, int_le, int_lt, map, negsuc, pos, replicate, slice_get, slice_set, ℤ, ◌*ℤ◌, ◌+ℤ◌, ◌-ℤ◌, ◌≤ℤ◌}
-unfoldable pub use Rattle.fleet_math.specs.Bernstein.{bernstein}
-pub use Rattle.fleet_math.specs.Bernstein.{at, bern}
+unfoldable pub use Rattle.whole_numbers.specs.Bernstein.{bernstein}
+pub use Rattle.whole_numbers.specs.Bernstein.{at, bern}
 pub use Rattle.traj_codec.specs.Positions.{element_on, piece_on}
 pub use Rattle.traj_codec.specs.Spelling.{stored}
 pub use Rattle.traj_codec.specs.declared.traj.Segment.{Segment}

@@ -4,9 +4,9 @@ use Rattle.flight_model.specs.declared.events.Order.TheVariants as order
 use Rattle.flight_model.specs.declared.events.Signal.TheVariants as signal
 unfoldable use Rattle.flight_model.specs.Samples.{is_fit_by, is_kept}
 unfoldable use Rattle.flight_model.specs.Directors.{tracks_after, heard, is_due, notes, is_fault, choice, done, led, happens, says}
-unfoldable use Rattle.fleet_math.specs.Decoded.{decoded}
-unfoldable use Rattle.fleet_math.specs.Moments.{moment}
-unfoldable use Rattle.fleet_math.specs.Bernstein.{bernstein}
+unfoldable use Rattle.whole_numbers.specs.Decoded.{decoded}
+unfoldable use Rattle.whole_numbers.specs.Moments.{moment}
+unfoldable use Rattle.whole_numbers.specs.Bernstein.{bernstein}
 use Rattle.flight_model.proofs.OrdersTo.{orders_to-append}
 use Rattle.flight_model.proofs.Sightings.{time-append}
 use Rattle.flight_model.proofs.Kept.{kept_law, sent-append}

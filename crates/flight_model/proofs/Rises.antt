@@ -1,6 +1,6 @@
 -- Where drones rise from.
 use Rattle.flight_model.proofs.Prelude.{◌≡◌, ◌≤◌, ◌∷◌, ◌∙◌, ◌||◌, ◌&&◌, [], List, Bool, true, false, not, cond, refl, sym, ap, subst, None, Some, Option, ℕ, zero, suc, ◌-◌, arith, ℤ, int_le, map, slice_get, Contains, All, ◌≤ℤ◌, pos, flat_map, range_with_len, option_map, and_parts, ints, All-nil, All-cons, All-append, All-head, All-tail, at, Segment, Traj, Order, Sample, Event, Position, Condition, Step, Flight, Routes, Leg, after_segment, legs_from, legs_of, leg, same_on, moves, has_moved, will_move, arm_order, up_order, down_order, way_begins, position_of, leg_count, group_step, arm_step, up_condition, up_step, start_step, down_step, last_step, lasts, State, Begin, order_in, frames_of_step, choice, says, orders_to, in_step, IsNear, Rises, square}
-use Rattle.fleet_math.proofs.DivisionLemmas.{square_le}
+use Rattle.whole_numbers.proofs.DivisionLemmas.{square_le}
 use Rattle.flight_model.specs.declared.events.Order.TheVariants as order
 unfoldable use Rattle.flight_model.specs.Legs.{steps_of}
 unfoldable use Rattle.flight_model.specs.Directors.{heard, done}

@@ -6,9 +6,9 @@ use Rattle.flight_model.specs.declared.events.Fault.TheVariants as fault
 unfoldable use Rattle.flight_model.specs.Legs.{steps_of}
 unfoldable use Rattle.flight_model.specs.Samples.{is_fit_by, is_kept, is_on_course}
 unfoldable use Rattle.flight_model.specs.Directors.{tracks_after, heard, may_land, is_due, notes, is_fault, choice, done, led, happens, says}
-unfoldable use Rattle.fleet_math.specs.Decoded.{decoded}
-unfoldable use Rattle.fleet_math.specs.Moments.{moment}
-unfoldable use Rattle.fleet_math.specs.Bernstein.{bernstein}
+unfoldable use Rattle.whole_numbers.specs.Decoded.{decoded}
+unfoldable use Rattle.whole_numbers.specs.Moments.{moment}
+unfoldable use Rattle.whole_numbers.specs.Bernstein.{bernstein}
 unfoldable use Rattle.flight_model.specs.Example.{flight}
 
 abbrev second : ℤ → Bool → Bool → List Event

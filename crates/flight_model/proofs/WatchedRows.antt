@@ -5,9 +5,9 @@ unfoldable use Rattle.flight_model.specs.Samples.{is_kept, is_on_course}
 unfoldable use Rattle.flight_model.specs.Example.{flight}
 unfoldable use Rattle.flight_model.specs.Watched.{is_off_at}
 use Rattle.flight_model.specs.Watched.{WatchedRows}
-unfoldable use Rattle.fleet_math.specs.Decoded.{decoded}
-unfoldable use Rattle.fleet_math.specs.Moments.{moment}
-unfoldable use Rattle.fleet_math.specs.Bernstein.{bernstein}
+unfoldable use Rattle.whole_numbers.specs.Decoded.{decoded}
+unfoldable use Rattle.whole_numbers.specs.Moments.{moment}
+unfoldable use Rattle.whole_numbers.specs.Bernstein.{bernstein}
 
 pub watched_rows : WatchedRows
 unfolding steps_of is_kept is_on_course flight is_off_at decoded moment bernstein

@@ -1,8 +1,8 @@
 -- The orders draw the ways: a drone that obeys the order of each leg, from where the leg begins, flies the way that was
 -- judged.
 use Rattle.std.specs.Prelude.{◌≡◌, ℕ, ◌<◌, List, [], ◌∷◌, length, Option, Some, ℤ, pos}
-use Rattle.fleet_math.specs.Bernstein.{at, bern}
-use Rattle.fleet_math.specs.Moments.{Moment}
+use Rattle.whole_numbers.specs.Bernstein.{at, bern}
+use Rattle.whole_numbers.specs.Moments.{Moment}
 use Rattle.traj_codec.specs.declared.traj.Traj.{Traj}
 use Rattle.traj_codec.specs.Positions.{decoded}
 use Rattle.flight_model.specs.declared.events.Order.{Order}

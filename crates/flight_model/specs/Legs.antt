@@ -4,7 +4,7 @@ use Rattle.std.specs.Prelude.{◌≡◌, ◌⊎◌, ℕ, zero, suc, ◌-◌, ◌
 use Rattle.std.specs.Prelude.{List, [], ◌∷◌, ◌++◌, length, map, take, drop, slice_index_or, slice_get, Option, Some, None, ℤ}
 use Rattle.std.specs.Prelude.{int_le, All}
 use Rattle.std.specs.List.{flat_map, list_any, range_with_len, sum}
-use Rattle.fleet_math.specs.Bernstein.{at}
+use Rattle.whole_numbers.specs.Bernstein.{at}
 use Rattle.traj_codec.specs.declared.traj.Segment.{Segment}
 use Rattle.traj_codec.specs.declared.traj.Traj.{Traj}
 use Rattle.traj_codec.specs.Positions.{durations, points, element_on, value_after}

@@ -2,7 +2,7 @@
 use Rattle.std.specs.Prelude.{ℕ, ◌+◌, ◌-◌, ◌*◌, ◌/◌, Bool, false, not, ◌&&◌, ◌||◌, nat_le, List, slice_get, Option}
 use Rattle.std.specs.Prelude.{Some, None, min, ℤ, pos, ◌+ℤ◌, ◌-ℤ◌, ◌*ℤ◌, int_le}
 use Rattle.std.specs.List.{list_any, range_with_len}
-use Rattle.fleet_math.specs.Bernstein.{at}
+use Rattle.whole_numbers.specs.Bernstein.{at}
 use Rattle.traj_codec.specs.declared.traj.Traj.{Traj}
 use Rattle.integer_player.specs.Played.{played}
 use Rattle.flight_model.specs.declared.events.Sample.{Sample}

@@ -3,7 +3,7 @@ use Rattle.flight_steps.proofs.Prelude.{◌≡◌, ◌<◌, ◌≤◌, ◌∷◌
 use Rattle.std.proofs.lemmas.Bool.{false≢true}
 use Rattle.std.specs.Cmp.Lexicographic.{pointwise_decides, bytes_decides}
 use Rattle.std.proofs.lemmas.Bool.Decides.{Decides-int_eq, nat_tests}
-use Rattle.fleet_math.specs.Decoded as plain
+use Rattle.whole_numbers.specs.Decoded as plain
 use Rattle.flight_steps.specs.declared.faults.Way.{Way}
 use Rattle.flight_steps.specs.declared.faults.Way.TheVariants as way
 use Rattle.flight_steps.specs.declared.faults.Seam.{Seam}

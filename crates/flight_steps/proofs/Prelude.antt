@@ -6,7 +6,7 @@ pub use Rattle.std.specs.List.{flat_map, list_any, range_with_len}
 pub use Rattle.std.specs.Option.{option_or, unwrap_or}
 pub use Rattle.std.specs.Prelude.{All, bytes_eq, pos, slice_get, slice_index_or, ℤ}
 pub use Rattle.arrayvec.specs.ArrayVec.{ArrayVec}
-pub use Rattle.fleet_math.specs.Bernstein.{at}
+pub use Rattle.whole_numbers.specs.Bernstein.{at}
 pub use Rattle.flight_model.specs.Legs.{IsFlight, IsWayDown, IsWayUp, RestsOn, Routes, after_segment, arm_condition, arm_order, arm_step, down_condition, down_order, down_step, ends_from, first_move, group_step, last_condition, last_move, last_step, lasts, leg_count, legs_from, legs_of, moves, ms_until, start_condition, start_step, steps_between, up_condition, up_order, up_step, way_begins, way_ends}
 pub use Rattle.flight_model.specs.Rooms.{all_values, span_of, values_on, with_values}
 pub use Rattle.flight_model.specs.declared.flights.Leg.{Leg}

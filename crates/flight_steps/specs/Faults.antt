@@ -6,7 +6,7 @@ use Rattle.std.specs.Prelude.{Option, Some, None, ℤ, bytes_eq, Result, Ok, Err
 use Rattle.std.specs.Ordering.{int_eq}
 use Rattle.std.specs.Cmp.Lexicographic.{pointwise}
 use Rattle.std.specs.Option.{option_or}
-use Rattle.fleet_math.specs.Bernstein.{at}
+use Rattle.whole_numbers.specs.Bernstein.{at}
 use Rattle.traj_codec.specs.Positions.{element_on}
 use Rattle.traj_codec.specs.declared.traj.Element.{Element}
 use Rattle.traj_codec.specs.Spelling.{stored}

@@ -1,7 +1,7 @@
 //! Whether three shows are a flight.
 
 ghost use Rattle.std.specs.Prelude.{◌≡◌, ◌<◌, ◌≤◌, ◌∷◌, [], ℕ, length, List, map, bytes_eq};
-ghost use Rattle.fleet_math.specs.Bernstein.{at};
+ghost use Rattle.whole_numbers.specs.Bernstein.{at};
 ghost use Rattle.std.specs.Option.{option_or};
 ghost use Rattle.traj_codec.specs.declared.traj.Traj.{Traj as TrajWord};
 ghost use Rattle.flight_model.specs.Legs.{after_segment, way_begins, way_ends as word_ends, first_move as word_first};

@@ -2,7 +2,7 @@
 
 ghost use Rattle.std.specs.Prelude.{◌≡◌, ◌<◌, ◌++◌, None, Some};
 ghost use Rattle.std.specs.List.{flat_map};
-ghost use Rattle.fleet_math.specs.Bernstein.{at};
+ghost use Rattle.whole_numbers.specs.Bernstein.{at};
 ghost use Rattle.traj_codec.specs.Positions.{element_on as word_on};
 ghost use Rattle.traj_codec.specs.Spelling.{stored};
 ghost use Rattle.traj_codec.specs.declared.traj.Segment.{Segment as SegmentWord};

@@ -1,6 +1,6 @@
 //! Each frame, with its bytes by hand from the table of docs/PROMISES.md, "Its frames".
 
-use flight_frames::{FrameFault, event_length, frame_bytes, read_event};
+use flight_link::{FrameFault, event_length, frame_bytes, read_event};
 use flight_model::{Event, Fault, Frame, Note, Order, Sample, Signal};
 
 const SEEN: Sample = Sample {

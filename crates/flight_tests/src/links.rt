@@ -2,7 +2,7 @@
 //! frames"; what is said at each event is in flight_model's example.
 
 use crate::flights::flight;
-use fleet_io::{MemSink, MemSource, Parts, Source};
+use byte_streams::{MemSink, MemSource, Parts, Source};
 use flight_link::direct;
 use std::alloc::{AllocError, Global};
 

@@ -1,6 +1,6 @@
 //! The two ends: over memory, and over readers and writers of std.
 use crate::reading::{all_of, two_parts};
-use fleet_io::{
+use byte_streams::{
     Failed, MemSink, Sink, Source, StdSink, StdSource, SureSink, SureSource, write_whole,
 };
 use std::alloc::{AllocError, Global};

@@ -1,4 +1,4 @@
-//! Tests of the crates of the ground layer: `listed`, `text_lines` and `fleet_io`. They stand in a crate of their own
+//! Tests of the crates of the ground layer: `listed`, `text_lines` and `byte_streams`. They stand in a crate of their own
 //! so that those crates are proved once. Each call is the public one that the layers above make.
 #![tactic(auto)]
 

@@ -1,6 +1,6 @@
 //! Texts that grow line by line.
-use fleet_io::Word::{Bytes, Decimal, Large, Number};
-use fleet_io::{Lines, ShortLine};
+use byte_streams::Word::{Bytes, Decimal, Large, Number};
+use byte_streams::{Lines, ShortLine};
 use std::alloc::Global;
 
 fn grow(alloc: Global) -> bool {

@@ -1,6 +1,6 @@
 //! Parts of an input, whole and byte by byte, under reads of any size and with reads that fail.
 use crate::reading::two_parts;
-use fleet_io::{Ask, Failed, IoFault, MemSource, Parts, Source};
+use byte_streams::{Ask, Failed, IoFault, MemSource, Parts, Source};
 use std::alloc::{AllocError, Global};
 
 // The most bytes of a part that is read.

@@ -1,6 +1,6 @@
 //! Readers of std as pipes, terminals and broken files are, under `StdSource`: what the source hands on, and what
 //! `Parts` says.
-use fleet_io::{IoFault, Parts, StdSource};
+use byte_streams::{IoFault, Parts, StdSource};
 use std::alloc::Global;
 use std::cell::Cell;
 use std::io::{self, ErrorKind, Read};

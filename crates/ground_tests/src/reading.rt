@@ -1,5 +1,5 @@
 //! What the tests read of a source.
-use fleet_io::{Failed, IoFault, Part, Parts, Source};
+use byte_streams::{Failed, IoFault, Part, Parts, Source};
 use std::alloc::Global;
 
 // The most bytes of a part that is read.

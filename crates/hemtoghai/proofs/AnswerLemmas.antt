@@ -2,7 +2,7 @@
 use Rattle.hemtoghai.proofs.Prelude.{◌≡◌, ◌⊎◌, inl, inr, ℕ, ◌≤◌, List, [], ◌++◌, length, take, drop, Option, Some, None, refl, sym, ap, ◌∙◌, arith, cases_lt, nat_tests, take_all, Contains, String, codes, part_of, SureIn, told_sure, empty, told_input, Compile, UploadsText, Behaves, Does, Run, Verb, during, behaves_as, RunsOver, WholeOut, put_in, said_in}
 use Rattle.std.proofs.Math.Seq.{take-append_seam}
 use Rattle.std.specs.declared.alloc.Global.{Global}
-use Rattle.fleet_io.specs.Causes.{Rose}
+use Rattle.byte_streams.specs.Causes.{Rose}
 use Rattle.command_words.specs.declared.command.Command.{Command}
 use Rattle.show_looks.specs.Compile.{Headline}
 use Rattle.show_looks.proofs.CompileLemmas.{headline_of}

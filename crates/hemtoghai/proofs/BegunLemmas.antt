@@ -2,9 +2,9 @@
 use Rattle.hemtoghai.proofs.Prelude.{◌≡◌, inl, inr, ℕ, ◌+◌, ◌<◌, Bool, true, false, List, [], ◌∷◌, ◌++◌, length, get_or, replicate, take, drop, Option, Some, None, refl, sym, ap, subst, ◌∙◌, arith, append-nil, cases_lt, drop_all, length-append, length-replicate, length-take, take-append-drop, take_all, between_feeds, has_marker, part_of, has_whole_marker, SureIn, told_sure, empty, UploadsText, Does, Runs, IsJudged, Outcome, Span, during, run_on, HasBegun, upload_verb, never_rose, WholeOut, put_in}
 use Rattle.std.proofs.lemmas.Option.{none-some}
 use Rattle.std.specs.Option.{option_map}
-use Rattle.fleet_math.specs.Limits.{most_text}
-use Rattle.fleet_io.specs.Told.{IsInput}
-use Rattle.fleet_io.proofs.MarkerLaws.{marker_law}
+use Rattle.whole_numbers.specs.Limits.{most_text}
+use Rattle.byte_streams.specs.Told.{IsInput}
+use Rattle.byte_streams.proofs.MarkerLaws.{marker_law}
 use Rattle.refusals.specs.declared.refusal.Refusal.{Refusal}
 use Rattle.show_judge.specs.Outcome.{IsOutcome, said}
 use Rattle.show_judge.specs.Refused.{text_refusal}

@@ -2,7 +2,7 @@
 use Rattle.hemtoghai.proofs.Prelude.{◌≡◌, ℕ, zero, suc, ◌<◌, Bool, true, false, ◌||◌, List, [], ◌∷◌, ◌++◌, length, replicate, refl, ap, arith, onto_first, false_from_ne_true, length-append, length-replicate, between_feeds, is_line_feed, has_marker, is_marker, has_whole_marker, without_last}
 use Rattle.std.specs.Str.{bytes_eq}
 use Rattle.std.proofs.lemmas.Slice.Eq.{bytes_eq-Decides}
-use Rattle.fleet_io.proofs.CutLemmas.{IsFull-split, split-goes_on}
+use Rattle.byte_streams.proofs.CutLemmas.{IsFull-split, split-goes_on}
 
 -- zero bytes are one line
 one_line : (n : ℕ) → between_feeds (replicate n 0) ≡ replicate n 0 ∷ []

@@ -6,10 +6,10 @@ pub use Rattle.std.proofs.lemmas.List.{drop_all, length-append, length-replicate
 pub use Rattle.std.specs.List.{onto_first, position_or_len, slice_split}
 pub use Rattle.std.specs.Prelude.{Contains, String, codes, string_bytes}
 pub use Rattle.command_words.specs.declared.command.Command.TheVariants.{Boxes, Compile, Dynamics, Explain, Speed, Upload}
-pub use Rattle.fleet_io.proofs.CopiedLemmas.{Reads-copied, empty}
-pub use Rattle.fleet_io.proofs.ToldLemmas.{IsInput-now, told_input}
-pub use Rattle.fleet_io.specs.Held.{has_whole_marker, without_last}
-pub use Rattle.fleet_io.specs.Memory.{SureIn, told_sure}
+pub use Rattle.byte_streams.proofs.CopiedLemmas.{Reads-copied, empty}
+pub use Rattle.byte_streams.proofs.ToldLemmas.{IsInput-now, told_input}
+pub use Rattle.byte_streams.specs.Held.{has_whole_marker, without_last}
+pub use Rattle.byte_streams.specs.Memory.{SureIn, told_sure}
 pub use Rattle.show_judge.specs.Headline.{UploadsText}
 pub use Rattle.show_judge.specs.Runs.{Behaves, Does, Runs}
 pub use Rattle.show_judge.specs.Verb.{IsJudged, Outcome, Run, Span, Verb, during, run_on}

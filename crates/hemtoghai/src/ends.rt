@@ -2,11 +2,11 @@
 ghost use Rattle.std.specs.Prelude.{◌≡◌, ◌≤◌, ◌<◌, ◌++◌, [], length, take, drop, min, Some, IfOk, OnOk};
 ghost use Rattle.std.specs.Io.{ReadsAtMost};
 ghost use Rattle.std.specs.Io.KnownBytes.{WriteAppends};
-ghost use Rattle.fleet_io.specs.Causes.{HasCause};
-ghost use Rattle.fleet_io.specs.Memory.{told_sure};
-ghost use Rattle.fleet_io.specs.Told.{Reads};
+ghost use Rattle.byte_streams.specs.Causes.{HasCause};
+ghost use Rattle.byte_streams.specs.Memory.{told_sure};
+ghost use Rattle.byte_streams.specs.Told.{Reads};
 
-use fleet_io::{Failed, Sink, Source};
+use byte_streams::{Failed, Sink, Source};
 use std::alloc::{AllocError, Global};
 use std::marker::Model;
 
@@ -19,7 +19,7 @@ pub struct SliceSource<'a> {
 
 impl<'a> Model for SliceSource<'a> {
     ghost use Rattle.std.specs.Prelude.{◌≤◌, drop, length, take};
-    ghost use Rattle.fleet_io.specs.Memory.{SureIn};
+    ghost use Rattle.byte_streams.specs.Memory.{SureIn};
 
     ghost Value = { SureIn };
 

@@ -29,8 +29,8 @@ mod ends;
 mod words;
 
 use answering::answer_of;
+use byte_streams::status::{NO_MEMORY, NO_WORDS, WRITE_FAILED};
 use command_words::Command;
-use fleet_io::status::{NO_MEMORY, NO_WORDS, WRITE_FAILED};
 use std::alloc::Global;
 use words::{WordsFault, words_of};
 

@@ -9,13 +9,13 @@ pub use Rattle.std.proofs.lemmas.List.{append-nil, length-replicate, take-append
 pub use Rattle.std.proofs.lemmas.Nat.{leading_length, mul-le, pow-add}
 pub use Rattle.std.specs.Fmt.{decimal, signed_decimal}
 pub use Rattle.std.specs.List.{flat_map, range_with_len}
-pub use Rattle.fleet_math.proofs.BernsteinLemmas.{bernstein-add, bernstein-suc, bernstein-zero, by_lt, cong_add}
-pub use Rattle.fleet_math.proofs.RingLemmas.{add_mul_ℤ, le_mul_pos, linear, mul_add_ℤ, mul_assoc_ℤ, mul_comm_ℤ, mul_neg_ℤ, neg_mul_ℤ, one_mul_ℤ, ring}
-unfoldable pub use Rattle.fleet_math.specs.Bernstein.{bernstein}
-pub use Rattle.fleet_math.specs.Bernstein.{at, bern, choose, weight}
-unfoldable pub use Rattle.fleet_math.specs.Moments.{moment}
-pub use Rattle.fleet_math.specs.Moments.{Moment, moment_from, time_before}
-pub use Rattle.fleet_math.specs.Numbers.{IsBelow}
+pub use Rattle.whole_numbers.proofs.BernsteinLemmas.{bernstein-add, bernstein-suc, bernstein-zero, by_lt, cong_add}
+pub use Rattle.whole_numbers.proofs.RingLemmas.{add_mul_ℤ, le_mul_pos, linear, mul_add_ℤ, mul_assoc_ℤ, mul_comm_ℤ, mul_neg_ℤ, neg_mul_ℤ, one_mul_ℤ, ring}
+unfoldable pub use Rattle.whole_numbers.specs.Bernstein.{bernstein}
+pub use Rattle.whole_numbers.specs.Bernstein.{at, bern, choose, weight}
+unfoldable pub use Rattle.whole_numbers.specs.Moments.{moment}
+pub use Rattle.whole_numbers.specs.Moments.{Moment, moment_from, time_before}
+pub use Rattle.whole_numbers.specs.Numbers.{IsBelow}
 pub use Rattle.traj_codec.specs.Spelling.{HasDuration, stored}
 pub use Rattle.traj_codec.specs.declared.traj.Segment.{Segment}
 pub use Rattle.traj_codec.specs.declared.traj.Traj.{Traj}

@@ -2,8 +2,8 @@
 use Rattle.integer_player.proofs.Prelude.{◌≡◌, ℕ, zero, suc, ◌+◌, ◌*◌, ◌/◌, ◌%◌, ◌==◌, if◌then◌else◌, false, ◌<◌, ◌≤◌, ℤ, List, [], ◌∷◌, ◌++◌, length, take, drop, map, get_or, Option, Result, Ok, Err, OnErr, refl, sym, ap, subst, ◌∙◌, append_assoc, arith, slice_set, nat_tests, flat_map, range_with_len, append-nil, take-append-drop, flat_map-append, common_steps, Traj, Place, IsPlaceIn, ArePlaces, played, row, rows_at, play_text, Passes}
 use Rattle.std.specs.Io.KnownBytes.{Appends}
 use Rattle.std.proofs.lemmas.List.FromFn.{map-range_with_len_more, take-map-range_with_len}
-use Rattle.fleet_io.specs.Taken.{AppendsFront}
-use Rattle.fleet_io.proofs.SentLemmas.{Appends-append}
+use Rattle.byte_streams.specs.Taken.{AppendsFront}
+use Rattle.byte_streams.proofs.SentLemmas.{Appends-append}
 
 -- ---- what goes out
 

@@ -4,13 +4,13 @@ use Rattle.std.specs.Prelude.{ℕ, suc, ◌-◌, ◌*◌, ◌/◌, ◌%◌, ◌^
 use Rattle.std.specs.Prelude.{if◌then◌else◌, ℤ, pos, ◌*ℤ◌}
 use Rattle.std.specs.List.{All, flat_map, range_with_len}
 use Rattle.std.specs.Fmt.{decimal, signed_decimal}
-use Rattle.fleet_io.specs.Words.{line}
-use Rattle.fleet_math.specs.Sums.{power}
-use Rattle.fleet_math.specs.Bernstein.{bern}
-use Rattle.fleet_math.specs.Moments.{Moment, moment}
+use Rattle.byte_streams.specs.Words.{line}
+use Rattle.whole_numbers.specs.Sums.{power}
+use Rattle.whole_numbers.specs.Bernstein.{bern}
+use Rattle.whole_numbers.specs.Moments.{Moment, moment}
 use Rattle.traj_codec.specs.declared.traj.Traj.{Traj}
 use Rattle.traj_codec.specs.Spelling.{HasDuration}
-use Rattle.fleet_math.specs.Limits.{most_segments}
+use Rattle.whole_numbers.specs.Limits.{most_segments}
 use Rattle.traj_codec.specs.Positions.{decoded, durations}
 use Rattle.integer_player.specs.Floors.{floor_of}
 

@@ -1,8 +1,8 @@
 //! The value of a curve from its weights, rounded down.
 
 ghost use Rattle.std.specs.Prelude.{◌≡◌, ℕ, ◌+◌, ◌*◌, ◌/◌, ◌^◌, ◌<◌, ◌≤◌, slice_index, ℤ, pos, ◌+ℤ◌, ◌-ℤ◌};
-ghost use Rattle.fleet_math.specs.Bernstein.{at};
-ghost use Rattle.fleet_math.specs.Numbers.{IsBelow};
+ghost use Rattle.whole_numbers.specs.Bernstein.{at};
+ghost use Rattle.whole_numbers.specs.Numbers.{IsBelow};
 ghost use Rattle.integer_player.specs.Weights.{dot_below, shift};
 
 use crate::floor::floor_of_multiple;

@@ -1,7 +1,7 @@
 //! An instant of a segment, with what every curve of every drone needs there.
 
 ghost use Rattle.std.specs.Prelude.{IsTrue, ◌≡◌, ◌^◌, ◌≤◌, [], ◌∷◌};
-ghost use Rattle.fleet_math.specs.Numbers.{IsBelow};
+ghost use Rattle.whole_numbers.specs.Numbers.{IsBelow};
 ghost use Rattle.integer_player.specs.Played.{curve_floor};
 
 use crate::curve::{centred, curve, shifted};
@@ -28,7 +28,7 @@ pub(crate) struct Instant {
 
 impl Model for Instant {
     ghost use Rattle.std.specs.Prelude.{◌+◌, ◌*◌, ◌^◌, ◌≤◌};
-    ghost use Rattle.fleet_math.specs.Moments.{Moment};
+    ghost use Rattle.whole_numbers.specs.Moments.{Moment};
     ghost use Rattle.integer_player.specs.Weights.{IsWeighed, IsNarrowed};
 
     ghost Value = { Moment };

@@ -11,8 +11,8 @@
 //! (`quick.rt`), it takes no division; else quotient and remainder are taken apart (`floor.rt`), since
 //! a thousand times a position may need more than 128 bits.
 //!
-//! The crate stands on `fleet_math` for moments and Bernstein sums, on `bezier_core` for laws of
-//! powers, on `traj_codec` for trajectories, on `fleet_io` for the sink, and on `itoa` and
+//! The crate stands on `whole_numbers` for moments and Bernstein sums, on `bezier_core` for laws of
+//! powers, on `traj_codec` for trajectories, on `byte_streams` for the sink, and on `itoa` and
 //! `arrayvec` for rows.
 #![tactic(auto)]
 

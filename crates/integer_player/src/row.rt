@@ -27,7 +27,7 @@ fn put_number(row: &mut Row, value: i64)
 
 /// The row of a drone at an instant in milliseconds: the instant, the drone's name, of at most 16 bytes, x, y and z in
 /// micrometres and yaw in hundredths of a degree (docs/COMMANDS.md, `play`). It is put together word by word, and not
-/// by a template of `fleet_io`, which would make `play` a fifth slower.
+/// by a template of `byte_streams`, which would make `play` a fifth slower.
 pub fn play_row(ms: u32, name: &[u8], position: [i64; 4]) -> Row
     requires { length name.now ≤ 16 }
     ensures { result.items ≡ row ms name.now position }

@@ -2,8 +2,8 @@
 
 ghost use Rattle.std.specs.Prelude.{◌≡◌, ℕ, ◌≤◌, [], ◌++◌, All, length, map, OnOk, OnErr};
 ghost use Rattle.std.specs.Io.KnownBytes.{Appends};
-ghost use Rattle.fleet_io.specs.Causes.{HasCause};
-ghost use Rattle.fleet_io.specs.Taken.{AppendsFront};
+ghost use Rattle.byte_streams.specs.Causes.{HasCause};
+ghost use Rattle.byte_streams.specs.Taken.{AppendsFront};
 ghost use Rattle.traj_codec.specs.declared.traj.Traj.{Traj};
 ghost use Rattle.integer_player.specs.Played.{played, duration_of, IsPlayable, row_bytes, rows_at, play_text};
 ghost use Rattle.integer_player.specs.Places.{IsPlaceIn, ArePlaces};
@@ -13,9 +13,9 @@ use crate::instant::Instant;
 use crate::player::Player;
 use crate::row::{ROW_BYTES, play_row};
 use arrayvec::ArrayVec;
-use fleet_io::{BUFFER_BYTES, Failed, Sink, write_whole};
-use fleet_math::MOST_DRONES;
+use byte_streams::{BUFFER_BYTES, Failed, Sink, write_whole};
 use traj_codec::Traj;
+use whole_numbers::MOST_DRONES;
 
 /// A drone's name.
 pub type Name = ArrayVec<u8, 16>;

@@ -1,8 +1,8 @@
 -- From parts that are kept to positions that keep to a region.
 use Rattle.keepout_boxes.proofs.Prelude.{◌≡◌, ℕ, zero, suc, ◌+◌, ◌*◌, ◌^◌, ◌≤◌, ◌<◌, ℤ, pos, ◌+ℤ◌, ◌-ℤ◌, ◌*ℤ◌, ◌≤ℤ◌, ◌<ℤ◌, arith, refl, sym, subst, ◌∙◌, ap, inl, inr, List, [], ◌∷◌, length, get_or, Some, slice_get, All, ints, by_lt_z, pow_pos, power, IsIn, at, bernstein, ring, linear, le_mul_ℤ, mul_assoc_ℤ, mul_comm_ℤ, mul_left_comm_ℤ, mul_add_ℤ, one_mul_ℤ, by_lt, bernstein-at_least, Bez, controls, part_value, Traj, decoded, durations, HasFewPoints, Raised, curves_at, raised_in, part-instant, power_seven, bernstein-at_most, at_place, segments_of, Region, Keepout, Volume, AllAbove, AllBelow, AllBetween, IsKept, IsSpot, KeepsTo, KeptAt, Spot, StaysClear, extent, part_of}
 use Rattle.std.proofs.lemmas.Option.{slice_get_within}
-use Rattle.fleet_math.specs.Moments.{Moment, moment}
-use Rattle.fleet_math.proofs.MomentLemmas.{IsInside, moment-inside}
+use Rattle.whole_numbers.specs.Moments.{Moment, moment}
+use Rattle.whole_numbers.proofs.MomentLemmas.{IsInside, moment-inside}
 use Rattle.sep_parts.proofs.Positions.{curve_value}
 use Rattle.keepout_boxes.proofs.Hulls.{less_scaled, more_scaled}
 

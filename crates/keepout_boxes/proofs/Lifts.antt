@@ -1,7 +1,7 @@
 -- From one cutting into segments to another.
 use Rattle.keepout_boxes.proofs.Prelude.{◌≡◌, ℕ, ◌*◌, ◌≤◌, ℤ, pos, ◌+ℤ◌, ◌-ℤ◌, ◌*ℤ◌, ◌<ℤ◌, ◌≤ℤ◌, arith, refl, sym, subst, ◌∙◌, ap, inl, inr, get_or, power, at, ring, linear, lt_mul_ℤ, le_mul_ℤ, le_from_mul_ℤ, mul_comm_ℤ, Traj, decoded, durations, Keepout, Volume, KeepsLaw, KeepsTo, SentLaw, extent}
 use Rattle.std.specs.List.{sum}
-use Rattle.fleet_math.proofs.DivisionLemmas.{lt_from_mul_ℤ}
+use Rattle.whole_numbers.proofs.DivisionLemmas.{lt_from_mul_ℤ}
 use Rattle.traj_codec.specs.Joined.{IsLasting, JoinLaw, joined, own}
 use Rattle.sep_parts.proofs.Lifts.{lasting_at, own_some, sent_at, seventh_positive}
 

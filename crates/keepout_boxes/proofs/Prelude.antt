@@ -11,13 +11,13 @@ pub use Rattle.bezier_core.specs.Along.{controls}
 pub use Rattle.bezier_core.specs.declared.Bez.{Bez}
 pub use Rattle.fleet_curves.proofs.Standing.{at_place, item_there, same_item, segments_of}
 pub use Rattle.fleet_curves.specs.Raised.{HasFewPoints, Raised, curves_at, raised_in}
-pub use Rattle.fleet_math.proofs.BernsteinLemmas.{bernstein-at_least, by_lt}
-pub use Rattle.fleet_math.proofs.RingLemmas.{le_from_mul_ℤ, le_mul_ℤ, linear, lt_mul_ℤ, mul_add_ℤ, mul_assoc_ℤ, mul_comm_ℤ, mul_left_comm_ℤ, neg_mul_ℤ, one_mul_ℤ, ring}
-pub use Rattle.fleet_math.specs.Bernstein.{at, bernstein}
-pub use Rattle.fleet_math.specs.Numbers.{IsBelow, IsIn}
-pub use Rattle.fleet_math.specs.Sums.{power}
-pub use Rattle.halving.proofs.PartBounds.{bernstein-at_most, part-at_least, part-at_most, part-half, part-instant, part-within, power_seven}
-pub use Rattle.halving.specs.Part.{part_value}
+pub use Rattle.whole_numbers.proofs.BernsteinLemmas.{bernstein-at_least, by_lt}
+pub use Rattle.whole_numbers.proofs.RingLemmas.{le_from_mul_ℤ, le_mul_ℤ, linear, lt_mul_ℤ, mul_add_ℤ, mul_assoc_ℤ, mul_comm_ℤ, mul_left_comm_ℤ, neg_mul_ℤ, one_mul_ℤ, ring}
+pub use Rattle.whole_numbers.specs.Bernstein.{at, bernstein}
+pub use Rattle.whole_numbers.specs.Numbers.{IsBelow, IsIn}
+pub use Rattle.whole_numbers.specs.Sums.{power}
+pub use Rattle.bezier_core.proofs.PartBounds.{bernstein-at_most, part-at_least, part-at_most, part-half, part-instant, part-within, power_seven}
+pub use Rattle.bezier_core.specs.Part.{part_value}
 pub use Rattle.text_lines.specs.Tokens.{first_token, lines_in, word_in, words_in}
 pub use Rattle.text_lines.specs.declared.token.Token.{Token}
 pub use Rattle.traj_codec.specs.Positions.{decoded, durations}

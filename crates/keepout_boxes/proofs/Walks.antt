@@ -5,7 +5,7 @@ use Rattle.std.proofs.Math.Nat.{pow-suc, pow-le-pow_right}
 use Rattle.bezier_core.specs.Raised.{eight}
 use Rattle.bezier_core.specs.Steps.{IsWithin}
 use Rattle.bezier_core.proofs.CurveLemmas.{at-eight}
-use Rattle.halving.proofs.PolarLemmas.{polar-same, part-whole}
+use Rattle.bezier_core.proofs.PolarLemmas.{polar-same, part-whole}
 use Rattle.keepout_boxes.proofs.Hulls.{less_scaled, more_scaled}
 
 -- the same of equal control values at an equal scale

@@ -1,13 +1,13 @@
 -- Regions of space, when a part of a drone's way keeps to one, and what that promises of the decoded positions.
 use Rattle.std.specs.Prelude.{◌≡◌, ◌⊎◌, ℕ, ◌*◌, ◌^◌, ◌≤◌, ◌<◌, ℤ, pos, ◌+ℤ◌, ◌-ℤ◌, ◌*ℤ◌, ◌<ℤ◌, ◌≤ℤ◌, neg_ℤ, List, []}
 use Rattle.std.specs.Prelude.{◌∷◌, length, Some, slice_get, sum, All, map}
-use Rattle.fleet_math.specs.Numbers.{IsIn}
-use Rattle.fleet_math.specs.Sums.{power}
-use Rattle.fleet_math.specs.Bernstein.{at}
-use Rattle.fleet_math.specs.Moments.{Moment}
+use Rattle.whole_numbers.specs.Numbers.{IsIn}
+use Rattle.whole_numbers.specs.Sums.{power}
+use Rattle.whole_numbers.specs.Bernstein.{at}
+use Rattle.whole_numbers.specs.Moments.{Moment}
 use Rattle.bezier_core.specs.declared.Bez.{Bez}
 use Rattle.bezier_core.specs.Along.{controls}
-use Rattle.halving.specs.Part.{part_value}
+use Rattle.bezier_core.specs.Part.{part_value}
 use Rattle.traj_codec.specs.declared.traj.Traj.{Traj}
 use Rattle.traj_codec.specs.Positions.{decoded, durations}
 use Rattle.traj_codec.specs.Joined.{IsLasting, SameCurve, joined, own}

@@ -1,6 +1,6 @@
 -- The line that says that a show keeps to its regions.
 use Rattle.std.specs.Prelude.{ℕ, List, [], ◌∷◌, codes, decimal}
-use Rattle.fleet_io.specs.Words.{line}
+use Rattle.byte_streams.specs.Words.{line}
 
 -- each drone keeps to each of this many regions
 abbrev pub kept_line : ℕ → List ℕ

@@ -6,7 +6,7 @@ use Rattle.text_lines.specs.declared.token.Comments.TheVariants.{Absent}
 use Rattle.text_lines.specs.Lines.{lines_of}
 use Rattle.text_lines.specs.Words as words
 use Rattle.text_lines.specs.Numbers.{number_in}
-use Rattle.fleet_math.specs.Bernstein.{at}
+use Rattle.whole_numbers.specs.Bernstein.{at}
 use Rattle.keepout_boxes.specs.declared.region.Region.{Region}
 use Rattle.keepout_boxes.specs.declared.region.Region.TheVariants.{Keepout, Volume}
 use Rattle.keepout_boxes.specs.declared.reading.RegionFault.{RegionFault}

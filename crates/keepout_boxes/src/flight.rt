@@ -1,12 +1,12 @@
 //! How far drones come in the whole show.
 
 ghost use Rattle.std.specs.Prelude.{◌≡◌, ◌<◌, ◌≤ℤ◌};
-ghost use Rattle.fleet_math.specs.Bernstein.{at};
+ghost use Rattle.whole_numbers.specs.Bernstein.{at};
 ghost use Rattle.keepout_boxes.specs.Steps.{Covers, CoverAll, IsWider};
 
 use bezier_core::Bez;
 use fleet_curves::Curves;
-use fleet_math::MOST_DRONES;
+use whole_numbers::MOST_DRONES;
 
 /// Of each drone of a show its flight's box.
 pub type Boxes = [[Bez<8>; 3]; MOST_DRONES];

@@ -11,7 +11,7 @@ use crate::region::Region;
 use crate::walk::first_entering;
 use bezier_core::Bez;
 use fleet_curves::Curves;
-use fleet_math::Depth;
+use whole_numbers::Depth;
 
 /// What is judged.
 #[derive(Clone, Copy, PartialEq, Eq)]

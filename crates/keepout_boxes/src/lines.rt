@@ -2,8 +2,8 @@
 ghost use Rattle.std.specs.Prelude.{◌≡◌};
 ghost use Rattle.keepout_boxes.specs.Lines.{kept_line};
 
-use fleet_io::ShortLine;
-use fleet_io::Word::Number;
+use byte_streams::ShortLine;
+use byte_streams::Word::Number;
 
 /// What is said of a show whose drones keep to this many regions: `kept regions N` (docs/COMMANDS.md, `boxes`). Takes
 /// no memory.

@@ -2,8 +2,8 @@
 
 ghost use Rattle.std.specs.Prelude.{◌≡◌, ◌⊎◌, ◌↔◌, ℕ, ◌+◌, ◌*◌, ◌^◌, ◌≤◌, ◌<◌, ℤ, pos, ◌+ℤ◌, ◌-ℤ◌, ◌*ℤ◌, ◌≤ℤ◌, ◌<ℤ◌};
 ghost use Rattle.std.specs.Prelude.{IsTrue, All};
-ghost use Rattle.fleet_math.specs.Numbers.{IsBelow, IsIn};
-ghost use Rattle.fleet_math.specs.Bernstein.{at};
+ghost use Rattle.whole_numbers.specs.Numbers.{IsBelow, IsIn};
+ghost use Rattle.whole_numbers.specs.Bernstein.{at};
 ghost use Rattle.keepout_boxes.specs.Kept.{AllAbove, AllBelow, AllBetween, AreEnds, IsExtent, IsKept, IsNear};
 ghost use Rattle.keepout_boxes.specs.Steps.{values_of};
 

@@ -4,7 +4,7 @@ ghost use Rattle.std.specs.Prelude.{◌≡◌, ℕ, ◌+◌, ◌<◌, ◌≤◌,
 ghost use Rattle.std.specs.Prelude.{IfErr, IfSome, OnOk, All, ℤ};
 ghost use Rattle.text_lines.specs.Tokens.{words_in};
 ghost use Rattle.keepout_boxes.specs.Kept.{AreEnds, IsNear, most_regions};
-ghost use Rattle.fleet_math.specs.Limits.{most_text};
+ghost use Rattle.whole_numbers.specs.Limits.{most_text};
 ghost use Rattle.keepout_boxes.specs.Regions.{FaultGives, are_ordered as ordered_ends, coordinate as coordinate_word};
 ghost use Rattle.keepout_boxes.specs.Regions.{corner as corner_words, region_of, region_with as region_of_kind};
 ghost use Rattle.keepout_boxes.specs.Regions.{regions_of};

@@ -2,7 +2,7 @@
 
 ghost use Rattle.std.specs.Prelude.{◌≡◌, ◌-◌, ◌*◌, ◌^◌, ◌≤◌, ◌+◌, pos, All, MatchOption};
 ghost use Rattle.std.specs.Option.{option_map};
-ghost use Rattle.fleet_math.specs.Numbers.{IsIn};
+ghost use Rattle.whole_numbers.specs.Numbers.{IsIn};
 ghost use Rattle.bezier_core.specs.Steps.{IsWithin};
 ghost use Rattle.keepout_boxes.specs.Kept.{IsExtent, IsNear};
 ghost use Rattle.keepout_boxes.specs.Steps.{AllKeptIn, IsFirstIn, IsIndex};
@@ -10,8 +10,8 @@ ghost use Rattle.keepout_boxes.specs.Steps.{AllKeptIn, IsFirstIn, IsIndex};
 use crate::part::is_kept;
 use crate::region::Region;
 use bezier_core::Bez;
-use fleet_math::Depth;
 use sep_parts::halves;
+use whole_numbers::Depth;
 
 /// The first of the 2^`depth` parts of three curves that isn't kept. Where a part is kept, so are its halves, and they
 /// aren't looked at.

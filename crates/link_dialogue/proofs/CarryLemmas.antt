@@ -1,6 +1,6 @@
 -- What is carried from item to item, and how it ends.
 use Rattle.link_dialogue.proofs.Prelude.{Bool, List, None, Option, Some, [], ap, append-nil, append_assoc, arith, false, inl, inr, length, length-append, refl, sym, take, drop, Result, ℕ, ◌++◌, ◌+◌, ◌<◌, ◌∙◌, ◌∷◌, ◌≡◌, ◌≤◌, length_push, take-append-drop, take_at, All-head, All-nil, All-push, Appends, Consumes, IsAtEnd, prepend_known, All, ◌==◌, Appends-append, buffer_bytes, AppendsFront, Told, Took, BeginsNone, BeginsWith, Dialogue, EndsGoing, IsDialogue, StaysPrompt, StopsAtEnd, Takes, item_limit, items_bytes, Breaks, Ends, Fails, IsFaulty}
-use Rattle.fleet_io.proofs.TakenLemmas.{Consumes-append, Consumes-nil}
+use Rattle.byte_streams.proofs.TakenLemmas.{Consumes-append, Consumes-nil}
 use Rattle.link_dialogue.specs.Machines.{CarryEnds, CarryGives, TakesItem}
 use Rattle.link_dialogue.specs.declared.driver.Broken.{Broken}
 use Rattle.link_dialogue.proofs.ItemLemmas.{All-later, BeginsWith-trans, Takes-none, at_some, bytes-push, compare, front_more, going-push, grown, left_of, less_or_not, not_full, same_front, when_some}

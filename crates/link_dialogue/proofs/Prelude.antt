@@ -5,12 +5,12 @@ pub use Rattle.std.proofs.lemmas.List.Elements.{All-head, All-nil, All-push, All
 pub use Rattle.std.specs.Io.KnownBytes.{Appends, Consumes, IsAtEnd, prepend_known}
 pub use Rattle.std.specs.List.{All}
 pub use Rattle.std.specs.Prelude.{IsTrue, ◌==◌}
-pub use Rattle.fleet_io.proofs.SentLemmas.{Appends-append}
-pub use Rattle.fleet_io.proofs.ToldLemmas.{IsInput-now, Took-none, Took-trans, Went-none, Went-trans, back, consumed, nothing_before, of_source}
-pub use Rattle.fleet_io.specs.Causes.{Rose}
-pub use Rattle.fleet_io.specs.Held.{buffer_bytes, stream}
-pub use Rattle.fleet_io.specs.Taken.{AppendsFront}
-pub use Rattle.fleet_io.specs.Told.{MayGive, Told, Took, Went, to_come}
+pub use Rattle.byte_streams.proofs.SentLemmas.{Appends-append}
+pub use Rattle.byte_streams.proofs.ToldLemmas.{IsInput-now, Took-none, Took-trans, Went-none, Went-trans, back, consumed, nothing_before, of_source}
+pub use Rattle.byte_streams.specs.Causes.{Rose}
+pub use Rattle.byte_streams.specs.Held.{buffer_bytes, stream}
+pub use Rattle.byte_streams.specs.Taken.{AppendsFront}
+pub use Rattle.byte_streams.specs.Told.{MayGive, Told, Took, Went, to_come}
 pub use Rattle.link_frames.specs.Frames.{end_frame}
 pub use Rattle.link_dialogue.specs.Dialogues.{BeginsNone, BeginsWith, Dialogue, DialogueFails, DialogueGives, EndsGoing, EndsWith, IsDialogue, IsOwnEnd, IsStatus, StaysPrompt, StopsAtEnd, Takes, item_limit, items_bytes}
 pub use Rattle.link_dialogue.specs.Steps.{Breaks, Ends, Fails, IsFaulty}

@@ -3,9 +3,9 @@ use Rattle.std.specs.Prelude.{◌≡◌, ◌≢◌, ◌⊎◌, ℕ, ◌+◌, ◌
 use Rattle.std.specs.Prelude.{Option, Some, None, IfSome}
 use Rattle.std.specs.Io.KnownBytes.{Appends, Consumes}
 use Rattle.std.specs.List.{All, flat_map}
-use Rattle.fleet_io.specs.Causes.{Rose}
-use Rattle.fleet_io.specs.Held.{buffer_bytes}
-use Rattle.fleet_io.specs.Taken.{AppendsFront}
+use Rattle.byte_streams.specs.Causes.{Rose}
+use Rattle.byte_streams.specs.Held.{buffer_bytes}
+use Rattle.byte_streams.specs.Taken.{AppendsFront}
 use Rattle.link_frames.specs.Frames.{end_frame}
 
 -- What may come in over a link, and what it leads to: a host with its frames, a director with its events.

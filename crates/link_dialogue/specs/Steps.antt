@@ -1,7 +1,7 @@
 -- Words of private steps of a dialogue. No public clause of a crate above cites them.
 use Rattle.std.specs.Prelude.{◌≡◌, ℕ, ◌<◌, ◌≤◌, ◌==◌, List, length, Option, None, IfSome}
 use Rattle.std.specs.Io.KnownBytes.{Appends, Consumes}
-use Rattle.fleet_io.specs.Taken.{AppendsFront}
+use Rattle.byte_streams.specs.Taken.{AppendsFront}
 use Rattle.link_dialogue.specs.Dialogues.{Dialogue, DialogueGives, EndsWith, Takes, item_limit}
 
 -- There are bytes to come, and no whole item begins them, as `NoItem` says of bytes.

@@ -3,16 +3,16 @@
 ghost use Rattle.std.specs.Prelude.{◌≡◌, ◌≢◌, ◌≤◌, ◌++◌, ℕ, List, [], ◌∷◌, length, false, Some, None, Err, IsTrue};
 ghost use Rattle.std.specs.Prelude.{IfOk, OnErr, OnOk};
 ghost use Rattle.std.specs.Io.KnownBytes.{Appends};
-ghost use Rattle.fleet_io.specs.Causes.{Rose};
-ghost use Rattle.fleet_io.specs.Held.{buffer_bytes, stream};
-ghost use Rattle.fleet_io.specs.Told.{MayGive, Took, Went, to_come};
+ghost use Rattle.byte_streams.specs.Causes.{Rose};
+ghost use Rattle.byte_streams.specs.Held.{buffer_bytes, stream};
+ghost use Rattle.byte_streams.specs.Told.{MayGive, Took, Went, to_come};
 ghost use Rattle.link_dialogue.specs.Dialogues.{IsDialogue, IsOwnEnd, IsStatus, RunGives};
 ghost use Rattle.link_dialogue.specs.Machines.{CarryGives, IsGoing, StepGives};
 
 use crate::finish;
 use crate::machine::{Fed, Machine};
-use fleet_io::status::{ENDED, FAULTY, READ_FAILED, TOO_MANY_FRAMES, WRITE_FAILED};
-use fleet_io::{BUFFER_BYTES, Failed, Parts, Sink, Source, write_whole};
+use byte_streams::status::{ENDED, FAULTY, READ_FAILED, TOO_MANY_FRAMES, WRITE_FAILED};
+use byte_streams::{BUFFER_BYTES, Failed, Parts, Sink, Source, write_whole};
 
 #[derive(Clone, Copy)]
 enum Stepped {

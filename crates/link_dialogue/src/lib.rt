@@ -3,22 +3,22 @@
 //!
 //! A [`Machine`] takes items and says what each leads to; `run` carries its dialogue to the end frame, which `finish`
 //! writes. `specs/Dialogues.antt` says which status and which output any bytes lead to (`DialogueGives`), what was sent
-//! where a read or a write failed, and that no answer waits. The crate stands on `fleet_io` for bytes in and out, and
+//! where a read or a write failed, and that no answer waits. The crate stands on `byte_streams` for bytes in and out, and
 //! on `link_frames` for the end frame.
 #![tactic(auto)]
 
 ghost use Rattle.std.specs.Prelude.{◌≡◌, ◌≢◌, ◌⊎◌, ◌≤◌};
 ghost use Rattle.std.specs.Io.KnownBytes.{Appends};
-ghost use Rattle.fleet_io.specs.Causes.{Rose};
-ghost use Rattle.fleet_io.specs.Taken.{AppendsFront};
+ghost use Rattle.byte_streams.specs.Causes.{Rose};
+ghost use Rattle.byte_streams.specs.Taken.{AppendsFront};
 ghost use Rattle.link_frames.specs.Frames.{end_frame};
 
 mod driver;
 mod machine;
 
+use byte_streams::status::WRITE_FAILED;
+use byte_streams::{Failed, Sink, write_whole};
 pub use driver::run;
-use fleet_io::status::WRITE_FAILED;
-use fleet_io::{Failed, Sink, write_whole};
 use link_frames::END_BYTE;
 pub use machine::{Fed, Machine, Taken};
 

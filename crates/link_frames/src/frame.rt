@@ -1,13 +1,13 @@
 //! A frame, what a byte of one gives, and how a frame is written.
 
 ghost use Rattle.std.specs.Prelude.{◌≡◌, ℕ, ◌+◌, ◌≤◌, List, [], ◌∷◌, ◌++◌, length, IfSome, IfNone};
-ghost use Rattle.fleet_math.specs.Limits.{most_drones};
+ghost use Rattle.whole_numbers.specs.Limits.{most_drones};
 ghost use Rattle.link_frames.specs.Frames.{BeginsNoFrame, BeginsWithFrame, IsFrame, frame_bytes, frame_of, packet_byte};
 ghost use Rattle.link_frames.specs.declared.frame.Frame.TheVariants as frame;
 
 use arrayvec::ArrayVec;
 use crtp_packets::{PACKET_BYTES, Packet};
-use fleet_math::MOST_DRONES;
+use whole_numbers::MOST_DRONES;
 
 /// The one byte of a tick, `T`.
 pub const TICK_BYTE: u8 = 0x54;

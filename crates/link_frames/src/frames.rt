@@ -6,8 +6,8 @@ ghost use Rattle.link_frames.specs.Frames.{IsBegun, fed, fed_packet, next_begun}
 use crate::frame::{FRAME_BYTES, Fed, Frame, FrameFault, PACKET_BYTE, TICK_BYTE};
 use arrayvec::ArrayVec;
 use crtp_packets::{PACKET_BYTES, Packet, from_bytes};
-use fleet_math::MOST_DRONES;
 use std::marker::Model;
+use whole_numbers::MOST_DRONES;
 
 /// Reads frames from bytes, one byte at a time. Contracts see the bytes since the last whole frame.
 #[derive(Drop)]

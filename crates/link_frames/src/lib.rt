@@ -4,7 +4,7 @@
 //! A [`Frames`] is fed one byte after the other and tells when a frame is whole, or that a byte has no place;
 //! `whole_frame` reads the frame that given bytes begin with, all at once; `put_frame` gives the one spelling of a
 //! packet's frame. What a frame's bytes are is said by `specs/Frames.antt`; `frame_law` says that bytes are read as one
-//! list of frames alone, however they are cut. The crate stands on `crtp_packets` for packets, on `fleet_math` for the
+//! list of frames alone, however they are cut. The crate stands on `crtp_packets` for packets, on `whole_numbers` for the
 //! number of drones, and on `arrayvec`; none of its calls takes memory.
 #![tactic(auto)]
 

@@ -3,8 +3,8 @@
 ghost use Rattle.std.specs.Prelude.{◌≡◌, ◌≤◌, ◌++◌, [], ◌∷◌, ℕ, List, length, None, IsTrue, All};
 ghost use Rattle.std.specs.Prelude.{Contains};
 ghost use Rattle.std.specs.Io.KnownBytes.{Appends};
-ghost use Rattle.fleet_io.specs.Held.{buffer_bytes, stream};
-ghost use Rattle.fleet_io.specs.Told.{MayGive, Went, to_come};
+ghost use Rattle.byte_streams.specs.Held.{buffer_bytes, stream};
+ghost use Rattle.byte_streams.specs.Told.{MayGive, Went, to_come};
 ghost use Rattle.link_frames.specs.declared.frame.Frame.{Frame};
 ghost use Rattle.link_frames.specs.Frames.{IsFrame, frame_bytes, frame_of};
 ghost use Rattle.upload_core.specs.HostStandsFor.{HostStandsFor};
@@ -20,7 +20,7 @@ ghost use Rattle.upload_model.specs.Sessions.{Upload};
 
 use crate::host::{drone_count, take_packet, take_tick};
 use crate::output::{Bytes, put_all};
-use fleet_io::{Parts, Sink, Source};
+use byte_streams::{Parts, Sink, Source};
 use link_dialogue::{Fed, Machine, Taken, run};
 use link_frames::{Frames, View, whole_frame};
 use upload_core::{Host, Out};

@@ -1,14 +1,14 @@
 //! The host of an upload, as a link sees it.
 
 ghost use Rattle.std.specs.Prelude.{◌≡◌, ◌<◌, ◌≤◌, ◌++◌, ℕ, List, [], ◌∷◌, length, All, None};
-ghost use Rattle.fleet_math.specs.Limits.{most_drones};
+ghost use Rattle.whole_numbers.specs.Limits.{most_drones};
 ghost use Rattle.upload_model.specs.declared.events.Event.{Event};
 ghost use Rattle.upload_core.specs.HostStandsFor.{HostStandsFor};
 ghost use Rattle.upload_core.specs.HostState.{IsPacketOf, view_of};
 ghost use Rattle.link_upload.specs.Links.{link_of, status_of};
 
+use byte_streams::status::{DIFFERS, DONE, GAVE_UP, REFUSED};
 use crtp_packets::{PACKET_BYTES, Packet};
-use fleet_io::status::{DIFFERS, DONE, GAVE_UP, REFUSED};
 use upload_core::{Event, Host, Out, Progress, Sent};
 
 fn status(progress: Progress) -> Option<u8>

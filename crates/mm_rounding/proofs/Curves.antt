@@ -1,8 +1,8 @@
 -- A curve and the curve of its rounded control values are within half a millimetre: the hull property of their difference.
 use Rattle.mm_rounding.proofs.Prelude.{◌≡◌, ℕ, zero, suc, ◌+◌, ◌-◌, ◌<◌, ◌≤◌, ℤ, pos, neg_ℤ, ◌+ℤ◌, ◌-ℤ◌, ◌*ℤ◌, ◌≤ℤ◌, List, [], ◌∷◌, map, length, get_or-map, length-map, arith, sym, ap, ◌∙◌, subst, ints, at, bern, bernstein, IsNear, bernstein-mix, bernstein-at_least, bernstein-same, bernstein-zero, bernstein-suc, cong_add, millimetres, position}
-use Rattle.fleet_math.specs.Sums.{power}
-use Rattle.fleet_math.proofs.RingLemmas.{ring, linear, le_mul_ℤ, mul_assoc_ℤ, mul_left_comm_ℤ, mul_comm_ℤ, mul_add_ℤ, zero_mul_ℤ}
-use Rattle.fleet_math.proofs.SumLemmas.{power-add}
+use Rattle.whole_numbers.specs.Sums.{power}
+use Rattle.whole_numbers.proofs.RingLemmas.{ring, linear, le_mul_ℤ, mul_assoc_ℤ, mul_left_comm_ℤ, mul_comm_ℤ, mul_add_ℤ, zero_mul_ℤ}
+use Rattle.whole_numbers.proofs.SumLemmas.{power-add}
 use Rattle.mm_rounding.proofs.Millimetres.{millimetres_near}
 
 -- a power of a number that is not negative

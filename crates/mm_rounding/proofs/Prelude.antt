@@ -3,9 +3,9 @@ pub use Rattle.std.proofs.Common.{Bool, FitsSigned, List, None, Some, [], ap, ar
 pub use Rattle.std.proofs.lemmas.Int.{ints, to_z-of_z}
 pub use Rattle.std.proofs.lemmas.List.{get_or-map, length-map, length-set, take_all}
 pub use Rattle.std.specs.List.{All, list_all}
-pub use Rattle.fleet_math.proofs.BernsteinLemmas.{bernstein-at_least, bernstein-mix, bernstein-same, bernstein-suc, bernstein-zero, by_lt, cong_add}
-pub use Rattle.fleet_math.specs.Bernstein.{at, bern, bernstein}
-pub use Rattle.fleet_math.specs.Near.{IsNear}
+pub use Rattle.whole_numbers.proofs.BernsteinLemmas.{bernstein-at_least, bernstein-mix, bernstein-same, bernstein-suc, bernstein-zero, by_lt, cong_add}
+pub use Rattle.whole_numbers.specs.Bernstein.{at, bern, bernstein}
+pub use Rattle.whole_numbers.specs.Near.{IsNear}
 pub use Rattle.traj_codec.specs.declared.traj.Element.TheVariants.{Constant, Cubic, Linear, Seven}
 pub use mir.Syntax.{w16, w64}
 pub use Rattle.mm_rounding.specs.Near.{EndsThere, IsAxis, IsPiece, KeepsEqual, KeepsNear, StaysNear, last_control, position}

@@ -1,10 +1,10 @@
 -- How near a rounded segment is to its piece, at every fraction of the cue.
 use Rattle.std.specs.Prelude.{◌≡◌, ℕ, ◌-◌, ◌≤◌, ℤ, pos, ◌*ℤ◌, List, ◌∷◌, length}
 use Rattle.std.specs.List.{All}
-use Rattle.fleet_math.specs.Sums.{power}
-use Rattle.fleet_math.specs.Bernstein.{bern}
-use Rattle.fleet_math.specs.Decoded.{last_value}
-use Rattle.fleet_math.specs.Near.{IsNear}
+use Rattle.whole_numbers.specs.Sums.{power}
+use Rattle.whole_numbers.specs.Bernstein.{bern}
+use Rattle.whole_numbers.specs.Decoded.{last_value}
+use Rattle.whole_numbers.specs.Near.{IsNear}
 use Rattle.traj_codec.specs.declared.traj.Element.{Element}
 use Rattle.traj_codec.specs.declared.traj.Segment.{Segment}
 use Rattle.traj_codec.specs.Spelling.{stored}

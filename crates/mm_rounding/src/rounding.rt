@@ -1,7 +1,7 @@
 //! Numbers, curves and pieces rounded.
 
 ghost use Rattle.std.specs.Prelude.{◌≡◌, ◌≤◌, ◌*ℤ◌, ◌-ℤ◌, pos, neg_ℤ, map, length, IfSome};
-ghost use Rattle.fleet_math.specs.Numbers.{IsIn};
+ghost use Rattle.whole_numbers.specs.Numbers.{IsIn};
 ghost use Rattle.mm_rounding.specs.declared.piece.Axis.TheVariants.{Two, Four, Eight};
 ghost use Rattle.mm_rounding.specs.Rounding.{millimetres, short, shorts, all_equal, element_of, fitted};
 ghost use Rattle.mm_rounding.specs.Rounding.{rounding};

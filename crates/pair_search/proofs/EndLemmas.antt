@@ -1,6 +1,6 @@
 -- Ends of parts: what marks tell of them, and that the halves of a part share them.
 use Rattle.pair_search.proofs.Prelude.{below_more, drop, get_or, get_or-set_other, get_or-set_same, slice_set, ◌≡◌, ◌≢◌, ◌⊎◌, inl, inr, ℕ, suc, ◌+◌, ◌-◌, ◌*◌, ◌^◌, ◌≤◌, ◌<◌, ◌<ℤ◌, ◌+ℤ◌, ◌*ℤ◌, ℤ, pos, Bool, true, false, arith, refl, sym, ◌∙◌, ap, subst, List, [], ◌∷◌, ◌++◌, length, Option, Some, None, is_some, is_none, at, by_lt, linear, pow-add, mul_left_comm_ℤ, Bez, controls, Place, part_value, direction_of, threshold, IsLevel, IsStack, left_half, right_half, root, places_of, Measure, Level, Node, Leaf, Split, IsShallow, places_below, least_value, low_value, part_along, first_low-values, IsPoint, Point, AreOpposites, first_by, does_separate, bit_at, bit_and, bit_or, drop-drop, length-map, bit_at-lt, bit_at-zero, bit_at_and, bit_at_or, bernstein-zero, part-part, Marks, Ends, AreEarly, AreEnds, AreLeft, AreWeighed, FindsEarly, FindsMarked, IsLowEnd, IsMarked, IsMarkedIn, MarkTells, MarksAt, TellAll, TellsEnds, TellsOf, MarksOf, AreShortMarks, IsShortPoint, ShortPoint}
-use Rattle.halving.proofs.HalfLemmas.{left_edge, right_edge}
+use Rattle.bezier_core.proofs.HalfLemmas.{left_edge, right_edge}
 use Rattle.pair_search.specs.declared.opposites.Opposites.{Opposites}
 use Rattle.pair_search.specs.declared.ends.Kept.{Kept}
 use Rattle.pair_search.proofs.ShortLemmas.{short_along}

@@ -1,8 +1,8 @@
 -- The halves of a separated place are separated.
 use Rattle.pair_search.proofs.Prelude.{◌≡◌, ℕ, suc, ◌+◌, ◌-◌, ◌*◌, ◌^◌, ◌≤◌, ◌<◌, ℤ, pos, ◌+ℤ◌, ◌*ℤ◌, ◌≤ℤ◌, true, false, arith, refl, sym, ◌∙◌, ap, List, [], length, get_or, Option, Some, None, is_none, pow-add, at, mul_assoc_ℤ, one_mul_ℤ, Bez, controls, Place, part_value, polar-mix, polar-same, Clearance, direction_of, threshold, position-Some, Separates, least_value, low_value, part_along, first_low-none, first_low-values, first_direction, left_half, right_half}
-use Rattle.fleet_math.specs.Sums.{power}
-use Rattle.fleet_math.proofs.SumLemmas.{power-add}
-use Rattle.halving.proofs.SeparationLemmas.{half-at_least}
+use Rattle.whole_numbers.specs.Sums.{power}
+use Rattle.whole_numbers.proofs.SumLemmas.{power-add}
+use Rattle.bezier_core.proofs.SeparationLemmas.{half-at_least}
 use Rattle.pair_search.proofs.Firsts.{position-there}
 use Rattle.pair_search.proofs.Trees.{Has}
 

@@ -24,13 +24,13 @@ pub use Rattle.bezier_core.specs.declared.Bez.{Bez}
 pub use Rattle.fleet_curves.proofs.Rows.{controls_row, set_below, small_row}
 unfoldable pub use Rattle.fleet_curves.specs.Raised.{difference}
 pub use Rattle.fleet_curves.specs.Raised.{Raised, curves_at, curves_of}
-pub use Rattle.fleet_math.proofs.BernsteinLemmas.{bernstein-zero, by_lt}
-pub use Rattle.fleet_math.proofs.RingLemmas.{le_mul_pos, linear, mul_add_ℤ, mul_assoc_ℤ, mul_comm_ℤ, mul_left_comm_ℤ, mul_neg_ℤ, neg_mul_ℤ, one_mul_ℤ, zero_mul_ℤ}
-pub use Rattle.fleet_math.specs.Bernstein.{at}
-pub use Rattle.fleet_math.specs.Numbers.{IsBelow}
-pub use Rattle.halving.proofs.PolarLemmas.{part-part, part-whole, polar-mix, polar-same}
-pub use Rattle.halving.specs.Part.{part_value}
-pub use Rattle.halving.specs.declared.Place.{Place}
+pub use Rattle.whole_numbers.proofs.BernsteinLemmas.{bernstein-zero, by_lt}
+pub use Rattle.whole_numbers.proofs.RingLemmas.{le_mul_pos, linear, mul_add_ℤ, mul_assoc_ℤ, mul_comm_ℤ, mul_left_comm_ℤ, mul_neg_ℤ, neg_mul_ℤ, one_mul_ℤ, zero_mul_ℤ}
+pub use Rattle.whole_numbers.specs.Bernstein.{at}
+pub use Rattle.whole_numbers.specs.Numbers.{IsBelow}
+pub use Rattle.bezier_core.proofs.PolarLemmas.{part-part, part-whole, polar-mix, polar-same}
+pub use Rattle.bezier_core.specs.Part.{part_value}
+pub use Rattle.bezier_core.specs.declared.halves.Place.{Place}
 pub use Rattle.sep_parts.proofs.Lows.{first_low-none, first_low-values}
 pub use Rattle.sep_parts.proofs.Orders.{IsAhead, first_ahead, next_ahead, pair_ahead, some_ahead}
 pub use Rattle.sep_parts.proofs.Parts.{level_below, raised_level}

@@ -1,7 +1,7 @@
 -- Directions side by side, and what whole steps tell of them. No public clause cites these words.
 use Rattle.std.specs.Prelude.{◌≡◌, ℕ, ◌+◌, ◌*◌, ◌^◌, ◌<◌, ℤ, pos, negsuc, ◌+ℤ◌, ◌*ℤ◌, ◌≤ℤ◌, ◌<ℤ◌, List, length}
-use Rattle.fleet_math.specs.Bernstein.{at}
-use Rattle.fleet_math.specs.Numbers.{IsBelow}
+use Rattle.whole_numbers.specs.Bernstein.{at}
+use Rattle.whole_numbers.specs.Numbers.{IsBelow}
 use Rattle.bezier_core.specs.Along.{controls}
 use Rattle.bezier_core.specs.Steps.{IsWithin}
 use Rattle.sep_parts.specs.declared.clearance.Clearance.{Clearance}

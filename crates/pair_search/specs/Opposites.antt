@@ -1,6 +1,6 @@
 -- Directions with their opposites side by side, and what whole steps tell of both. No public clause cites these words.
 use Rattle.std.specs.Prelude.{◌≡◌, ℕ, ◌+◌, ◌-◌, ◌<◌, ℤ, pos, ◌+ℤ◌, ◌<ℤ◌, List, length}
-use Rattle.fleet_math.specs.Bernstein.{at}
+use Rattle.whole_numbers.specs.Bernstein.{at}
 use Rattle.bezier_core.specs.Steps.{IsWithin}
 use Rattle.sep_parts.specs.Rulers.{Measure}
 use Rattle.pair_search.specs.declared.lanes.Lanes.{Lanes}

@@ -1,7 +1,7 @@
 -- Directions side by side in numbers of 16 bits, and what short steps tell of them. No public clause cites these words.
 use Rattle.std.specs.Prelude.{◌≡◌, ◌⊎◌, ℕ, ◌+◌, ◌-◌, ◌*◌, ◌<◌, ℤ, pos, ◌+ℤ◌, ◌*ℤ◌, ◌<ℤ◌, FitsSigned}
 use Rattle.std.specs.Int.{bit_at, w16}
-use Rattle.fleet_math.specs.Bernstein.{at}
+use Rattle.whole_numbers.specs.Bernstein.{at}
 use Rattle.bezier_core.specs.Along.{controls}
 use Rattle.bezier_core.specs.Steps.{IsWithin}
 use Rattle.sep_parts.specs.declared.stack.Level.{Level}

@@ -2,8 +2,8 @@
 
 ghost use Rattle.std.specs.Prelude.{◌≡◌, ℕ, ◌+◌, ◌*◌, ◌^◌, ◌≤◌, ◌<◌, ℤ, pos, ◌-ℤ◌, ◌≤ℤ◌, ◌⊎◌, All, IfOk, OnOk, IsTrue};
 ghost use Rattle.std.specs.Prelude.{length};
-ghost use Rattle.fleet_math.specs.Bernstein.{at};
-ghost use Rattle.fleet_math.specs.Numbers.{IsBelow};
+ghost use Rattle.whole_numbers.specs.Bernstein.{at};
+ghost use Rattle.whole_numbers.specs.Numbers.{IsBelow};
 ghost use Rattle.fleet_curves.specs.Raised.{curves_at, curves_of};
 ghost use Rattle.sep_parts.specs.Directions.{IsAxis, IsClearance, reach_on};
 ghost use Rattle.pair_search.specs.Extents.{AreExtents, AreFlights, HasAxes, HasExtents, IsBetween, IsExtent, IsFar};
@@ -11,9 +11,9 @@ ghost use Rattle.pair_search.specs.Extents.{IsFarOn, IsFlight, IsWider, least_di
 
 use crate::lanes::greater;
 use fleet_curves::Curves;
-use fleet_math::MOST_DRONES;
 use sep_parts::{Clearance, Ruler};
 use std::alloc::{AllocError, Global};
+use whole_numbers::MOST_DRONES;
 
 /// The least and the greatest of the control values of three curves, or numbers beyond these: on x, y and z.
 #[derive(Clone, Copy)]

@@ -17,9 +17,9 @@ use crate::opposites::{Opposites, opposites_of};
 use crate::shape::count_with;
 use crate::walk::{Found, search_by};
 use fleet_curves::{Curves, Difference};
-use fleet_math::{Depth, MOST_DRONES};
 use sep_parts::{Forest, Node, Ruler, Slot, Waiting};
 use std::alloc::{AllocError, Global};
+use whole_numbers::{Depth, MOST_DRONES};
 
 /// Why a search of a fleet finds no trees.
 #[derive(Clone, Copy, PartialEq, Eq)]

@@ -2,8 +2,8 @@
 
 ghost use Rattle.std.specs.Prelude.{◌≡◌, ◌⊎◌, ℕ, ◌+◌, ◌*◌, ◌^◌, ◌≤◌, ◌<◌, ℤ, pos, ◌+ℤ◌, ◌-ℤ◌, ◌*ℤ◌, ◌≤ℤ◌, ◌<ℤ◌, All};
 ghost use Rattle.std.specs.Prelude.{IfSome, length};
-ghost use Rattle.fleet_math.specs.Bernstein.{at};
-ghost use Rattle.fleet_math.specs.Numbers.{IsBelow};
+ghost use Rattle.whole_numbers.specs.Bernstein.{at};
+ghost use Rattle.whole_numbers.specs.Numbers.{IsBelow};
 ghost use Rattle.bezier_core.specs.Along.{controls};
 ghost use Rattle.bezier_core.specs.Steps.{IsWithin};
 ghost use Rattle.sep_parts.specs.Directions.{direction_of, threshold, weights};
@@ -12,8 +12,8 @@ ghost use Rattle.pair_search.specs.Lanes.{AreLanes, AreSmallLanes, IsFloor, IsPo
 ghost use Rattle.pair_search.specs.Lanes.{slack_of, slack_on, steps_of};
 
 use fleet_curves::Difference;
-use fleet_math::Depth;
 use sep_parts::{Level, Ruler};
+use whole_numbers::Depth;
 
 /// At most 98 directions side by side: the weights of the three axes, and what a point has to reach.
 #[derive(Drop)]

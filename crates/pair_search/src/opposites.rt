@@ -1,8 +1,8 @@
 //! Directions with their opposites side by side, for who asks only whether a direction is there.
 
 ghost use Rattle.std.specs.Prelude.{◌≡◌, ℕ, ◌+◌, ◌-◌, ◌^◌, ◌≤◌, ◌<◌, ℤ, pos, neg_ℤ, ◌+ℤ◌, IsTrue};
-ghost use Rattle.fleet_math.specs.Bernstein.{at};
-ghost use Rattle.fleet_math.specs.Numbers.{IsBelow};
+ghost use Rattle.whole_numbers.specs.Bernstein.{at};
+ghost use Rattle.whole_numbers.specs.Numbers.{IsBelow};
 ghost use Rattle.pair_search.specs.Lanes.{AreSmallLanes};
 ghost use Rattle.pair_search.specs.Opposites.{AreOpposites, AreSmallHighs, CancelAt, IsHigh, IsSmallHigh};
 

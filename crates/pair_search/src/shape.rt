@@ -13,8 +13,8 @@ use crate::marking::{are_none, common, leaves};
 use crate::opposites::Opposites;
 use crate::some::some_direction;
 use fleet_curves::Difference;
-use fleet_math::Depth;
 use sep_parts::{Level, Node, Ruler, Waiting};
+use whole_numbers::Depth;
 
 /// How many nodes the best tree of a cue has, or the first part that no direction separates. `hint` is the number of a
 /// direction that is tried first, and becomes that of the last one that separated a part; it changes nothing of what is

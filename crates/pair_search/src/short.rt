@@ -3,8 +3,8 @@
 ghost use Rattle.std.specs.Prelude.{◌≡◌, ◌≢◌, ℕ, ◌+◌, ◌*◌, ◌^◌, ◌≤◌, ◌<◌, ℤ, pos, neg_ℤ, ◌+ℤ◌, ◌-ℤ◌, ◌*ℤ◌, ◌≤ℤ◌, ◌<ℤ◌};
 ghost use Rattle.std.specs.Prelude.{FitsSigned, unsigned_abs, IfSome, IsTrue};
 ghost use Rattle.std.specs.Int.{w16};
-ghost use Rattle.fleet_math.specs.Bernstein.{at};
-ghost use Rattle.fleet_math.specs.Numbers.{IsBelow};
+ghost use Rattle.whole_numbers.specs.Bernstein.{at};
+ghost use Rattle.whole_numbers.specs.Numbers.{IsBelow};
 ghost use Rattle.bezier_core.specs.Steps.{IsWithin};
 ghost use Rattle.sep_parts.specs.Levels.{IsLevel, root};
 ghost use Rattle.pair_search.specs.Lanes.{AreSmallLanes, IsFloor, slack_on};
@@ -16,8 +16,8 @@ use crate::lanes::{Lanes, floor_by, floor_short, level_law, point_at, whole_poin
 use crate::marking::{Marks, clear_bytes, marks_of};
 use crate::opposites::{Opposites, are_opposite, front_of};
 use fleet_curves::Difference;
-use fleet_math::Depth;
 use sep_parts::Level;
+use whole_numbers::Depth;
 
 /// The directions of the first half of a table side by side: the weights of the three axes, times a number that each
 /// direction has, below what a point is too low along the direction, and above what along the opposite one.

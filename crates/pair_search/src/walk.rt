@@ -20,9 +20,9 @@ use crate::first::{first_direction, first_early, first_of_whole};
 use crate::marking::{Marks, common};
 use crate::opposites::{Opposites, opposites_of};
 use fleet_curves::Difference;
-use fleet_math::Depth;
 use sep_parts::{Clearance, Dirs, Level, Node, Ruler, Waiting};
 use std::alloc::AllocError;
+use whole_numbers::Depth;
 
 /// What a search found.
 #[derive(Clone, Copy, PartialEq, Eq)]

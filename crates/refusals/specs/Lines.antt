@@ -2,11 +2,11 @@
 -- is wrong. docs/COMMANDS.md says what to do at each.
 use Rattle.std.specs.Prelude.{ℕ, ◌+◌, ◌^◌, ℤ, List, [], ◌∷◌, ◌++◌, codes, decimal}
 use Rattle.std.specs.Fmt.{signed_decimal}
-use Rattle.fleet_io.specs.Words.{hex_word, line}
+use Rattle.byte_streams.specs.Words.{hex_word, line}
 use Rattle.choreo_lines.specs.declared.line.LineKind.{LineKind}
 use Rattle.cue_grid.specs.declared.grid.GridFault.{GridFault}
 use Rattle.cue_grid.specs.Faults.{line_of}
-use Rattle.halving.specs.declared.Place.{Place}
+use Rattle.bezier_core.specs.declared.halves.Place.{Place}
 use Rattle.sep_parts.specs.Versions.{direction_word, head_count}
 use Rattle.refusals.specs.KindWords.{kind_word, grid_word, axis_word}
 use Rattle.refusals.specs.declared.refusal.Pair.{Pair}

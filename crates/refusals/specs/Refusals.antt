@@ -1,6 +1,6 @@
 -- Why the program refuses, with the status that it ends with and the line that it writes.
 use Rattle.std.specs.Prelude.{ℕ, ◌<◌, ◌≤◌, ◌^◌, List}
-use Rattle.fleet_io.specs.Words.{IsWord}
+use Rattle.byte_streams.specs.Words.{IsWord}
 use Rattle.sep_parts.specs.Versions.{IsVersion, known_in}
 use Rattle.refusals.specs.declared.refusal.Pair.{Pair}
 use Rattle.refusals.specs.declared.refusal.Refusal.{Refusal}

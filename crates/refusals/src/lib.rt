@@ -5,7 +5,7 @@
 //! `specs/Lines.antt`, with the word of each kind in `specs/KindWords.antt`. A line is a `ShortLine`, which takes no
 //! memory, so that being out of memory can't keep a refusal from being written.
 //!
-//! It stands on `fleet_io` for lines, on `choreo_lines` and `cue_grid` for what can be wrong with a show, on `halving`
+//! It stands on `byte_streams` for lines, on `choreo_lines` and `cue_grid` for what can be wrong with a show, on `halving`
 //! for the parts of a cue, and on `sep_parts` for the versions of certificates.
 #![tactic(auto)]
 

@@ -8,9 +8,9 @@ ghost use Rattle.refusals.specs.Steps.{is_of_certificate, is_of_dynamics, is_of_
 use crate::kinds::{axis_word, kind_word, line_and_word};
 use crate::refusal::{Pair, Refusal};
 use crate::words::{direction_word, head_count, hex_word, parts};
-use fleet_io::ShortLine;
-use fleet_io::Word::{Bytes, Decimal, Number};
-use halving::Place;
+use bezier_core::Place;
+use byte_streams::ShortLine;
+use byte_streams::Word::{Bytes, Decimal, Number};
 
 impl Refusal {
     /// The line that the program writes (docs/COMMANDS.md, "Fault lines"). It takes no memory.

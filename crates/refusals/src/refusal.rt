@@ -3,15 +3,15 @@
 ghost use Rattle.std.specs.Prelude.{◌≡◌};
 ghost use Rattle.refusals.specs.Refusals.{status_of};
 
-use choreo_lines::LineKind;
-use choreo_show::Name;
-use cue_grid::GridFault;
-use fleet_io::status::{
+use bezier_core::Place;
+use byte_streams::status::{
     BLOCKED, DIFFERS, ENDED, ENTERS, FAULTY, GAVE_UP, NO_ROOM, NO_SHOW, NOT_VALID, READ_FAILED,
     REFUSED, TOO_ABRUPT, TOO_FAST, USAGE,
 };
-use fleet_math::Depth;
-use halving::Place;
+use choreo_lines::LineKind;
+use choreo_show::Name;
+use cue_grid::GridFault;
+use whole_numbers::Depth;
 
 /// Two drones in a cue, which counts from 0.
 #[derive(Drop)]

@@ -1,12 +1,12 @@
 //! Words that a line makes of numbers.
 
 ghost use Rattle.std.specs.Prelude.{◌≡◌, ◌≤◌, ◌<◌, ◌^◌};
-ghost use Rattle.fleet_io.specs.Words.{hex_word};
+ghost use Rattle.byte_streams.specs.Words.{hex_word};
 ghost use Rattle.sep_parts.specs.Versions.{IsVersion, direction_word, head_count, known_in};
 
 use arrayvec::ArrayVec;
-use fleet_io::hex_digit;
-use fleet_math::Depth;
+use byte_streams::hex_digit;
+use whole_numbers::Depth;
 
 // The number of equal parts that a cue has at a depth.
 pub(crate) fn parts(depth: Depth) -> u32

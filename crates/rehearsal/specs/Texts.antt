@@ -4,7 +4,7 @@ use Rattle.std.specs.Prelude.{◌≡◌, ℕ, suc, ◌*◌, ◌/◌, ◌%◌, Li
 use Rattle.std.specs.Prelude.{Some, None}
 use Rattle.std.specs.List.{flat_map, range_with_len}
 use Rattle.std.specs.Fmt.{signed_decimal}
-use Rattle.fleet_io.specs.Words.{hex_word, line}
+use Rattle.byte_streams.specs.Words.{hex_word, line}
 use Rattle.traj_codec.specs.declared.traj.Traj.{Traj}
 use Rattle.upload_model.specs.declared.loads.Def.{Def}
 use Rattle.upload_model.specs.Drones.{DroneState}

@@ -4,7 +4,7 @@
 //! [`rehearse`] gives the world after the schedule (`specs/Rehearsed.antt`), and [`memory_text`] the
 //! text that says what its drones hold (`specs/Texts.antt`). The crate stands on `fleet_world` for the
 //! world, on `firmware_memory` and `integer_player` for what a memory decodes to and how that ends, and
-//! on `fleet_io` for the text.
+//! on `byte_streams` for the text.
 #![tactic(auto)]
 
 mod blank;

@@ -1,18 +1,18 @@
 //! The text of what drones hold.
 
 ghost use Rattle.std.specs.Prelude.{◌≡◌, ℕ, ◌*◌, ◌<◌, ◌≤◌, ◌++◌, All, length, map, Option, IfOk, OnOk, take, drop};
-ghost use Rattle.fleet_math.specs.Bernstein.{at};
+ghost use Rattle.whole_numbers.specs.Bernstein.{at};
 ghost use Rattle.firmware_memory.specs.Shown.{shown};
-ghost use Rattle.fleet_io.specs.Words.{IsWord};
+ghost use Rattle.byte_streams.specs.Words.{IsWord};
 ghost use Rattle.traj_codec.specs.declared.traj.Traj.{Traj};
 ghost use Rattle.fleet_world.specs.WorldState.{state_at};
 ghost use Rattle.firmware_memory.specs.Decoded.{last_value};
 ghost use Rattle.rehearsal.specs.Texts.{address_word, memory_line, memory_lines, entry_line, entry_lines};
 ghost use Rattle.rehearsal.specs.Texts.{started_line, ends_line, ending_line, drone_text, IsFound, IsRehearsalText};
 
+use byte_streams::Word::{Bytes, Decimal, Number};
+use byte_streams::{Lines, hex_digit};
 use firmware_memory::{Def, Drone, MEMORY_BYTES, TABLE_ENTRIES, curve_of};
-use fleet_io::Word::{Bytes, Decimal, Number};
-use fleet_io::{Lines, hex_digit};
 use fleet_world::{Name, World};
 use integer_player::last_values;
 use std::alloc::{AllocError, Global};

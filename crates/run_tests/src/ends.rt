@@ -1,6 +1,6 @@
 //! Runs of the whole program over memory whose reads or writes fail, and over ends that never fail. What is written
 //! then is known from outside: the line of a failed read, or a prefix of the output by arithmetic.
-use fleet_io::{MemSink, MemSource, SureSink, SureSource};
+use byte_streams::{MemSink, MemSource, SureSink, SureSource};
 use show_run::{run, run_surely};
 use std::alloc::{AllocError, Global};
 

@@ -3,8 +3,8 @@
 
 use crate::speeds::{METRE, Points, STAYS, flight, segment};
 use dynamics_bound::{Kind, Limits, bound, first_above, jumps, rests};
-use fleet_math::Depth;
 use std::alloc::Global;
+use whole_numbers::Depth;
 
 // A start, two segments by their durations and control points on x, y and z, and the depth; the bounds in micrometres
 // per second squared; on each axis the greatest jump in micrometres per second, and the segment at whose beginning it

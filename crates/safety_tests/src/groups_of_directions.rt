@@ -4,10 +4,10 @@
 use crate::flights::still;
 use crate::searches::{have_nodes, raised, staying};
 use fleet_curves::Difference;
-use fleet_math::Depth;
 use pair_search::{Found, search_with};
 use sep_parts::{Node, Ruler, WIDE, table_law};
 use std::alloc::{AllocError, Global};
+use whole_numbers::Depth;
 
 // Where the second drone is from the first, in millimetres on x, y and z; the first direction; and a place a millimetre
 // nearer, where no direction tells the two apart. At each place its first direction is the only one. Lanes are weighed

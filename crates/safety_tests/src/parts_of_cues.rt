@@ -2,16 +2,15 @@
 //! from outside.
 
 ghost use Rattle.std.specs.Prelude.{◌≤ℤ◌, ◌<ℤ◌, ◌^◌, pos, All};
-ghost use Rattle.fleet_math.specs.Numbers.{IsBelow};
+ghost use Rattle.whole_numbers.specs.Numbers.{IsBelow};
 ghost use Rattle.sep_parts.specs.Levels.{IsStack};
 
-use bezier_core::Bez;
+use bezier_core::{Bez, Place};
 use fleet_curves::Difference;
-use fleet_math::Depth;
-use halving::Place;
 use sep_parts::{
     Node, Slot, Waiting, above, first_below, halves, low_control, projected, separates,
 };
+use whole_numbers::Depth;
 
 // Millimetres at the scale of raised curves.
 fn scaled(millimetres: i16) -> i128

@@ -5,10 +5,10 @@ ghost use Rattle.std.specs.Prelude.{IfOk};
 ghost use Rattle.speed_bound.specs.Reach.{IsMoving};
 
 use crate::speeds::{METRE, Points, STAYS, flight, segment};
-use fleet_math::Depth;
 use speed_bound::reach;
 use std::alloc::{AllocError, Global};
 use traj_codec::{Traj, segment_law, start_law};
+use whole_numbers::Depth;
 
 // A flight from a start: its duration, and its control points on x, y and z.
 type Flight = ([i16; 4], u16, [Points; 3]);

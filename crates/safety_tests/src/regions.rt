@@ -7,10 +7,10 @@ ghost use Rattle.fleet_curves.specs.Raised.{AreOneShow};
 ghost use Rattle.keepout_boxes.specs.Kept.{AreEnds, IsNear};
 
 use fleet_curves::Curves;
-use fleet_math::Depth;
 use keepout_boxes::{Judged, Region, RegionFault, judge, read_regions};
 use std::alloc::{AllocError, Global};
 use traj_codec::{Element, Listed, Segment, Traj};
+use whole_numbers::Depth;
 
 // The drone's trajectory.
 fn solo(alloc: Global) -> Result<Vec<Traj>, AllocError>

@@ -2,17 +2,17 @@
 //! the definitions by exact sums, apart from the program.
 
 ghost use Rattle.std.specs.Prelude.{◌≡◌, ◌∷◌, [], ◌^◌, ◌≤◌, All, IfOk};
-ghost use Rattle.fleet_math.specs.Numbers.{IsBelow};
+ghost use Rattle.whole_numbers.specs.Numbers.{IsBelow};
 ghost use Rattle.traj_codec.specs.Positions.{durations};
 
 use crate::flights::{clearance, still, two_legs};
 use bezier_core::Bez;
 use fleet_curves::{Curves, Difference};
-use fleet_math::Depth;
 use pair_search::{Found, SearchFault, count_all, search, search_all, search_with};
 use sep_parts::{DIRECTIONS, Forest, Node, Ruler, Slot, WIDE, table_law};
 use std::alloc::{AllocError, Global};
 use traj_codec::{Element, Listed, Segment, Traj};
+use whole_numbers::Depth;
 
 // A raised curve of control values in millimetres.
 pub fn raised(mm: [i16; 8]) -> Bez<8>

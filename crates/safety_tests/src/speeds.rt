@@ -2,10 +2,10 @@
 
 ghost use Rattle.std.specs.Prelude.{◌≡◌, ◌≤◌, ◌∷◌, [], IfOk};
 
-use fleet_math::Depth;
 use speed_bound::bound;
 use std::alloc::{AllocError, Global};
 use traj_codec::{Element, Listed, Segment, Traj};
+use whole_numbers::Depth;
 
 // How a drone moves on an axis, by the control points of an element after the first one: none, one, three or seven.
 pub(crate) type Points = &'static [i16];

@@ -6,10 +6,10 @@ ghost use Rattle.traj_codec.specs.Positions.{durations};
 ghost use Rattle.fleet_curves.specs.Raised.{AreOneShow, IsOneShow};
 
 use crate::flights::{three_legs, two_legs};
-use fleet_math::Fine;
 use std::alloc::{AllocError, Global};
 use touch_witness::{Axes, Closest, Touch, closest, first_touch};
 use traj_codec::Traj;
+use whole_numbers::Fine;
 
 // A touch as its cue, its fraction and its pair.
 fn touch_of(touch: Option<Touch>) -> Option<(u16, u8, u8, u8)> {

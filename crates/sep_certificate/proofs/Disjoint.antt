@@ -1,6 +1,6 @@
 -- Where a certificate is valid by any table of directions, the ellipsoids around any two drones are disjoint throughout the show.
 use Rattle.sep_certificate.proofs.Prelude.{common_steps, ◌≡◌, refl, ℕ, ◌*◌, ◌≤◌, ◌<◌, ℤ, pos, negsuc, neg_ℤ, ◌+ℤ◌, ◌-ℤ◌, ◌*ℤ◌, ◌≤ℤ◌, ◌<ℤ◌, unsigned_abs, arith, sym, ◌∙◌, ap, subst, List, length, All, Some, slice_get, sum, ints, by_lt_z, power, at, bernstein, Moment, moment, ring, linear, le_mul_ℤ, le_from_mul_ℤ, mul_assoc_ℤ, mul_comm_ℤ, mul_positive, mul_not_negative, neg_mul_ℤ, one_mul_ℤ, bernstein-mix, bernstein-same, by_lt, cong_add, moment-inside, IsInside, Bez, Traj, decoded, durations, points, own, IsLasting, CurvesStandFor, HasFewPoints, Raised, curves_at, difference, less, raised_in, at_place, segments_of, Clearance, Node, Rules, AreTogether, KeepReach, MayBeAt, MovesWithin, Point, between, square, way, direction_of, for_ellipsoids, for_reach, for_strays, length_squared, limit_along, reach_on, threshold, weights, slots, cue_of, near_gap, own_some, seventh_positive, curve_value, above_from, together_turned, AreValid}
-use Rattle.fleet_math.specs.Numbers.{IsIn}
+use Rattle.whole_numbers.specs.Numbers.{IsIn}
 use Rattle.bezier_core.specs.Along.{controls}
 use Rattle.bezier_core.specs.Raised.{eight}
 use Rattle.bezier_core.proofs.CurveLemmas.{at-eight}

@@ -14,13 +14,13 @@ pub use Rattle.bezier_core.specs.declared.Bez.{Bez}
 pub use Rattle.fleet_curves.proofs.Standing.{at_place, segments_of}
 unfoldable pub use Rattle.fleet_curves.specs.Raised.{difference}
 pub use Rattle.fleet_curves.specs.Raised.{CurvesStandFor, HasFewPoints, Raised, curves_at, less, raised_in}
-pub use Rattle.fleet_math.proofs.BernsteinLemmas.{bernstein-mix, bernstein-same, by_lt, cong_add}
-pub use Rattle.fleet_math.proofs.MomentLemmas.{IsInside, moment-inside}
-pub use Rattle.fleet_math.proofs.RingLemmas.{le_from_mul_ℤ, le_mul_ℤ, linear, mul_assoc_ℤ, mul_comm_ℤ, mul_not_negative, mul_positive, neg_mul_ℤ, one_mul_ℤ, ring}
-pub use Rattle.fleet_math.specs.Bernstein.{at, bernstein}
-pub use Rattle.fleet_math.specs.Moments.{Moment, moment}
-pub use Rattle.fleet_math.specs.Sums.{power}
-pub use Rattle.halving.specs.declared.Place.{Place}
+pub use Rattle.whole_numbers.proofs.BernsteinLemmas.{bernstein-mix, bernstein-same, by_lt, cong_add}
+pub use Rattle.whole_numbers.proofs.MomentLemmas.{IsInside, moment-inside}
+pub use Rattle.whole_numbers.proofs.RingLemmas.{le_from_mul_ℤ, le_mul_ℤ, linear, mul_assoc_ℤ, mul_comm_ℤ, mul_not_negative, mul_positive, neg_mul_ℤ, one_mul_ℤ, ring}
+pub use Rattle.whole_numbers.specs.Bernstein.{at, bernstein}
+pub use Rattle.whole_numbers.specs.Moments.{Moment, moment}
+pub use Rattle.whole_numbers.specs.Sums.{power}
+pub use Rattle.bezier_core.specs.declared.halves.Place.{Place}
 pub use Rattle.sep_parts.proofs.Directed.{Cue, IsSeenRaised, cue_of, direction}
 pub use Rattle.sep_parts.proofs.Lifts.{near_gap, own_some, seventh_positive}
 pub use Rattle.sep_parts.proofs.Lows.{first_low-none, first_low-small, first_low-values}

@@ -1,6 +1,6 @@
 //! A certificate, and what may be wrong with one.
 
-use halving::Place;
+use bezier_core::Place;
 use sep_parts::Forest;
 
 /// A certificate: for each pair of drones and each cue a tree, none deeper than `depth`.

@@ -10,10 +10,10 @@ ghost use Rattle.sep_parts.specs.Trees.{IsKnown, IsShallow};
 ghost use Rattle.sep_certificate.specs.Steps.{IsControl};
 
 use crate::certificate::CertFault;
+use bezier_core::Place;
 use fleet_curves::Difference;
-use fleet_math::Depth;
-use halving::Place;
 use sep_parts::{Level, Node, Ruler, Slot};
+use whole_numbers::Depth;
 
 /// The law of certificates, by any table of directions. With a valid one the ellipsoids around any two different drones
 /// share no point, for every list of trajectories that the curves stand for and that move within the reach; and where

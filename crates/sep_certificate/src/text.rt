@@ -15,9 +15,9 @@ ghost use Rattle.sep_certificate.specs.Texts.{Says, depth_line, fed, head_lines,
 ghost use Rattle.sep_certificate.specs.Texts.{tree_line};
 
 use crate::certificate::Certificate;
-use fleet_math::Depth;
 use sep_parts::Node;
 use std::alloc::{AllocError, Global};
+use whole_numbers::Depth;
 
 /// How many bytes of text a certificate has at most.
 pub const CERTIFICATE_LIMIT: usize = 400_000_000;

@@ -1,6 +1,6 @@
 -- The parts of the curves at a place: how large they are, their halves, and their values along a direction.
 use Rattle.sep_parts.proofs.Prelude.{common_steps, ◌≡◌, ℕ, suc, ◌+◌, ◌-◌, ◌*◌, ◌^◌, ◌≤◌, ◌<◌, ℤ, pos, ◌+ℤ◌, ◌*ℤ◌, arith, ◌∙◌, ap, List, [], length, All, lit<, ints, pow-le-pow_right, pow-suc, All-from_get_or, All-get_or, at, Bez, IsBelow, along_value, controls, eight, at-eight, same_eight, list_of_eight, controls_below, part_value, IsPlace, AreRaised, Level, weights, first_low, part_along, IsLevel, left_half, right_half, root, part-within}
-use Rattle.halving.proofs.PolarLemmas.{polar-same, part-part, part-whole}
+use Rattle.bezier_core.proofs.PolarLemmas.{polar-same, part-part, part-whole}
 use Rattle.bezier_core.specs.Steps.{IsWithin}
 use Rattle.sep_parts.proofs.Lows.{first_low-same}
 

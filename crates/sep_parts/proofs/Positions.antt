@@ -1,6 +1,6 @@
 -- From the raised differences to the decoded positions.
 use Rattle.sep_parts.proofs.Prelude.{common_steps, ◌≡◌, refl, ℕ, zero, suc, ◌≤◌, ◌<◌, ℤ, pos, negsuc, neg_ℤ, ◌+ℤ◌, ◌-ℤ◌, ◌*ℤ◌, ◌≤ℤ◌, ◌<ℤ◌, arith, sym, ◌∙◌, ap, List, length, ints, power, at, bernstein, Moment, ring, linear, le_from_mul_ℤ, one_mul_ℤ, neg_mul_ℤ, bernstein-same, bernstein-mix, cong_add, Bez, controls, eight, raised, at-eight, raise, Traj, decoded, points, Raised, curves_at, difference, less, raised_in, Clearance, AreSmall, threshold, weights}
-use Rattle.fleet_math.specs.Decoded as plain
+use Rattle.whole_numbers.specs.Decoded as plain
 use Rattle.sep_parts.proofs.Lifts.{near_gap}
 use Rattle.sep_parts.proofs.Strays.{dot}
 use Rattle.sep_parts.proofs.Directed.{IsSeenRaised, cue_of}

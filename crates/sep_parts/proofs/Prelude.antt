@@ -15,17 +15,17 @@ pub use Rattle.bezier_core.specs.Raised.{eight, raised}
 pub use Rattle.bezier_core.specs.declared.Bez.{Bez}
 unfoldable pub use Rattle.fleet_curves.specs.Raised.{difference}
 pub use Rattle.fleet_curves.specs.Raised.{AreRaised, Raised, curves_at, curves_of, less, raised_in}
-pub use Rattle.fleet_math.proofs.BernsteinLemmas.{bernstein-at_least, bernstein-mix, bernstein-same, by_lt, cong_add}
-pub use Rattle.fleet_math.proofs.RingLemmas.{add_mul_ℤ, le_from_mul_ℤ, le_mul_ℤ, linear, lt_mul_ℤ, mul_add_ℤ, mul_assoc_ℤ, mul_comm_ℤ, mul_neg_ℤ, mul_not_negative, mul_positive, mul_zero_ℤ, neg_mul_ℤ, one_mul_ℤ, ring, zero_mul_ℤ}
-pub use Rattle.fleet_math.proofs.SumLemmas.{power-add, power-mul, power_positive}
-pub use Rattle.fleet_math.specs.Bernstein.{at, bernstein}
-unfoldable pub use Rattle.fleet_math.specs.Moments.{moment}
-pub use Rattle.fleet_math.specs.Moments.{Moment, moment_from}
-pub use Rattle.fleet_math.specs.Numbers.{IsBelow, IsIn}
-pub use Rattle.fleet_math.specs.Sums.{power}
-pub use Rattle.halving.proofs.PartBounds.{part-instant, part-within, power_seven}
-pub use Rattle.halving.specs.Part.{part_value}
-pub use Rattle.halving.specs.Places.{IsPlace}
+pub use Rattle.whole_numbers.proofs.BernsteinLemmas.{bernstein-at_least, bernstein-mix, bernstein-same, by_lt, cong_add}
+pub use Rattle.whole_numbers.proofs.RingLemmas.{add_mul_ℤ, le_from_mul_ℤ, le_mul_ℤ, linear, lt_mul_ℤ, mul_add_ℤ, mul_assoc_ℤ, mul_comm_ℤ, mul_neg_ℤ, mul_not_negative, mul_positive, mul_zero_ℤ, neg_mul_ℤ, one_mul_ℤ, ring, zero_mul_ℤ}
+pub use Rattle.whole_numbers.proofs.SumLemmas.{power-add, power-mul, power_positive}
+pub use Rattle.whole_numbers.specs.Bernstein.{at, bernstein}
+unfoldable pub use Rattle.whole_numbers.specs.Moments.{moment}
+pub use Rattle.whole_numbers.specs.Moments.{Moment, moment_from}
+pub use Rattle.whole_numbers.specs.Numbers.{IsBelow, IsIn}
+pub use Rattle.whole_numbers.specs.Sums.{power}
+pub use Rattle.bezier_core.proofs.PartBounds.{part-instant, part-within, power_seven}
+pub use Rattle.bezier_core.specs.Part.{part_value}
+pub use Rattle.bezier_core.specs.Places.{IsPlace}
 pub use Rattle.traj_codec.specs.Joined.{IsLasting, JoinLaw, SameCurve, joined, own}
 pub use Rattle.traj_codec.specs.Positions.{decoded, durations, points}
 pub use Rattle.traj_codec.specs.declared.traj.Traj.{Traj}

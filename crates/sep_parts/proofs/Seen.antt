@@ -1,6 +1,6 @@
 -- From what is seen along a direction to the ellipsoids around all points that two drones may be at.
 use Rattle.sep_parts.proofs.Prelude.{common_steps, ◌≡◌, ℕ, ◌+◌, ◌*◌, ◌≤◌, ℤ, pos, neg_ℤ, ◌+ℤ◌, ◌-ℤ◌, ◌*ℤ◌, ◌≤ℤ◌, ◌<ℤ◌, unsigned_abs, arith, refl, sym, subst, List, ints, by_lt_z, power, IsIn, at, Moment, ring, linear, le_mul_ℤ, lt_mul_ℤ, mul_add_ℤ, mul_comm_ℤ, mul_positive, mul_not_negative, mul_zero_ℤ, one_mul_ℤ, zero_mul_ℤ, Traj, decoded, own, Clearance, AreSmall, for_ellipsoids, for_reach, for_strays, length_squared, limit_along, reach_on, threshold, weights, AreTogether, MayBeAt, Point, ShareNoPoint, between, square, way}
-use Rattle.fleet_math.proofs.DivisionLemmas.{square_le}
+use Rattle.whole_numbers.proofs.DivisionLemmas.{square_le}
 use Rattle.sep_parts.proofs.Cauchy.{cauchy, square_positive}
 use Rattle.sep_parts.proofs.Lifts.{seventh_positive}
 use Rattle.sep_parts.proofs.Limits.{length_small}

@@ -1,6 +1,6 @@
 -- How large the numbers of a search get.
 use Rattle.sep_parts.proofs.Prelude.{ℕ, ◌*◌, ◌^◌, ◌≤◌, ℤ, pos, ◌*ℤ◌, ◌≤ℤ◌, ◌<ℤ◌, unsigned_abs, arith, List, All, lit<, ints, unsigned_abs-mul, mul-le, pow-le-pow_right, at, IsBelow, Bez, controls, controls_below, part_value, IsPlace, Clearance, AreSmall, IsClearance, threshold, least_value}
-use Rattle.halving.specs.declared.Place.{Place}
+use Rattle.bezier_core.specs.declared.halves.Place.{Place}
 use Rattle.sep_parts.specs.Sizes.{HasSmallNumbers}
 use Rattle.sep_parts.proofs.Limits.{threshold_low, threshold_small, weight_small}
 use Rattle.sep_parts.proofs.Parts.{part-small}

@@ -3,8 +3,8 @@
 -- instants that are near to one another.
 use Rattle.std.specs.Prelude.{◌≡◌, ℕ, ◌+◌, ◌*◌, ◌≤◌, ℤ, pos, neg_ℤ, ◌+ℤ◌, ◌-ℤ◌, ◌*ℤ◌, ◌≤ℤ◌, List, Some, slice_get, sum}
 use Rattle.std.specs.Prelude.{All, map}
-use Rattle.fleet_math.specs.Sums.{power}
-use Rattle.fleet_math.specs.Numbers.{IsIn}
+use Rattle.whole_numbers.specs.Sums.{power}
+use Rattle.whole_numbers.specs.Numbers.{IsIn}
 use Rattle.traj_codec.specs.declared.traj.Traj.{Traj}
 use Rattle.traj_codec.specs.Positions.{decoded, durations}
 use Rattle.traj_codec.specs.Joined.{own, SameCurve, IsLasting, joined}

@@ -1,12 +1,12 @@
 -- Places of a cue and their halves, and the parts of curves that wait there.
 use Rattle.std.specs.Prelude.{◌≡◌, ℕ, ◌+◌, ◌*◌, ◌≤◌, List, [], ◌∷◌, length, map}
-use Rattle.fleet_math.specs.Bernstein.{at}
+use Rattle.whole_numbers.specs.Bernstein.{at}
 use Rattle.bezier_core.specs.declared.Bez.{Bez}
 use Rattle.bezier_core.specs.Along.{controls}
 use Rattle.bezier_core.specs.Raised.{eight}
-use Rattle.halving.specs.declared.Place.{Place}
-use Rattle.halving.specs.Part.{part_value}
-use Rattle.halving.specs.Places.{IsPlace}
+use Rattle.bezier_core.specs.declared.halves.Place.{Place}
+use Rattle.bezier_core.specs.Part.{part_value}
+use Rattle.bezier_core.specs.Places.{IsPlace}
 use Rattle.sep_parts.specs.declared.stack.Level.{Level}
 
 -- the whole cue

@@ -1,11 +1,11 @@
 -- When a direction separates two drones in a part of a cue.
 use Rattle.std.specs.Prelude.{ℕ, ◌≤◌, ◌*◌, ◌^◌, ℤ, pos, ◌+ℤ◌, ◌*ℤ◌, ◌≤ℤ◌, int_lt, List, Option, position}
-use Rattle.fleet_math.specs.Bernstein.{at}
+use Rattle.whole_numbers.specs.Bernstein.{at}
 use Rattle.bezier_core.specs.declared.Bez.{Bez}
 use Rattle.bezier_core.specs.Along.{controls}
 use Rattle.bezier_core.specs.Raised.{eight}
-use Rattle.halving.specs.declared.Place.{Place}
-use Rattle.halving.specs.Part.{part_value}
+use Rattle.bezier_core.specs.declared.halves.Place.{Place}
+use Rattle.bezier_core.specs.Part.{part_value}
 use Rattle.sep_parts.specs.declared.clearance.Clearance.{Clearance}
 use Rattle.sep_parts.specs.Directions.{threshold}
 

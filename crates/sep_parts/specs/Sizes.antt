@@ -1,12 +1,12 @@
 -- How large the numbers of a search get.
 use Rattle.std.specs.Prelude.{ℕ, ◌≤◌, ◌^◌, ℤ, List, All}
-use Rattle.fleet_math.specs.Numbers.{IsBelow}
-use Rattle.fleet_math.specs.Bernstein.{at}
+use Rattle.whole_numbers.specs.Numbers.{IsBelow}
+use Rattle.whole_numbers.specs.Bernstein.{at}
 use Rattle.bezier_core.specs.declared.Bez.{Bez}
 use Rattle.bezier_core.specs.Along.{controls}
-use Rattle.halving.specs.declared.Place.{Place}
-use Rattle.halving.specs.Part.{part_value}
-use Rattle.halving.specs.Places.{IsPlace}
+use Rattle.bezier_core.specs.declared.halves.Place.{Place}
+use Rattle.bezier_core.specs.Part.{part_value}
+use Rattle.bezier_core.specs.Places.{IsPlace}
 use Rattle.sep_parts.specs.declared.clearance.Clearance.{Clearance}
 use Rattle.sep_parts.specs.Directions.{AreSmall, IsClearance, threshold}
 use Rattle.sep_parts.specs.Separates.{least_value, part_along}

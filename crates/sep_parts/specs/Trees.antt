@@ -2,7 +2,7 @@
 use Rattle.std.specs.Prelude.{◌≡◌, ◌↔◌, ℕ, ◌<◌, ℤ, List, [], ◌∷◌, ◌++◌, Option, Some, None}
 use Rattle.std.specs.Option.{option_flatten, option_map}
 use Rattle.bezier_core.specs.declared.Bez.{Bez}
-use Rattle.halving.specs.declared.Place.{Place}
+use Rattle.bezier_core.specs.declared.halves.Place.{Place}
 use Rattle.sep_parts.specs.declared.node.Node.{Node}
 use Rattle.sep_parts.specs.declared.node.Node.TheVariants.{Split, Leaf}
 use Rattle.sep_parts.specs.declared.rules.Rules.{Rules}

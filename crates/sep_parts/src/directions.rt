@@ -2,7 +2,7 @@
 
 ghost use Rattle.std.specs.Prelude.{◌≡◌, ℕ, ◌+◌, ◌*◌, ◌^◌, ◌≤◌, ◌<◌, ℤ, pos, neg_ℤ, ◌+ℤ◌, ◌-ℤ◌, ◌*ℤ◌, ◌≤ℤ◌, ◌<ℤ◌, All};
 ghost use Rattle.std.specs.Prelude.{map, IsTrue, unsigned_abs};
-ghost use Rattle.fleet_math.specs.Numbers.{IsBelow};
+ghost use Rattle.whole_numbers.specs.Numbers.{IsBelow};
 ghost use Rattle.sep_parts.specs.Directions.{AreSmall, IsAxis, IsClearance, IsSquare, IsTableSize, ThresholdLaw};
 ghost use Rattle.sep_parts.specs.Directions.{directions, for_ellipsoids, for_reach, for_strays, is_closed, is_rising};
 ghost use Rattle.sep_parts.specs.Directions.{length_squared, limit_along, root_reaching, stray_limit, threshold};
@@ -10,7 +10,7 @@ ghost use Rattle.sep_parts.specs.Directions.{wide_directions};
 
 use crate::clearance::Clearance;
 use crate::part::long_weights;
-use fleet_math::least_root_above;
+use whole_numbers::least_root_above;
 
 /// A table of directions, of 26 or of 98.
 #[derive(Clone, Copy)]

@@ -2,19 +2,18 @@
 
 ghost use Rattle.std.specs.Prelude.{◌≡◌, ℕ, ◌+◌, ◌*◌, ◌^◌, ◌≤◌, ◌<◌, ℤ, pos, ◌+ℤ◌, ◌*ℤ◌, ◌≤ℤ◌, ◌<ℤ◌, int_lt, position};
 ghost use Rattle.std.specs.Prelude.{All, IsTrue, true, false, ◌↔◌, length};
-ghost use Rattle.fleet_math.specs.Numbers.{IsBelow};
-ghost use Rattle.fleet_math.specs.Bernstein.{at};
+ghost use Rattle.whole_numbers.specs.Numbers.{IsBelow};
+ghost use Rattle.whole_numbers.specs.Bernstein.{at};
 ghost use Rattle.bezier_core.specs.Along.{along_value, controls};
 ghost use Rattle.bezier_core.specs.Raised.{eight};
-ghost use Rattle.halving.specs.Part.{part_value};
+ghost use Rattle.bezier_core.specs.Part.{part_value};
 ghost use Rattle.sep_parts.specs.Directions.{AreSmall, IsAxis, weights};
 ghost use Rattle.sep_parts.specs.Separates.{IsAbove, first_low, least_value};
 ghost use Rattle.sep_parts.specs.Sizes.{SizeLaw};
 
 use crate::short::weights;
-use bezier_core::{Bez, along, along_at};
-use fleet_math::Depth;
-use halving::halve;
+use bezier_core::{Bez, along, along_at, halve};
+use whole_numbers::Depth;
 
 /// Whether the direction `n` separates a part of the given depth: whether each control value of n_x h dx + n_y h dy +
 /// n_z r dz is at least the threshold, at the scale of raised curves and of the depth. `diff` has the part's control

@@ -1,15 +1,14 @@
 //! Control values in rows of 64 bits, and their halves.
 
 ghost use Rattle.std.specs.Prelude.{◌≡◌, ℕ, ◌^◌, ◌≤◌, All, length};
-ghost use Rattle.fleet_math.specs.Bernstein.{at};
-ghost use Rattle.fleet_math.specs.Numbers.{IsBelow};
+ghost use Rattle.whole_numbers.specs.Bernstein.{at};
+ghost use Rattle.whole_numbers.specs.Numbers.{IsBelow};
 ghost use Rattle.bezier_core.specs.Along.{controls};
 ghost use Rattle.bezier_core.specs.Raised.{eight};
 ghost use Rattle.fleet_curves.specs.Raised.{curves_of};
-ghost use Rattle.halving.specs.Part.{part_value};
+ghost use Rattle.bezier_core.specs.Part.{part_value};
 
-use bezier_core::Bez;
-use halving::halve_short;
+use bezier_core::{Bez, halve_short};
 
 /// The curves of three rows.
 pub(crate) fn long_curves(rows: &[[i64; 8]; 3]) -> [Bez<8>; 3]

@@ -1,7 +1,7 @@
 //! A table of directions with the threshold of each.
 
 ghost use Rattle.std.specs.Prelude.{◌≡◌, ◌^◌, ◌<◌, ◌≤◌, pos, ◌≤ℤ◌, ◌<ℤ◌, length, All, IsTrue, is_none};
-ghost use Rattle.fleet_math.specs.Numbers.{IsBelow};
+ghost use Rattle.whole_numbers.specs.Numbers.{IsBelow};
 ghost use Rattle.sep_parts.specs.Directions.{AreSmall, IsClearance, IsTableSize, Stands, direction_of, threshold};
 ghost use Rattle.sep_parts.specs.Directions.{weights};
 ghost use Rattle.sep_parts.specs.Levels.{IsLevel, root};
@@ -13,8 +13,8 @@ use crate::part::low_control;
 use crate::short::{separates_rows, weights};
 use crate::stack::Level;
 use fleet_curves::Difference;
-use fleet_math::Depth;
 use std::marker::Model;
+use whole_numbers::Depth;
 
 /// A table of directions with the threshold of each for a clearance. Contracts see the directions and the clearance,
 /// which determine the thresholds.

@@ -1,15 +1,15 @@
 //! Parts of the first halvings, in 64 bits: *short* numbers.
 
 ghost use Rattle.std.specs.Prelude.{◌≡◌, ℕ, ◌^◌, ◌≤◌, ◌<◌, ℤ, pos, ◌+ℤ◌, ◌*ℤ◌, ◌≤ℤ◌, ◌<ℤ◌, All, IsTrue, ◌↔◌};
-ghost use Rattle.fleet_math.specs.Bernstein.{at};
-ghost use Rattle.fleet_math.specs.Numbers.{IsBelow};
+ghost use Rattle.whole_numbers.specs.Bernstein.{at};
+ghost use Rattle.whole_numbers.specs.Numbers.{IsBelow};
 ghost use Rattle.bezier_core.specs.Along.{along_value};
 ghost use Rattle.fleet_curves.specs.Raised.{curves_of};
 ghost use Rattle.sep_parts.specs.Directions.{AreSmall, IsAxis, weights};
 ghost use Rattle.sep_parts.specs.Separates.{least_value};
 
 use crate::part::{all_places, scaled};
-use fleet_math::Depth;
+use whole_numbers::Depth;
 
 /// The greatest depth of a part whose weighted sums have 64 bits.
 pub(crate) const SHORT_SUMS_DEPTH: u8 = 2;

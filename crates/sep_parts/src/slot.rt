@@ -14,7 +14,7 @@ pub struct Slot {
 }
 
 impl Slot {
-    ghost use Rattle.fleet_math.specs.Limits.{most_cues, most_drones};
+    ghost use Rattle.whole_numbers.specs.Limits.{most_cues, most_drones};
     ghost use Rattle.sep_parts.specs.Slots.{IsSlot, following, following_pair};
 
     /// The first pair and cue.

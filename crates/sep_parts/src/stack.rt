@@ -1,15 +1,14 @@
 //! A place with the parts of the curves there, and the parts of its halves.
 
 ghost use Rattle.std.specs.Prelude.{◌≡◌, ◌<◌, ◌^◌, All};
-ghost use Rattle.fleet_math.specs.Numbers.{IsBelow};
+ghost use Rattle.whole_numbers.specs.Numbers.{IsBelow};
 ghost use Rattle.sep_parts.specs.Levels.{IsLevel, left_half, right_half, root};
 
 use crate::part::halves;
 use crate::short::SHORT_VALUES_DEPTH;
 use crate::values::Controls;
-use bezier_core::Bez;
+use bezier_core::{Bez, Place};
 use fleet_curves::Difference;
-use halving::Place;
 
 /// A place, and the parts of three curves there.
 #[derive(Drop)]

@@ -1,12 +1,12 @@
 //! Three curves whose control values have 64 bits where these hold them.
 
 ghost use Rattle.std.specs.Prelude.{◌≡◌, ℕ, ◌^◌, ◌≤◌, ◌<◌, ◌≤ℤ◌, ◌<ℤ◌, pos, All, IsTrue, ◌↔◌, length, true};
-ghost use Rattle.fleet_math.specs.Bernstein.{at};
-ghost use Rattle.fleet_math.specs.Numbers.{IsBelow};
+ghost use Rattle.whole_numbers.specs.Bernstein.{at};
+ghost use Rattle.whole_numbers.specs.Numbers.{IsBelow};
 ghost use Rattle.bezier_core.specs.Along.{along_value, controls};
 ghost use Rattle.bezier_core.specs.Raised.{eight};
 ghost use Rattle.fleet_curves.specs.Raised.{curves_of};
-ghost use Rattle.halving.specs.Part.{part_value};
+ghost use Rattle.bezier_core.specs.Part.{part_value};
 ghost use Rattle.sep_parts.specs.Directions.{AreSmall, IsAxis, weights};
 ghost use Rattle.sep_parts.specs.Separates.{least_value};
 ghost use Rattle.sep_parts.specs.declared.short.TheConstants.{SHORT_SUMS_DEPTH};
@@ -15,8 +15,8 @@ use crate::part::{halves, separates};
 use crate::rows::{halve_rows, long_curves, widened_rows};
 use crate::short::{SHORT_SUMS_DEPTH, separates_by_long_sums, separates_by_short_sums};
 use bezier_core::Bez;
-use fleet_math::Depth;
 use std::marker::Model;
+use whole_numbers::Depth;
 
 /// Three curves, on x, y and z. Their control values are kept in 64 bits, or in 128. A contract sees the curves.
 #[derive(Drop)]

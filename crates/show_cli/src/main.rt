@@ -6,8 +6,8 @@
 //! `run_tests` has the tests of ends that fail.
 #![tactic(auto)]
 
-use fleet_io::status::{NO_MEMORY, NO_WORDS};
-use fleet_io::{StdSink, StdSource};
+use byte_streams::status::{NO_MEMORY, NO_WORDS};
+use byte_streams::{StdSink, StdSource};
 use show_run::run;
 use std::process::ExitCode;
 use std::{env, io};

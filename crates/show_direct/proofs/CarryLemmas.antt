@@ -2,7 +2,7 @@
 use Rattle.show_direct.proofs.Prelude.{◌≡◌, ◌⊎◌, inl, inr, ℕ, ◌+◌, ◌<◌, ◌≤◌, Bool, true, false, List, [], ◌∷◌, ◌++◌, Contains, append_assoc, append-nil, length, length-append, Option, Some, None, Result, Ok, Err, refl, sym, ap, subst, ◌∙◌, arith, append_cancel_left, append_cancel_right, Appends, part_of, rest_of, ShowLaw, PlainShow, Rose, buffer_bytes, has_whole_marker, MarkerLaw, AppendsFront, Held, Told, Went, most_text, end_byte, end_frame, Refusal, accepted_outcome, refused_outcome, refused_some, IsAccepted, IsRefusedBy, Wrote, IsOfInput, show_refusal, text_refusal, cut_of, IsJudged, Span, outcome, Accepted, Unflown, Accepts, Exchange, TextStops, text_exchange, text_verb, text_ways, Options, Flight, HasBegun, no_flight_byte, AreMarked, Carries, FlightRead, IsCut, IsRead, IsUnread, LeadsTo, coming, direct_statuses, left_of, since}
 use Rattle.std.proofs.lemmas.Grind.{common_steps}
 use Rattle.choreo_reader.specs.Grammar.{StandsFor}
-use Rattle.fleet_io.proofs.MarkerLaws.{whole_marker-front}
+use Rattle.byte_streams.proofs.MarkerLaws.{whole_marker-front}
 use Rattle.refusals.specs.Refusals.{status_of}
 use Rattle.show_judge.proofs.RunLemmas.{refused_among, refused_judged}
 use Rattle.show_judge.proofs.TextLemmas.{stands_unrefused}

@@ -3,7 +3,7 @@ use Rattle.show_direct.proofs.Prelude.{◌≡◌, ◌⊎◌, inl, inr, ℕ, ◌+
 use Rattle.std.proofs.lemmas.List.Splits.{join_with_byte-slice_split}
 use Rattle.text_lines.specs.Lines.{between_feeds, is_line_feed}
 unfoldable use Rattle.text_lines.specs.Marker.{rest_of}
-use Rattle.fleet_io.proofs.CutLemmas.{IsFull-split, split-goes_on}
+use Rattle.byte_streams.proofs.CutLemmas.{IsFull-split, split-goes_on}
 
 -- a line in front makes joined lines longer
 join_longer : (l : List ℕ) (ls : List (List ℕ)) → length (join_with_byte 10 ls) ≤ length (join_with_byte 10 (l ∷ ls))

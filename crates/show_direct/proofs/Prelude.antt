@@ -13,13 +13,13 @@ pub use Rattle.choreo_show.specs.Plain.{PlainShow}
 pub use Rattle.choreo_show.specs.declared.show.DroneLine.{DroneLine}
 pub use Rattle.cue_grid.specs.Cues.{grid_of}
 pub use Rattle.cue_grid.specs.Grids.{FitCues, IsGrid}
-pub use Rattle.fleet_io.proofs.ToldLemmas.{IsInput-now, Went-trans, back, comes, comes_before, consumed, of_source, takes_at_most, takes_front}
-pub use Rattle.fleet_io.specs.Causes.{Rose}
-pub use Rattle.fleet_io.specs.Held.{Asked, Held, buffer_bytes, has_whole_marker, stream, without_last}
-pub use Rattle.fleet_io.specs.Parts.{MarkerLaw, TakesFewAfter, TakesPart, TookMarked}
-pub use Rattle.fleet_io.specs.Taken.{AppendsFront, TakesFront}
-pub use Rattle.fleet_io.specs.Told.{Gives, MayGive, Told, Took, Went, to_come}
-pub use Rattle.fleet_math.specs.Limits.{most_text}
+pub use Rattle.byte_streams.proofs.ToldLemmas.{IsInput-now, Went-trans, back, comes, comes_before, consumed, of_source, takes_at_most, takes_front}
+pub use Rattle.byte_streams.specs.Causes.{Rose}
+pub use Rattle.byte_streams.specs.Held.{Asked, Held, buffer_bytes, has_whole_marker, stream, without_last}
+pub use Rattle.byte_streams.specs.Parts.{MarkerLaw, TakesFewAfter, TakesPart, TookMarked}
+pub use Rattle.byte_streams.specs.Taken.{AppendsFront, TakesFront}
+pub use Rattle.byte_streams.specs.Told.{Gives, MayGive, Told, Took, Went, to_come}
+pub use Rattle.whole_numbers.specs.Limits.{most_text}
 pub use Rattle.flight_link.specs.Flights.{FlightGives, FlightLinkLaw, dialogue_of}
 unfoldable pub use Rattle.flight_link.specs.Sends.{ended, sent_over}
 pub use Rattle.flight_link.specs.Sends.{end_in}

@@ -2,7 +2,7 @@
 use Rattle.show_direct.proofs.Prelude.{◌≡◌, ◌⊎◌, inl, inr, ℕ, ◌<◌, ◌≤◌, Bool, true, false, cond, nat_lt, List, [], length, Some, Result, Ok, Err, refl, sym, ap, ◌∙◌, arith, option_map, IsTrue, part_of, rest_of, consumed, Rose, Asked, Held, has_whole_marker, stream, TakesFewAfter, TakesPart, TookMarked, MayGive, Told, Took, to_come, most_text, Accepted, faulty, text_refusal, Cut, cut_of, Unflown, JudgeGives, ReadGives, coming}
 use Rattle.std.proofs.lemmas.Bool.Decides.{nat_tests}
 use Rattle.choreo_reader.specs.Context.{fault}
-use Rattle.fleet_io.specs.declared.parts.Part.{Part}
+use Rattle.byte_streams.specs.declared.parts.Part.{Part}
 use Rattle.refusals.specs.declared.refusal.Refusal.TheVariants as refusal
 use Rattle.show_judge.specs.declared.input.Text.TheVariants.{Whole}
 use Rattle.show_judge.specs.Input.{IsShowText}

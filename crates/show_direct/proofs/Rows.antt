@@ -11,7 +11,7 @@ unfoldable use Rattle.traj_codec.specs.Joined.{joined_from}
 use Rattle.flight_steps.specs.declared.faults.FlightFault.TheVariants as fault
 use Rattle.flight_steps.specs.declared.faults.Seam.TheVariants as seam
 use Rattle.flight_steps.specs.declared.faults.Way.TheVariants as way
-use Rattle.flight_frames.specs.Frames.{IsEvent}
+use Rattle.flight_link.specs.Frames.{IsEvent}
 unfoldable use Rattle.flight_link.specs.Sends.{ended, sent_over}
 
 -- so near to the pads

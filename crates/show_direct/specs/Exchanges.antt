@@ -4,8 +4,8 @@ use Rattle.std.specs.Prelude.{◌≡◌, ℕ, ◌+◌, ◌≤◌, Bool, true, fa
 use Rattle.text_lines.specs.Marker.{part_of, rest_of}
 use Rattle.choreo_reader.specs.Grammar.{StandsFor}
 use Rattle.choreo_show.specs.Plain.{PlainShow}
-use Rattle.fleet_io.specs.Held.{buffer_bytes, has_whole_marker}
-use Rattle.fleet_math.specs.Limits.{most_text}
+use Rattle.byte_streams.specs.Held.{buffer_bytes, has_whole_marker}
+use Rattle.whole_numbers.specs.Limits.{most_text}
 use Rattle.link_frames.specs.Frames.{end_frame}
 use Rattle.show_judge.specs.declared.ways.Ways.{Ways}
 use Rattle.show_judge.specs.Headline.{FliesText}

@@ -4,11 +4,11 @@ use Rattle.std.specs.Prelude.{Option, Some, None, Result, Ok, Err}
 use Rattle.std.specs.Io.KnownBytes.{Appends}
 use Rattle.text_lines.specs.Marker.{rest_of}
 use Rattle.choreo_show.specs.Plain.{PlainShow}
-use Rattle.fleet_io.specs.Causes.{Rose}
-use Rattle.fleet_io.specs.Held.{Held, buffer_bytes, has_whole_marker}
-use Rattle.fleet_io.specs.Taken.{AppendsFront}
-use Rattle.fleet_io.specs.Told.{Told}
-use Rattle.fleet_math.specs.Limits.{most_text}
+use Rattle.byte_streams.specs.Causes.{Rose}
+use Rattle.byte_streams.specs.Held.{Held, buffer_bytes, has_whole_marker}
+use Rattle.byte_streams.specs.Taken.{AppendsFront}
+use Rattle.byte_streams.specs.Told.{Told}
+use Rattle.whole_numbers.specs.Limits.{most_text}
 use Rattle.link_frames.specs.Frames.{end_frame}
 use Rattle.refusals.specs.Refusals.{status_of}
 use Rattle.flight_model.specs.declared.flights.Flight.{Flight}

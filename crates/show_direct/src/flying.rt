@@ -1,10 +1,10 @@
 //! `direct`: three texts are read, and the flight of their shows is flown.
 
 ghost use Rattle.std.specs.Prelude.{◌≡◌, ◌⊎◌, ◌<◌, ◌≤◌, ◌+◌, ◌++◌, ℕ, List, length, IsTrue, IfOk};
-ghost use Rattle.fleet_io.specs.Held.{Held, buffer_bytes};
-ghost use Rattle.fleet_math.specs.Limits.{most_text};
+ghost use Rattle.byte_streams.specs.Held.{Held, buffer_bytes};
+ghost use Rattle.whole_numbers.specs.Limits.{most_text};
 ghost use Rattle.text_lines.specs.Marker.{part_of};
-ghost use Rattle.fleet_io.specs.Told.{MayGive, Told, Went};
+ghost use Rattle.byte_streams.specs.Told.{MayGive, Told, Went};
 ghost use Rattle.flight_director.specs.Held.{IsHeld};
 ghost use Rattle.show_judge.specs.Runs.{Does};
 ghost use Rattle.show_judge.specs.Verb.{during};
@@ -15,8 +15,8 @@ ghost use Rattle.show_direct.specs.Steps.{Carries, FlightRead, TookLittle, comin
 use crate::making::make_flight;
 use crate::options::Options;
 use crate::reading::{Unflown, end_unflown, read_show};
+use byte_streams::{Parts, Sink, Source, marker_law};
 use choreo_reader::show_law;
-use fleet_io::{Parts, Sink, Source, marker_law};
 use flight_link::flight_link_law;
 use flight_model::{Flight, director_law};
 use std::alloc::Global;

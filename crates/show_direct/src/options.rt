@@ -1,6 +1,6 @@
 //! What a flight is allowed.
 
-use fleet_math::Depth;
+use whole_numbers::Depth;
 
 /// What a flight is allowed, and how deep its shows are searched. Lengths in millimetres, times in milliseconds.
 #[derive(Clone, Copy)]

@@ -1,9 +1,9 @@
 //! A text is read, and the show that it stands for is judged.
 
 ghost use Rattle.std.specs.Prelude.{◌≡◌, ◌+◌, ◌≤◌, ℕ, List, length, IsTrue, IfOk};
-ghost use Rattle.fleet_io.specs.Held.{buffer_bytes};
-ghost use Rattle.fleet_io.specs.Told.{MayGive, Went};
-ghost use Rattle.fleet_math.specs.Limits.{most_text};
+ghost use Rattle.byte_streams.specs.Held.{buffer_bytes};
+ghost use Rattle.byte_streams.specs.Told.{MayGive, Went};
+ghost use Rattle.whole_numbers.specs.Limits.{most_text};
 ghost use Rattle.show_plan.specs.Fitting.{IsValidFitted};
 ghost use Rattle.link_frames.specs.Frames.{end_frame};
 ghost use Rattle.show_judge.specs.Answers.{Wrote};
@@ -12,14 +12,14 @@ ghost use Rattle.show_judge.specs.Shows.{Cut};
 ghost use Rattle.show_direct.specs.Steps.{EndsBy, JudgeGives, ReadGives};
 
 use crate::fault_frame::{NO_FLIGHT, no_flight_bytes};
-use fleet_io::status::{NO_MEMORY, READ_FAILED};
-use fleet_io::{IoFault, Parts, Sink, Source};
-use fleet_math::{Depth, MOST_TEXT};
+use byte_streams::status::{NO_MEMORY, READ_FAILED};
+use byte_streams::{IoFault, Parts, Sink, Source};
 use flight_steps::{FlightFault, StepsError};
 use link_frames::END_BYTE;
 use refusals::Refusal;
 use show_judge::{Accepted, Judged, Text, Ways, accept, finish};
 use std::alloc::{AllocError, Global};
+use whole_numbers::{Depth, MOST_TEXT};
 
 /// Why nothing is flown.
 #[derive(Drop)]

@@ -1,6 +1,6 @@
 -- From a show that fits to one that is accepted.
 use Rattle.show_judge.proofs.Prelude.{common_steps, ◌≡◌, inr, ℕ, ◌≤◌, Bool, false, cond, [], length, Option, Some, None, Result, Ok, Err, IfOk, refl, ap, subst, ◌∙◌, arith, AllocError, PlainShow, StandsFor, Settings, grid_of, Ways, Refusal, Fitted, IsFitted, AreUploadable, FlyApart, Judged, Fits, JudgedGives, PlanGives, blocked_by, show_refusal, most_text, Cut, sent_of}
-use Rattle.fleet_io.specs.declared.parts.Part.{Part}
+use Rattle.byte_streams.specs.declared.parts.Part.{Part}
 use Rattle.show_plan.specs.Flight.{KeepsNearShow}
 use Rattle.show_plan.specs.Uploading.{UploadsLaw}
 use Rattle.show_judge.specs.declared.judging.Judged.TheVariants as judged

@@ -15,13 +15,13 @@ pub use Rattle.choreo_show.specs.Plain.{PlainShow, plain}
 pub use Rattle.choreo_show.specs.declared.show.DroneLine.{DroneLine}
 pub use Rattle.choreo_show.specs.declared.show.Settings.{Settings}
 pub use Rattle.cue_grid.specs.Cues.{grid_of}
-pub use Rattle.fleet_io.proofs.ToldLemmas.{Gives-trans, at_its_end, back, left_to_come, met_end, of_source, takes_at_most, takes_front, told_input, told_to_come}
-pub use Rattle.fleet_io.specs.Causes.{Rose}
-pub use Rattle.fleet_io.specs.Held.{Held, stream}
-pub use Rattle.fleet_io.specs.Parts.{TakesFewAfter}
-pub use Rattle.fleet_io.specs.Taken.{AppendsFront, TakesAtMost, TakesFront}
-pub use Rattle.fleet_io.specs.Told.{IsInput, Told, to_come}
-pub use Rattle.fleet_math.specs.Limits.{most_text}
+pub use Rattle.byte_streams.proofs.ToldLemmas.{Gives-trans, at_its_end, back, left_to_come, met_end, of_source, takes_at_most, takes_front, told_input, told_to_come}
+pub use Rattle.byte_streams.specs.Causes.{Rose}
+pub use Rattle.byte_streams.specs.Held.{Held, stream}
+pub use Rattle.byte_streams.specs.Parts.{TakesFewAfter}
+pub use Rattle.byte_streams.specs.Taken.{AppendsFront, TakesAtMost, TakesFront}
+pub use Rattle.byte_streams.specs.Told.{IsInput, Told, to_come}
+pub use Rattle.whole_numbers.specs.Limits.{most_text}
 pub use Rattle.refusals.specs.Refusals.{line_of, status_of}
 pub use Rattle.refusals.specs.declared.refusal.Refusal.{Refusal}
 pub use Rattle.show_plan.specs.Fitting.{IsFitted, StandsAsWord, in_order, plan_fault, room, unsendable}

@@ -1,7 +1,7 @@
 -- In which order a show's refusals come.
 use Rattle.show_judge.proofs.Prelude.{common_steps, ◌≡◌, ◌⊎◌, inl, inr, ℕ, ◌+◌, ◌<◌, ◌≤◌, List, [], length, get_or, map, Option, Some, None, refl, sym, ap, subst, ◌∙◌, arith, option_map, option_or, DroneLine, PlainShow, grid_of, All-get_or, StandsAsWord, in_order, plan_fault, room, unsendable, Name, Ways, Refusal, blocked_by, marker_refusal, no_plan, show_refusal, Cut, name_at, names_of}
 use Rattle.std.proofs.lemmas.List.{length-map}
-use Rattle.fleet_io.specs.Words.{IsWord}
+use Rattle.byte_streams.specs.Words.{IsWord}
 use Rattle.choreo_show.specs.Valid.{FitDroneLines}
 use Rattle.cue_grid.specs.declared.grid.GridFault.{GridFault}
 use Rattle.cue_grid.specs.Faults.{grid_fault}

@@ -1,6 +1,6 @@
 -- A run of a command that reads nothing.
 use Rattle.show_judge.proofs.Prelude.{common_steps, ◌≡◌, inl, inr, ℕ, List, Option, Some, None, Result, Ok, Err, IfOk, refl, sym, ap, subst, ◌∙◌, arith, Appends, ShowLaw, PlainShow, Answer, Failure, Read, Memory, IsSaid, Responds, Wrote, outcome_of, IsOutcomeOf, IsSafe, IsVerb, OutcomeLaw, TakesOneText, Behaves, Runs, cut_of, Outcome, Run, nothing, of_nothing, of_own, outcome, run_of}
-use Rattle.fleet_io.proofs.TakenLemmas.{TakesFront-none}
+use Rattle.byte_streams.proofs.TakenLemmas.{TakesFront-none}
 use Rattle.show_judge.proofs.HeadlineLemmas.{behaves_of, headlines, says_of}
 use Rattle.show_judge.proofs.RunLemmas.{answer_among, answer_judged, completes, runs_failed, runs_memory}
 use Rattle.show_judge.proofs.VerbLemmas.{outcomes}

@@ -5,8 +5,8 @@ use Rattle.std.specs.declared.alloc.AllocError.{AllocError}
 use Rattle.choreo_reader.specs.Grammar.{StandsFor}
 use Rattle.choreo_show.specs.Plain.{PlainShow}
 use Rattle.cue_grid.specs.Cues.{grid_of}
-use Rattle.fleet_io.specs.Causes.{Rose}
-use Rattle.fleet_io.specs.Taken.{AppendsFront}
+use Rattle.byte_streams.specs.Causes.{Rose}
+use Rattle.byte_streams.specs.Taken.{AppendsFront}
 use Rattle.show_judge.specs.declared.ways.Ways.{Ways}
 use Rattle.refusals.specs.declared.refusal.Refusal.{Refusal}
 use Rattle.refusals.specs.Lines.{read_line}
@@ -28,7 +28,7 @@ use Rattle.show_judge.specs.declared.judging.Judged.{Judged}
 use Rattle.show_judge.specs.declared.judging.Judged.TheVariants as judged
 use Rattle.show_judge.specs.declared.judging.Planned.{Planned}
 use Rattle.show_judge.specs.declared.judging.Planned.TheVariants as planned
-use Rattle.fleet_math.specs.Limits.{most_text}
+use Rattle.whole_numbers.specs.Limits.{most_text}
 use Rattle.show_judge.specs.Shows.{Cut, cut_of, nodes_of, sent_of}
 use Rattle.show_judge.specs.Refused.{IsOfInput, blocked_by, show_refusal, text_refusal}
 use Rattle.show_judge.specs.Input.{AreTexts, IsReadWhole, IsShowText, IsUnmarked, IsWholeText}

@@ -1,14 +1,14 @@
 -- What the program has read of its input.
 use Rattle.std.specs.Prelude.{◌≡◌, ℕ, ◌<◌, ◌+◌, ◌≤◌, Bool, false, List, [], length, Option, Some, IfSome}
-use Rattle.fleet_io.specs.Held.{buffer_bytes}
-use Rattle.fleet_io.specs.Parts.{TakesFewAfter}
-use Rattle.fleet_io.specs.Taken.{TakesAtMost}
+use Rattle.byte_streams.specs.Held.{buffer_bytes}
+use Rattle.byte_streams.specs.Parts.{TakesFewAfter}
+use Rattle.byte_streams.specs.Taken.{TakesAtMost}
 use Rattle.text_lines.specs.Lines.{between_feeds}
 use Rattle.text_lines.specs.Marker.{has_marker, part_of, rest_of}
 use Rattle.show_judge.specs.declared.input.Text.{Text}
 use Rattle.show_judge.specs.declared.input.Text.TheVariants.{TooLarge, Whole}
 use Rattle.show_judge.specs.declared.input.Input.{Input}
-use Rattle.fleet_math.specs.Limits.{most_text}
+use Rattle.whole_numbers.specs.Limits.{most_text}
 use Rattle.show_judge.specs.Shows.{Cut, cut_of}
 
 -- A text that was read is these bytes, of which there are at most this many, with a marker line after them or none; it

@@ -10,7 +10,7 @@ use Rattle.refusals.specs.Refusals.{line_of, status_of}
 use Rattle.link_frames.specs.Frames.{end_frame}
 use Rattle.show_plan.specs.Flight.{KeepsNearShow}
 use Rattle.show_judge.specs.Refused.{show_refusal, text_refusal}
-use Rattle.fleet_math.specs.Limits.{most_text}
+use Rattle.whole_numbers.specs.Limits.{most_text}
 use Rattle.show_judge.specs.Shows.{Cut, cut_of, sent_of}
 use Rattle.show_judge.specs.Verb.{FliesApart, Judges, Outcome, Verb, nothing, outcome, own_text, the_input}
 

@@ -18,7 +18,7 @@ use Rattle.show_plan.specs.declared.fitted.PlanFault.TheVariants as plan
 use Rattle.show_plan.specs.declared.separation.BlockedPart.{BlockedPart}
 use Rattle.show_plan.specs.Fitting.{in_order, unsendable}
 use Rattle.show_plan.specs.Separation.{blocked_part}
-use Rattle.fleet_math.specs.Limits.{most_text}
+use Rattle.whole_numbers.specs.Limits.{most_text}
 use Rattle.show_judge.specs.Shows.{Cut, marker_number, name_at, names_of, trajectories_of}
 
 -- A refusal of an input: what it names can be said in a line, and it is neither that the words are no command nor that

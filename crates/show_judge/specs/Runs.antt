@@ -3,12 +3,12 @@ use Rattle.std.specs.Prelude.{◌≡◌, ◌⊎◌, ℕ, ◌<◌, ◌≤◌, Boo
 use Rattle.std.specs.Prelude.{length, Option, Some, IfSome, if◌then◌else◌}
 use Rattle.std.specs.Io.KnownBytes.{Appends}
 use Rattle.text_lines.specs.Marker.{part_of}
-use Rattle.fleet_io.specs.Causes.{Rose}
-use Rattle.fleet_io.specs.Parts.{TakesFewAfter}
-use Rattle.fleet_io.specs.Taken.{AppendsFront, TakesFront}
-use Rattle.fleet_io.specs.Told.{Gives, IsInput}
+use Rattle.byte_streams.specs.Causes.{Rose}
+use Rattle.byte_streams.specs.Parts.{TakesFewAfter}
+use Rattle.byte_streams.specs.Taken.{AppendsFront, TakesFront}
+use Rattle.byte_streams.specs.Told.{Gives, IsInput}
 use Rattle.show_judge.specs.Input.{TakesOneText}
-use Rattle.fleet_math.specs.Limits.{most_text}
+use Rattle.whole_numbers.specs.Limits.{most_text}
 use Rattle.show_judge.specs.Shows.{cut_of}
 use Rattle.show_judge.specs.Outcome.{IsComplete, IsOutcome, IsSafeOutcome, judged_text}
 use Rattle.show_judge.specs.Verb.{IsJudged, Outcome, Run, Span, Verb, nothing, run_on}

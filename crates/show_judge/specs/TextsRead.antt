@@ -1,9 +1,9 @@
 -- What the reading of a run's texts says of its source, in one record for a show's text and in one for two texts.
 use Rattle.std.specs.Prelude.{◌≡◌, ℕ, ◌<◌, List, length, Option, Some, Result, Err, IfOk, IfSome}
-use Rattle.fleet_io.specs.Causes.{Rose}
-use Rattle.fleet_io.specs.Parts.{TakesFewAfter}
-use Rattle.fleet_io.specs.Told.{Gives, IsInput, Told, to_come}
-use Rattle.fleet_math.specs.Limits.{most_text}
+use Rattle.byte_streams.specs.Causes.{Rose}
+use Rattle.byte_streams.specs.Parts.{TakesFewAfter}
+use Rattle.byte_streams.specs.Told.{Gives, IsInput, Told, to_come}
+use Rattle.whole_numbers.specs.Limits.{most_text}
 use Rattle.text_lines.specs.Marker.{part_of, rest_of}
 use Rattle.show_judge.specs.declared.ends.Failure.{Failure}
 use Rattle.show_judge.specs.declared.ends.Failure.TheVariants.{Read}

@@ -3,7 +3,7 @@ use Rattle.std.specs.Prelude.{◌≡◌, ◌≢◌, ℕ, true, false, List, Opti
 use Rattle.std.specs.Io.KnownBytes.{Appends}
 use Rattle.choreo_show.specs.Plain.{PlainShow}
 use Rattle.cue_grid.specs.Cues.{grid_of}
-use Rattle.fleet_io.specs.Told.{Told, to_come}
+use Rattle.byte_streams.specs.Told.{Told, to_come}
 use Rattle.refusals.specs.Lines.{read_line}
 use Rattle.show_plan.specs.Flight.{KeepsNearShow}
 use Rattle.show_plan.specs.Separation.{FlyApart}

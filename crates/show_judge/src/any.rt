@@ -10,7 +10,7 @@ ghost use Rattle.show_judge.specs.Input.{IsWithin};
 ghost use Rattle.show_judge.specs.Outcome.{IsVerb, ShowGives};
 ghost use Rattle.show_judge.specs.Refused.{blocked_by};
 ghost use Rattle.show_judge.specs.Runs.{Does};
-ghost use Rattle.fleet_math.specs.Limits.{most_text};
+ghost use Rattle.whole_numbers.specs.Limits.{most_text};
 ghost use Rattle.show_judge.specs.Shows.{Cut, sent_of};
 ghost use Rattle.show_judge.specs.Verb.{IsAny, Verb, during};
 ghost use Rattle.show_judge.specs.TextsRead.{OneTextRead};
@@ -19,8 +19,8 @@ use crate::ends::{Answer, Failure, respond};
 use crate::input::{Text, read_show_text};
 use crate::judging::{Planned, fit_text};
 use crate::ways::Ways;
+use byte_streams::{Sink, Source};
 use choreo_reader::show_law;
-use fleet_io::{Sink, Source};
 use show_plan::Fitted;
 use std::alloc::{AllocError, Global};
 

@@ -5,7 +5,7 @@ ghost use Rattle.show_plan.specs.Fitting.{IsFitted, IsValidFitted};
 ghost use Rattle.show_judge.specs.Answers.{AnswersInput, AnswersText, IsSaid, outcome_of};
 ghost use Rattle.show_judge.specs.Input.{IsWithin};
 ghost use Rattle.show_judge.specs.Runs.{Does};
-ghost use Rattle.fleet_math.specs.Limits.{most_text};
+ghost use Rattle.whole_numbers.specs.Limits.{most_text};
 ghost use Rattle.show_judge.specs.Shows.{nodes_of};
 ghost use Rattle.show_judge.specs.Verb.{during, of_show, outcome};
 ghost use Rattle.show_judge.specs.TextsRead.{OneTextRead};
@@ -14,10 +14,10 @@ use crate::ends::{Answer, Failure, respond};
 use crate::input::{Text, read_show_text};
 use crate::judging::{Accepted, Judged, accept};
 use crate::ways::Ways;
+use byte_streams::{Sink, Source};
 use choreo_reader::show_law;
-use fleet_io::{Sink, Source};
-use fleet_math::Depth;
 use std::alloc::{AllocError, Global};
+use whole_numbers::Depth;
 
 /// A command that reads a show's text and writes one text of it.
 pub trait OneText {

@@ -3,8 +3,8 @@ ghost use Rattle.std.specs.Prelude.{◌≡◌, Err, IfOk};
 ghost use Rattle.refusals.specs.Refusals.{IsSayable, line_of, status_of};
 ghost use Rattle.show_judge.specs.Answers.{IsSaid, Responds, Wrote, output_of};
 
-use fleet_io::status::{DONE, NO_MEMORY, WRITE_FAILED};
-use fleet_io::{Failed, Lines, ShortLine, Sink, write_whole};
+use byte_streams::status::{DONE, NO_MEMORY, WRITE_FAILED};
+use byte_streams::{Failed, Lines, ShortLine, Sink, write_whole};
 use refusals::Refusal;
 use std::alloc::AllocError;
 

@@ -1,17 +1,17 @@
 //! What the program reads before it judges: a show's text, and for some commands a second text after it.
 ghost use Rattle.std.specs.Prelude.{◌≡◌, ℕ, List, ◌+◌, ◌<◌, ◌≤◌, [], length, IsTrue, IfOk};
-ghost use Rattle.fleet_io.specs.Held.{buffer_bytes, stream, text_limit};
-ghost use Rattle.fleet_io.specs.Causes.{Rose};
-ghost use Rattle.fleet_io.specs.Parts.{TakesFewAfter};
-ghost use Rattle.fleet_io.specs.Told.{MayGive, Went, to_come};
-ghost use Rattle.fleet_math.specs.Limits.{most_text};
+ghost use Rattle.byte_streams.specs.Held.{buffer_bytes, stream, text_limit};
+ghost use Rattle.byte_streams.specs.Causes.{Rose};
+ghost use Rattle.byte_streams.specs.Parts.{TakesFewAfter};
+ghost use Rattle.byte_streams.specs.Told.{MayGive, Went, to_come};
+ghost use Rattle.whole_numbers.specs.Limits.{most_text};
 ghost use Rattle.show_judge.specs.Input.{GoesOn, IsNextText, IsUnmarked, IsWholeText, IsWithin, ReadsShow, ReadsTwo};
 ghost use Rattle.show_judge.specs.TextsRead.{IsPastTwo, OneTextRead, TwoTextsRead};
 
 use crate::ends::Failure;
-use fleet_io::{IoFault, Part, Parts, Source};
-use fleet_math::MOST_TEXT;
+use byte_streams::{IoFault, Part, Parts, Source};
 use std::alloc::Global;
+use whole_numbers::MOST_TEXT;
 
 /// A text that was read.
 #[derive(Drop)]

@@ -5,19 +5,19 @@ ghost use Rattle.choreo_show.specs.Valid.{IsValid};
 ghost use Rattle.show_plan.specs.Fitting.{IsValidFitted};
 ghost use Rattle.show_judge.specs.Answers.{EndsJudged, EndsWell, IsSoundJudged, IsSoundPlan, JudgedGives, PlanGives};
 ghost use Rattle.show_judge.specs.Input.{IsShowText, IsWithin};
-ghost use Rattle.fleet_math.specs.Limits.{most_text};
+ghost use Rattle.whole_numbers.specs.Limits.{most_text};
 ghost use Rattle.show_judge.specs.Shows.{Cut};
 ghost use Rattle.show_judge.specs.Steps.{Separated, ShowPlanned};
 
 use crate::input::Text;
 use crate::refusing::{marker_refusal, unfit, unseparated};
 use crate::ways::Ways;
+use byte_streams::Part;
 use choreo_reader::{Show, ShowFault, read_show};
-use fleet_io::Part;
-use fleet_math::Depth;
 use refusals::Refusal;
 use show_plan::{FitError, Fitted, count_nodes, fit, uploadable_law, uploads_law};
 use std::alloc::{AllocError, Global};
+use whole_numbers::Depth;
 
 /// A show that fits, or why a command refuses it.
 #[derive(Drop)]

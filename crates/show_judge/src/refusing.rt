@@ -2,8 +2,8 @@
 ghost use Rattle.std.specs.Prelude.{◌≡◌, ◌<◌, ◌≤◌, length, Some, None, IfOk, IfSome};
 ghost use Rattle.std.specs.Option.{option_or};
 ghost use Rattle.std.specs.List.{All};
-ghost use Rattle.fleet_io.specs.Held.{text_limit};
-ghost use Rattle.fleet_io.specs.Words.{IsWord};
+ghost use Rattle.byte_streams.specs.Held.{text_limit};
+ghost use Rattle.byte_streams.specs.Words.{IsWord};
 ghost use Rattle.choreo_show.specs.Plain.{PlainShow, plain};
 ghost use Rattle.choreo_show.specs.Valid.{IsValid};
 ghost use Rattle.refusals.specs.Refusals.{AreNamed};
@@ -11,18 +11,18 @@ ghost use Rattle.show_plan.specs.Fitting.{IsFitted, IsValidFitted, StandsAsWord,
 ghost use Rattle.show_plan.specs.Separation.{FailsBy, blocked_part};
 ghost use Rattle.show_judge.specs.Input.{IsShowText};
 ghost use Rattle.show_judge.specs.Refused.{IsOfInput, blocked_by, marker_refusal, pair_at, show_refusal};
-ghost use Rattle.fleet_math.specs.Limits.{most_text};
+ghost use Rattle.whole_numbers.specs.Limits.{most_text};
 ghost use Rattle.show_judge.specs.Shows.{Cut, marker_number, name_at, names_of};
 
 use crate::input::Text;
 use crate::ways::Ways;
+use byte_streams::Part;
 use choreo_reader::{Name, Show};
 use choreo_show::copy_of;
-use fleet_io::Part;
-use fleet_math::Depth;
 use refusals::{Pair, Refusal};
 use show_plan::{Fitted, PlanFault, SeparationFault};
 use std::alloc::AllocError;
+use whole_numbers::Depth;
 
 /// The name of a drone, which counts from 0.
 pub fn name_at(names: &[Name], drone: u8) -> Name

@@ -1,14 +1,14 @@
 //! A command that reads a show's text and a second one, and answers.
 ghost use Rattle.std.specs.Prelude.{◌≡◌, ◌≤◌, ℕ, IfOk, ◌<◌, false, true, Some};
 ghost use Rattle.choreo_show.specs.Plain.{PlainShow};
-ghost use Rattle.fleet_io.specs.Held.{text_limit};
+ghost use Rattle.byte_streams.specs.Held.{text_limit};
 ghost use Rattle.cue_grid.specs.declared.grid.Grid.{Grid};
 ghost use Rattle.show_plan.specs.Fitting.{IsFitted, IsValidFitted};
 ghost use Rattle.show_plan.specs.Landing.{Lands};
 ghost use Rattle.show_judge.specs.Answers.{AnswersInput, AnswersTwo, IsSaid, outcome_of};
 ghost use Rattle.show_judge.specs.Input.{IsReadBoth, IsText, IsUnmarked, IsWithin};
 ghost use Rattle.show_judge.specs.Runs.{Does};
-ghost use Rattle.fleet_math.specs.Limits.{most_text};
+ghost use Rattle.whole_numbers.specs.Limits.{most_text};
 ghost use Rattle.show_judge.specs.Shows.{Cut};
 ghost use Rattle.show_judge.specs.Verb.{IsTwo, Verb, during};
 ghost use Rattle.show_judge.specs.Outcome.{IsVerb};
@@ -18,12 +18,12 @@ use crate::ends::{Answer, Failure, respond};
 use crate::input::{Input, Text, read_two};
 use crate::judging::{Accepted, Judged, accept};
 use crate::ways::Ways;
+use byte_streams::{Sink, Source};
 use choreo_reader::show_law;
-use fleet_io::{Sink, Source};
-use fleet_math::Depth;
 use refusals::Refusal;
 use show_plan::Fitted;
 use std::alloc::{AllocError, Global};
+use whole_numbers::Depth;
 
 /// A command that reads a show's text and a second one, and answers.
 pub trait TwoTexts {

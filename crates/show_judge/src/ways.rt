@@ -1,6 +1,6 @@
 //! What a command reads, and how far it searches.
 
-use fleet_math::Depth;
+use whole_numbers::Depth;
 
 /// What a command reads, and how far it searches. Each command has one of its own.
 #[derive(Clone, Copy)]

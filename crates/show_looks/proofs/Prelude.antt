@@ -7,7 +7,7 @@ pub use Rattle.choreo_show.specs.Name.{Name}
 pub use Rattle.choreo_show.specs.Plain.{PlainShow}
 pub use Rattle.crtp_packets.specs.Chunks.{chunk_count_of}
 pub use Rattle.drill_show.specs.Drill.{drill_text}
-pub use Rattle.fleet_io.proofs.ToldLemmas.{Gives-none, takes_front, told_input}
+pub use Rattle.byte_streams.proofs.ToldLemmas.{Gives-none, takes_front, told_input}
 pub use Rattle.integer_player.specs.Played.{duration_of, play_text}
 pub use Rattle.show_judge.proofs.AnswerLemmas.{answers_accepted, judges_text}
 pub use Rattle.show_judge.proofs.DriverLemmas.{show_plain, show_verb}

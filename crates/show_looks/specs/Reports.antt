@@ -1,7 +1,7 @@
 -- What is said of a show that is accepted, and its numbers.
 use Rattle.std.specs.Prelude.{ℕ, ◌+◌, List, [], ◌∷◌, map, codes, decimal}
 use Rattle.std.specs.List.{sum}
-use Rattle.fleet_io.specs.Words.{line}
+use Rattle.byte_streams.specs.Words.{line}
 use Rattle.choreo_show.specs.Plain.{PlainShow}
 use Rattle.cue_grid.specs.Cues.{grid_of}
 use Rattle.crtp_packets.specs.Chunks.{chunk_count_of}

@@ -13,12 +13,12 @@ ghost use Rattle.show_judge.specs.Shows.{Cut, sent_of};
 ghost use Rattle.show_judge.specs.Verb.{during};
 ghost use Rattle.show_looks.specs.Certify.{certify_verb};
 
-use fleet_io::{Sink, Source};
-use fleet_math::Depth;
+use byte_streams::{Sink, Source};
 use sep_certificate::write_certificate;
 use show_judge::{Answer, AnyText, Output, Ways, run_any, unseparated};
 use show_plan::{Fitted, certificate};
 use std::alloc::{AllocError, Global};
+use whole_numbers::Depth;
 
 /// `certify` at a depth.
 #[derive(Clone, Copy)]

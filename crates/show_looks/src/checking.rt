@@ -9,10 +9,10 @@ ghost use Rattle.show_judge.specs.Verb.{during, outcome};
 ghost use Rattle.show_looks.specs.Check.{check_text, check_verb};
 
 use crate::lines::ok_line;
-use fleet_io::{Sink, Source};
-use fleet_math::Depth;
+use byte_streams::{Sink, Source};
 use show_judge::{Accepted, Answer, OneText, Output, run_one};
 use std::alloc::{AllocError, Global};
+use whole_numbers::Depth;
 
 /// `check` at a depth.
 #[derive(Clone, Copy)]

@@ -8,11 +8,11 @@ ghost use Rattle.show_judge.specs.Shows.{nodes_of};
 ghost use Rattle.show_judge.specs.Verb.{during, outcome};
 ghost use Rattle.show_looks.specs.Compile.{compile_verb, plan_of};
 
-use fleet_io::{Sink, Source};
-use fleet_math::Depth;
+use byte_streams::{Sink, Source};
 use show_judge::{Accepted, Answer, OneText, Output, run_one};
 use show_plan::plan_text;
 use std::alloc::{AllocError, Global};
+use whole_numbers::Depth;
 
 /// `compile` at a depth.
 #[derive(Clone, Copy)]

@@ -7,22 +7,22 @@ ghost use Rattle.show_judge.specs.Answers.{AnswersText, IsSaid, outcome_of};
 ghost use Rattle.show_judge.specs.Input.{IsWithin};
 ghost use Rattle.show_judge.specs.Outcome.{IsOutcomeOf, IsSafe};
 ghost use Rattle.show_judge.specs.Verb.{during, outcome};
-ghost use Rattle.fleet_math.specs.Limits.{most_drones, most_text};
+ghost use Rattle.whole_numbers.specs.Limits.{most_drones, most_text};
 ghost use Rattle.show_looks.specs.Drilled.{drill_of, drill_verb};
 ghost use Rattle.show_judge.specs.Shows.{cut_of, nodes_of};
 ghost use Rattle.show_looks.specs.Reports.{report_of};
 ghost use Rattle.show_judge.specs.Runs.{Does};
 
 use crate::numbers::{packets, sizes, total};
+use byte_streams::status::NO_MEMORY;
+use byte_streams::{Sink, Source, SureSource};
 use choreo_reader::{Name, show_law};
 use drill_show::{drill_line, drill_text};
-use fleet_io::status::NO_MEMORY;
-use fleet_io::{Sink, Source, SureSource};
-use fleet_math::Depth;
 use show_judge::{
     Accepted, Answer, Failure, Judged, Output, Text, Ways, accept, read_show_text, respond,
 };
 use std::alloc::{AllocError, Global};
+use whole_numbers::Depth;
 
 fn drones_in(names: &[Name]) -> u8
     requires { length names.now ≤ most_drones }

@@ -4,9 +4,9 @@ ghost use Rattle.show_judge.specs.Verb.{during, of_nothing};
 ghost use Rattle.show_looks.specs.Help.{help_verb};
 ghost use Rattle.show_looks.specs.Version.{version_verb};
 
+use byte_streams::status::DONE;
+use byte_streams::{Sink, Source};
 use choreo_reader::show_law;
-use fleet_io::status::DONE;
-use fleet_io::{Sink, Source};
 use show_judge::finish;
 
 fn tell<S: Source, K: Sink>(bytes: &[u8], source: &mut S, sink: &mut K) -> u8

@@ -2,8 +2,8 @@
 ghost use Rattle.std.specs.Prelude.{◌≡◌};
 ghost use Rattle.show_looks.specs.Reports.{ok_line};
 
-use fleet_io::ShortLine;
-use fleet_io::Word::Number;
+use byte_streams::ShortLine;
+use byte_streams::Word::Number;
 
 /// What is said of a show that is accepted: how many drones and cues it has, and how many milliseconds it lasts.
 #[tactic(auto, unfolding(crate::specs::Reports::ok_line))]

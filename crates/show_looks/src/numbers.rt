@@ -1,7 +1,7 @@
 //! Numbers of a show that fits.
 ghost use Rattle.std.specs.Prelude.{◌≡◌, ◌≤◌, ◌+◌, ℕ, length, map, IfOk};
 ghost use Rattle.std.specs.List.{All, sum};
-ghost use Rattle.fleet_math.specs.Limits.{most_drones};
+ghost use Rattle.whole_numbers.specs.Limits.{most_drones};
 ghost use Rattle.crtp_packets.specs.Chunks.{chunk_count_of};
 ghost use Rattle.traj_codec.specs.declared.traj.Traj.{Traj};
 ghost use Rattle.show_plan.specs.Fitting.{IsSendable, size};

@@ -1,7 +1,7 @@
 //! `play`: the positions of a show in whole numbers.
 ghost use Rattle.std.specs.Prelude.{◌≤◌, ℕ, List, map, IfOk};
 ghost use Rattle.choreo_show.specs.Name.{Name};
-ghost use Rattle.fleet_io.specs.Told.{Gives, IsInput};
+ghost use Rattle.byte_streams.specs.Told.{Gives, IsInput};
 ghost use Rattle.integer_player.specs.Played.{play_text};
 ghost use Rattle.show_plan.specs.Fitting.{IsValidFitted};
 ghost use Rattle.show_judge.specs.Answers.{IsSoundJudged, JudgesInput, Wrote};
@@ -10,14 +10,14 @@ ghost use Rattle.show_judge.specs.Verb.{during, run_on, show_ways};
 ghost use Rattle.show_looks.specs.Play.{play_verb};
 ghost use Rattle.show_judge.specs.TextsRead.{OneTextRead};
 
+use byte_streams::status::{DONE, WRITE_FAILED};
+use byte_streams::{Failed, Sink, Source};
 use choreo_reader::show_law;
-use fleet_io::status::{DONE, WRITE_FAILED};
-use fleet_io::{Failed, Sink, Source};
-use fleet_math::Depth;
 use show_judge::{Failure, Judged, Ways, accept, fail, read_show_text, refuse};
 use show_plan::{Fitted, uploadable_law};
 use std::alloc::Global;
 use traj_codec::join_law;
+use whole_numbers::Depth;
 
 fn judge_input<S: Source>(alloc: Global, depth: Depth, source: &mut S) -> Result<Judged, Failure>
     ensures reads { OneTextRead (λ left left_after. JudgesInput (show_ways depth) depth left left_after result)

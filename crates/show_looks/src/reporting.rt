@@ -11,11 +11,11 @@ ghost use Rattle.show_looks.specs.Report.{report_verb};
 ghost use Rattle.show_looks.specs.Reports.{report_of};
 
 use crate::numbers::{packets, sizes};
-use fleet_io::{Sink, Source};
-use fleet_math::Depth;
+use byte_streams::{Sink, Source};
 use report_text::report_text;
 use show_judge::{Accepted, Answer, OneText, Output, run_one};
 use std::alloc::{AllocError, Global};
+use whole_numbers::Depth;
 
 /// `report` at a depth.
 #[derive(Clone, Copy)]

@@ -1,6 +1,6 @@
 -- What is true of the certificate with the largest leaves, where no part of a show is blocked.
 use Rattle.show_plan.proofs.Prelude.{common_steps, ◌≡◌, inr, ℕ, zero, suc, ◌≤◌, ◌<◌, arith, refl, sym, ap, subst, List, [], ◌∷◌, ◌++◌, map, All, Option, Some, None, Result, Ok, Err, IsOk, option_map, option_or, length-map, All-nil, All-cons, All-head, All-tail, All-append, Traj, KeepReach, KeepsApart, SentLaw, Clearance, Slot, table_of, CurvesStandFor, Raised, difference, raised_of, SearchLaw, best_tree, split_of, Settings, Fitted, IsValidFitted, CountGives, FlyApart, IsShowClear, IsSlotClear, best_certificate, best_nodes, blocked_in, blocked_part, clearance_of, direction_at, measure_of, slots_of, searched, FindsNodes, blocked_slot}
-use Rattle.halving.specs.declared.Place.{Place}
+use Rattle.bezier_core.specs.declared.halves.Place.{Place}
 use Rattle.sep_parts.proofs.Table.{table_small}
 use Rattle.sep_parts.specs.Levels.{left_half, right_half, root}
 use Rattle.sep_parts.specs.Slots.{slots}

@@ -1,14 +1,14 @@
 -- The trajectories of a grid are near to what the show says, at every instant.
 use Rattle.show_plan.proofs.Prelude.{common_steps, ◌≡◌, ℕ, zero, suc, ◌+◌, ◌*◌, ◌<◌, ◌≤◌, ℤ, pos, ◌*ℤ◌, List, [], ◌∷◌, map, take, length, get_or, sum, arith, refl, sym, ap, ◌∙◌, subst, All, get_or-map, length-map, All-nil, All-cons, All-get_or, All-from_get_or, Point, DroneLine, Cue, Grid, FitCues, IsGrid, Traj, stored, element_on, value_after, piece_on, durations, decoded, own, joined, IsLasting, SameCurve, join_holds_law, MicroPiece, millimetres, controls, first_control, rounded, element_of, axis_on, segment_of, act_of, on_axis, end_of, point_after, axes_of, piece_of, job_in, no_job, pieces_from, expanded_from, expanded, start_of, jobs_in, job_at, point_before, piece_at, written_at, StartsWell, RoundsWell, FitsWell, start_at, trajectory_of, trajectories_of, by_cue, sent, cue_times, FitsDrone, flight, FliesNearOn, FliesNear, written, no_trajectory, KeepsNearShow, AtEachInstant}
-use Rattle.fleet_math.specs.Bernstein.{at}
-use Rattle.fleet_math.specs.Moments.{Moment, moment}
-use Rattle.fleet_math.specs.Near.{IsNear}
-use Rattle.fleet_math.specs.Sums.{power}
-use Rattle.fleet_math.proofs.NearLemmas.{near_lifts}
-use Rattle.fleet_math.proofs.RingLemmas.{mul_comm_ℤ}
-use Rattle.fleet_math.specs.Decoded.{last_value}
-use Rattle.fleet_math.specs.Decoded as plain
-use Rattle.fleet_math.proofs.MomentLemmas.{IsInside, moment-inside}
+use Rattle.whole_numbers.specs.Bernstein.{at}
+use Rattle.whole_numbers.specs.Moments.{Moment, moment}
+use Rattle.whole_numbers.specs.Near.{IsNear}
+use Rattle.whole_numbers.specs.Sums.{power}
+use Rattle.whole_numbers.proofs.NearLemmas.{near_lifts}
+use Rattle.whole_numbers.proofs.RingLemmas.{mul_comm_ℤ}
+use Rattle.whole_numbers.specs.Decoded.{last_value}
+use Rattle.whole_numbers.specs.Decoded as plain
+use Rattle.whole_numbers.proofs.MomentLemmas.{IsInside, moment-inside}
 use Rattle.cue_grid.specs.declared.grid.Job.{Job}
 use Rattle.traj_codec.specs.declared.traj.Element.{Element}
 use Rattle.traj_codec.proofs.PositionLemmas.{decoded-points}

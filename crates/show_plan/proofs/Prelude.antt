@@ -27,7 +27,7 @@ pub use Rattle.figure_expand.specs.Flown.{FitsWell, RoundsWell, StartsWell, job_
 pub use Rattle.figure_expand.specs.Written.{end_of, point_after}
 pub use Rattle.firmware_memory.specs.Decoded.{Carries, CurveLaw, load_for}
 pub use Rattle.fleet_curves.specs.Raised.{CurvesStandFor, Raised, difference, raised_of}
-pub use Rattle.fleet_io.specs.Words.{IsWord, hex_digit, hex_word, line}
+pub use Rattle.byte_streams.specs.Words.{IsWord, hex_digit, hex_word, line}
 pub use Rattle.mm_rounding.specs.Rounding.{axis_on, controls, counted, element_of, first_control, fits, is_short, millimetres, rounded, rounding, segment_of, short}
 pub use Rattle.mm_rounding.specs.declared.piece.MicroPiece.{MicroPiece}
 pub use Rattle.pair_search.specs.Laws.{IsFirstBlocked, SearchLaw}

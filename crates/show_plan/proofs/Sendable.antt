@@ -1,7 +1,7 @@
 -- Trajectories and their bytes one after another, and what is known of those of a valid grid.
 use Rattle.show_plan.proofs.Prelude.{common_steps, ◌≡◌, ◌⊎◌, inl, inr, ℕ, suc, ◌+◌, ◌<◌, ◌≤◌, Bool, true, false, cond, Option, Some, None, IfOk, Ok, Err, Result, List, [], ◌∷◌, ◌++◌, map, drop, append_assoc, length, get_or, nat_le, arith, refl, sym, ap, ◌∙◌, subst, All, list_all, option_or, nat_lt, ◌&&◌, ℤ, MatchOption, drop_more, All-nil, All-cons, All-head, All-tail, All-from_get_or, Point, PlainShow, Cue, Grid, grid_of, grid_fault, FitCues, IsGrid, Segment, Traj, joined, HasDuration, durations_of, join_holds_law, lasting_of, MicroPiece, millimetres, is_short, short, fits, counted, rounding, segment_of, act_of, end_of, piece_of, job_in, pieces_from, range_fault, start_of, RoundsWell, StartsWell, Fitted, FitError, PlanFault, start_at, by_cue, sent, no_trajectory, KeepsNearShow, IsFlown, IsSendable, size, room, send_fault, first_unsendable, plan_fault, FitGives, flight}
 use Rattle.std.proofs.lemmas.Bool.Decides.{nat_tests}
-use Rattle.fleet_math.specs.Limits.{most_segments}
+use Rattle.whole_numbers.specs.Limits.{most_segments}
 use Rattle.show_plan.specs.declared.fitted.PlanFault.TheVariants as fault
 use Rattle.show_plan.proofs.Flight.{by_cue_counted, flight_at_is, keeps_near_show}
 

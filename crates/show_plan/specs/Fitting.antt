@@ -3,9 +3,9 @@ use Rattle.std.specs.Prelude.{false, true, ◌≡◌, ℕ, ◌+◌, ◌-◌, ◌
 use Rattle.std.specs.Prelude.{Option, Some, None, Result, Ok, Err, if◌then◌else◌}
 use Rattle.std.specs.Option.{option_or}
 use Rattle.std.specs.List.{sum, All}
-use Rattle.fleet_math.specs.Limits.{most_segments, most_cues, most_drones}
+use Rattle.whole_numbers.specs.Limits.{most_segments, most_cues, most_drones}
 use Rattle.crtp_packets.specs.declared.chunks.TheConstants.{MEMORY_BYTES}
-use Rattle.fleet_io.specs.Words.{IsWord}
+use Rattle.byte_streams.specs.Words.{IsWord}
 use Rattle.choreo_show.specs.Name.{Name, is_name}
 use Rattle.choreo_show.specs.declared.show.DroneLine.{DroneLine}
 use Rattle.choreo_show.specs.Plain.{PlainShow}

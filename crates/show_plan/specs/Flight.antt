@@ -1,9 +1,9 @@
 -- How near the trajectories of drones are to the show, at every instant.
 use Rattle.std.specs.Prelude.{◌≡◌, ℕ, ℤ, pos, ◌*◌, ◌*ℤ◌, ◌<◌, ◌≤◌, List, [], length, slice_index_or}
 use Rattle.std.specs.List.{sum}
-use Rattle.fleet_math.specs.Sums.{power}
-use Rattle.fleet_math.specs.Moments.{Moment, moment}
-use Rattle.fleet_math.specs.Near.{IsNearOver}
+use Rattle.whole_numbers.specs.Sums.{power}
+use Rattle.whole_numbers.specs.Moments.{Moment, moment}
+use Rattle.whole_numbers.specs.Near.{IsNearOver}
 use Rattle.cue_grid.specs.declared.grid.Grid.{Grid}
 use Rattle.traj_codec.specs.declared.traj.Traj.{Traj}
 use Rattle.traj_codec.specs.Positions.{durations, decoded}

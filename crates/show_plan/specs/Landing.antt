@@ -2,7 +2,7 @@
 use Rattle.std.specs.Prelude.{◌≡◌, ℕ, ◌-◌, ◌<◌, ◌≤◌, Bool, false, true, Some, List, ◌++◌, length, map, slice_index_or}
 use Rattle.std.specs.List.{All}
 use Rattle.cue_grid.specs.declared.grid.Grid.{Grid}
-use Rattle.fleet_math.specs.Limits.{most_drones}
+use Rattle.whole_numbers.specs.Limits.{most_drones}
 use Rattle.crtp_packets.specs.declared.chunks.TheConstants.{MEMORY_BYTES}
 use Rattle.traj_codec.specs.declared.traj.Traj.{Traj}
 use Rattle.traj_codec.specs.Spelling.{IsTrajectory}

@@ -2,7 +2,7 @@
 -- which no direction separates two drones.
 use Rattle.std.specs.Prelude.{◌≡◌, ℕ, ℤ, List, [], ◌∷◌, length, map, Option, Some, None, Result, Ok, Err}
 use Rattle.std.specs.List.{All, sum}
-use Rattle.halving.specs.declared.Place.{Place}
+use Rattle.bezier_core.specs.declared.halves.Place.{Place}
 use Rattle.traj_codec.specs.declared.traj.Traj.{Traj}
 use Rattle.sep_parts.specs.declared.clearance.Clearance.{Clearance}
 use Rattle.sep_parts.specs.declared.slot.Slot.{Slot}

@@ -2,7 +2,7 @@
 use Rattle.std.specs.Prelude.{◌≡◌, ℕ, ◌+◌, ◌==◌, nat_lt, if◌then◌else◌, false, true, List, [], ◌∷◌, ◌++◌, length, map}
 use Rattle.std.specs.Prelude.{codes, decimal}
 use Rattle.std.specs.List.{All, flat_map, range_with_len}
-use Rattle.fleet_io.specs.Words.{hex_word, line}
+use Rattle.byte_streams.specs.Words.{hex_word, line}
 use Rattle.choreo_show.specs.Name.{Name, is_name}
 use Rattle.traj_codec.specs.declared.traj.Traj.{Traj}
 use Rattle.traj_codec.specs.Spelling.{spelling, ending}

@@ -8,7 +8,7 @@ ghost use Rattle.cue_grid.specs.Cues.{grid_of};
 ghost use Rattle.cue_grid.specs.Faults.{grid_fault};
 ghost use Rattle.cue_grid.specs.Frames.{IsPointUpTo};
 ghost use Rattle.cue_grid.specs.Grids.{FitCues, IsGrid};
-ghost use Rattle.fleet_math.specs.Limits.{most_cues, most_drones};
+ghost use Rattle.whole_numbers.specs.Limits.{most_cues, most_drones};
 ghost use Rattle.traj_codec.specs.Joined.{joined};
 ghost use Rattle.traj_codec.specs.Spelling.{AreNumbers, IsSegment, IsTrajectory};
 ghost use Rattle.mm_rounding.specs.Rounding.{segment_of};
@@ -26,10 +26,10 @@ use choreo_show::{DroneLine, Listed, Name, Point, Show, copy_of};
 use crtp_packets::MEMORY_BYTES;
 use cue_grid::{Cue, Grid, UnrollError, unroll};
 use figure_expand::{expansion_law, range_fault, step};
-use fleet_math::MOST_SEGMENTS;
 use mm_rounding::{round_piece, short, to_mm};
 use std::alloc::{AllocError, Global};
 use traj_codec::{Segment, Traj, join_holds, segment_law, size_of, start_law};
+use whole_numbers::MOST_SEGMENTS;
 
 fn start_at(p: &Point) -> Option<[i16; 4]>
     ensures { MatchOption result (StartsWell p.now → ⊥)

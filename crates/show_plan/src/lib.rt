@@ -18,7 +18,7 @@
 //! It stands on `choreo_reader` for what a show says, on `cue_grid` for its cues, on `figure_expand` and `mm_rounding`
 //! for its pieces and where they round to, on `traj_codec` for trajectories, on `sep_parts`, `pair_search` and
 //! `sep_certificate` for their separation, on `crtp_packets` for packets, on `upload_core`, `upload_model` and
-//! `firmware_memory` for uploads, and on `fleet_io` for texts.
+//! `firmware_memory` for uploads, and on `byte_streams` for texts.
 #![tactic(auto)]
 
 mod fitted;

@@ -4,7 +4,7 @@ ghost use Rattle.std.specs.Prelude.{◌≡◌, ◌<◌, ◌++◌, OnOk};
 ghost use Rattle.upload_model.specs.Sessions.{drone_count, packet_count};
 ghost use Rattle.show_plan.specs.Texts.{packet_line, packet_lines, packet_word};
 
-use fleet_io::Lines;
+use byte_streams::Lines;
 use std::alloc::AllocError;
 use upload_core::Session;
 

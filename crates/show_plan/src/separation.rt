@@ -4,7 +4,7 @@ ghost use Rattle.std.specs.Prelude.{◌≡◌, ◌≤◌, ℕ, [], Err, IfOk, Is
 ghost use Rattle.sep_parts.specs.Directions.{IsClearance};
 ghost use Rattle.sep_parts.specs.Apart.{KeepReach};
 ghost use Rattle.sep_parts.specs.declared.slot.Slot.{Slot};
-ghost use Rattle.fleet_math.specs.Limits.{most_depth};
+ghost use Rattle.whole_numbers.specs.Limits.{most_depth};
 ghost use Rattle.fleet_curves.specs.Raised.{raised_of};
 ghost use Rattle.sep_certificate.specs.Certificates.{IsWhole, IsValid};
 ghost use Rattle.show_plan.specs.Fitting.{IsValidFitted};
@@ -14,12 +14,12 @@ ghost use Rattle.show_plan.specs.Laws.{IsFirstPart, SeparationLaw};
 ghost use Rattle.show_plan.specs.Steps.{FindsNodes, FindsTrees, separation_fault};
 
 use crate::fitted::Fitted;
-use fleet_math::Depth;
 use pair_search::{SearchFault, count_all, search_all, search_law};
 use sep_certificate::{Certificate, Curves, certificate_law};
 use sep_parts::{Clearance, Forest, Ruler, Slot, WIDE, apart_law, table_law};
 use speed_bound::{reach, reach_law};
 use std::alloc::{AllocError, Global};
+use whole_numbers::Depth;
 
 /// A part of a cue in which no direction separates two drones: part `index` of as many equal parts as the depth gives,
 /// counted from 0.

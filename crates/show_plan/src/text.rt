@@ -2,7 +2,7 @@
 
 ghost use Rattle.std.specs.Prelude.{◌≡◌, ◌≤◌, ◌++◌, ℕ, [], ◌∷◌, false, true, length, IfOk, OnOk};
 ghost use Rattle.std.specs.List.{All};
-ghost use Rattle.fleet_math.specs.Limits.{most_segments, most_drones};
+ghost use Rattle.whole_numbers.specs.Limits.{most_segments, most_drones};
 ghost use Rattle.traj_codec.specs.declared.traj.Traj.{Traj};
 ghost use Rattle.traj_codec.specs.Spelling.{IsEncoding};
 ghost use Rattle.upload_model.specs.Sessions.{Upload};
@@ -13,10 +13,10 @@ ghost use Rattle.show_plan.specs.Texts.{PlanLaw, drone_line, drone_part, drone_p
 use crate::fitted::Fitted;
 use crate::packets::put_packets;
 use crate::upload::{load_of, place_in};
+use byte_streams::Lines;
+use byte_streams::Word::{Bytes, Large};
 use choreo_show::{Name, Settings};
 use crtp_packets::MEMORY_BYTES;
-use fleet_io::Lines;
-use fleet_io::Word::{Bytes, Large};
 use std::alloc::{AllocError, Global};
 use traj_codec::{Segment, Traj, join_law, size_of, spelling_law};
 use upload_core::Session;

@@ -5,7 +5,7 @@ pub use Rattle.command_words.specs.Commands.{command_of, depth_in, has, help_tex
 pub use Rattle.command_words.specs.declared.command.Command.{Command}
 pub use Rattle.command_words.specs.declared.command.Command.TheVariants.{Boxes, Certify, Check, Compile, Direct, Drill, Dynamics, Explain, Help, Play, Rehearse, Report, Speed, Upload, Verify, Version}
 pub use Rattle.drill_show.specs.Drill.{drill_text}
-pub use Rattle.fleet_io.proofs.ToldLemmas.{IsInput-now, comes}
+pub use Rattle.byte_streams.proofs.ToldLemmas.{IsInput-now, comes}
 pub use Rattle.show_direct.specs.Direct.{DirectLaw, FlyAsOne, direct_verb}
 pub use Rattle.show_direct.specs.declared.options.Options.{Options}
 pub use Rattle.show_judge.proofs.HeadlineLemmas.{behaves_left, flies_own, read_to_end, uploads_of}

@@ -3,7 +3,7 @@ use Rattle.show_run.proofs.Prelude.{◌≡◌, ◌⊎◌, inl, inr, ℕ, ◌≤�
 use Rattle.std.proofs.lemmas.Bool.Decides.{nat_tests}
 use Rattle.std.proofs.lemmas.List.Sums.{AllPass-from_list_all}
 use Rattle.std.specs.List.{list_all}
-use Rattle.fleet_io.specs.Causes.{Rose}
+use Rattle.byte_streams.specs.Causes.{Rose}
 use Rattle.show_judge.proofs.RunLemmas.{statuses}
 
 -- a count that never rises doesn't rise

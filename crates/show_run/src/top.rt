@@ -3,10 +3,10 @@ ghost use Rattle.std.specs.Prelude.{◌≡◌, ◌++◌, ◌≢◌, ◌⊎◌, �
 ghost use Rattle.std.specs.Prelude.{Contains, codes};
 ghost use Rattle.std.specs.Io.KnownBytes.{Appends, IsAtEnd};
 ghost use Rattle.text_lines.specs.Marker.{part_of};
-ghost use Rattle.fleet_io.specs.Causes.{Rose};
-ghost use Rattle.fleet_io.specs.Memory.{told_sure};
-ghost use Rattle.fleet_io.specs.Taken.{AppendsFront};
-ghost use Rattle.fleet_io.specs.Told.{Gives};
+ghost use Rattle.byte_streams.specs.Causes.{Rose};
+ghost use Rattle.byte_streams.specs.Memory.{told_sure};
+ghost use Rattle.byte_streams.specs.Taken.{AppendsFront};
+ghost use Rattle.byte_streams.specs.Told.{Gives};
 ghost use Rattle.command_words.specs.Commands.{IsCommand};
 ghost use Rattle.drill_show.specs.Drill.{drill_text};
 ghost use Rattle.refusals.specs.Lines.{usage_line};
@@ -23,10 +23,9 @@ ghost use Rattle.show_direct.specs.Direct.{FliesWhole, FlyAsOne, HasBegun as Fli
 ghost use Rattle.show_uploads.specs.Upload.{HasBegun};
 ghost use Rattle.show_run.specs.Verbs.{IsCalled, command_in, judges_apart, options_of, verb_of};
 
+use byte_streams::{Sink, Source, SureSink, SureSource};
 use choreo_reader::show_law;
 use command_words::{Command, command_of, help_text};
-use fleet_io::{Sink, Source, SureSink, SureSource};
-use fleet_math::Depth;
 use refusals::Refusal;
 use show_direct::{Options, direct, direct_law};
 use show_judge::refuse;
@@ -35,6 +34,7 @@ use show_studies::{Study, boxes, boxes_law, dynamics, explain, speed};
 use show_uploads::{rehearse, rehearse_law, upload, uploading_law};
 use show_verify::{verify, verify_law};
 use std::alloc::Global;
+use whole_numbers::Depth;
 
 fn options_of(
     depth: Depth,

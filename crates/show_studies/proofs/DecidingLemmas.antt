@@ -1,7 +1,7 @@
 -- Drones are judged for any regions in some way: each part is kept, or there is a first one that isn't.
 use Rattle.show_studies.proofs.Prelude.{common_steps, ◌≡◌, ◌⊎◌, inl, inr, ℕ, zero, suc, ◌*◌, ◌^◌, ◌<◌, ◌≤◌, ℤ, pos, ◌+ℤ◌, ◌-ℤ◌, ◌*ℤ◌, ◌≤ℤ◌, ◌<ℤ◌, List, length, Option, Some, None, refl, subst, arith, slice_get, by_lt_z, ints, Raised, curves_at, Judged, Kept, Enters, Region, AllAbove, AllBelow, AllBetween, IsKept, JudgeGives, KeptAt, Spot, extent, part_of}
-use Rattle.fleet_math.specs.Bernstein.{at}
-use Rattle.fleet_math.specs.Numbers.{IsIn}
+use Rattle.whole_numbers.specs.Bernstein.{at}
+use Rattle.whole_numbers.specs.Numbers.{IsIn}
 use Rattle.keepout_boxes.specs.declared.region.Region.TheVariants.{Keepout, Volume}
 use Rattle.show_studies.proofs.StudyLemmas.{compared}
 

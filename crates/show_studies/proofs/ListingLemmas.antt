@@ -1,6 +1,6 @@
 -- The walk over the slots of a show, and the lines of those that are blocked.
 use Rattle.show_studies.proofs.Prelude.{◌≡◌, ℕ, zero, suc, ◌<◌, IfSome, Ok, length, Fitted, List, [], ◌∷◌, ◌++◌, append_assoc, append-nil, Option, Some, None, option_map, refl, sym, ap, subst, ◌∙◌, Raised, BlockedLines, blocked_among, with_part, difference, Measure, IsSlot, Clearance, Slot, SearchGives, blocked_place, first_by, BlockedPart, blocked_at, measure_of, more_blocked_line, Ends, IsPartOf, NextGives, part_in}
-use Rattle.halving.specs.declared.Place.{Place}
+use Rattle.bezier_core.specs.declared.halves.Place.{Place}
 use Rattle.bezier_core.specs.declared.Bez.{Bez}
 use Rattle.fleet_curves.specs.Raised.{cues_in}
 unfoldable use Rattle.fleet_curves.specs.Raised.{raised_of}

@@ -14,7 +14,7 @@ pub use Rattle.dynamics_bound.specs.Lines.{motion_line}
 pub use Rattle.dynamics_bound.specs.Motions.{KeepsMotion, extremes_of, greater, motion}
 unfoldable pub use Rattle.fleet_curves.specs.Raised.{raised_of}
 pub use Rattle.fleet_curves.specs.Raised.{Raised, curves_at, difference}
-pub use Rattle.fleet_math.specs.Limits.{most_text}
+pub use Rattle.whole_numbers.specs.Limits.{most_text}
 pub use Rattle.keepout_boxes.specs.Kept.{AllAbove, AllBelow, AllBetween, IsFirstEntry, IsKept, JudgeGives, KeepClear, KeptAt, Spot, extent, part_of}
 pub use Rattle.keepout_boxes.specs.Regions.{regions_of}
 pub use Rattle.keepout_boxes.specs.declared.judging.Judged.{Judged}

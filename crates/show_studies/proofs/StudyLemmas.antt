@@ -1,7 +1,7 @@
 -- What `boxes` and `explain` say of a show is one thing alone.
 use Rattle.show_studies.proofs.Prelude.{common_steps, ◌≡◌, ◌⊎◌, inl, inr, ℕ, zero, suc, ◌+◌, ◌<◌, ◌≤◌, ℤ, pos, ◌*ℤ◌, ◌≤ℤ◌, ◌<ℤ◌, List, [], length, get_or, Option, Some, None, Result, Ok, refl, sym, ap, subst, ◌∙◌, arith, MatchOption, slice_get, ints, PlainShow, Judged, Kept, Enters, Region, IsFirstEntry, JudgeGives, Spot, Refusal, Raised, DisjointAt, IsBefore, IsClosest, IsFirstTouch, IsListed, LeftAbove, LeftFrom, LeftIs, NoTouch, TouchAt, left_of, listed, right_of, site_of, Traj, Outcome, RegionsGive, Cut, Closest, Touch}
 use Rattle.std.proofs.lemmas.Option.{slice_get-get_or}
-use Rattle.fleet_math.proofs.RingLemmas.{le_mul_ℤ, mul_comm_ℤ}
+use Rattle.whole_numbers.proofs.RingLemmas.{le_mul_ℤ, mul_comm_ℤ}
 use Rattle.keepout_boxes.specs.Kept.{IsBefore as Precedes}
 
 -- ---- orders

@@ -12,7 +12,7 @@ use Rattle.keepout_boxes.specs.declared.judging.Judged.TheVariants.{Kept, Enters
 use Rattle.keepout_boxes.specs.declared.region.Region.{Region}
 use Rattle.keepout_boxes.specs.Kept.{JudgeGives, KeepClear}
 use Rattle.keepout_boxes.specs.Lines.{kept_line}
-use Rattle.fleet_math.specs.Limits.{most_text}
+use Rattle.whole_numbers.specs.Limits.{most_text}
 use Rattle.keepout_boxes.specs.Regions.{regions_of}
 use Rattle.refusals.specs.declared.refusal.Refusal.{Refusal}
 use Rattle.refusals.specs.declared.refusal.Refusal.TheVariants as refusal

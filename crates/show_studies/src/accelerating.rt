@@ -3,8 +3,8 @@ ghost use Rattle.std.specs.Prelude.{◌≡◌, ◌≤◌, length, None, All, IfN
 ghost use Rattle.choreo_show.specs.Plain.{PlainShow};
 ghost use Rattle.dynamics_bound.specs.Excesses.{IsWithinLimits};
 ghost use Rattle.dynamics_bound.specs.Motions.{KeepsMotion};
-ghost use Rattle.fleet_io.specs.Words.{IsWord};
-ghost use Rattle.fleet_math.specs.Limits.{most_cues};
+ghost use Rattle.byte_streams.specs.Words.{IsWord};
+ghost use Rattle.whole_numbers.specs.Limits.{most_cues};
 ghost use Rattle.show_plan.specs.Fitting.{IsFitted, IsSendable, IsValidFitted, StandsAsWord};
 ghost use Rattle.traj_codec.specs.Positions.{durations};
 ghost use Rattle.show_judge.specs.Answers.{IsSaid, outcome_of};
@@ -16,18 +16,18 @@ ghost use Rattle.show_studies.specs.Dynamics.{dynamics_text, dynamics_verb, exce
 ghost use Rattle.show_studies.specs.Dynamics.{limits_of, refusal_as, times_of};
 ghost use Rattle.show_studies.specs.Speeds.{refused_or};
 
+use byte_streams::{Lines, Sink, Source};
 use choreo_reader::Name;
 use choreo_show::copy_of;
 use dynamics_bound::{
     Extremes, Kind, Limits, cue_of, first_above, motion_of, put_extremes, put_motion,
 };
-use fleet_io::{Lines, Sink, Source};
-use fleet_math::Depth;
 use refusals::Refusal;
 use show_judge::{Answer, AnyText, Output, Ways, run_any};
 use show_plan::{Fitted, uploadable_law};
 use std::alloc::{AllocError, Global};
 use traj_codec::{Segment, Traj};
+use whole_numbers::Depth;
 
 fn refusal_as(kind: Kind, drone: Name, cue: u16, axis: u8, value: i64) -> Refusal
     requires name { IsWord drone.items }

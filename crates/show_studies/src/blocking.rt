@@ -8,15 +8,15 @@ ghost use Rattle.show_studies.specs.Explained.{BlockedLaw, blocked_parts, most_b
 ghost use Rattle.show_studies.specs.Steps.{Ends, IsPartOf, NextGives, SaysOf, part_in};
 
 use crate::study::Study;
+use byte_streams::Lines;
 use fleet_curves::Curves;
-use fleet_io::Lines;
-use fleet_math::{Depth, Fine};
 use pair_search::{Found, search_with};
 use sep_parts::{Node, Ruler, Slot};
 use show_judge::name_at;
 use show_plan::{BlockedPart, Fitted, clearance_of, ruler_of};
 use std::alloc::{AllocError, Global};
 use touch_witness::{Axes, Part, closest_in, put_blocked_closest, put_more_blocked};
+use whole_numbers::{Depth, Fine};
 
 // How many pairs and cues have a line at most.
 const MOST_BLOCKED: u16 = 200;

@@ -17,12 +17,12 @@ ghost use Rattle.show_studies.specs.Steps.{IsBlockedAmong, IsClosestAmong, IsFou
 
 use crate::findings::{Findings, findings_text};
 use crate::study::Study;
-use fleet_io::{Sink, Source};
-use fleet_math::{Depth, Fine};
+use byte_streams::{Sink, Source};
 use show_judge::{Answer, AnyText, Output, Ways, run_any};
 use show_plan::{BlockedPart, Fitted, SeparationFault, count_nodes};
 use std::alloc::{AllocError, Global};
 use touch_witness::{Axes, Touch, closest_of, first_touch_of};
+use whole_numbers::{Depth, Fine};
 
 fn blocked_of(
     alloc: Global,

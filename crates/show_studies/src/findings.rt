@@ -8,15 +8,15 @@ ghost use Rattle.show_studies.specs.Explained.{separation_line};
 
 use crate::blocking::put_blocked_parts;
 use crate::study::Study;
+use byte_streams::Lines;
 use choreo_reader::Name;
-use fleet_io::Lines;
-use fleet_math::{Depth, Fine};
 use show_judge::name_at;
 use show_plan::{BlockedPart, Fitted};
 use std::alloc::{AllocError, Global};
 use touch_witness::{
     Closest, Touch, put_blocked, put_closest, put_no_touch, put_separated, put_touch,
 };
+use whole_numbers::{Depth, Fine};
 
 /// What is found of a show: the first part that is blocked, where two drones are closest, and where two touch first.
 #[derive(Clone, Copy)]

@@ -1,7 +1,7 @@
 //! `boxes`: whether the drones of a show keep out of boxes and in volumes.
 ghost use Rattle.std.specs.Prelude.{◌≡◌, ◌<◌, ◌≤◌, length, All, IfOk};
 ghost use Rattle.choreo_show.specs.Plain.{PlainShow};
-ghost use Rattle.fleet_math.specs.Limits.{most_text};
+ghost use Rattle.whole_numbers.specs.Limits.{most_text};
 ghost use Rattle.show_judge.specs.Shows.{Cut};
 ghost use Rattle.keepout_boxes.specs.Kept.{IsNear, KeepClear, most_regions};
 ghost use Rattle.keepout_boxes.specs.Regions.{regions_of};
@@ -15,10 +15,9 @@ ghost use Rattle.show_judge.specs.Verb.{during};
 ghost use Rattle.show_studies.specs.Steps.{EndsRegions};
 ghost use Rattle.show_judge.specs.TextsRead.{TwoTextsRead};
 
+use byte_streams::{Sink, Source};
 use choreo_reader::show_law;
 use fleet_curves::Curves;
-use fleet_io::{Sink, Source};
-use fleet_math::{Depth, MOST_TEXT};
 use keepout_boxes::{Judged, Region, RegionFault, judge, kept_line, read_regions, sent_law};
 use refusals::Refusal;
 use show_judge::{
@@ -28,6 +27,7 @@ use show_judge::{
 use show_plan::Fitted;
 use std::alloc::{AllocError, Global};
 use traj_codec::join_law;
+use whole_numbers::{Depth, MOST_TEXT};
 
 fn judge_regions(
     alloc: Global,

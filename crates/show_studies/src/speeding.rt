@@ -1,7 +1,7 @@
 //! `speed`: how fast the drones of a show are at most.
 ghost use Rattle.std.specs.Prelude.{◌≡◌, ◌≤◌, ◌++◌, ℕ, pos, length, None, All, IfOk, IfSome};
 ghost use Rattle.choreo_show.specs.Plain.{PlainShow};
-ghost use Rattle.fleet_io.specs.Words.{IsWord};
+ghost use Rattle.byte_streams.specs.Words.{IsWord};
 ghost use Rattle.show_plan.specs.Fitting.{IsFitted, IsSendable, IsValidFitted, StandsAsWord};
 ghost use Rattle.speed_bound.specs.Speed.{KeepsSpeed, speed};
 ghost use Rattle.traj_codec.specs.Spelling.{HasDuration};
@@ -18,16 +18,16 @@ ghost use Rattle.show_judge.specs.Runs.{Does};
 ghost use Rattle.show_judge.specs.Shows.{Cut, sent_of};
 ghost use Rattle.show_judge.specs.Verb.{during};
 
+use byte_streams::{Lines, Sink, Source};
 use choreo_reader::Name;
 use choreo_show::copy_of;
-use fleet_io::{Lines, Sink, Source};
-use fleet_math::Depth;
 use refusals::Refusal;
 use show_judge::{Answer, AnyText, Output, Ways, run_any};
 use show_plan::{Fitted, uploadable_law};
 use speed_bound::{bound, put_speeds};
 use std::alloc::{AllocError, Global};
 use traj_codec::Traj;
+use whole_numbers::Depth;
 
 fn above(limit: Option<u32>, name: &Name, axis: u8, speed: i64) -> Option<Refusal>
     requires name { IsWord name.now.items }

@@ -1,6 +1,6 @@
 //! How a show is studied.
 
-use fleet_math::{Depth, Fine};
+use whole_numbers::{Depth, Fine};
 
 /// How a show is studied: at this depth, over the instants that cut each cue into 2^`fine` parts, and whether each pair
 /// and cue that is blocked is named.

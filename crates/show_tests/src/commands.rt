@@ -2,8 +2,8 @@
 ghost use Rattle.std.specs.Prelude.{◌≡◌, ◌≤◌};
 
 use command_words::{Command, command_of, help_text};
-use fleet_math::{Depth, Fine};
 use std::alloc::{AllocError, Global};
+use whole_numbers::{Depth, Fine};
 
 // The command that the words of a line are, which one space each divides.
 fn command(alloc: Global, line: &str) -> Result<Option<Command>, AllocError> {

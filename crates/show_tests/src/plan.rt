@@ -5,10 +5,10 @@ ghost use Rattle.show_plan.specs.Fitting.{IsValidFitted};
 use choreo_reader::read_show;
 use cue_grid::GridFault;
 use figure_expand::AxisValue;
-use fleet_math::MOST_TEXT;
 use show_plan::{FitError, Fitted, PlanFault, fit, plan_text};
 use std::alloc::Global;
 use traj_codec::encode;
+use whole_numbers::MOST_TEXT;
 
 // The error is `None` where the text isn't a show, and where memory ran out.
 pub fn fitted_of(alloc: Global, text: &[u8]) -> Result<Fitted, Option<PlanFault>>

@@ -1,11 +1,11 @@
 //! Certificates of shows. Trees and blocked parts were computed from the definitions by exact sums.
 
 use crate::plan::fitted_of;
-use fleet_math::Depth;
 use sep_certificate::write_certificate;
 use sep_parts::Slot;
 use show_plan::{BlockedPart, SeparationFault, certificate, count_nodes};
 use std::alloc::Global;
+use whole_numbers::Depth;
 
 // Whether a show has a certificate with this text, and so many nodes at depth 6.
 fn is_certified(alloc: Global, show: &[u8], depth: u8, wanted: &[u8], nodes: u32) -> bool {

@@ -1,13 +1,13 @@
 //! The lines and statuses of chosen refusals.
 ghost use Rattle.std.specs.Prelude.{◌≡◌, ◌≤◌, length};
-ghost use Rattle.fleet_io.specs.Words.{IsWord};
+ghost use Rattle.byte_streams.specs.Words.{IsWord};
 ghost use Rattle.refusals.specs.Refusals.{AreNamed, IsSayable};
 
+use bezier_core::Place;
 use choreo_reader::{LineKind, Name};
 use cue_grid::GridFault;
-use fleet_math::Depth;
-use halving::Place;
 use refusals::{Pair, Refusal};
+use whole_numbers::Depth;
 
 // Whether the program writes this line for a refusal and ends with this status.
 fn says(refusal: &Refusal, line: &[u8], status: u8) -> bool

@@ -12,12 +12,12 @@ pub use Rattle.choreo_show.specs.declared.show.Settings.{Settings}
 pub use Rattle.cue_grid.specs.Cues.{grid_of}
 pub use Rattle.cue_grid.specs.declared.grid.Grid.{Grid}
 pub use Rattle.firmware_memory.specs.Decoded.{CurveLaw, DecodesTo, load_for}
-pub use Rattle.fleet_io.proofs.ToldLemmas.{Gives-trans, IsInput-now, back, comes, consumed, of_source, takes_at_most, takes_front}
-pub use Rattle.fleet_io.specs.Held.{Held, has_whole_marker, stream}
-pub use Rattle.fleet_io.specs.Parts.{MarkerLaw, TakesFewAfter, TakesPart, TookMarked}
-pub use Rattle.fleet_io.specs.Taken.{AppendsFront, TakesFront}
-pub use Rattle.fleet_io.specs.Told.{to_come}
-pub use Rattle.fleet_math.specs.Limits.{most_text}
+pub use Rattle.byte_streams.proofs.ToldLemmas.{Gives-trans, IsInput-now, back, comes, consumed, of_source, takes_at_most, takes_front}
+pub use Rattle.byte_streams.specs.Held.{Held, has_whole_marker, stream}
+pub use Rattle.byte_streams.specs.Parts.{MarkerLaw, TakesFewAfter, TakesPart, TookMarked}
+pub use Rattle.byte_streams.specs.Taken.{AppendsFront, TakesFront}
+pub use Rattle.byte_streams.specs.Told.{to_come}
+pub use Rattle.whole_numbers.specs.Limits.{most_text}
 pub use Rattle.fleet_world.specs.Schedules.{ScheduleLaw, schedule_of}
 pub use Rattle.fleet_world.specs.WorldState.{WorldStandsAt, WorldState, state_at}
 pub use Rattle.link_dialogue.specs.Dialogues.{EndsWith, RunGives, item_limit}

@@ -2,9 +2,9 @@
 use Rattle.show_uploads.proofs.Prelude.{common_steps, ◌≡◌, ◌≢◌, ◌⊎◌, inl, inr, ℕ, ◌+◌, ◌≤◌, Bool, true, false, List, [], ◌∷◌, ◌++◌, length, Contains, append_assoc, append-nil, length-append, Option, Some, None, IfSome, refl, sym, ap, subst, ◌∙◌, arith, append_cancel_right, All-cons, All-contains, All-nil, part_of, rest_of, PlainShow, has_whole_marker, AppendsFront, TakesFront, end_frame, frames_bytes, IsPrompt, StaysPrompt, StopsAtEnd, UploadFails, UploadGives, upload_of, Link, Refusal, Fitted, IsFitted, session_for, Settings, Traj, IsAccepted, IsRefusedBy, Wrote, IsOutcomeOf, IsSafe, OutcomeLaw, IsOfInput, IsJudged, Outcome, Run, outcome, run_of, most_text, Cut, cut_of, IsLinkOf, ReadyGives, link_in, session_of, UploadStops, UploadStopsReading, UploadsPromptly, upload_verb, upload_ways, refused_among, refused_judged, runs_failed, some_each, some_map, statuses, RunGives, Appends, Consumes, MarkerLaw, TakesFewAfter, TakesPart, GoesOnReady, TakesMarked, Held, IsTrue}
 use Rattle.choreo_reader.specs.Grammar.{StandsFor}
 use Rattle.choreo_reader.specs.Laws.{ShowLaw}
-use Rattle.fleet_io.specs.Causes.{Rose}
-use Rattle.fleet_io.specs.declared.parts.Part.{Part}
-use Rattle.fleet_io.proofs.MarkerLaws.{whole_marker-front}
+use Rattle.byte_streams.specs.Causes.{Rose}
+use Rattle.byte_streams.specs.declared.parts.Part.{Part}
+use Rattle.byte_streams.proofs.MarkerLaws.{whole_marker-front}
 use Rattle.refusals.specs.Refusals.{status_of}
 use Rattle.show_uploads.specs.declared.uploading.Ready.{Ready}
 use Rattle.show_uploads.specs.declared.uploading.Ready.TheVariants as ready

@@ -4,7 +4,7 @@ use Rattle.text_lines.specs.Marker.{rest_of}
 use Rattle.choreo_show.specs.Plain.{PlainShow}
 use Rattle.choreo_reader.specs.Grammar.{StandsFor}
 use Rattle.std.specs.Io.KnownBytes.{Consumes}
-use Rattle.fleet_io.specs.Held.{Held, has_whole_marker}
+use Rattle.byte_streams.specs.Held.{Held, has_whole_marker}
 use Rattle.show_judge.specs.declared.ways.Ways.{Ways}
 use Rattle.upload_core.specs.HostStandsFor.{HostStandsFor}
 use Rattle.upload_core.specs.HostState.{view_of}
@@ -14,7 +14,7 @@ use Rattle.show_uploads.specs.declared.uploading.Ready.TheVariants as ready
 use Rattle.show_judge.specs.Answers.{IsRefusedBy}
 use Rattle.show_judge.specs.Verb.{IsSafeShow}
 use Rattle.show_judge.specs.Refused.{IsOfInput, show_refusal}
-use Rattle.fleet_math.specs.Limits.{most_text}
+use Rattle.whole_numbers.specs.Limits.{most_text}
 use Rattle.show_judge.specs.Shows.{Cut}
 use Rattle.show_uploads.specs.Sessions.{link_in}
 

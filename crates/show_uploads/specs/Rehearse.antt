@@ -23,7 +23,7 @@ use Rattle.show_judge.specs.Outcome.{IsVerb, refused}
 use Rattle.show_judge.specs.Refused.{faulty_line, second_refusal}
 use Rattle.show_judge.specs.Shows.{Cut, name_at, names_of, sent_of, words_of}
 use Rattle.show_judge.specs.Verb.{FliesApart, Outcome, Verb, of_two}
-use Rattle.fleet_math.specs.Limits.{most_text}
+use Rattle.whole_numbers.specs.Limits.{most_text}
 use Rattle.show_uploads.specs.Sessions.{session_of}
 
 -- ---- schedules

@@ -3,8 +3,8 @@ use Rattle.std.specs.Prelude.{◌≡◌, ℕ, Bool, true, false, List, ◌∷◌
 use Rattle.text_lines.specs.Marker.{part_of, rest_of}
 use Rattle.choreo_reader.specs.Grammar.{StandsFor}
 use Rattle.choreo_show.specs.Plain.{PlainShow}
-use Rattle.fleet_io.specs.Held.{has_whole_marker}
-use Rattle.fleet_io.specs.Parts.{TakesFewAfter}
+use Rattle.byte_streams.specs.Held.{has_whole_marker}
+use Rattle.byte_streams.specs.Parts.{TakesFewAfter}
 use Rattle.link_frames.specs.declared.frame.Frame.{Frame}
 use Rattle.link_frames.specs.Frames.{end_frame, packet_byte}
 use Rattle.link_upload.specs.Sends.{events_in}

@@ -12,11 +12,10 @@ ghost use Rattle.show_judge.specs.Shows.{Cut};
 ghost use Rattle.show_judge.specs.Verb.{during};
 ghost use Rattle.show_judge.specs.Outcome.{IsVerb};
 ghost use Rattle.show_uploads.specs.Rehearse.{RehearseLaw};
-ghost use Rattle.fleet_math.specs.Limits.{most_text};
+ghost use Rattle.whole_numbers.specs.Limits.{most_text};
 
+use byte_streams::{Sink, Source};
 use firmware_memory::curve_law;
-use fleet_io::{Sink, Source};
-use fleet_math::{Depth, MOST_TEXT};
 use fleet_world::{ScheduleFault, WorldEvent, read_schedule, schedule_law};
 use refusals::Refusal;
 use rehearsal::memory_text;
@@ -24,6 +23,7 @@ use show_judge::{Answer, Output, Text, TwoTexts, marker_number, name_at, run_two
 use show_plan::{Fitted, session};
 use std::alloc::{AllocError, Global};
 use upload_model::Progress;
+use whole_numbers::{Depth, MOST_TEXT};
 
 // What an upload gives, after these events, over drones that are blank at the start.
 fn rehearse_events(

@@ -1,10 +1,10 @@
 //! `upload`: an upload of a show through link frames.
 ghost use Rattle.std.specs.Prelude.{◌≡◌, ◌≤◌, ◌++◌, ℕ, List, [], length, false, IsTrue, IfOk, IfSome};
 ghost use Rattle.text_lines.specs.Marker.{part_of};
-ghost use Rattle.fleet_io.specs.Causes.{Rose};
-ghost use Rattle.fleet_io.specs.Held.{buffer_bytes, has_whole_marker, stream};
-ghost use Rattle.fleet_io.specs.Parts.{TakesFewAfter};
-ghost use Rattle.fleet_io.specs.Told.{Gives, IsInput, MayGive, Took, Went, to_come};
+ghost use Rattle.byte_streams.specs.Causes.{Rose};
+ghost use Rattle.byte_streams.specs.Held.{buffer_bytes, has_whole_marker, stream};
+ghost use Rattle.byte_streams.specs.Parts.{TakesFewAfter};
+ghost use Rattle.byte_streams.specs.Told.{Gives, IsInput, MayGive, Took, Went, to_come};
 ghost use Rattle.link_frames.specs.Frames.{end_frame};
 ghost use Rattle.refusals.specs.Refusals.{status_of};
 ghost use Rattle.show_plan.specs.Fitting.{IsValidFitted};
@@ -13,7 +13,7 @@ ghost use Rattle.show_judge.specs.Answers.{Wrote};
 ghost use Rattle.show_judge.specs.Headline.{UploadsText};
 ghost use Rattle.show_judge.specs.Input.{IsShowText, IsWithin, TakesOneText};
 ghost use Rattle.show_judge.specs.Runs.{Does, Runs, TakesLittle};
-ghost use Rattle.fleet_math.specs.Limits.{most_text};
+ghost use Rattle.whole_numbers.specs.Limits.{most_text};
 ghost use Rattle.show_judge.specs.Shows.{Cut, cut_of};
 ghost use Rattle.show_judge.specs.Verb.{IsJudged, during, run_on};
 ghost use Rattle.show_uploads.specs.Ready.{GoesOnReady, IsSoundReady, ReadyGives};
@@ -21,10 +21,9 @@ ghost use Rattle.upload_core.specs.HostStandsFor.{HostStandsFor};
 ghost use Rattle.upload_core.specs.HostState.{view_of};
 ghost use Rattle.show_uploads.specs.Upload.{HasBegun, UploadStopsReading, UploadingLaw, upload_verb, upload_ways};
 
+use byte_streams::status::NO_MEMORY;
+use byte_streams::{IoFault, Parts, Sink, Source, marker_law};
 use choreo_reader::show_law;
-use fleet_io::status::NO_MEMORY;
-use fleet_io::{IoFault, Parts, Sink, Source, marker_law};
-use fleet_math::{Depth, MOST_TEXT};
 use link_frames::END_BYTE;
 use link_upload::upload_law;
 use refusals::Refusal;
@@ -32,6 +31,7 @@ use show_judge::{Failure, Judged, Text, Ways, accept, finish};
 use show_plan::{Fitted, session};
 use std::alloc::{AllocError, Global};
 use upload_core::Host;
+use whole_numbers::{Depth, MOST_TEXT};
 
 /// The host of an upload, or why the show is refused.
 #[derive(Drop)]

@@ -8,10 +8,10 @@ pub use Rattle.std.specs.Str.Lines.{lines}
 pub use Rattle.choreo_show.specs.Name.{Name}
 pub use Rattle.choreo_show.specs.Plain.{PlainShow}
 pub use Rattle.fleet_curves.specs.Raised.{CurvesStandFor, Raised, raised_of}
-pub use Rattle.fleet_io.proofs.ToldLemmas.{Gives-trans, IsInput-now, Went-none, Went-trans, at_its_end, back, of_source, takes_at_most, takes_front}
-pub use Rattle.fleet_io.specs.Held.{Held, buffer_bytes, stream}
-pub use Rattle.fleet_io.specs.PartBytes.{AsksNext, PartLaw, begins_after, is_marked_left, part_left, rest_left}
-pub use Rattle.fleet_io.specs.Told.{MayGive, Told, Went, to_come}
+pub use Rattle.byte_streams.proofs.ToldLemmas.{Gives-trans, IsInput-now, Went-none, Went-trans, at_its_end, back, of_source, takes_at_most, takes_front}
+pub use Rattle.byte_streams.specs.Held.{Held, buffer_bytes, stream}
+pub use Rattle.byte_streams.specs.PartBytes.{AsksNext, PartLaw, begins_after, is_marked_left, part_left, rest_left}
+pub use Rattle.byte_streams.specs.Told.{MayGive, Told, Went, to_come}
 pub use Rattle.refusals.specs.declared.refusal.Refusal.{Refusal}
 pub use Rattle.sep_certificate.specs.Certificates.{IsWholeIn, fault_of}
 pub use Rattle.sep_certificate.specs.Texts.{Says, bad_line}

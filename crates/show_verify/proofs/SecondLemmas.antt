@@ -1,13 +1,13 @@
 -- A certificate's text that is judged as it is taken.
 use Rattle.show_verify.proofs.Prelude.{◌≡◌, ℕ, suc, ◌+◌, ◌<◌, ◌≤◌, Bool, true, false, cond, nat_lt, ◌==◌, List, [], ◌∷◌, ◌++◌, append_assoc, append-nil, length, length-append, All, get_or, take, drop, Option, Some, None, Result, Ok, Err, IfOk, IfSome, refl, sym, ap, subst, ◌∙◌, arith, IsAtEnd, prepend_known, lines, take_more, AsksNext, PartLaw, begins_after, is_marked_left, part_left, rest_left, buffer_bytes, Name, PlainShow, CurvesStandFor, Raised, raised_of, Clearance, KeepReach, KeepsApart, SentLaw, Certificate, Says, bad_line, Refusal, FlyApart, clearance_of, CertificateGives, certificate_limit, judged_for, not_valid, valid_line, verify_verb, AnswersInput, IsRefusedBy, IsSaid, outcome_of, TooLarge as TakenTooLarge, Whole as TakenWhole, GoesOn, IsReadBoth, IsReadWhole, IsShowText, IsWholeText, Outcome, outcome, IsOfInput, second_refusal, GivesSecond, IsFed, IsFewTaken, IsMarkedBy, IsTakenToEnd, IsTakenWhole, Skips, TakenGives, unless_marked, verdict_outcome, Cut, cut_of, feeds, marker_number, names_of, trajectories_of}
-use Rattle.fleet_io.specs.Taken.{TakesFront}
+use Rattle.byte_streams.specs.Taken.{TakesFront}
 use Rattle.std.specs.Option.{option_map, option_or}
 use Rattle.std.proofs.lemmas.Bool.Decides.{nat_tests}
 use Rattle.text_lines.specs.Lines.{between_feeds}
 use Rattle.text_lines.specs.Marker.{has_marker, part_of, rest_of}
-use Rattle.fleet_io.specs.Parts.{TakesFewAfter}
-use Rattle.fleet_io.specs.declared.parts.Ask.TheVariants as ask
-use Rattle.fleet_io.proofs.PartLemmas.{passed}
+use Rattle.byte_streams.specs.Parts.{TakesFewAfter}
+use Rattle.byte_streams.specs.declared.parts.Ask.TheVariants as ask
+use Rattle.byte_streams.proofs.PartLemmas.{passed}
 use Rattle.choreo_show.specs.declared.show.Settings.{Settings}
 use Rattle.traj_codec.specs.declared.traj.Traj.{Traj}
 use Rattle.sep_certificate.proofs.TextLaws.{texts}

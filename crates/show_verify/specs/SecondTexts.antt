@@ -4,8 +4,8 @@ use Rattle.std.specs.Io.KnownBytes.{IsAtEnd}
 use Rattle.std.specs.Str.Lines.{lines}
 use Rattle.text_lines.specs.Lines.{between_feeds}
 use Rattle.text_lines.specs.Marker.{has_marker, part_of, rest_of}
-use Rattle.fleet_io.specs.PartBytes.{is_marked_left, part_left, rest_left}
-use Rattle.fleet_io.specs.Parts.{TakesFewAfter}
+use Rattle.byte_streams.specs.PartBytes.{is_marked_left, part_left, rest_left}
+use Rattle.byte_streams.specs.Parts.{TakesFewAfter}
 use Rattle.choreo_show.specs.Name.{Name}
 use Rattle.choreo_show.specs.Plain.{PlainShow}
 use Rattle.fleet_curves.specs.Raised.{Raised}

@@ -2,8 +2,8 @@
 ghost use Rattle.std.specs.Prelude.{◌≡◌};
 ghost use Rattle.show_verify.specs.Verify.{valid_line};
 
-use fleet_io::ShortLine;
-use fleet_io::Word::Number;
+use byte_streams::ShortLine;
+use byte_streams::Word::Number;
 
 /// What is said of a certificate that is valid: its depth, and how many trees it has.
 #[tactic(auto, unfolding(crate::specs::Verify::valid_line))]

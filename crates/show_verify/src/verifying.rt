@@ -1,9 +1,9 @@
 //! `verify`: whether a certificate is valid for a show.
 ghost use Rattle.std.specs.Prelude.{OnErr, List, ℕ, ◌≡◌, ◌+◌, ◌^◌, ◌<◌, ◌≤◌, [], None, length, IfOk, IfSome, IsTrue};
 ghost use Rattle.std.specs.Io.KnownBytes.{IsAtEnd};
-ghost use Rattle.fleet_io.specs.Causes.{Rose};
-ghost use Rattle.fleet_io.specs.Held.{stream};
-ghost use Rattle.fleet_io.specs.Told.{MayGive, Went, to_come};
+ghost use Rattle.byte_streams.specs.Causes.{Rose};
+ghost use Rattle.byte_streams.specs.Held.{stream};
+ghost use Rattle.byte_streams.specs.Told.{MayGive, Went, to_come};
 ghost use Rattle.fleet_curves.specs.Raised.{CurvesStandFor};
 ghost use Rattle.certificate_checker.specs.Bytes.{ApartWhereValid, HasRead, NamesFault};
 ghost use Rattle.refusals.specs.declared.refusal.Refusal.{Refusal};
@@ -22,11 +22,10 @@ ghost use Rattle.show_judge.specs.TextsRead.{TwoTextsRead};
 
 use crate::faults::not_valid;
 use crate::lines::valid_line;
+use byte_streams::{Ask, Failed, Parts, Sink, Source, part_law};
 use certificate_checker::{Checker, Verdict};
 use choreo_reader::show_law;
 use fleet_curves::Curves;
-use fleet_io::{Ask, Failed, Parts, Sink, Source, part_law};
-use fleet_math::MOST_TEXT;
 use refusals::Refusal;
 use sep_certificate::{CERTIFICATE_LIMIT, certificate_law, text_law};
 use sep_parts::apart_law;
@@ -34,6 +33,7 @@ use show_judge::{Answer, Failure, Output, Planned, Text, Ways, fit_text, next_te
 use show_plan::{Fitted, clearance_of};
 use speed_bound::reach_law;
 use std::alloc::Global;
+use whole_numbers::MOST_TEXT;
 
 /// A certificate's text that was taken.
 #[derive(Clone, Copy)]

@@ -12,21 +12,21 @@ pub use Rattle.bezier_core.proofs.CurveLemmas.{at-eight, raise, raised-level}
 pub use Rattle.bezier_core.specs.Raised.{eight, raised}
 pub use Rattle.bezier_core.specs.Steps.{IsWithin}
 pub use Rattle.fleet_curves.specs.Steps.{IsFormed}
-pub use Rattle.fleet_math.proofs.BernsteinLemmas.{bernstein-same, bernstein-zero, by_lt}
-pub use Rattle.fleet_math.proofs.EdgeLemmas.{decoded-at_end, decoded-at_start, points-count, points-joined}
-pub use Rattle.fleet_math.proofs.Instants.{Lies, moment-lies, time_before-suc}
-pub use Rattle.fleet_math.proofs.RingLemmas.{add_mul_ℤ, le_from_mul_ℤ, le_mul_pos, le_mul_ℤ, linear, mul_add_ℤ, mul_assoc_ℤ, mul_comm_ℤ, mul_neg_ℤ, mul_not_negative, mul_positive, neg_mul_ℤ, one_mul_ℤ, ring, zero_mul_ℤ}
-pub use Rattle.fleet_math.proofs.SumLemmas.{power-add}
-pub use Rattle.fleet_math.specs.Bernstein.{at, bern, bernstein}
-pub use Rattle.fleet_math.specs.Decoded.{IsPiece, Piece, last_value, points_from}
-pub use Rattle.fleet_math.specs.Moments.{Moment, moment, time_before}
-pub use Rattle.fleet_math.specs.Numbers.{IsBelow, IsIn}
-pub use Rattle.fleet_math.specs.Sums.{power}
-pub use Rattle.halving.proofs.HalfLemmas.{bernstein-within}
-pub use Rattle.halving.proofs.PartBounds.{bernstein-scaled, part-half, part-within}
-pub use Rattle.halving.proofs.PolarLemmas.{blossom, left_half, part-whole, polar-first, polar-mix, polar-same, polar-suc_first, polar-suc_second, right_half, step}
-unfoldable pub use Rattle.halving.specs.Part.{polar}
-pub use Rattle.halving.specs.Part.{part_value}
+pub use Rattle.whole_numbers.proofs.BernsteinLemmas.{bernstein-same, bernstein-zero, by_lt}
+pub use Rattle.whole_numbers.proofs.EdgeLemmas.{decoded-at_end, decoded-at_start, points-count, points-joined}
+pub use Rattle.whole_numbers.proofs.Instants.{Lies, moment-lies, time_before-suc}
+pub use Rattle.whole_numbers.proofs.RingLemmas.{add_mul_ℤ, le_from_mul_ℤ, le_mul_pos, le_mul_ℤ, linear, mul_add_ℤ, mul_assoc_ℤ, mul_comm_ℤ, mul_neg_ℤ, mul_not_negative, mul_positive, neg_mul_ℤ, one_mul_ℤ, ring, zero_mul_ℤ}
+pub use Rattle.whole_numbers.proofs.SumLemmas.{power-add}
+pub use Rattle.whole_numbers.specs.Bernstein.{at, bern, bernstein}
+pub use Rattle.whole_numbers.specs.Decoded.{IsPiece, Piece, last_value, points_from}
+pub use Rattle.whole_numbers.specs.Moments.{Moment, moment, time_before}
+pub use Rattle.whole_numbers.specs.Numbers.{IsBelow, IsIn}
+pub use Rattle.whole_numbers.specs.Sums.{power}
+pub use Rattle.bezier_core.proofs.HalfLemmas.{bernstein-within}
+pub use Rattle.bezier_core.proofs.PartBounds.{bernstein-scaled, part-half, part-within}
+pub use Rattle.bezier_core.proofs.PolarLemmas.{blossom, left_half, part-whole, polar-first, polar-mix, polar-same, polar-suc_first, polar-suc_second, right_half, step}
+unfoldable pub use Rattle.bezier_core.specs.Part.{polar}
+pub use Rattle.bezier_core.specs.Part.{part_value}
 pub use Rattle.sep_parts.specs.Apart.{AreApart, AreTogether, MovesWithin, aside, between, gap, square, way}
 pub use Rattle.traj_codec.specs.Joined.{IsLasting, own}
 pub use Rattle.traj_codec.specs.Positions.{decoded, durations, element_on, piece_on, pieces_on, points, value_after}

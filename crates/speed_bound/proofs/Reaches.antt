@@ -1,6 +1,6 @@
 -- How far a trajectory moves in some time: by its speed, and never farther than two positions are apart.
 use Rattle.speed_bound.proofs.Prelude.{◌≡◌, ℕ, zero, suc, ◌+◌, ◌-◌, ◌*◌, ◌≤◌, ◌<◌, min, ℤ, pos, neg_ℤ, ◌-ℤ◌, ◌*ℤ◌, ◌≤ℤ◌, unsigned_abs, arith, sym, ◌∙◌, ap, subst, List, [], ◌∷◌, length, map, get_or, All, sum, div_ceil, ints, mul-le, div_ceil_times, common_steps, get_or_past, length-map, All-nil, All-cons, All-head, All-tail, All-from_get_or, All-get_or, power, IsIn, at, bern, Moment, time_before, IsPiece, last_value, points_from, linear, le_mul_ℤ, mul_assoc_ℤ, mul_comm_ℤ, mul_not_negative, by_lt, power-add, points-count, IsWithin, within_mul, bernstein-within, Element, Constant, Linear, Cubic, Seven, Segment, Traj, IsElement, IsNumber, IsSegment, IsTrajectory, stored, decoded, durations, element_on, piece_on, pieces_on, own, IsFormed, MovesWithin, way, Lies, moment-lies, time_before-suc, IsMoving, ReachLaw, farthest, reach, reach_of, traj_at, KeepsSpeed, greatest_below, speed}
-use Rattle.fleet_math.specs.Decoded as plain
+use Rattle.whole_numbers.specs.Decoded as plain
 use Rattle.speed_bound.proofs.Rests.{keeps_speed, pieces_formed}
 use Rattle.speed_bound.proofs.Speeds.{power_low, product_of}
 use Rattle.speed_bound.proofs.Units.{le_from_mul}

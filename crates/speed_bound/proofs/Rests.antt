@@ -1,6 +1,6 @@
 -- The bound of a trajectory, segment by segment.
 use Rattle.speed_bound.proofs.Prelude.{lit<, time, units, rate, rate_of, segment_rate, widest, widest_in, duration, ◌≡◌, ℕ, ◌*◌, ◌^◌, ◌≤◌, ℤ, arith, refl, sym, ◌∙◌, subst, List, [], ◌∷◌, length, map, All, length-map, All-head, All-tail, All-nil, All-cons, at, IsPiece, moment, raised, part_value, Segment, Traj, HasDuration, durations, piece_on, pieces_on, points, IsFormed, KeepsSpeed, segment_speed, speed, speed_of, widest_step}
-use Rattle.fleet_math.specs.Decoded as plain
+use Rattle.whole_numbers.specs.Decoded as plain
 use Rattle.traj_codec.proofs.PositionLemmas.{durations_on}
 use Rattle.speed_bound.proofs.Differences.{all_within}
 use Rattle.speed_bound.proofs.RateLemmas.{rate-grows, rate-most, some_time}

@@ -1,7 +1,7 @@
 -- From the steps of the parts to the speed between each two instants of a trajectory.
 use Rattle.speed_bound.proofs.Prelude.{rate_of, time, units, lit<, common_steps, ◌≡◌, ℕ, zero, suc, ◌+◌, ◌-◌, ◌*◌, ◌^◌, ◌≤◌, ◌<◌, ℤ, pos, negsuc, ◌+ℤ◌, ◌-ℤ◌, ◌*ℤ◌, ◌≤ℤ◌, neg_ℤ, unsigned_abs, arith, refl, sym, ◌∙◌, ap, subst, List, length, get_or, All, sum, ints, length-map, power, at, bernstein, Moment, moment, time_before, Piece, IsPiece, ring, linear, le_mul_ℤ, le_mul_pos, mul_not_negative, mul_add_ℤ, mul_assoc_ℤ, one_mul_ℤ, zero_mul_ℤ, mul_comm_ℤ, mul_neg_ℤ, by_lt, points-count, points-joined, decoded-at_start, decoded-at_end, raised, IsWithin, within_mul, raise, Lies, moment-lies, time_before-suc}
-use Rattle.fleet_math.proofs.SumLemmas.{power-mul}
-use Rattle.fleet_math.specs.Decoded.{points, durations, decoded}
+use Rattle.whole_numbers.proofs.SumLemmas.{power-mul}
+use Rattle.whole_numbers.specs.Decoded.{points, durations, decoded}
 use Rattle.speed_bound.proofs.Slopes.{minus_same, within_add, within_same}
 use Rattle.speed_bound.proofs.Differences.{AreWithin}
 use Rattle.speed_bound.proofs.Changes.{steep_between}

@@ -1,7 +1,7 @@
 -- Numbers of 64 and of 128 bits have room for differences.
 use Rattle.speed_bound.proofs.Prelude.{ℕ, ◌-◌, ◌^◌, ℤ, pos, ◌-ℤ◌, arith, subst, FitsSigned, ints, w128, IsWithin}
 use Rattle.std.proofs.Common.{inl, inr, sym}
-use Rattle.halving.specs.Steps.{IsWord}
+use Rattle.bezier_core.specs.HalvingSteps.{IsWord}
 
 pub by_word : (P : ℕ → Type 0) (bits : ℕ) → IsWord bits → P 64 → P 128 → P bits
 by_word P bits (inl is) short long = subst P (sym is) short

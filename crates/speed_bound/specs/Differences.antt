@@ -2,9 +2,9 @@
 -- from one value to the next, speeds, and of the second, the steps between these, accelerations.
 use Rattle.std.specs.Prelude.{ℕ, zero, suc, ◌-◌, ◌*◌, ◌^◌, nat_eq, if◌then◌else◌, ℤ, ◌-ℤ◌, unsigned_abs, length}
 use Rattle.std.specs.Int.{div_ceil}
-use Rattle.fleet_math.specs.Bernstein.{at}
+use Rattle.whole_numbers.specs.Bernstein.{at}
 use Rattle.bezier_core.specs.Raised.{raised}
-use Rattle.halving.specs.Part.{part_value}
+use Rattle.bezier_core.specs.Part.{part_value}
 use Rattle.traj_codec.specs.declared.traj.Traj.{Traj}
 use Rattle.traj_codec.specs.Positions.{points}
 use Rattle.speed_bound.specs.Speed.{duration, greatest_below}

@@ -1,6 +1,6 @@
 -- The line that says how fast a drone is at most.
 use Rattle.std.specs.Prelude.{ℕ, List, [], ◌∷◌, codes, decimal}
-use Rattle.fleet_io.specs.Words.{line}
+use Rattle.byte_streams.specs.Words.{line}
 
 -- the bounds on x, y and z of the drone with this name, in micrometres per second
 abbrev pub speed_line : List ℕ → ℕ → ℕ → ℕ → List ℕ

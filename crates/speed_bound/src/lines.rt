@@ -2,8 +2,8 @@
 ghost use Rattle.std.specs.Prelude.{◌≡◌, ◌++◌, ℕ, pos, OnOk};
 ghost use Rattle.speed_bound.specs.Lines.{speed_line};
 
-use fleet_io::Lines;
-use fleet_io::Word::{Bytes, Decimal};
+use byte_streams::Lines;
+use byte_streams::Word::{Bytes, Decimal};
 use std::alloc::AllocError;
 
 /// Adds the line of a drone to a text: its name, and its bounds on x, y and z as [`bound`](crate::bound) gives them, in

@@ -1,9 +1,9 @@
 //! The greatest speed or acceleration of a segment and of a trajectory, by the widest differences of its parts.
 
 ghost use Rattle.std.specs.Prelude.{◌≡◌, ℕ, ◌+◌, ◌-◌, ◌*◌, ◌/◌, ◌^◌, ◌≤◌, ◌<◌, ◌∷◌, max, All, length};
-ghost use Rattle.fleet_math.specs.Numbers.{IsBelow};
-ghost use Rattle.fleet_math.specs.Bernstein.{at};
-ghost use Rattle.fleet_math.specs.Limits.{most_depth};
+ghost use Rattle.whole_numbers.specs.Numbers.{IsBelow};
+ghost use Rattle.whole_numbers.specs.Bernstein.{at};
+ghost use Rattle.whole_numbers.specs.Limits.{most_depth};
 ghost use Rattle.bezier_core.specs.Raised.{raised};
 ghost use Rattle.traj_codec.specs.Spelling.{HasDuration, stored};
 ghost use Rattle.speed_bound.specs.Differences.{limit, rate, rate_of, segment_rate, time, units, widest_in};
@@ -11,8 +11,8 @@ ghost use Rattle.speed_bound.specs.Differences.{limit, rate, rate_of, segment_ra
 use crate::parts::{fall, widest, widest_part};
 use bezier_core::Bez;
 use fleet_curves::{raised, value_after};
-use fleet_math::Depth;
 use traj_codec::{Element, Traj};
+use whole_numbers::Depth;
 
 /// The greatest speed (K is 1), in micrometres per second, or acceleration (K is 2), in micrometres per second squared,
 /// of a trajectory on an axis by its parts of a depth, or `least` where that is no less. What can't be above it isn't

@@ -5,8 +5,8 @@ ghost use Rattle.std.specs.Int.{div_ceil};
 ghost use Rattle.speed_bound.specs.Reach.{IsMoving, ReachLaw, StillLaw, farthest, reach_of};
 
 use crate::rates::greatest_rate;
-use fleet_math::Depth;
 use traj_codec::Traj;
+use whole_numbers::Depth;
 
 /// No two positions are farther apart on an axis, in millimetres.
 const FARTHEST: u64 = 65_536;

@@ -6,8 +6,8 @@ ghost use Rattle.speed_bound.specs.Speed.{KeepsSpeed, speed};
 
 use crate::rates::greatest_rate;
 use fleet_curves::formed_law;
-use fleet_math::Depth;
 use traj_codec::Traj;
+use whole_numbers::Depth;
 
 /// How fast a trajectory is at most on x, y and z, in micrometres per second: on each axis the greatest over its
 /// segments and their 2^`depth` parts of the least whole number that is not below 7 * 10^6 * 2^depth * m / (5040 * 2^(7

@@ -4,9 +4,9 @@ use choreo_reader::{
     Act, ActLine, Block, DroneLine, Figure, Frame, LineKind, Mirror, Point, Settings, Show,
     ShowFault, Token, read_show, tokens,
 };
-use fleet_math::MOST_TEXT;
 use std::alloc::Global;
 use std::test::Fail;
+use whole_numbers::MOST_TEXT;
 
 const SMALLEST: &[u8] =
     b"choreo 1\ndrone solo 0 0 1000000 0\ncue 2000\nsolo move 1000000 0 1000000 0\nend\n";

@@ -1,6 +1,6 @@
 //! Words in their places, and words of thousands of digits.
 
-use quantities::{Counts, quantity_in, quantity_law};
+use choreo_lines::{Counts, quantity_in, quantity_law};
 use std::alloc::{AllocError, Global};
 use std::test::Fail;
 use text_lines::NumberFault;

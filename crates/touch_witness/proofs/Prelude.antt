@@ -14,14 +14,14 @@ pub use Rattle.fleet_curves.proofs.Differences.{eight_all, list_of_seven, same_d
 pub use Rattle.fleet_curves.proofs.Standing.{at_place, item_there, same_item, segments_of}
 pub use Rattle.fleet_curves.specs.Raised.{IsOneShow, cues_in}
 pub use Rattle.fleet_curves.specs.Steps.{IsFormed}
-pub use Rattle.fleet_io.specs.Words.{line}
-pub use Rattle.fleet_math.proofs.BernsteinLemmas.{by_lt}
-pub use Rattle.fleet_math.proofs.RingLemmas.{le_mul_pos, le_mul_ℤ, linear, mul_add_ℤ, mul_assoc_ℤ, mul_comm_ℤ, mul_left_comm_ℤ, mul_positive, one_mul_ℤ, ring}
-pub use Rattle.fleet_math.proofs.SumLemmas.{power-add, power-mul, power_positive}
-pub use Rattle.fleet_math.specs.Bernstein.{at, bern, bernstein}
-pub use Rattle.fleet_math.specs.Decoded.{IsPiece, Piece, durations, points, points_from}
-pub use Rattle.fleet_math.specs.Numbers.{IsIn}
-pub use Rattle.fleet_math.specs.Sums.{power}
+pub use Rattle.byte_streams.specs.Words.{line}
+pub use Rattle.whole_numbers.proofs.BernsteinLemmas.{by_lt}
+pub use Rattle.whole_numbers.proofs.RingLemmas.{le_mul_pos, le_mul_ℤ, linear, mul_add_ℤ, mul_assoc_ℤ, mul_comm_ℤ, mul_left_comm_ℤ, mul_positive, one_mul_ℤ, ring}
+pub use Rattle.whole_numbers.proofs.SumLemmas.{power-add, power-mul, power_positive}
+pub use Rattle.whole_numbers.specs.Bernstein.{at, bern, bernstein}
+pub use Rattle.whole_numbers.specs.Decoded.{IsPiece, Piece, durations, points, points_from}
+pub use Rattle.whole_numbers.specs.Numbers.{IsIn}
+pub use Rattle.whole_numbers.specs.Sums.{power}
 pub use Rattle.sep_parts.proofs.Cauchy.{square_positive}
 pub use Rattle.sep_parts.specs.Apart.{AreApart, FlyApartExactly, gap}
 pub use Rattle.traj_codec.proofs.PositionLemmas.{decoded-points, durations_on}

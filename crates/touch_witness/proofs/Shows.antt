@@ -1,14 +1,14 @@
 -- A listed instant is an instant of the show: the drones are at the same places there.
 use Rattle.touch_witness.proofs.Prelude.{common_steps, ◌≡◌, ℕ, zero, suc, ◌+◌, ◌-◌, ◌*◌, ◌^◌, ◌≤◌, ◌<◌, ℤ, pos, ◌+ℤ◌, ◌-ℤ◌, ◌*ℤ◌, ◌≤ℤ◌, ◌<ℤ◌, arith, refl, sym, subst, ◌∙◌, ap, List, [], ◌∷◌, length, map, get_or, All, sum, Some, slice_get, ints, mul-le, pow_pos, length-map, All-head, All-tail, All-nil, All-cons, power, at, bernstein, Piece, IsPiece, points, durations, ring, linear, le_mul_ℤ, mul_add_ℤ, mul_comm_ℤ, mul_left_comm_ℤ, mul_positive, one_mul_ℤ, power-add, power-mul, power_positive, by_lt, power_pos, pow-zero, pow-suc, Segment, Traj, piece_on, pieces_on, durations_on, IsFormed, own, IsOneShow, cues_in, AreApart, FlyApartExactly, at_place, segments_of, MatchOption, Option, None, Touch, AreDisjoint, DisjointAt, IsFirstTouch, IsListed, NoTouch, SharePoint, TouchAt, gap_at, instant_of, left_of, listed, right_of, IsFirstSite, NoneTouch, SidesDisjoint, SidesTouch}
 use Rattle.std.proofs.lemmas.List.Sums.{sum_by-cons}
-use Rattle.fleet_math.specs.Moments.{Moment, moment, time_before}
-use Rattle.fleet_math.specs.Decoded.{decoded}
-use Rattle.fleet_math.proofs.DivisionLemmas.{lt_from_mul_ℤ}
-use Rattle.fleet_math.proofs.EdgeLemmas.{points-count, points-joined, decoded-at_start, decoded-at_end}
-use Rattle.halving.proofs.PartBounds.{bernstein-scaled}
-use Rattle.fleet_math.proofs.MomentLemmas.{IsInside, moment-inside}
+use Rattle.whole_numbers.specs.Moments.{Moment, moment, time_before}
+use Rattle.whole_numbers.specs.Decoded.{decoded}
+use Rattle.whole_numbers.proofs.DivisionLemmas.{lt_from_mul_ℤ}
+use Rattle.whole_numbers.proofs.EdgeLemmas.{points-count, points-joined, decoded-at_start, decoded-at_end}
+use Rattle.bezier_core.proofs.PartBounds.{bernstein-scaled}
+use Rattle.whole_numbers.proofs.MomentLemmas.{IsInside, moment-inside}
 use Rattle.traj_codec.specs.Positions as traj
-use Rattle.fleet_math.proofs.Instants.{Lies, moment-lies, time_before-suc}
+use Rattle.whole_numbers.proofs.Instants.{Lies, moment-lies, time_before-suc}
 use Rattle.touch_witness.proofs.Sharing.{share_point}
 
 -- ---- one axis

@@ -1,7 +1,7 @@
 -- The lines that say where drones are closest, and where they touch. Drones, cues and fractions are named as people
 -- count: drones by their names, cues from 1, fractions from 0.
 use Rattle.std.specs.Prelude.{ℕ, ◌+◌, ◌*◌, ◌^◌, List, [], ◌∷◌, ◌++◌, codes, decimal}
-use Rattle.fleet_io.specs.Words.{line}
+use Rattle.byte_streams.specs.Words.{line}
 use Rattle.touch_witness.specs.declared.site.Touch.{Touch}
 use Rattle.touch_witness.specs.declared.site.Closest.{Closest}
 

@@ -1,8 +1,8 @@
 -- The instants and pairs of drones at which touches are sought, their order, and what is found there.
 use Rattle.std.specs.Prelude.{◌≡◌, ◌⊎◌, ℕ, ◌+◌, ◌*◌, ◌^◌, ◌≤◌, ◌<◌, ℤ, pos, ◌+ℤ◌, ◌-ℤ◌, ◌*ℤ◌, ◌≤ℤ◌, ◌<ℤ◌, List, length}
 use Rattle.std.specs.Prelude.{Some, slice_get, slice_index_or}
-use Rattle.fleet_math.specs.Sums.{power}
-use Rattle.fleet_math.specs.Moments.{Moment, time_before}
+use Rattle.whole_numbers.specs.Sums.{power}
+use Rattle.whole_numbers.specs.Moments.{Moment, time_before}
 use Rattle.traj_codec.specs.declared.traj.Traj.{Traj}
 use Rattle.traj_codec.specs.Positions.{decoded, durations}
 use Rattle.traj_codec.specs.Joined.{own}

@@ -1,9 +1,9 @@
 -- Words of private steps: where drones are at an instant, and how far apart. No public clause cites them.
 use Rattle.std.specs.Prelude.{◌≡◌, ◌⊎◌, ℕ, zero, suc, ◌-◌, ◌*◌, ◌^◌, ◌≤◌, ◌<◌, ℤ, pos, ◌+ℤ◌, ◌-ℤ◌, ◌*ℤ◌, ◌≤ℤ◌, ◌<ℤ◌}
 use Rattle.std.specs.Prelude.{List, [], ◌∷◌, length, Some, slice_get, slice_index_or}
-use Rattle.fleet_math.specs.Sums.{power}
-use Rattle.fleet_math.specs.Bernstein.{at, bern}
-use Rattle.fleet_math.specs.Numbers.{IsIn}
+use Rattle.whole_numbers.specs.Sums.{power}
+use Rattle.whole_numbers.specs.Bernstein.{at, bern}
+use Rattle.whole_numbers.specs.Numbers.{IsIn}
 use Rattle.bezier_core.specs.Steps.{IsWithin}
 use Rattle.traj_codec.specs.declared.traj.Element.{Element}
 use Rattle.traj_codec.specs.declared.traj.Segment.{Segment}

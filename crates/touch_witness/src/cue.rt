@@ -1,7 +1,7 @@
 //! Where two drones are closest in one cue.
 
 ghost use Rattle.std.specs.Prelude.{◌≡◌, ◌+◌, ◌^◌, ◌≤◌, ◌<◌, length, All};
-ghost use Rattle.fleet_math.specs.Limits.{most_cues, most_drones};
+ghost use Rattle.whole_numbers.specs.Limits.{most_cues, most_drones};
 ghost use Rattle.fleet_curves.specs.Raised.{IsOneShow, cues_in};
 ghost use Rattle.sep_parts.specs.Slots.{IsSlot};
 ghost use Rattle.touch_witness.specs.Sites.{IsClosestIn};
@@ -12,9 +12,9 @@ use crate::distance::{left_side, right_side};
 use crate::nearest::level;
 use crate::places::{Start, next_starts, places, starts};
 use crate::site::Closest;
-use fleet_math::{Fine, MOST_DRONES};
 use sep_parts::Slot;
 use traj_codec::Traj;
+use whole_numbers::{Fine, MOST_DRONES};
 
 // A fraction of a cue, and the left side of the test there.
 #[derive(Clone, Copy)]

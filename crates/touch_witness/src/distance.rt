@@ -1,14 +1,14 @@
 //! How far two drones are apart, against how far they must be.
 
 ghost use Rattle.std.specs.Prelude.{◌≡◌, ◌+◌, ◌*◌, ◌^◌, ◌≤◌, ◌↔◌, ℤ, pos, ◌-ℤ◌, ◌*ℤ◌, ◌≤ℤ◌, IsTrue};
-ghost use Rattle.fleet_math.specs.Numbers.{IsIn};
+ghost use Rattle.whole_numbers.specs.Numbers.{IsIn};
 ghost use Rattle.bezier_core.specs.Steps.{IsWithin};
 ghost use Rattle.sep_parts.specs.Directions.{IsAxis};
 ghost use Rattle.touch_witness.specs.Steps.{IsShort, left_side, right_side};
 
 use crate::axes::Axes;
 use crate::places::{Point, part_power};
-use fleet_math::Fine;
+use whole_numbers::Fine;
 
 /// Whether the closed ellipsoids around two points share a point: h^2 (dX^2 + dY^2) + r^2 dZ^2 is at most 4 r^2 h^2
 /// c^14.

@@ -8,7 +8,7 @@
 //! others write the lines that say so.
 //!
 //! The crate stands on `sep_parts` for how far two drones are from one another, on `traj_codec` and `bezier_core` for
-//! positions, and on `fleet_io` for lines.
+//! positions, and on `byte_streams` for lines.
 #![tactic(auto)]
 
 mod axes;

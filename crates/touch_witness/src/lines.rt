@@ -6,10 +6,10 @@ ghost use Rattle.touch_witness.specs.Lines.{blocked_closest_line, blocked_pair_l
 ghost use Rattle.touch_witness.specs.Lines.{no_touch_line, separated_line, touch_line};
 
 use crate::site::{Closest, Part, Touch};
-use fleet_io::Lines;
-use fleet_io::Word::{Bytes, Large, Number};
-use fleet_math::{Depth, Fine};
+use byte_streams::Lines;
+use byte_streams::Word::{Bytes, Large, Number};
 use std::alloc::AllocError;
+use whole_numbers::{Depth, Fine};
 
 // The number of a cue, which counts from 1 in a line.
 fn number(cue: u16) -> u32

@@ -1,7 +1,7 @@
 //! The closest of the listed instants.
 
 ghost use Rattle.std.specs.Prelude.{◌≡◌, ℕ, ◌+◌, ◌*◌, ◌^◌, ◌≤◌, ◌<◌, length, All, MatchOption};
-ghost use Rattle.fleet_math.specs.Limits.{most_cues, most_drones};
+ghost use Rattle.whole_numbers.specs.Limits.{most_cues, most_drones};
 ghost use Rattle.fleet_curves.specs.Raised.{IsOneShow, cues_in};
 ghost use Rattle.touch_witness.specs.Sites.{IsClosest};
 ghost use Rattle.touch_witness.specs.Steps.{AreStarts, HasCue, IsBest, IsLeastPair, IsNearestAt, IsShort, most_ratio};
@@ -10,8 +10,8 @@ use crate::axes::Axes;
 use crate::distance::{left_side, right_side};
 use crate::places::{Point, Start, next_starts, places, starts};
 use crate::site::{Closest, Touch};
-use fleet_math::{Fine, MOST_DRONES};
 use traj_codec::Traj;
+use whole_numbers::{Fine, MOST_DRONES};
 
 // A pair of drones, and the left side of the test for it.
 #[derive(Clone, Copy)]

@@ -1,20 +1,20 @@
 //! Where drones are at an instant.
 
 ghost use Rattle.std.specs.Prelude.{◌≡◌, ℕ, ◌+◌, ◌*◌, ◌^◌, ◌≤◌, ◌<◌, ◌∷◌, [], ℤ, pos, ◌*ℤ◌, ◌≤ℤ◌, ◌-◌, All, length};
-ghost use Rattle.fleet_math.specs.Bernstein.{bern};
+ghost use Rattle.whole_numbers.specs.Bernstein.{bern};
 ghost use Rattle.bezier_core.specs.Curves.{IsLength};
-ghost use Rattle.fleet_math.specs.Sums.{power};
+ghost use Rattle.whole_numbers.specs.Sums.{power};
 ghost use Rattle.bezier_core.specs.Steps.{IsWithin};
 ghost use Rattle.traj_codec.specs.Spelling.{IsNumber};
 ghost use Rattle.traj_codec.specs.Positions.{element_on, value_after};
-ghost use Rattle.fleet_math.specs.Limits.{most_drones, most_fine};
+ghost use Rattle.whole_numbers.specs.Limits.{most_drones, most_fine};
 ghost use Rattle.touch_witness.specs.Steps.{ArePlaces, AreStarts, HasCue, IsNear, IsPlace, IsShort, IsStart, position};
 ghost use Rattle.touch_witness.specs.Steps.{reach};
 
 use bezier_core::Bez;
 use fleet_curves::{row_of_four, value_after};
-use fleet_math::{Fine, MOST_DRONES};
 use traj_codec::{Element, Segment, Traj};
+use whole_numbers::{Fine, MOST_DRONES};
 
 // What stands in the places of drones that are not there.
 const NO_START: Start = Start { x: 0, y: 0, z: 0 };

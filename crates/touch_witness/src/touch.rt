@@ -1,7 +1,7 @@
 //! The first touch.
 
 ghost use Rattle.std.specs.Prelude.{◌≡◌, ℕ, ◌+◌, ◌*◌, ◌^◌, ◌≤◌, ◌<◌, None, length, All, MatchOption};
-ghost use Rattle.fleet_math.specs.Limits.{most_cues, most_drones};
+ghost use Rattle.whole_numbers.specs.Limits.{most_cues, most_drones};
 ghost use Rattle.sep_parts.specs.Apart.{FlyApartExactly};
 ghost use Rattle.fleet_curves.specs.Raised.{IsOneShow};
 ghost use Rattle.touch_witness.specs.Sites.{IsFirstTouch, NoTouch};
@@ -13,8 +13,8 @@ use crate::distance::is_touching;
 use crate::formed::formed_law;
 use crate::places::{Point, Start, next_starts, places, starts};
 use crate::site::Touch;
-use fleet_math::{Fine, MOST_DRONES};
 use traj_codec::Traj;
+use whole_numbers::{Fine, MOST_DRONES};
 
 /// The first of the listed instants and pairs at which two drones touch, for ellipsoids of these half axes: that of the
 /// first cue, in it of the first of the fractions 0 / 2^`fine` to 2^`fine` / 2^`fine`, then of the first drone, then of

@@ -1,7 +1,7 @@
 -- A trajectory with its holds joined is the same curve.
 use Rattle.traj_codec.proofs.Prelude.{common_steps, ◌≡◌, ◌⊎◌, inl, inr, ℕ, zero, suc, ◌+◌, ◌-◌, ◌*◌, ◌≤◌, ◌<◌, ℤ, pos, ◌*ℤ◌, Bool, true, false, cond, ◌&&◌, nat_le, arith, refl, sym, ap, subst, ◌∙◌, List, [], ◌∷◌, length, map, All, get_or, list_all, nat_tests, sum, sum_by-cons, All-head, All-tail, All-nil, All-cons, power, at, bern, Moment, moment, moment_from, points_from, last_value, Element, Constant, Segment, Traj, stored, HasDuration, IsSegment, element_on, value_after, piece_on, durations, points, decoded, stays, is_hold, hold, most_ms, put_held, joined_from, joined, own, SameCurve, IsLasting, JoinLaw}
-use Rattle.fleet_math.proofs.RingLemmas.{mul_left_comm_ℤ}
-use Rattle.fleet_math.proofs.BernsteinLemmas.{bernstein-zero}
+use Rattle.whole_numbers.proofs.RingLemmas.{mul_left_comm_ℤ}
+use Rattle.whole_numbers.proofs.BernsteinLemmas.{bernstein-zero}
 use Rattle.traj_codec.proofs.PositionLemmas.{decoded-points}
 
 -- ---- where segments are at an instant: control points, and the part a / c

@@ -1,6 +1,6 @@
 -- The control points of a trajectory on an axis, segment by segment.
 use Rattle.traj_codec.proofs.Prelude.{◌≡◌, ℕ, ◌-◌, ◌≤◌, ℤ, pos, ◌*ℤ◌, List, [], ◌∷◌, length, map, arith, refl, sym, ap, power, at, bern, Moment, last_value, Segment, Traj, piece_on, durations, points, decoded}
-use Rattle.fleet_math.specs.Decoded as plain
+use Rattle.whole_numbers.specs.Decoded as plain
 
 -- a list ends with its last number
 last_is : (first z : ℤ) (zs : List ℤ) → last_value first (z ∷ zs) ≡ at (z ∷ zs) (length zs)

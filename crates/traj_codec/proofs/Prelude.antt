@@ -11,11 +11,11 @@ pub use Rattle.std.specs.List.{All, flat_map, list_all, sum}
 pub use Rattle.std.specs.Option.{option_or}
 pub use Rattle.byteorder.specs.Endian.{little_bytes, little_number}
 pub use Rattle.byteorder.specs.Numbers.{little_number-reads_back}
-pub use Rattle.fleet_math.specs.Bernstein.{at, bern}
-pub use Rattle.fleet_math.specs.Decoded.{last_value, points_from}
-unfoldable pub use Rattle.fleet_math.specs.Moments.{moment}
-pub use Rattle.fleet_math.specs.Moments.{Moment, moment_from}
-pub use Rattle.fleet_math.specs.Sums.{power}
+pub use Rattle.whole_numbers.specs.Bernstein.{at, bern}
+pub use Rattle.whole_numbers.specs.Decoded.{last_value, points_from}
+unfoldable pub use Rattle.whole_numbers.specs.Moments.{moment}
+pub use Rattle.whole_numbers.specs.Moments.{Moment, moment_from}
+pub use Rattle.whole_numbers.specs.Sums.{power}
 unfoldable pub use Rattle.traj_codec.specs.Joined.{joined_from}
 pub use Rattle.traj_codec.specs.Joined.{FromTheLeft, GroupLaw, IsGroup, IsLasting, JoinLaw, SameCurve, first_ms, hold, is_hold, joined, most_ms, next_held, one_of, own, put_held, put_next, stays}
 pub use Rattle.traj_codec.specs.Positions.{decoded, durations, element_on, piece_on, points, value_after}

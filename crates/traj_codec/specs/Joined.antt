@@ -2,8 +2,8 @@
 use Rattle.std.specs.Prelude.{◌≡◌, ◌⊎◌, ℕ, zero, suc, ◌+◌, ◌≤◌, ◌<◌, Bool, true, false, nat_le, pos, ◌*ℤ◌, List, []}
 use Rattle.std.specs.Prelude.{◌∷◌, map, length, if◌then◌else◌}
 use Rattle.std.specs.List.{list_all, flat_map, sum, All}
-use Rattle.fleet_math.specs.Sums.{power}
-use Rattle.fleet_math.specs.Moments.{Moment, moment}
+use Rattle.whole_numbers.specs.Sums.{power}
+use Rattle.whole_numbers.specs.Moments.{Moment, moment}
 use Rattle.traj_codec.specs.declared.traj.Element.{Element}
 use Rattle.traj_codec.specs.declared.traj.Element.TheVariants.{Constant, Linear, Cubic, Seven}
 use Rattle.traj_codec.specs.declared.traj.Segment.{Segment}

@@ -1,9 +1,9 @@
 -- Where a trajectory puts a drone: the control points of its segments, and the exact position at a moment.
 use Rattle.std.specs.Prelude.{ℕ, ℤ, List, map, slice_index_or}
-use Rattle.fleet_math.specs.Bernstein.{at}
-use Rattle.fleet_math.specs.Moments.{Moment}
-use Rattle.fleet_math.specs.Decoded.{Piece, last_value}
-use Rattle.fleet_math.specs.Decoded as plain
+use Rattle.whole_numbers.specs.Bernstein.{at}
+use Rattle.whole_numbers.specs.Moments.{Moment}
+use Rattle.whole_numbers.specs.Decoded.{Piece, last_value}
+use Rattle.whole_numbers.specs.Decoded as plain
 use Rattle.traj_codec.specs.Spelling.{stored}
 use Rattle.traj_codec.specs.declared.traj.Element.{Element}
 use Rattle.traj_codec.specs.declared.traj.Element.TheVariants.{Constant}

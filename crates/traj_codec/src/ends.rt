@@ -1,8 +1,8 @@
 //! Where an element and a segment end.
 
 ghost use Rattle.std.specs.Prelude.{◌≡◌, ℕ, ◌≤◌, ◌<◌};
-ghost use Rattle.fleet_math.specs.Bernstein.{at};
-ghost use Rattle.fleet_math.specs.Decoded.{last_value};
+ghost use Rattle.whole_numbers.specs.Bernstein.{at};
+ghost use Rattle.whole_numbers.specs.Decoded.{last_value};
 ghost use Rattle.traj_codec.specs.Positions.{element_on, value_after};
 
 use crate::traj::{Element, Segment};

@@ -1,7 +1,7 @@
 //! Whole holds that follow each other, joined from the left.
 
 ghost use Rattle.std.specs.Prelude.{◌≡◌, ◌≤◌, ◌++◌, List, length, All, IfOk, OnOk};
-ghost use Rattle.fleet_math.specs.Limits.{most_cues};
+ghost use Rattle.whole_numbers.specs.Limits.{most_cues};
 ghost use Rattle.traj_codec.specs.declared.traj.Segment.{Segment};
 ghost use Rattle.traj_codec.specs.Spelling.{HasDuration};
 ghost use Rattle.traj_codec.specs.Joined.{GroupLaw, JoinLaw, SameCurve, hold, is_hold, joined, next_held, put_held};

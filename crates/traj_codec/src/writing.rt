@@ -3,7 +3,7 @@
 ghost use Rattle.std.specs.Prelude.{◌≡◌, ◌+◌, ◌*◌, ◌<◌, ◌≤◌, ◌++◌, length, All, IfOk, OnOk};
 ghost use Rattle.traj_codec.specs.Spelling.{number, numbers, kind, stored, header, segment, spelling, ending};
 ghost use Rattle.traj_codec.specs.Spelling.{HasDuration, IsEncoding};
-ghost use Rattle.fleet_math.specs.Limits.{most_segments};
+ghost use Rattle.whole_numbers.specs.Limits.{most_segments};
 ghost use Rattle.traj_codec.specs.Positions.{element_on};
 
 use crate::traj::{Element, Segment, Traj};

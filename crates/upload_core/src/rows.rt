@@ -11,9 +11,9 @@ ghost use Rattle.upload_core.specs.Steps.{older_row, IsRow, RowsStand, IsBegun, 
 use crate::row::{InFlight, Row};
 use crate::session::Session;
 use arrayvec::ArrayVec;
-use fleet_math::MOST_DRONES;
 use std::alloc::{AllocError, Global};
 use upload_model::{PACKETS_IN_FLIGHT, Phase, Progress, Sent, TICKS_TO_GIVE_UP};
+use whole_numbers::MOST_DRONES;
 
 /// The most packets that one event sends.
 pub const MOST_SENT: usize = MOST_DRONES * PACKETS_IN_FLIGHT;

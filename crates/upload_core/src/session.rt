@@ -2,7 +2,7 @@
 
 ghost use Rattle.std.specs.Prelude.{◌≡◌, ℕ, ◌+◌, ◌*◌, ◌<◌, ◌≤◌, List, [], ◌∷◌, ◌++◌, length, take, map, IfOk, Bool};
 ghost use Rattle.std.specs.Prelude.{slice_index, slice_index_or};
-ghost use Rattle.fleet_math.specs.Limits.{most_drones};
+ghost use Rattle.whole_numbers.specs.Limits.{most_drones};
 ghost use Rattle.upload_model.specs.Sessions.{IsSession, drone_count, load_of, write_count, load_count, read_count};
 ghost use Rattle.upload_model.specs.Sessions.{start_number, packet_count, packet_at, read_start, wanted, first_of};
 ghost use Rattle.upload_model.specs.Sessions.{count_of};

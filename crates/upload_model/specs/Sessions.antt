@@ -8,7 +8,7 @@ use Rattle.crtp_packets.specs.Packets.{write_request_of, read_request_of}
 use Rattle.crtp_packets.specs.declared.packet.TheConstants.{READ_BYTES}
 use Rattle.crtp_packets.specs.Commands.{define_of, start_of}
 use Rattle.crtp_packets.specs.declared.chunks.TheConstants.{MEMORY_BYTES}
-use Rattle.fleet_math.specs.Limits.{most_drones, most_segments}
+use Rattle.whole_numbers.specs.Limits.{most_drones, most_segments}
 use Rattle.upload_model.specs.declared.limits.TheConstants.{TABLE_ENTRIES}
 use Rattle.upload_model.specs.declared.events.Phase.{Phase}
 use Rattle.upload_model.specs.declared.events.Phase.TheVariants.{Loading, Reading, Starting}

@@ -4,7 +4,7 @@ ghost use Rattle.std.specs.Prelude.{None};
 
 use crate::hosts::host_of;
 use crate::sessions::{PATH, PLAIN, Upload};
-use fleet_io::{Failed, MemSink, MemSource, Parts, Sink, Source, StdSource};
+use byte_streams::{Failed, MemSink, MemSource, Parts, Sink, Source, StdSource};
 use link_upload::upload;
 use std::alloc::{AllocError, Global};
 use std::cell::Cell;

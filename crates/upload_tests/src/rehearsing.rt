@@ -1,11 +1,11 @@
 //! A path of two writes, rehearsed, with the text of docs/COMMANDS.md, or put together by hand from it.
 ghost use Rattle.std.specs.Prelude.{◌≡◌, ◌≤◌, length, IfOk};
-ghost use Rattle.fleet_io.specs.Words.{IsWord};
+ghost use Rattle.byte_streams.specs.Words.{IsWord};
 
 use crate::sessions::{PATH, Upload, owner_of};
 use crate::states::is_so;
+use byte_streams::Lines;
 use firmware_memory::curve_of;
-use fleet_io::Lines;
 use fleet_world::{Name, World, WorldEvent};
 use rehearsal::{memory_text, rehearse};
 use std::alloc::{AllocError, Global};

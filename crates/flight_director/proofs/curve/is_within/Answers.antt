@@ -1,5 +1,5 @@
 use Rattle.flight_director.proofs.Prelude.{◌≡◌, ◌∙◌, ◌*◌, ◌^◌, ℕ, FitsSigned, pos, arith, rules, get_or, w16, w64, ℤ, ◌*ℤ◌, ◌-ℤ◌, is_short, to_z-of_z, ints, common_steps}
-use Rattle.fleet_math.specs.Numbers.{IsBelow}
+use Rattle.whole_numbers.specs.Numbers.{IsBelow}
 use Rattle.flight_director.proofs.curve.is_within.Goals as goal
 
 pub aside-requires-2 : goal.aside-requires-2

@@ -1,5 +1,5 @@
 use Rattle.keepout_boxes.proofs.Prelude.{◌≡◌, length, CoverAll}
-use Rattle.fleet_math.specs.Limits.{most_drones}
+use Rattle.whole_numbers.specs.Limits.{most_drones}
 use Rattle.keepout_boxes.proofs.flight.boxes_of.Given as goal
 
 abbrev pub invariant-loop-drone : goal.invariant-loop-drone

@@ -1,5 +1,5 @@
 use Rattle.pair_search.proofs.Prelude.{◌≡◌, length, HaveFlights}
-use Rattle.fleet_math.specs.Limits.{most_drones}
+use Rattle.whole_numbers.specs.Limits.{most_drones}
 use Rattle.pair_search.proofs.extents.flights_of.Given as goal
 
 abbrev pub invariant-loop-drone : goal.invariant-loop-drone

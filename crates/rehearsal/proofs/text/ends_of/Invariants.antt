@@ -1,5 +1,5 @@
 use Rattle.rehearsal.proofs.Prelude.{◌≡◌, ℕ, ℤ, ◌<◌, take, fold}
-use Rattle.fleet_math.specs.Bernstein.{at}
+use Rattle.whole_numbers.specs.Bernstein.{at}
 use Rattle.traj_codec.specs.declared.traj.Segment.{Segment}
 use Rattle.traj_codec.specs.Positions.{element_on, value_after}
 use Rattle.rehearsal.proofs.text.ends_of.Given as goal

@@ -2,7 +2,7 @@
 use Rattle.rehearsal.proofs.Prelude.{◌≡◌, ◌∙◌, ◌++◌, [], ◌∷◌, ℤ, get_or, rules, OnOk, codes, lit<, of_z, pos, to_z, w16, w64}
 use Rattle.std.proofs.lemmas.Int.{to_z-of_z}
 use Rattle.std.specs.Fmt.{signed_decimal}
-use Rattle.fleet_io.specs.Words.{line}
+use Rattle.byte_streams.specs.Words.{line}
 use Rattle.firmware_memory.specs.Decoded.{last_value}
 use Rattle.rehearsal.proofs.text.put_ends.Goals as goal
 

@@ -1,6 +1,6 @@
 use Rattle.std.proofs.Common.{◌^◌, All}
 use Rattle.bezier_core.specs.declared.Bez.{Bez}
-use Rattle.fleet_math.specs.Numbers.{IsBelow}
+use Rattle.whole_numbers.specs.Numbers.{IsBelow}
 use Rattle.fleet_curves.proofs.Small.{three}
 use Rattle.safety_tests.proofs.parts_of_cues.aside.Goals as goal
 

@@ -1,6 +1,6 @@
 use Rattle.std.proofs.Common.{◌^◌, FitsSigned}
 use mir.Syntax.{w128}
-use Rattle.fleet_math.specs.Numbers.{IsBelow}
+use Rattle.whole_numbers.specs.Numbers.{IsBelow}
 use Rattle.fleet_curves.proofs.Differences.{eight_all}
 use Rattle.fleet_curves.proofs.Small.{kept}
 use Rattle.safety_tests.proofs.parts_of_cues.row.Goals as goal

@@ -2,7 +2,7 @@ use Rattle.std.proofs.Common.{◌^◌, ℤ, FitsSigned, to_z, of_z}
 use Rattle.std.proofs.lemmas.Int.{ints}
 use Rattle.std.proofs.Common.{arith}
 use mir.Syntax.{w128}
-use Rattle.fleet_math.specs.Numbers.{IsBelow}
+use Rattle.whole_numbers.specs.Numbers.{IsBelow}
 use Rattle.fleet_curves.proofs.Differences.{eight_all}
 use Rattle.fleet_curves.proofs.Small.{kept}
 use Rattle.safety_tests.proofs.searches.raised.Goals as goal

@@ -1,5 +1,5 @@
 use Rattle.show_direct.proofs.Prelude.{Err, ap, ◌∙◌}
-use Rattle.fleet_io.specs.declared.parts.IoFault.{IoFault}
+use Rattle.byte_streams.specs.declared.parts.IoFault.{IoFault}
 use Rattle.show_direct.proofs.ReadingLemmas.{read_failed, read_too_large, read_whole}
 use Rattle.show_direct.proofs.reading.read_show.Goals as goal
 

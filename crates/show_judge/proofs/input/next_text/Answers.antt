@@ -1,4 +1,4 @@
-use Rattle.fleet_io.specs.declared.parts.IoFault.{IoFault}
+use Rattle.byte_streams.specs.declared.parts.IoFault.{IoFault}
 use Rattle.show_judge.proofs.Prelude.{Err, ap, ◌∙◌, takes_at_most, to_come}
 use Rattle.show_judge.proofs.FewLemmas.{long_text}
 use Rattle.show_judge.proofs.input.next_text.Goals as goal

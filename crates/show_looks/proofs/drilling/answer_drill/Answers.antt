@@ -1,6 +1,6 @@
 use Rattle.show_looks.proofs.Prelude.{◌++◌, drop, length, ℕ, List, subst, refl, drill_text, cut_of, told_input}
-use Rattle.fleet_io.proofs.CopiedLemmas.{empty}
-use Rattle.fleet_io.specs.Memory.{SureIn, told_sure}
+use Rattle.byte_streams.proofs.CopiedLemmas.{empty}
+use Rattle.byte_streams.specs.Memory.{SureIn, told_sure}
 use Rattle.show_judge.specs.Input.{IsShowText}
 use Rattle.show_looks.proofs.drilling.answer_drill.Goals as goal
 

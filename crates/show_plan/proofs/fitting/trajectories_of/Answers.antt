@@ -1,5 +1,5 @@
 use Rattle.show_plan.proofs.Prelude.{◌≡◌, ◌<◌, List, [], ◌∷◌, ◌++◌, length, take, sym, ap, ◌∙◌, subst, arith, All, take_more, take_all, All-push, DroneLine, Traj, IsTrajectory, no_trajectory, FitsDrone, by_cue}
-use Rattle.fleet_math.proofs.BernsteinLemmas.{by_lt}
+use Rattle.whole_numbers.proofs.BernsteinLemmas.{by_lt}
 use Rattle.show_plan.proofs.Flight.{all_fit, by_cue_counted, drone_fits, flight_at_is}
 use Rattle.show_plan.proofs.Sendable.{none_of, some_of}
 use Rattle.show_plan.proofs.fitting.trajectories_of.Goals as goal

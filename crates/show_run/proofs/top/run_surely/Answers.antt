@@ -1,5 +1,5 @@
 use Rattle.show_run.proofs.Prelude.{IsInput-now, inl, inr}
-use Rattle.fleet_io.specs.Memory.{told_sure}
+use Rattle.byte_streams.specs.Memory.{told_sure}
 use Rattle.show_run.proofs.TopLemmas.{never_rose, never_seven, never_six}
 use Rattle.show_run.proofs.top.run_surely.Goals as goal
 

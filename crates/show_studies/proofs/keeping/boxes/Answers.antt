@@ -1,4 +1,4 @@
-use Rattle.fleet_io.proofs.ToldLemmas.{takes_front}
+use Rattle.byte_streams.proofs.ToldLemmas.{takes_front}
 use Rattle.show_studies.proofs.Prelude.{None, refl, most_text, boxes_verb}
 use Rattle.show_judge.proofs.DriverLemmas.{two_behaves}
 use Rattle.show_studies.proofs.keeping.boxes.Goals as goal

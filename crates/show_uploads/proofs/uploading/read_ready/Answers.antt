@@ -1,5 +1,5 @@
 use Rattle.show_uploads.proofs.Prelude.{most_text, TakesFewAfter, TookMarked, List, ℕ, Option, subst, sym, refl, common_steps, arith, Err, ap, ◌∙◌, consumed, of_source, stream, takes_at_most, to_come, long_text, stream_new}
-use Rattle.fleet_io.specs.declared.parts.IoFault.{IoFault}
+use Rattle.byte_streams.specs.declared.parts.IoFault.{IoFault}
 use Rattle.show_uploads.proofs.UploadLemmas.{fed_before, goes_on_ready, ready_of_text}
 use Rattle.show_uploads.proofs.uploading.read_ready.Goals as goal
 

@@ -1,5 +1,5 @@
 use Rattle.show_verify.proofs.Prelude.{Told, IsNextText, takes_at_most, ap, List, ℕ, Option, Gives-trans, GoesOn, back, of_source, takes_front, to_come, Held, stream, verify_verb, EndsWell, IsWholeText}
-use Rattle.fleet_math.specs.Limits.{most_text}
+use Rattle.whole_numbers.specs.Limits.{most_text}
 use Rattle.show_judge.proofs.ReadLemmas.{little_two, rose_later}
 use Rattle.show_judge.specs.declared.judging.Planned.TheVariants.{Fits}
 use Rattle.show_verify.proofs.SecondLemmas.{both_read, input_fitted, input_refused, there}

@@ -1,6 +1,6 @@
 use Rattle.speed_bound.proofs.Prelude.{◌≡◌, ℕ, suc, ◌+◌, ◌-◌, ◌^◌, ℤ, pos, ◌-ℤ◌, arith, rules, ◌∙◌, ap, FitsSigned, to_z, to_z-of_z, w128, at, IsWithin}
 use Rattle.std.proofs.Common.{of_z}
-use Rattle.halving.specs.Steps.{IsWord}
+use Rattle.bezier_core.specs.HalvingSteps.{IsWord}
 use Rattle.speed_bound.proofs.Widths.{within_at}
 use Rattle.speed_bound.proofs.Words.{step_fits, value_fits, value_held}
 use Rattle.speed_bound.proofs.parts.step.Goals as goal

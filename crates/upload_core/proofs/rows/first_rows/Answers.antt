@@ -1,5 +1,5 @@
 use Rattle.upload_core.proofs.Prelude.{◌≡◌, ℕ, zero, suc, ◌+◌, ◌<◌, ◌≤◌, List, [], ◌∷◌, ◌++◌, length, arith, refl, sym, ap, subst, length-append, row_at, Row, Upload, IsStarting}
-use Rattle.fleet_math.proofs.BernsteinLemmas.{by_lt}
+use Rattle.whole_numbers.proofs.BernsteinLemmas.{by_lt}
 use Rattle.upload_core.proofs.rows.first_rows.Goals as goal
 
 -- a row behind others

@@ -1,4 +1,0 @@
-pub mod Units
-pub mod Quantities
-pub mod Laws
-pub mod Steps
