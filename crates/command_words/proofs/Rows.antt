@@ -1,9 +1,22 @@
 -- Words and what they are.
-use Rattle.std.proofs.Common.{◌≡◌, [], ◌∷◌, Some, None, true, false, refl}
+use Rattle.std.proofs.Common.{◌≡◌, ℕ, pos, Bool, [], ◌∷◌, Some, None, true, false, refl}
 use Rattle.std.specs.Prelude.{codes}
+use Rattle.command_words.specs.declared.command.Command.{Command}
 use Rattle.command_words.specs.declared.command.Command.TheVariants.{Version, Play, Rehearse, Upload, Direct, Drill, Boxes, Speed, Explain, Dynamics}
 use Rattle.command_words.specs.Commands.{command_of}
 unfoldable use Rattle.command_words.specs.Commands.{value_of}
+
+-- a flight of these options
+abbrev flown_by : ℕ → ℕ → ℕ → ℕ → ℕ → ℕ → Bool → Command
+flown_by depth near at_place silence floor descent then_land = Direct (record {
+  near = near;
+  at_place = at_place;
+  silence = silence;
+  floor = pos floor;
+  descent = descent;
+  then_land = then_land;
+  depth = depth;
+})
 
 record WordRows : Type 0 where
   either_order : command_of (codes "play" ∷ codes "--step" ∷ codes "500" ∷ codes "--depth" ∷ codes "3" ∷ []) ≡ Some (Play 3 500)
@@ -42,9 +55,9 @@ record WordRows : Type 0 where
   bounded_twice : command_of (codes "dynamics" ∷ codes "--accel" ∷ codes "1" ∷ codes "--accel" ∷ codes "1" ∷ []) ≡ None
   bound_of_another : command_of (codes "speed" ∷ codes "--jump" ∷ codes "300" ∷ []) ≡ None
   dynamics_limited : command_of (codes "dynamics" ∷ codes "--limit" ∷ codes "5" ∷ []) ≡ None
-  flown : command_of (codes "direct" ∷ []) ≡ Some (Direct 6 80 80 1000 0 4000 true)
-  flown_on : command_of (codes "direct" ∷ codes "--then" ∷ codes "fly" ∷ codes "--near" ∷ codes "120" ∷ codes "--floor" ∷ codes "40" ∷ []) ≡ Some (Direct 6 120 80 1000 40 4000 false)
-  flown_all : command_of (codes "direct" ∷ codes "--descent" ∷ codes "60000" ∷ codes "--at" ∷ codes "32767" ∷ codes "--silence" ∷ codes "1" ∷ codes "--depth" ∷ codes "8" ∷ codes "--then" ∷ codes "land" ∷ []) ≡ Some (Direct 8 80 32767 1 0 60000 true)
+  flown : command_of (codes "direct" ∷ []) ≡ Some (flown_by 6 80 80 1000 0 4000 true)
+  flown_on : command_of (codes "direct" ∷ codes "--then" ∷ codes "fly" ∷ codes "--near" ∷ codes "120" ∷ codes "--floor" ∷ codes "40" ∷ []) ≡ Some (flown_by 6 120 80 1000 40 4000 false)
+  flown_all : command_of (codes "direct" ∷ codes "--descent" ∷ codes "60000" ∷ codes "--at" ∷ codes "32767" ∷ codes "--silence" ∷ codes "1" ∷ codes "--depth" ∷ codes "8" ∷ codes "--then" ∷ codes "land" ∷ []) ≡ Some (flown_by 8 80 32767 1 0 60000 true)
   flown_how : command_of (codes "direct" ∷ codes "--then" ∷ codes "stop" ∷ []) ≡ None
   never_silent : command_of (codes "direct" ∷ codes "--silence" ∷ codes "0" ∷ []) ≡ None
   too_high : command_of (codes "direct" ∷ codes "--floor" ∷ codes "32768" ∷ []) ≡ None

@@ -1,7 +1,7 @@
 -- The words of the command line, and what they ask for (docs/COMMANDS.md, "Options").
 use Rattle.std.specs.Prelude.{◌≡◌, ◌↔◌, ℕ, ◌≤◌, replicate, Bool, ◌&&◌, not, List, [], ◌∷◌, ◌++◌, length, find, is_some}
 use Rattle.std.specs.Prelude.{nat_le, bytes_eq, codes, slice_index_or, slice_set, Option, Some, None, IfSome, unwrap_or}
-use Rattle.std.specs.Prelude.{if◌then◌else◌, ◌==◌}
+use Rattle.std.specs.Prelude.{if◌then◌else◌, ◌==◌, ℤ, pos, ◌≤ℤ◌}
 use Rattle.std.specs.Option.{option_map, option_and_then}
 use Rattle.std.specs.List.{list_any}
 use Rattle.whole_numbers.specs.Limits.{most_depth, most_drones, most_fine}
@@ -10,6 +10,7 @@ use Rattle.command_words.specs.declared.command.Command.{Command}
 use Rattle.command_words.specs.declared.command.Command.TheVariants.{Help, Version, Check, Compile, Certify, Play}
 use Rattle.command_words.specs.declared.command.Command.TheVariants.{Report, Verify, Rehearse, Upload, Direct, Drill}
 use Rattle.command_words.specs.declared.command.Command.TheVariants.{Boxes, Speed, Explain, Dynamics}
+use Rattle.command_words.specs.declared.flight.FlightOptions.{FlightOptions}
 use Rattle.command_words.specs.declared.options.OptionName.{OptionName}
 use Rattle.command_words.specs.declared.options.OptionName.TheVariants.{Depth, Step, Start, Readback, Limit, Fine}
 use Rattle.command_words.specs.declared.options.OptionName.TheVariants.{Accel, Jump, Near, At, Silence, Floor, Descent}
@@ -222,25 +223,17 @@ step_in o = unwrap_or (given_in o Step) default_step
 abbrev pub fine_in : Options → ℕ
 fine_in o = unwrap_or (given_in o Fine) default_fine
 
--- what is given for a flight, or its defaults
-abbrev pub near_in : Options → ℕ
-near_in o = unwrap_or (given_in o Near) default_near
-
-abbrev pub at_in : Options → ℕ
-at_in o = unwrap_or (given_in o At) default_near
-
-abbrev pub silence_in : Options → ℕ
-silence_in o = unwrap_or (given_in o Silence) default_silence
-
-abbrev pub floor_in : Options → ℕ
-floor_in o = unwrap_or (given_in o Floor) 0
-
-abbrev pub descent_in : Options → ℕ
-descent_in o = unwrap_or (given_in o Descent) default_descent
-
--- all land where a drone is lost or astray in the show
-abbrev pub lands : Options → Bool
-lands o = unwrap_or (given_in o Then) 0 == 0
+-- What is given for a flight, or its defaults. Without `--then` all land where a drone is lost or astray in the show.
+abbrev pub flight_in : Options → FlightOptions
+flight_in o = record {
+  near = unwrap_or (given_in o Near) default_near;
+  at_place = unwrap_or (given_in o At) default_near;
+  silence = unwrap_or (given_in o Silence) default_silence;
+  floor = pos (unwrap_or (given_in o Floor) 0);
+  descent = unwrap_or (given_in o Descent) default_descent;
+  then_land = unwrap_or (given_in o Then) 0 == 0;
+  depth = depth_in o;
+}
 
 -- a flag is given
 abbrev pub has : Options → OptionName → Bool
@@ -290,7 +283,7 @@ abbrev pub flying : List ℕ → List (List ℕ) → Option Command
 flying name words =
     if bytes_eq name (codes "direct")
     then option_map
-    (λ (o : Options). Direct (depth_in o) (near_in o) (at_in o) (silence_in o) (floor_in o) (descent_in o) (lands o))
+    (λ (o : Options). Direct (flight_in o))
     (options_for (Depth ∷ Near ∷ At ∷ Silence ∷ Floor ∷ Descent ∷ Then ∷ []) words)
     else study name words
 
@@ -333,7 +326,7 @@ IsCommand (Report depth) = Unit {0}
 IsCommand Verify = Unit {0}
 IsCommand (Rehearse depth start readback) = Unit {0}
 IsCommand (Upload depth start readback) = Unit {0}
-IsCommand (Direct depth near at_place silence floor descent then_land) = floor ≤ most_floor
+IsCommand (Direct options) = (pos 0 ≤ℤ options.floor) × (options.floor ≤ℤ pos most_floor)
 IsCommand (Drill drones depth) = (1 ≤ drones) × (drones ≤ most_drones)
 IsCommand (Boxes depth) = Unit {0}
 IsCommand (Speed depth limit) = IfSome limit (λ v. (1 ≤ v) × (v ≤ most_limit))

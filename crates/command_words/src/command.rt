@@ -4,6 +4,7 @@ ghost use Rattle.command_words.specs.Commands as commands;
 ghost use Rattle.command_words.specs.Commands.{IsCommand, command_of, drill_in, help_text, has};
 ghost use Rattle.command_words.specs.declared.options.Options.{Options};
 
+use crate::flight::FlightOptions;
 use crate::options::{OptionName, number_from, options_for};
 use whole_numbers::{Depth, Fine, MOST_DRONES};
 
@@ -51,18 +52,10 @@ pub enum Command {
         start: bool,
         readback: bool,
     },
-    /// A flight of three shows, the way up, the show and the way down, through frames. `near` and `at_place` say how
-    /// near a drone has to be to its pad and to its position in the air, in millimetres. After `silence` milliseconds
-    /// a drone is silent. All land at the height `floor`, 0 to 32,767, in `descent` milliseconds; where a drone is lost
-    /// or astray in the show only with `then_land`.
+    /// A flight of three shows, the way up, the show and the way down, through frames. All land at a height of 0 to
+    /// 32,767.
     Direct {
-        depth: Depth,
-        near: u16,
-        at_place: u16,
-        silence: u32,
-        floor: u16,
-        descent: u32,
-        then_land: bool,
+        options: FlightOptions,
     },
     /// The numbers of the drill's show of this many drones, 1 to 32.
     Drill {
@@ -164,13 +157,7 @@ fn flying(name: &[u8], words: &[String]) -> Option<Command>
         ];
         let options = options_for(&names, words)?;
         return Some(Command::Direct {
-            depth: options.depth(),
-            near: options.near(),
-            at_place: options.at_place(),
-            silence: options.silence(),
-            floor: options.floor(),
-            descent: options.descent(),
-            then_land: options.lands(),
+            options: options.flight(),
         });
     }
     study(name, words)

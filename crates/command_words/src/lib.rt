@@ -11,9 +11,11 @@
 ghost use Rattle.command_words.specs.Commands.{WordsLaw};
 
 mod command;
+mod flight;
 mod options;
 
 pub use command::{Command, command_of, help_text};
+pub use flight::FlightOptions;
 
 /// A law. Words are read as options exactly where they are these options, one after the other
 /// (`specs/Commands.antt`).

@@ -1,12 +1,13 @@
 //! The options that are given, each at most once and in any order.
 ghost use Rattle.std.specs.Prelude.{◌≡◌, ℕ, ◌≤◌, Bool, map, string_bytes, IfSome, IfOk, length, option_map};
-ghost use Rattle.std.specs.Prelude.{option_and_then, is_some, true, Some};
+ghost use Rattle.std.specs.Prelude.{option_and_then, is_some, true, unwrap_or, Some, pos, ◌≤ℤ◌};
 ghost use Rattle.command_words.specs.Commands as commands;
-ghost use Rattle.command_words.specs.Commands.{at_in, depth_in, descent_in, fine_in, floor_in, given_in, has, lands};
-ghost use Rattle.command_words.specs.Commands.{most_limit, near_in, no_options, noted, options_for, place_of, range_of};
-ghost use Rattle.command_words.specs.Commands.{silence_in, step_in, takes, then_of, value_of, word_of};
+ghost use Rattle.command_words.specs.Commands.{default_near, depth_in, fine_in, flight_in, given_in, has};
+ghost use Rattle.command_words.specs.Commands.{most_floor, most_limit, no_options, noted, options_for, place_of, range_of};
+ghost use Rattle.command_words.specs.Commands.{step_in, takes, then_of, value_of, word_of};
 ghost use Rattle.command_words.specs.Steps.{AreInRange, IsInRange};
 
+use crate::flight::FlightOptions;
 use text_lines::natural;
 use whole_numbers::{Depth, Fine, MOST_DEPTH, MOST_FINE};
 
@@ -334,53 +335,47 @@ impl Options {
         self.given(OptionName::Jump)
     }
 
-    /// How near a drone has to be to its pad, in millimetres; 80 where it isn't given.
-    pub fn near(self) -> u16
+    // How near a drone has to be to its pad, in millimetres; 80 where it isn't given.
+    fn near(self) -> u16
         requires { AreInRange self }
-        ensures { result ≡ near_in self }
+        ensures { result ≡ unwrap_or (given_in self OptionName.Near) default_near }
     {
         self.given(OptionName::Near).unwrap_or(DEFAULT_NEAR) as u16
     }
 
-    /// How near a drone has to be to its position in the air, in millimetres; 80 where it isn't given.
-    pub fn at_place(self) -> u16
+    // How near a drone has to be to its position in the air, in millimetres; 80 where it isn't given.
+    fn at_place(self) -> u16
         requires { AreInRange self }
-        ensures { result ≡ at_in self }
+        ensures { result ≡ unwrap_or (given_in self OptionName.At) default_near }
     {
         self.given(OptionName::At).unwrap_or(DEFAULT_NEAR) as u16
     }
 
-    /// After how long a drone is silent, in milliseconds; 1,000 where it isn't given.
-    pub fn silence(self) -> u32
+    // The height of the floor, in millimetres; 0 where it isn't given.
+    fn floor(self) -> u16
         requires { AreInRange self }
-        ensures { result ≡ silence_in self }
-    {
-        self.given(OptionName::Silence).unwrap_or(DEFAULT_SILENCE)
-    }
-
-    /// The height of the floor, in millimetres; 0 where it isn't given.
-    pub fn floor(self) -> u16
-        requires { AreInRange self }
-        ensures value { result ≡ floor_in self }
+        ensures value { result ≡ unwrap_or (given_in self OptionName.Floor) 0 }
         ensures to { result ≤ 32767 }
     {
         self.given(OptionName::Floor).unwrap_or(0) as u16
     }
 
-    /// How long a landing takes, in milliseconds; 4,000 where it isn't given.
-    pub fn descent(self) -> u32
+    /// What a flight is allowed. Where it isn't given: both distances 80 mm, a silence of 1,000 ms, the floor at 0, a
+    /// landing of 4,000 ms, and all land where a drone is lost or astray in the show.
+    pub fn flight(self) -> FlightOptions
         requires { AreInRange self }
-        ensures { result ≡ descent_in self }
+        ensures value { result ≡ flight_in self }
+        ensures floor { (pos 0 ≤ℤ result.floor) × (result.floor ≤ℤ pos most_floor) }
     {
-        self.given(OptionName::Descent).unwrap_or(DEFAULT_DESCENT)
-    }
-
-    /// Whether all land where a drone is lost or astray in the show; so where it isn't given.
-    pub fn lands(self) -> bool
-        requires { AreInRange self }
-        ensures { result ≡ lands self }
-    {
-        self.given(OptionName::Then).unwrap_or(0) == 0
+        FlightOptions {
+            near: self.near(),
+            at_place: self.at_place(),
+            silence: self.given(OptionName::Silence).unwrap_or(DEFAULT_SILENCE),
+            floor: self.floor() as i16,
+            descent: self.given(OptionName::Descent).unwrap_or(DEFAULT_DESCENT),
+            then_land: self.given(OptionName::Then).unwrap_or(0) == 0,
+            depth: self.depth(),
+        }
     }
 
     /// Whether a flag is given.

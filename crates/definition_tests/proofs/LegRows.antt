@@ -2,13 +2,13 @@
 use Rattle.definition_tests.proofs.Prelude.{◌≡◌, [], ◌∷◌, ap, arith, refl, stay}
 use Rattle.flight_steps.specs.declared.ways.Ellipsoid.{Ellipsoid}
 use Rattle.show_direct.specs.Flights.{AreFlight}
-use Rattle.show_direct.specs.declared.options.Options.{Options}
+use Rattle.command_words.specs.declared.flight.FlightOptions.{FlightOptions}
 use Rattle.definition_tests.specs.Legs.{LegRows, wide}
 
-other_up : (o : Options) → AreFlight o wide stay stay → ⊥
+other_up : (o : FlightOptions) → AreFlight o wide stay stay → ⊥
 other_up o f = absurd (omega (arith, ap (λ (e : Ellipsoid). e.r) f.up_ellipsoid))
 
-other_down : (o : Options) → AreFlight o stay stay wide → ⊥
+other_down : (o : FlightOptions) → AreFlight o stay stay wide → ⊥
 other_down o f = absurd (omega (arith, ap (λ (e : Ellipsoid). e.r) f.down_ellipsoid))
 
 pub legs : LegRows

@@ -7,12 +7,12 @@ use Rattle.flight_model.specs.Legs.{Routes, leg, leg_count, leg_ms, up_condition
 use Rattle.flight_model.specs.declared.events.Frame.TheVariants.{Over}
 use Rattle.flight_link.specs.Sends.{end_of}
 use Rattle.show_direct.specs.Flights.{AreFlight, flight_of}
-use Rattle.show_direct.specs.declared.options.Options.{Options}
+use Rattle.command_words.specs.declared.flight.FlightOptions.{FlightOptions}
 use Rattle.definition_tests.specs.Headlines.{stay}
 use Rattle.definition_tests.specs.Small.{over}
 
 -- options with this silence
-abbrev pub after_silence : ℕ → Options
+abbrev pub after_silence : ℕ → FlightOptions
 after_silence ms = record {
   near = 100;
   at_place = 80;
@@ -55,8 +55,8 @@ pub record LegRows : Type 0 where
   pub flown : map end_of (Over true true ∷ Over true false ∷ Over false true ∷ [])
       ≡ Some 0 ∷ Some 20 ∷ Some 20 ∷ []
   -- a way of other half axes than the show's is no flight with it
-  pub other_up : (o : Options) → AreFlight o wide stay stay → ⊥
-  pub other_down : (o : Options) → AreFlight o stay stay wide → ⊥
+  pub other_up : (o : FlightOptions) → AreFlight o wide stay stay → ⊥
+  pub other_down : (o : FlightOptions) → AreFlight o stay stay wide → ⊥
   -- no byte begins with an item, and two bytes do
   pub none_begun : BeginsNone over []
   pub begun : BeginsNone over (1 ∷ 2 ∷ []) → ⊥

@@ -1,8 +1,21 @@
 -- What the definitions of a command line say of the ends of each option's range, and of each command without options.
-use Rattle.std.specs.Prelude.{◌≡◌, [], ◌∷◌, Some, None, true, false, codes}
+use Rattle.std.specs.Prelude.{◌≡◌, ℕ, pos, Bool, [], ◌∷◌, Some, None, true, false, codes}
+use Rattle.command_words.specs.declared.command.Command.{Command}
 use Rattle.command_words.specs.declared.command.Command.TheVariants.{Boxes, Certify, Check, Compile, Direct, Drill, Dynamics}
 use Rattle.command_words.specs.declared.command.Command.TheVariants.{Explain, Help, Play, Rehearse, Report, Speed, Verify}
 use Rattle.command_words.specs.Commands.{command_of}
+
+-- a flight of these options
+abbrev pub flown_by : ℕ → ℕ → ℕ → ℕ → ℕ → ℕ → Bool → Command
+flown_by depth near at_place silence floor descent then_land = Direct (record {
+  near = near;
+  at_place = at_place;
+  silence = silence;
+  floor = pos floor;
+  descent = descent;
+  then_land = then_land;
+  depth = depth;
+})
 
 -- Each option takes the least and the greatest number of its range, and none beyond; without it the usual one counts.
 pub record OptionRows : Type 0 where
@@ -21,19 +34,19 @@ pub record OptionRows : Type 0 where
   pub jump_most : command_of (codes "dynamics" ∷ codes "--jump" ∷ codes "999999999" ∷ []) ≡
       Some (Dynamics 6 None (Some 999999999))
   pub ten_digits : command_of (codes "dynamics" ∷ codes "--jump" ∷ codes "1000000000" ∷ []) ≡ None
-  pub near_least : command_of (codes "direct" ∷ codes "--near" ∷ codes "0" ∷ []) ≡ Some (Direct 6 0 80 1000 0 4000 true)
+  pub near_least : command_of (codes "direct" ∷ codes "--near" ∷ codes "0" ∷ []) ≡ Some (flown_by 6 0 80 1000 0 4000 true)
   pub near_most : command_of (codes "direct" ∷ codes "--near" ∷ codes "32767" ∷ []) ≡
-      Some (Direct 6 32767 80 1000 0 4000 true)
+      Some (flown_by 6 32767 80 1000 0 4000 true)
   pub too_near : command_of (codes "direct" ∷ codes "--near" ∷ codes "32768" ∷ []) ≡ None
-  pub at_least : command_of (codes "direct" ∷ codes "--at" ∷ codes "0" ∷ []) ≡ Some (Direct 6 80 0 1000 0 4000 true)
+  pub at_least : command_of (codes "direct" ∷ codes "--at" ∷ codes "0" ∷ []) ≡ Some (flown_by 6 80 0 1000 0 4000 true)
   pub too_far : command_of (codes "direct" ∷ codes "--at" ∷ codes "32768" ∷ []) ≡ None
   pub silence_most : command_of (codes "direct" ∷ codes "--silence" ∷ codes "60000" ∷ []) ≡
-      Some (Direct 6 80 80 60000 0 4000 true)
+      Some (flown_by 6 80 80 60000 0 4000 true)
   pub too_silent : command_of (codes "direct" ∷ codes "--silence" ∷ codes "60001" ∷ []) ≡ None
   pub floor_most : command_of (codes "direct" ∷ codes "--floor" ∷ codes "32767" ∷ []) ≡
-      Some (Direct 6 80 80 1000 32767 4000 true)
+      Some (flown_by 6 80 80 1000 32767 4000 true)
   pub descent_least : command_of (codes "direct" ∷ codes "--descent" ∷ codes "1" ∷ []) ≡
-      Some (Direct 6 80 80 1000 0 1 true)
+      Some (flown_by 6 80 80 1000 0 1 true)
   pub no_descent : command_of (codes "direct" ∷ codes "--descent" ∷ codes "0" ∷ []) ≡ None
   pub slow_descent : command_of (codes "direct" ∷ codes "--descent" ∷ codes "60001" ∷ []) ≡ None
   pub drill_least : command_of (codes "drill" ∷ codes "1" ∷ []) ≡ Some (Drill 1 6)

@@ -1,7 +1,7 @@
 -- What the definition of three shows that fly as one says of small inputs.
 use Rattle.std.specs.Prelude.{◌≡◌, ℕ, List, [], ◌∷◌, ◌++◌, codes, pos}
 use Rattle.show_judge.specs.Shows.{sent_of}
-use Rattle.show_direct.specs.declared.options.Options.{Options}
+use Rattle.command_words.specs.declared.flight.FlightOptions.{FlightOptions}
 use Rattle.show_direct.specs.Direct.{FlyAsOne}
 use Rattle.definition_tests.specs.Flights.{flight}
 use Rattle.definition_tests.specs.Headlines.{stay_text}
@@ -19,12 +19,12 @@ no_text = line_of (codes "late 3")
 -- Three texts fly as one only if each is that of a show, the second and the third as well. With settings of half axes
 -- of 1 mm, drones that stay a millimetre from each other touch: of no such way up, show or way down is it true.
 pub record FlyAsOneRows : Type 0 where
-  pub no_up : (o : Options) → FlyAsOne o (no_text ++ marker ++ stay_text ++ marker ++ stay_text ++ marker) → ⊥
-  pub no_show : (o : Options) → FlyAsOne o (stay_text ++ marker ++ no_text ++ marker ++ stay_text ++ marker) → ⊥
-  pub no_down : (o : Options) → FlyAsOne o (stay_text ++ marker ++ stay_text ++ marker ++ no_text ++ marker) → ⊥
-  pub up_touches : (o : Options) (input : List ℕ) (is : FlyAsOne o input) → is.up.s.settings ≡ settings →
+  pub no_up : (o : FlightOptions) → FlyAsOne o (no_text ++ marker ++ stay_text ++ marker ++ stay_text ++ marker) → ⊥
+  pub no_show : (o : FlightOptions) → FlyAsOne o (stay_text ++ marker ++ no_text ++ marker ++ stay_text ++ marker) → ⊥
+  pub no_down : (o : FlightOptions) → FlyAsOne o (stay_text ++ marker ++ stay_text ++ marker ++ no_text ++ marker) → ⊥
+  pub up_touches : (o : FlightOptions) (input : List ℕ) (is : FlyAsOne o input) → is.up.s.settings ≡ settings →
       sent_of is.up.s ≡ flight (pos 50) (pos 50) ∷ flight (pos 51) (pos 51) ∷ [] → ⊥
-  pub show_touches : (o : Options) (input : List ℕ) (is : FlyAsOne o input) → is.show.s.settings ≡ settings →
+  pub show_touches : (o : FlightOptions) (input : List ℕ) (is : FlyAsOne o input) → is.show.s.settings ≡ settings →
       sent_of is.show.s ≡ flight (pos 50) (pos 50) ∷ flight (pos 51) (pos 51) ∷ [] → ⊥
-  pub down_touches : (o : Options) (input : List ℕ) (is : FlyAsOne o input) → is.down.s.settings ≡ settings →
+  pub down_touches : (o : FlightOptions) (input : List ℕ) (is : FlyAsOne o input) → is.down.s.settings ≡ settings →
       sent_of is.down.s ≡ flight (pos 50) (pos 50) ∷ flight (pos 51) (pos 51) ∷ [] → ⊥

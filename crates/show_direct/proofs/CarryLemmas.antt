@@ -1,5 +1,5 @@
 -- An exchange that is carried, from what its steps did.
-use Rattle.show_direct.proofs.Prelude.{◌≡◌, ◌⊎◌, inl, inr, ℕ, ◌+◌, ◌<◌, ◌≤◌, Bool, true, false, List, [], ◌∷◌, ◌++◌, Contains, append_assoc, append-nil, length, length-append, Option, Some, None, Result, Ok, Err, refl, sym, ap, subst, ◌∙◌, arith, append_cancel_left, append_cancel_right, Appends, part_of, rest_of, ShowLaw, PlainShow, Rose, buffer_bytes, has_whole_marker, MarkerLaw, AppendsFront, Held, Told, Went, most_text, end_byte, end_frame, Refusal, accepted_outcome, refused_outcome, refused_some, IsAccepted, IsRefusedBy, Wrote, IsOfInput, show_refusal, text_refusal, cut_of, IsJudged, Span, outcome, Accepted, Unflown, Accepts, Exchange, TextStops, text_exchange, text_verb, text_ways, Options, Flight, HasBegun, no_flight_byte, AreMarked, Carries, FlightRead, IsCut, IsRead, IsUnread, LeadsTo, coming, direct_statuses, left_of, since}
+use Rattle.show_direct.proofs.Prelude.{◌≡◌, ◌⊎◌, inl, inr, ℕ, ◌+◌, ◌<◌, ◌≤◌, Bool, true, false, List, [], ◌∷◌, ◌++◌, Contains, append_assoc, append-nil, length, length-append, Option, Some, None, Result, Ok, Err, refl, sym, ap, subst, ◌∙◌, arith, append_cancel_left, append_cancel_right, Appends, part_of, rest_of, ShowLaw, PlainShow, Rose, buffer_bytes, has_whole_marker, MarkerLaw, AppendsFront, Held, Told, Went, most_text, end_byte, end_frame, Refusal, accepted_outcome, refused_outcome, refused_some, IsAccepted, IsRefusedBy, Wrote, IsOfInput, show_refusal, text_refusal, cut_of, IsJudged, Span, outcome, Accepted, Unflown, Accepts, Exchange, TextStops, text_exchange, text_verb, text_ways, FlightOptions, Flight, HasBegun, no_flight_byte, AreMarked, Carries, FlightRead, IsCut, IsRead, IsUnread, LeadsTo, coming, direct_statuses, left_of, since}
 use Rattle.std.proofs.lemmas.Grind.{common_steps}
 use Rattle.choreo_reader.specs.Grammar.{StandsFor}
 use Rattle.byte_streams.proofs.MarkerLaws.{whole_marker-front}
@@ -263,7 +263,7 @@ carried_memory x bytes left ended m status later e same faults = record {
 }
 
 -- No show was read.
-pub ends : ShowLaw → MarkerLaw → (depth : ℕ) (next : PlainShow → Exchange) (o : Options) (all : List ℕ) (held holds : Held) (t u : Told) (why : Unflown) →
+pub ends : ShowLaw → MarkerLaw → (depth : ℕ) (next : PlainShow → Exchange) (o : FlightOptions) (all : List ℕ) (held holds : Held) (t u : Told) (why : Unflown) →
     IsUnread depth (coming held all t) (left_of all u) held.ended t.faults u.faults why → t.faults ≤ u.faults → FlightRead o all (text_exchange depth next) held t holds u (Err why)
 ends show marker depth next o all held holds t u (unflown.Refused r) is later m status wrote =
     carried_refusal show marker depth next (coming held all t) (left_of all u) held.ended (since t (record m { tells = u })) r status is.0 is.1 is.2 later wrote
@@ -274,7 +274,7 @@ ends show marker depth next o all held holds t u unflown.Memory is later m statu
     carried_memory (text_exchange depth next) (coming held all t) (left_of all u) held.ended (since t (record m { tells = u })) status later wrote.0 wrote.1 wrote.2
 
 -- A show was read, and then what it leads to.
-pub read_next : ShowLaw → MarkerLaw → (depth : ℕ) (next : PlainShow → Exchange) (o : Options) (all : List ℕ) (held mid holds : Held) (t v u : Told) (a : Accepted) (result : Result Flight Unflown) →
+pub read_next : ShowLaw → MarkerLaw → (depth : ℕ) (next : PlainShow → Exchange) (o : FlightOptions) (all : List ℕ) (held mid holds : Held) (t v u : Told) (a : Accepted) (result : Result Flight Unflown) →
     (read : IsRead depth (coming held all t) (coming mid all v) mid.ended a) → Went held.ended mid.ended t v → FlightRead o all (next read.accepted.s) mid v holds u result →
     FlightRead o all (text_exchange depth next) held t holds u result
 read_next show marker depth next o all held mid holds t v u a (Ok f) read went (up, middle, down, made, none, later) =

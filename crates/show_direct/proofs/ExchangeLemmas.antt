@@ -1,5 +1,5 @@
 -- The laws of exchanges, and of the commands that they are.
-use Rattle.show_direct.proofs.Prelude.{◌≡◌, ◌==◌, inl, inr, ℕ, List, [], ◌++◌, length, Option, Some, None, refl, sym, ap, subst, ◌∙◌, arith, All-nil, option_map, part_of, rest_of, ShowLaw, PlainShow, end_frame, Refusal, FlightFault, EndsWith, item_limit, FlightGives, FlightLinkLaw, dialogue_of, ended, sent_over, refused_some, flies_text, outcomes, IsOutcomeOf, IsVerb, OutcomeLaw, ShowGives, said, show_refusal, text_refusal, cut_of, Outcome, outcome, Options, flight_of, no_flight_bytes, Accepts, Exchange, IsExchange, text_exchange, text_verb, text_ways, exchange_by}
+use Rattle.show_direct.proofs.Prelude.{◌≡◌, ◌==◌, inl, inr, ℕ, List, [], ◌++◌, length, Option, Some, None, refl, sym, ap, subst, ◌∙◌, arith, All-nil, option_map, part_of, rest_of, ShowLaw, PlainShow, end_frame, Refusal, FlightFault, EndsWith, item_limit, FlightGives, FlightLinkLaw, dialogue_of, ended, sent_over, refused_some, flies_text, outcomes, IsOutcomeOf, IsVerb, OutcomeLaw, ShowGives, said, show_refusal, text_refusal, cut_of, Outcome, outcome, FlightOptions, flight_of, no_flight_bytes, Accepts, Exchange, IsExchange, text_exchange, text_verb, text_ways, exchange_by}
 
 -- outcomes of one status and one output are one
 outcome_by : (o p : Outcome) → o.status ≡ p.status → o.output ≡ p.output → o ≡ p
@@ -55,7 +55,7 @@ led_on depth next bytes o (inr comes) done =
 
 -- ---- the flight
 
-flight_done : FlightLinkLaw → (o : Options) (up show down : PlainShow) (bytes : List ℕ) (p : Outcome) → (exchange_by o up show down None).gives bytes p →
+flight_done : FlightLinkLaw → (o : FlightOptions) (up show down : PlainShow) (bytes : List ℕ) (p : Outcome) → (exchange_by o up show down None).gives bytes p →
     (exchange_by o up show down None).succeeds bytes → p.status ≡ 0
 flight_done law o up show down bytes p gives (events, rest, takes, over) =
     let f = flight_of o up show down in
@@ -65,7 +65,7 @@ flight_done law o up show down bytes p gives (events, rest, takes, over) =
     (law.one f bytes p.status 0 p.output (sent_over f events ++ end_frame 0) gives wanted).0
 
 -- three shows have one exchange, whether or not they are a flight
-pub is_exchange_by : FlightLinkLaw → (o : Options) (up show down : PlainShow) (why : Option FlightFault) → IsExchange (exchange_by o up show down why)
+pub is_exchange_by : FlightLinkLaw → (o : FlightOptions) (up show down : PlainShow) (why : Option FlightFault) → IsExchange (exchange_by o up show down why)
 is_exchange_by law o up show down None = record {
   one = λ bytes p q first second. (let same = law.one (flight_of o up show down) bytes p.status q.status p.output q.output first second in outcome_by p q same.0 same.1);
   some = λ bytes.
@@ -80,7 +80,7 @@ is_exchange_by law o up show down (Some fault) = record {
 }
 
 -- with status 0 nothing kept the three from being a flight
-pub flown_by : (o : Options) (up show down : PlainShow) (why : Option FlightFault) (bytes : List ℕ) (p : Outcome) → (exchange_by o up show down why).gives bytes p → p.status ≡ 0 →
+pub flown_by : (o : FlightOptions) (up show down : PlainShow) (why : Option FlightFault) (bytes : List ℕ) (p : Outcome) → (exchange_by o up show down why).gives bytes p → p.status ≡ 0 →
     (why ≡ None) × FlightGives (flight_of o up show down) bytes 0 p.output
 flown_by o up show down None bytes p gives done = (refl, subst (λ (n : ℕ). FlightGives (flight_of o up show down) bytes n p.output) done gives)
 flown_by o up show down (Some fault) bytes p gives done = absurd (omega (arith, ap (λ (q : Outcome). q.status) gives, done))

@@ -1,5 +1,5 @@
 -- What three shows are as a flight.
-use Rattle.show_direct.proofs.Prelude.{◌≡◌, ◌≤◌, ◌∷◌, [], ◌++◌, length, map, None, refl, sym, ◌∙◌, arith, length-append, length-map, flat_map, range_with_len, PlainShow, DroneLine, grid_of, Routes, arm_step, down_step, last_step, lasts, leg_count, legs_of, start_step, up_step, Crew, Crews, Ways, AreFitted, flight-of, by_cue_counted, names_of, trajectories_of, Options, AreFlight, ellipsoid_of, fault_of}
+use Rattle.show_direct.proofs.Prelude.{◌≡◌, ◌≤◌, ◌∷◌, [], ◌++◌, length, map, None, refl, sym, ◌∙◌, arith, length-append, length-map, flat_map, range_with_len, PlainShow, DroneLine, grid_of, Routes, arm_step, down_step, last_step, lasts, leg_count, legs_of, start_step, up_step, Crew, Crews, Ways, AreFitted, flight-of, by_cue_counted, names_of, trajectories_of, FlightOptions, AreFlight, ellipsoid_of, fault_of}
 unfoldable use Rattle.flight_model.specs.Legs.{steps_of}
 
 -- a flight has steps: the start, and the last one
@@ -26,7 +26,7 @@ crews_of up show down = record {
   down = crew_of down;
 }
 
-ways_of : Options → PlainShow → PlainShow → PlainShow → Ways
+ways_of : FlightOptions → PlainShow → PlainShow → PlainShow → Ways
 ways_of o up show down = record {
   up = record { ref_ptr = (0, 0); now = trajectories_of up };
   show = record { ref_ptr = (0, 0); now = trajectories_of show };
@@ -38,7 +38,7 @@ ways_of o up show down = record {
 }
 
 -- where nothing keeps three shows from being a flight, they are one
-pub are_flight : (o : Options) (up show down : PlainShow) → fault_of o up show down ≡ None → AreFlight o up show down
+pub are_flight : (o : FlightOptions) (up show down : PlainShow) → fault_of o up show down ≡ None → AreFlight o up show down
 unfolding crew_of crews_of ways_of
 are_flight o up show down none =
     let fitted : AreFitted (crews_of up show down) (ways_of o up show down) = record { up = counted up; show = counted show; down = counted down; duration = refl } in

@@ -1,5 +1,5 @@
 -- Three shows are flown, or are no flight.
-use Rattle.show_direct.proofs.Prelude.{◌≡◌, ◌≢◌, inl, inr, ℕ, ◌+◌, ◌≤◌, Bool, List, [], ◌∷◌, ◌++◌, Contains, drop, length, length-append, Option, Some, None, Ok, Err, ap, refl, sym, subst, arith, All-cons, All-contains, All-nil, PlainShow, buffer_bytes, Flight, FlightFault, StepsError, RunGives, dialogue_of, Held, Told, Wrote, Span, outcome, Options, fault_of, flight_of, exchange_by, flight_exchange, no_flight_byte, no_flight_bytes, Carries, FlightMade, FlightRead, coming, direct_statuses, left_of, since, unflown_by}
+use Rattle.show_direct.proofs.Prelude.{◌≡◌, ◌≢◌, inl, inr, ℕ, ◌+◌, ◌≤◌, Bool, List, [], ◌∷◌, ◌++◌, Contains, drop, length, length-append, Option, Some, None, Ok, Err, ap, refl, sym, subst, arith, All-cons, All-contains, All-nil, PlainShow, buffer_bytes, Flight, FlightFault, StepsError, RunGives, dialogue_of, Held, Told, Wrote, Span, outcome, FlightOptions, fault_of, flight_of, exchange_by, flight_exchange, no_flight_byte, no_flight_bytes, Carries, FlightMade, FlightRead, coming, direct_statuses, left_of, since, unflown_by}
 use Rattle.flight_steps.specs.declared.faults.FlightFault.TheVariants as cause
 use Rattle.flight_steps.specs.declared.faults.StepsError.TheVariants as error
 use Rattle.show_direct.proofs.CarryLemmas.{carried_end, carried_memory}
@@ -28,7 +28,7 @@ pub record Flown (f : Flight) (bytes left : List ℕ) (ended : Bool) (m : Span) 
   pub writes_later : m.writes_failed ≤ m.writes_failed_after
 
 -- a flight was flown
-flown : (o : Options) (up show down : PlainShow) (bytes left : List ℕ) (ended : Bool) (m : Span) (status : ℕ) → fault_of o up show down ≡ None →
+flown : (o : FlightOptions) (up show down : PlainShow) (bytes left : List ℕ) (ended : Bool) (m : Span) (status : ℕ) → fault_of o up show down ≡ None →
     Flown (flight_of o up show down) bytes left ended m status → Carries (exchange_by o up show down None) bytes left ended m status
 flown o up show down bytes left ended m status none f = record {
   gives = λ j. (let it = f.gives.ends j.1 j.2 in (outcome status it.0, it.1, refl, it.2));
@@ -56,7 +56,7 @@ flown o up show down bytes left ended m status none f = record {
   writes_later = f.writes_later;
 }
 
-pub carried_flight : (o : Options) (up show down : PlainShow) (f : Flight) (bytes left : List ℕ) (ended : Bool) (m : Span) (status : ℕ) →
+pub carried_flight : (o : FlightOptions) (up show down : PlainShow) (f : Flight) (bytes left : List ℕ) (ended : Bool) (m : Span) (status : ℕ) →
     (f ≡ flight_of o up show down) × (fault_of o up show down ≡ None) → Flown f bytes left ended m status → Carries (flight_exchange o up show down) bytes left ended m status
 carried_flight o up show down f bytes left ended m status made is =
     subst (λ (why : Option FlightFault). Carries (exchange_by o up show down why) bytes left ended m status) (sym made.1)
@@ -73,7 +73,7 @@ frame_begins (cause.Narrow near stray) = refl
 frame_begins (cause.OtherEllipsoid w) = refl
 
 -- The first cause and the end frame of 19 were written, and nothing was read.
-carried_fault : (o : Options) (up show down : PlainShow) (fault : FlightFault) (bytes left : List ℕ) (ended : Bool) (m : Span) (status : ℕ) → fault_of o up show down ≡ Some fault →
+carried_fault : (o : FlightOptions) (up show down : PlainShow) (fault : FlightFault) (bytes left : List ℕ) (ended : Bool) (m : Span) (status : ℕ) → fault_of o up show down ≡ Some fault →
     length bytes ≤ length left + buffer_bytes → m.told.faults ≤ m.tells.faults → Wrote 19 (no_flight_bytes fault) m.written m.written_after m.writes_failed m.writes_failed_after status →
     Carries (flight_exchange o up show down) bytes left ended m status
 carried_fault o up show down fault bytes left ended m status made few later wrote =
@@ -87,12 +87,12 @@ pub few_unread : (waiting left : List ℕ) → length waiting ≤ buffer_bytes �
 few_unread waiting left few = omega (arith, few, length-append waiting left)
 
 -- Three shows are a flight, and no more was read.
-pub flight_read : (o : Options) (up show down : PlainShow) (all : List ℕ) (holds : Held) (u : Told) (f : Flight) → FlightMade o up show down (Ok f) →
+pub flight_read : (o : FlightOptions) (up show down : PlainShow) (all : List ℕ) (holds : Held) (u : Told) (f : Flight) → FlightMade o up show down (Ok f) →
     FlightRead o all (flight_exchange o up show down) holds u holds u (Ok f)
 flight_read o up show down all holds u f made = (up, show, down, made.0, made.1, λ left m status c. c)
 
 -- They are none.
-pub no_flight_read : (o : Options) (up show down : PlainShow) (all : List ℕ) (holds : Held) (u : Told) (e : StepsError) → length holds.waiting ≤ buffer_bytes → FlightMade o up show down (Err e) →
+pub no_flight_read : (o : FlightOptions) (up show down : PlainShow) (all : List ℕ) (holds : Held) (u : Told) (e : StepsError) → length holds.waiting ≤ buffer_bytes → FlightMade o up show down (Err e) →
     FlightRead o all (flight_exchange o up show down) holds u holds u (Err (unflown_by e))
 no_flight_read o up show down all holds u (error.Fault fault) few made m status wrote =
     carried_fault o up show down fault (coming holds all u) (left_of all u) holds.ended (since u (record m { tells = u })) status made (few_unread holds.waiting (left_of all u) few) (omega arith) wrote

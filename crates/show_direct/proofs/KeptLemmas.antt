@@ -1,5 +1,5 @@
 -- A flight that ended with 0 was flown to its last step, and its show was kept.
-use Rattle.show_direct.proofs.Prelude.{◌≡◌, ℕ, ◌*◌, ◌<◌, ◌≤◌, ◌==◌, true, List, [], ◌∷◌, Contains, get_or, length, map, min, Option, Some, None, refl, sym, ap, ◌∙◌, arith, length-map, sum_by-cons, sum, option_map, option_or, Name, ShowLaw, PlainShow, grid_of, FitCues, IsGrid, joined, durations, Traj, most_ms, sent, start, HasShow, KeptLaw, lasts, Flight, item_limit, FlightGives, dialogue_of, Refusal, flight_lasts, in_order, no_plan, trajectories_of, Options, AreFlight, flight_of, most_silence, routes_of, Accepts}
+use Rattle.show_direct.proofs.Prelude.{◌≡◌, ℕ, ◌*◌, ◌<◌, ◌≤◌, ◌==◌, true, List, [], ◌∷◌, Contains, get_or, length, map, min, Option, Some, None, refl, sym, ap, ◌∙◌, arith, length-map, sum_by-cons, sum, option_map, option_or, Name, ShowLaw, PlainShow, grid_of, FitCues, IsGrid, joined, durations, Traj, most_ms, sent, start, HasShow, KeptLaw, lasts, Flight, item_limit, FlightGives, dialogue_of, Refusal, flight_lasts, in_order, no_plan, trajectories_of, FlightOptions, AreFlight, flight_of, most_silence, routes_of, Accepts}
 use Rattle.std.proofs.Math.Nat.{min-le_right}
 use Rattle.cue_grid.proofs.Fits.{fit_grid}
 use Rattle.cue_grid.specs.declared.grid.Cue.{Cue}
@@ -49,7 +49,7 @@ accepted_grid law depth bytes s accepts =
 -- ---- the flight of shows
 
 -- The steps of a flight fly its show.
-has_show : KeptLaw → (o : Options) (up show down : PlainShow) → AreFlight o up show down → IsGrid (grid_of show) → HasShow (flight_of o up show down)
+has_show : KeptLaw → (o : FlightOptions) (up show down : PlainShow) → AreFlight o up show down → IsGrid (grid_of show) → HasShow (flight_of o up show down)
 has_show law o up show down is grid =
     let quiet : min o.silence most_silence < most_ms = omega (arith, min-le_right o.silence most_silence) in
     let flown : HasShow (record (flight_of o up show down) { curves = trajectories_of show }) =
@@ -68,5 +68,5 @@ has_show law o up show down is grid =
       heard = flown.heard;
     }
 
-pub flies_show : ShowLaw → KeptLaw → (o : Options) (up show down : PlainShow) (bytes : List ℕ) → AreFlight o up show down → Accepts o.depth bytes show → HasShow (flight_of o up show down)
+pub flies_show : ShowLaw → KeptLaw → (o : FlightOptions) (up show down : PlainShow) (bytes : List ℕ) → AreFlight o up show down → Accepts o.depth bytes show → HasShow (flight_of o up show down)
 flies_show law kept o up show down bytes is accepts = has_show kept o up show down is (accepted_grid law o.depth bytes show accepts)

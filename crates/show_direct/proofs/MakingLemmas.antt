@@ -1,5 +1,5 @@
 -- A flight that is made of three shows that fit.
-use Rattle.show_direct.proofs.Prelude.{◌≡◌, ℕ, ◌*◌, ◌≤◌, ℤ, min, max, not, List, [], ◌∷◌, ◌++◌, ◌+◌, length, map, Option, Some, None, Result, Ok, Err, refl, sym, ap, subst, inl, inr, ◌∙◌, arith, length-map, All-cons, All-head, All-nil, All-tail, All-weaker, sum_by-cons, sum, All, Name, PlainShow, JoinLaw, joined, durations, Segment, Traj, Flight, Routes, lasts, steps_of, fault-of, FlightFault, StepsError, Crew, Crews, Ways, StepsGive, flight_fault, AreFitted, routes, IsFitted, IsValidFitted, names_of, Options, course_of, ellipsoid_in, ellipsoid_of, fault_of, flight_of, most_silence, order_ms, room_in, room_mm, routes_of, FlightMade, StepsMade}
+use Rattle.show_direct.proofs.Prelude.{◌≡◌, ℕ, ◌*◌, ◌≤◌, ℤ, min, max, not, List, [], ◌∷◌, ◌++◌, ◌+◌, length, map, Option, Some, None, Result, Ok, Err, refl, sym, ap, subst, inl, inr, ◌∙◌, arith, length-map, All-cons, All-head, All-nil, All-tail, All-weaker, sum_by-cons, sum, All, Name, PlainShow, JoinLaw, joined, durations, Segment, Traj, Flight, Routes, lasts, steps_of, fault-of, FlightFault, StepsError, Crew, Crews, Ways, StepsGive, flight_fault, AreFitted, routes, IsFitted, IsValidFitted, names_of, FlightOptions, course_of, ellipsoid_in, ellipsoid_of, fault_of, flight_of, most_silence, order_ms, room_in, room_mm, routes_of, FlightMade, StepsMade}
 use Rattle.choreo_show.specs.declared.show.Settings.{Settings}
 use Rattle.integer_player.specs.Played.{duration_of}
 use Rattle.traj_codec.specs.Spelling.{IsSegment, IsTrajectory}
@@ -29,12 +29,12 @@ pub record IsCrewOf (s : PlainShow) (c : Crew) : Type 0 where
   pub names : c.names.now ≡ names_of s
   pub ellipsoid : c.ellipsoid ≡ ellipsoid_of s
 
-fault_is : (o : Options) (u s d : PlainShow) (c : Crews) (w : Routes) → IsCrewOf u c.up → IsCrewOf s c.show → IsCrewOf d c.down → w ≡ routes_of o u s d →
+fault_is : (o : FlightOptions) (u s d : PlainShow) (c : Crews) (w : Routes) → IsCrewOf u c.up → IsCrewOf s c.show → IsCrewOf d c.down → w ≡ routes_of o u s d →
     flight_fault c w ≡ fault_of o u s d
 fault_is o u s d c w up show down same = rw (up.names, show.names, down.names, up.ellipsoid, show.ellipsoid, down.ellipsoid, same) refl
 
 -- the steps of fitted shows are those of the shows
-pub steps_made : (o : Options) (u s d : PlainShow) (c : Crews) (w : Routes) (result : Result (List Step) StepsError) → IsCrewOf u c.up → IsCrewOf s c.show → IsCrewOf d c.down →
+pub steps_made : (o : FlightOptions) (u s d : PlainShow) (c : Crews) (w : Routes) (result : Result (List Step) StepsError) → IsCrewOf u c.up → IsCrewOf s c.show → IsCrewOf d c.down →
     w ≡ routes_of o u s d → StepsGive c w result → StepsMade o u s d result
 steps_made o u s d c w (Ok steps) up show down same gives =
     (gives.steps ∙ ap (λ (r : Routes). steps_of r) same, sym (fault_is o u s d c w up show down same) ∙ no_fault c w (flight_fault c w) refl gives.flight)
@@ -80,7 +80,7 @@ pub fitted_lasts : (f : Fitted) → IsValidFitted f → lasts f.trajs ≡ f.dura
 fitted_lasts f valid = lasts_as valid.times f.trajs (some_trajs f valid) valid.same_times ∙ valid.duration
 
 -- what the ways of fitted shows are
-routes_is : (o : Options) (up show down : Fitted) (u s d : PlainShow) (w : Ways) → w.up.now ≡ up.trajs → w.show.now ≡ show.trajs → w.down.now ≡ down.trajs → w.stray ≡ up.settings.stray →
+routes_is : (o : FlightOptions) (up show down : Fitted) (u s d : PlainShow) (w : Ways) → w.up.now ≡ up.trajs → w.show.now ≡ show.trajs → w.down.now ≡ down.trajs → w.stray ≡ up.settings.stray →
     w.near ≡ o.near → w.at_place ≡ o.at_place → IsFitted up u → IsFitted show s → IsFitted down d → routes w ≡ routes_of o u s d
 routes_is o up show down u s d w e_up e_show e_down stray near at_place is_up is_show is_down =
     rw (e_up, e_show, e_down, stray, near, at_place, is_up.trajs, is_show.trajs, is_down.trajs, is_up.settings) refl
@@ -104,7 +104,7 @@ crew_is : (f : Fitted) (s : PlainShow) (c : Crew) → IsFitted f s → IsCrewIn 
 crew_is f s c is crew = record { names = crew.names ∙ is.names; ellipsoid = crew.ellipsoid ∙ ap ellipsoid_in is.settings }
 
 -- the steps of fitted shows
-pub steps_fitted : (o : Options) (up show down : Fitted) (u s d : PlainShow) (c : Crews) (w : Ways) (result : Result (List Step) StepsError) → IsFitted up u → IsFitted show s → IsFitted down d →
+pub steps_fitted : (o : FlightOptions) (up show down : Fitted) (u s d : PlainShow) (c : Crews) (w : Ways) (result : Result (List Step) StepsError) → IsFitted up u → IsFitted show s → IsFitted down d →
     IsCrewIn up c.up → IsCrewIn show c.show → IsCrewIn down c.down → w.up.now ≡ up.trajs → w.show.now ≡ show.trajs → w.down.now ≡ down.trajs → w.stray ≡ up.settings.stray →
     w.near ≡ o.near → w.at_place ≡ o.at_place → StepsGive c (routes w) result → StepsMade o u s d result
 steps_fitted o up show down u s d c w result is_up is_show is_down n_up n_show n_down t_up t_show t_down stray near at_place gives =
@@ -136,7 +136,7 @@ course_held law f late valid up =
     }
 
 -- the flight of these steps and this show
-abbrev pub made_of : Options → ℤ → ℕ → List Step → List Traj → ℕ → Settings → Course → Course → Room → Flight
+abbrev pub made_of : FlightOptions → ℤ → ℕ → List Step → List Traj → ℕ → Settings → Course → Course → Room → Flight
 made_of o floor silence steps curves ms e up down room = record {
   steps = steps;
   curves = curves;
@@ -153,12 +153,12 @@ made_of o floor silence steps curves ms e up down room = record {
   windows = None;
 }
 
-flight_is : (o : Options) (floor : ℤ) (silence : ℕ) (u s d : PlainShow) (f : Fitted) (steps : List Step) (up down : Course) (room : Room) → floor ≡ o.floor → silence ≡ min o.silence most_silence → IsValidFitted f → IsFitted f s →
+flight_is : (o : FlightOptions) (floor : ℤ) (silence : ℕ) (u s d : PlainShow) (f : Fitted) (steps : List Step) (up down : Course) (room : Room) → floor ≡ o.floor → silence ≡ min o.silence most_silence → IsValidFitted f → IsFitted f s →
     steps ≡ steps_of (routes_of o u s d) → up ≡ course_of u → down ≡ course_of d → room ≡ room_in u s d → made_of o floor silence steps f.sent f.duration f.settings up down room ≡ flight_of o u s d
 flight_is o floor silence u s d f steps up down room low quiet valid is same rises returns around =
     rw (low, quiet, same, rises, returns, around, sym (fitted_lasts f valid), is.trajs, is.sent, is.settings) refl
 
-pub flight_made : (o : Options) (floor : ℤ) (silence : ℕ) (u s d : PlainShow) (f : Fitted) (steps : List Step) (up down : Course) (room : Room) → floor ≡ o.floor → silence ≡ min o.silence most_silence → IsValidFitted f →
+pub flight_made : (o : FlightOptions) (floor : ℤ) (silence : ℕ) (u s d : PlainShow) (f : Fitted) (steps : List Step) (up down : Course) (room : Room) → floor ≡ o.floor → silence ≡ min o.silence most_silence → IsValidFitted f →
     IsFitted f s → StepsMade o u s d (Ok steps) → up ≡ course_of u → down ≡ course_of d → room ≡ room_in u s d → FlightMade o u s d (Ok (made_of o floor silence steps f.sent f.duration f.settings up down room))
 flight_made o floor silence u s d f steps up down room low quiet valid is made rises returns around =
     (flight_is o floor silence u s d f steps up down room low quiet valid is made.0 rises returns around, made.1)
@@ -172,7 +172,7 @@ few_conditions n ws few (inl e) = let none = ap (λ (xs : List Condition). lengt
 few_conditions n ws few (inr e) = omega (arith, few, e)
 
 -- it fits the director
-pub is_held : JoinLaw → (o : Options) (floor : ℤ) (silence : ℕ) (f : Fitted) (steps : List Step) (rise return : Course) (room : Room) → IsValidFitted f → AreUploadable f.settings f.sent → All (IsStepOf (length f.trajs)) steps →
+pub is_held : JoinLaw → (o : FlightOptions) (floor : ℤ) (silence : ℕ) (f : Fitted) (steps : List Step) (rise return : Course) (room : Room) → IsValidFitted f → AreUploadable f.settings f.sent → All (IsStepOf (length f.trajs)) steps →
     IsCourse rise → IsCourse return → IsHeld (made_of o floor silence steps f.sent f.duration f.settings rise return room)
 is_held law o floor silence f steps rise return room valid up sizes rising returning =
     let few : length f.trajs ≤ 32 = omega (arith, valid.few_drones, valid.trajs_counted) in

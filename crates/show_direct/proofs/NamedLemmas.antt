@@ -1,5 +1,5 @@
 -- The first cause against three shows that are accepted can be named by a frame.
-use Rattle.show_direct.proofs.Prelude.{◌≡◌, ℕ, suc, ◌+◌, ◌*◌, ◌<◌, ◌≤◌, true, false, cond, List, [], ◌∷◌, All, length, Option, Some, None, refl, subst, arith, length-map, All-head, All-tail, option_or, ℤ, IfSome, bytes_eq, nat_le, ShowLaw, PlainShow, DroneLine, grid_of, IsGrid, Segment, Traj, Routes, after_segment, first_move, last_move, legs_of, way_begins, way_ends, FlightFault, Ellipsoid, down_fault, downs_fault, first_other, gap, is_straight, narrow, other_drone, other_ellipsoid, rests_in, restless, restless_from, route_fault, same_ellipsoid, same_place, seam_fault, seams_fault, size_fault, up_fault, ups_fault, way_fault, by_cue_counted, IsFlown, names_of, trajectories_of, Options, Accepts, ellipsoid_of, fault_of, routes_of, IsNamed}
+use Rattle.show_direct.proofs.Prelude.{◌≡◌, ℕ, suc, ◌+◌, ◌*◌, ◌<◌, ◌≤◌, true, false, cond, List, [], ◌∷◌, All, length, Option, Some, None, refl, subst, arith, length-map, All-head, All-tail, option_or, ℤ, IfSome, bytes_eq, nat_le, ShowLaw, PlainShow, DroneLine, grid_of, IsGrid, Segment, Traj, Routes, after_segment, first_move, last_move, legs_of, way_begins, way_ends, FlightFault, Ellipsoid, down_fault, downs_fault, first_other, gap, is_straight, narrow, other_drone, other_ellipsoid, rests_in, restless, restless_from, route_fault, same_ellipsoid, same_place, seam_fault, seams_fault, size_fault, up_fault, ups_fault, way_fault, by_cue_counted, IsFlown, names_of, trajectories_of, FlightOptions, Accepts, ellipsoid_of, fault_of, routes_of, IsNamed}
 use Rattle.arrayvec.specs.ArrayVec.{ArrayVec}
 use Rattle.flight_model.specs.declared.flights.Leg.{Leg}
 use Rattle.flight_steps.specs.declared.faults.FlightFault.TheVariants as fault
@@ -116,7 +116,7 @@ names_few s is = omega (arith, is.few_starts, length-map s.drones (λ (d : Drone
 ways_few : (s : PlainShow) → IsGrid (grid_of s) → length (trajectories_of s) ≤ 32
 ways_few s is = omega (arith, is.few_starts, by_cue_counted (grid_of s))
 
-fault_named : (o : Options) (up show down : PlainShow) → IsGrid (grid_of up) → IsGrid (grid_of show) → IsGrid (grid_of down) → IfSome (fault_of o up show down) (IsNamed o.near up.settings.stray)
+fault_named : (o : FlightOptions) (up show down : PlainShow) → IsGrid (grid_of up) → IsGrid (grid_of show) → IsGrid (grid_of down) → IfSome (fault_of o up show down) (IsNamed o.near up.settings.stray)
 fault_named o up show down is_up is_show is_down =
     let w = routes_of o up show down in
     let near = o.near in
@@ -141,7 +141,7 @@ some_named : (why : Option FlightFault) (f : FlightFault) (P : FlightFault → T
 some_named None f P is holds = absurd (cc)
 some_named (Some g) f P is holds = let same : g ≡ f = cc in subst P same holds
 
-pub named : ShowLaw → (o : Options) (first second third : List ℕ) (up show down : PlainShow) (f : FlightFault) →
+pub named : ShowLaw → (o : FlightOptions) (first second third : List ℕ) (up show down : PlainShow) (f : FlightFault) →
     Accepts o.depth first up → Accepts o.depth second show → Accepts o.depth third down → fault_of o up show down ≡ Some f → IsNamed o.near up.settings.stray f
 named law o first second third up show down f is_up is_show is_down is =
     some_named (fault_of o up show down) f (IsNamed o.near up.settings.stray) is

@@ -62,5 +62,5 @@ pub use Rattle.show_direct.specs.Exchanges.{Accepts, Exchange, IsExchange, TextS
 pub use Rattle.show_direct.specs.Flights.{AreFlight, course_of, ellipsoid_in, ellipsoid_of, fault_of, flight_of, most_silence, order_ms, room_in, room_mm, routes_of}
 pub use Rattle.show_direct.specs.Frames.{FaultFrameLaw, IsNamed, fault_frame, fault_in, no_flight_byte, no_flight_bytes}
 pub use Rattle.show_direct.specs.Steps.{AreMarked, Carries, FlightMade, FlightRead, IsCut, IsRead, IsUnread, JudgeGives, LeadsTo, ReadGives, StepsMade, coming, direct_statuses, left_of, since, unflown_by}
-pub use Rattle.show_direct.specs.declared.options.Options.{Options}
+pub use Rattle.command_words.specs.declared.flight.FlightOptions.{FlightOptions}
 pub use Rattle.show_direct.specs.declared.reading.Unflown.{Unflown}

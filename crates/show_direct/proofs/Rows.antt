@@ -1,5 +1,5 @@
 -- Three shows by hand that are a flight, and beside them some that are none.
-use Rattle.show_direct.proofs.Prelude.{◌≡◌, ℕ, ◌*◌, true, List, [], ◌∷◌, Some, None, refl, arith, All-nil, codes, pos, negsuc, PlainShow, FlightGives, outcome, Options, flight_exchange, course_of, fault_of, flight_of, room_in, fault_frame, fault_in}
+use Rattle.show_direct.proofs.Prelude.{◌≡◌, ℕ, ◌*◌, true, List, [], ◌∷◌, Some, None, refl, arith, All-nil, codes, pos, negsuc, PlainShow, FlightGives, outcome, FlightOptions, flight_exchange, course_of, fault_of, flight_of, room_in, fault_frame, fault_in}
 use Rattle.choreo_show.specs.declared.parts.Act.TheVariants as act
 use Rattle.choreo_show.specs.declared.parts.Point.{Point}
 use Rattle.choreo_show.specs.Plain as plain
@@ -15,7 +15,7 @@ use Rattle.flight_link.specs.Frames.{IsEvent}
 unfoldable use Rattle.flight_link.specs.Sends.{ended, sent_over}
 
 -- so near to the pads
-abbrev within : ℕ → Options
+abbrev within : ℕ → FlightOptions
 within near = record { near = near; at_place = 80; silence = 1000; floor = pos 0; descent = 4000; then_land = true; depth = 6 }
 
 -- a place on x and z, in metres

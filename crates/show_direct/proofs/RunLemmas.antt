@@ -1,5 +1,5 @@
 -- What a run of `direct` is, from the exchange that was carried.
-use Rattle.show_direct.proofs.Prelude.{◌≡◌, ◌⊎◌, inl, inr, ℕ, zero, suc, ◌+◌, ◌<◌, ◌≤◌, Bool, true, false, List, [], ◌++◌, length, Option, Some, None, refl, sym, ap, subst, ◌∙◌, arith, Appends, part_of, rest_of, ShowLaw, PlainShow, IsInput-now, comes, of_source, takes_at_most, takes_front, Held, buffer_bytes, TakesFront, Gives, MayGive, Told, Went, most_text, behaves_of, outcomes, IsOutcomeOf, IsSafe, IsVerb, OutcomeLaw, cut_of, IsJudged, IsSafeShow, Outcome, Run, Span, run_of, Options, FlightFault, AreFlight, fault_of, Exchange, FlyAsOne, HasBegun, direct_verb, exchange_by, show_exchange, up_exchange, Carries, IsCut, coming, left_of}
+use Rattle.show_direct.proofs.Prelude.{◌≡◌, ◌⊎◌, inl, inr, ℕ, zero, suc, ◌+◌, ◌<◌, ◌≤◌, Bool, true, false, List, [], ◌++◌, length, Option, Some, None, refl, sym, ap, subst, ◌∙◌, arith, Appends, part_of, rest_of, ShowLaw, PlainShow, IsInput-now, comes, of_source, takes_at_most, takes_front, Held, buffer_bytes, TakesFront, Gives, MayGive, Told, Went, most_text, behaves_of, outcomes, IsOutcomeOf, IsSafe, IsVerb, OutcomeLaw, cut_of, IsJudged, IsSafeShow, Outcome, Run, Span, run_of, FlightOptions, FlightFault, AreFlight, fault_of, Exchange, FlyAsOne, HasBegun, direct_verb, exchange_by, show_exchange, up_exchange, Carries, IsCut, coming, left_of}
 use Rattle.show_judge.specs.Runs.{Behaves, Does, IsStopped, Runs, TakesLittle}
 use Rattle.show_direct.proofs.ExchangeLemmas.{led_on}
 use Rattle.show_direct.proofs.ReadingLemmas.{of_some}
@@ -12,12 +12,12 @@ run_over bytes left m =
 -- ---- outcomes
 
 -- an outcome of the exchange is one of the command, which differs from it in its headline
-as_direct : (o : Options) (bytes : List ℕ) (p : Outcome) → (up_exchange o).gives bytes p → IsOutcomeOf (direct_verb o) (cut_of bytes) p
+as_direct : (o : FlightOptions) (bytes : List ℕ) (p : Outcome) → (up_exchange o).gives bytes p → IsOutcomeOf (direct_verb o) (cut_of bytes) p
 as_direct o bytes p (inl refused) = inl refused
 as_direct o bytes p (inr comes) = inr (record { s = comes.s; short = comes.short; stands = comes.stands; gives = comes.gives })
 
 -- with status 0 the show is safe
-safe_direct : ShowLaw → (o : Options) (bytes : List ℕ) (p : Outcome) → (up_exchange o).gives bytes p → p.status ≡ 0 → (up_exchange o).begun bytes → IsSafe (direct_verb o) (cut_of bytes) p
+safe_direct : ShowLaw → (o : FlightOptions) (bytes : List ℕ) (p : Outcome) → (up_exchange o).gives bytes p → p.status ≡ 0 → (up_exchange o).begun bytes → IsSafe (direct_verb o) (cut_of bytes) p
 safe_direct law o bytes p gives done begun =
     let led = led_on o.depth (λ u. show_exchange o u) bytes p gives done in
     let safe : IsSafeShow led.s = subst IsSafeShow (law.one (part_of bytes) begun.s led.s begun.accepts.stands led.accepts.stands) begun.safe in
@@ -31,7 +31,7 @@ safe_direct law o bytes p gives done begun =
       done = done;
     }
 
-stopped : (o : Options) (bytes left : List ℕ) (m : Span) (output : List ℕ) → IsCut (up_exchange o) bytes left false m output → IsStopped (direct_verb o) (run_over bytes left m) output
+stopped : (o : FlightOptions) (bytes left : List ℕ) (m : Span) (output : List ℕ) → IsCut (up_exchange o) bytes left false m output → IsStopped (direct_verb o) (run_over bytes left m) output
 stopped o bytes left m output cut = (cut.taken, left, cut.is, refl, cut.stops)
 
 -- a status that is no failure is judged, or the program was out of memory
@@ -42,7 +42,7 @@ judged_or (suc (suc n)) six seven = inr ((λ e. omega (arith, e)), six, seven)
 
 -- ---- the run
 
-pub runs_direct : ShowLaw → (o : Options) → IsVerb (direct_verb o) → (bytes left : List ℕ) (m : Span) (status : ℕ) → TakesFront (Some bytes) (Some left) →
+pub runs_direct : ShowLaw → (o : FlightOptions) → IsVerb (direct_verb o) → (bytes left : List ℕ) (m : Span) (status : ℕ) → TakesFront (Some bytes) (Some left) →
     Carries (up_exchange o) bytes left false m status → Runs (direct_verb o) (run_over bytes left m) status
 runs_direct law o is bytes left m status taken c =
     let one : OutcomeLaw (direct_verb o) = outcomes law (direct_verb o) is in
@@ -88,17 +88,17 @@ runs_direct law o is bytes left m status taken c =
     }
 
 -- All that holds of the run.
-pub behaves_direct : ShowLaw → (o : Options) → IsVerb (direct_verb o) → (bytes left : List ℕ) (m : Span) (status : ℕ) → TakesFront (Some bytes) (Some left) →
+pub behaves_direct : ShowLaw → (o : FlightOptions) → IsVerb (direct_verb o) → (bytes left : List ℕ) (m : Span) (status : ℕ) → TakesFront (Some bytes) (Some left) →
     Carries (up_exchange o) bytes left false m status → TakesLittle (direct_verb o) (run_over bytes left m) → Behaves (direct_verb o) (run_over bytes left m) status
 behaves_direct law o is bytes left m status taken c little =
     behaves_of law (direct_verb o) is (run_over bytes left m) status (runs_direct law o is bytes left m status taken c) little (λ alone reads judged. absurd (cc)) (λ j. c.ends j)
 
-flight_begun : (o : Options) (up show down : PlainShow) (why : Option FlightFault) (bytes : List ℕ) → (exchange_by o up show down why).begun bytes → AreFlight o up show down
+flight_begun : (o : FlightOptions) (up show down : PlainShow) (why : Option FlightFault) (bytes : List ℕ) → (exchange_by o up show down why).begun bytes → AreFlight o up show down
 flight_begun o up show down None bytes begun = begun
 flight_begun o up show down (Some fault) bytes begun = absurd begun
 
 -- What holds of the texts once the flight began.
-pub fly_as_one : (o : Options) (bytes : List ℕ) → (up_exchange o).begun bytes → FlyAsOne o bytes
+pub fly_as_one : (o : FlightOptions) (bytes : List ℕ) → (up_exchange o).begun bytes → FlyAsOne o bytes
 fly_as_one o bytes up =
     let show = up.begun in
     let down = show.begun in
@@ -120,7 +120,7 @@ begins_new : (x : Exchange) (held : Held) (all : List ℕ) (t : Told) (left : Li
     Carries x (coming held all t) left held.ended m status → Carries x (left_of all t) left false m status
 begins_new x held all t left m status new c = subst (λ (h : Held). Carries x (coming h all t) left h.ended m status) new c
 
-little_direct : (o : Options) (held : Held) (met : Bool) (m : Span) (all : List ℕ) → held ≡ held_new → Gives m.told m.tells → MayGive met m.tells all →
+little_direct : (o : FlightOptions) (held : Held) (met : Bool) (m : Span) (all : List ℕ) → held ≡ held_new → Gives m.told m.tells → MayGive met m.tells all →
     (most_text < length (part_of (coming held all m.told)) → length m.tells.given ≤ length m.told.given + (most_text + 4 + buffer_bytes)) →
     TakesLittle (direct_verb o) (run_over (left_of all m.told) (left_of all m.tells) m)
 little_direct o held met m all new gives may few (inl alone) = absurd (cc)
@@ -129,7 +129,7 @@ little_direct o held met m all new gives may few (inr long) =
     (few (subst (λ (h : Held). most_text < length (part_of (coming h all m.told))) (sym new) long))
 
 -- Carried from a new reader on, it is what the command does.
-pub does_direct : ShowLaw → (o : Options) → IsVerb (direct_verb o) → (held : Held) (met : Bool) (m : Span) (status : ℕ) → held ≡ held_new → Went held.ended met m.told m.tells →
+pub does_direct : ShowLaw → (o : FlightOptions) → IsVerb (direct_verb o) → (held : Held) (met : Bool) (m : Span) (status : ℕ) → held ≡ held_new → Went held.ended met m.told m.tells →
     ((all : List ℕ) → MayGive met m.tells all → Carries (up_exchange o) (coming held all m.told) (left_of all m.tells) held.ended m status) →
     ((all : List ℕ) → MayGive met m.tells all → most_text < length (part_of (coming held all m.told)) → length m.tells.given ≤ length m.told.given + (most_text + 4 + buffer_bytes)) →
     Does (direct_verb o) m status
@@ -142,7 +142,7 @@ does_direct law o is held met m status new went carries few = record {
 }
 
 -- And where the flight began, or ended with 0, the texts that the source gave are those of one flight.
-pub begun_direct : (o : Options) (held : Held) (met : Bool) (m : Span) (status : ℕ) (given : List ℕ) → held ≡ held_new → Went held.ended met m.told m.tells →
+pub begun_direct : (o : FlightOptions) (held : Held) (met : Bool) (m : Span) (status : ℕ) (given : List ℕ) → held ≡ held_new → Went held.ended met m.told m.tells →
     ((all : List ℕ) → MayGive met m.tells all → Carries (up_exchange o) (coming held all m.told) (left_of all m.tells) held.ended m status) →
     m.tells.given ≡ m.told.given ++ given → HasBegun m.written m.written_after ⊎ (status ≡ 0) → FlyAsOne o given
 begun_direct o held met m status given new went carries is began =

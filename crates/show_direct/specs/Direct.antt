@@ -17,7 +17,7 @@ use Rattle.flight_link.specs.Sends.{ended}
 use Rattle.show_judge.specs.Headline.{FliesText}
 use Rattle.show_judge.specs.Outcome.{IsVerb}
 use Rattle.show_judge.specs.Verb.{Verb, outcome}
-use Rattle.show_direct.specs.declared.options.Options.{Options}
+use Rattle.command_words.specs.declared.flight.FlightOptions.{FlightOptions}
 use Rattle.show_direct.specs.Flights.{AreFlight, fault_of, flight_of}
 use Rattle.show_direct.specs.Frames.{no_flight_byte, no_flight_bytes}
 use Rattle.show_direct.specs.Exchanges.{Exchange, text_exchange, text_verb}
@@ -31,7 +31,7 @@ FlightSucceeds f bytes = (events : List Event) × (rest : List ℕ) × Takes f b
 -- The exchange of three shows, of which this is the flight, and this the first cause why they are none. Without a cause
 -- the flight is flown through frames. With one a frame that names it and the end frame of 19 are written, and no byte
 -- is read for them.
-abbrev pub exchange_by : Options → PlainShow → PlainShow → PlainShow → Option FlightFault → Exchange
+abbrev pub exchange_by : FlightOptions → PlainShow → PlainShow → PlainShow → Option FlightFault → Exchange
 exchange_by o up show down None = record {
   gives = λ bytes p. FlightGives (flight_of o up show down) bytes p.status p.output;
   stops = λ taken output. FlightFails (flight_of o up show down) taken output;
@@ -49,26 +49,26 @@ exchange_by o up show down (Some fault) = record {
   succeeds = λ bytes. ⊥;
 }
 
-abbrev pub flight_exchange : Options → PlainShow → PlainShow → PlainShow → Exchange
+abbrev pub flight_exchange : FlightOptions → PlainShow → PlainShow → PlainShow → Exchange
 flight_exchange o up show down = exchange_by o up show down (fault_of o up show down)
 
 -- ---- the texts
 
 -- with a way up and a show: the text of the way down, and then the flight
-abbrev pub down_verb : Options → PlainShow → PlainShow → Verb
+abbrev pub down_verb : FlightOptions → PlainShow → PlainShow → Verb
 down_verb o up show = text_verb o.depth (λ down. flight_exchange o up show down)
 
-abbrev pub down_exchange : Options → PlainShow → PlainShow → Exchange
+abbrev pub down_exchange : FlightOptions → PlainShow → PlainShow → Exchange
 down_exchange o up show = text_exchange o.depth (λ down. flight_exchange o up show down)
 
 -- with a way up: the text of the show, and then the way down
-abbrev pub show_verb : Options → PlainShow → Verb
+abbrev pub show_verb : FlightOptions → PlainShow → Verb
 show_verb o up = text_verb o.depth (λ show. down_exchange o up show)
 
-abbrev pub show_exchange : Options → PlainShow → Exchange
+abbrev pub show_exchange : FlightOptions → PlainShow → Exchange
 show_exchange o up = text_exchange o.depth (λ show. down_exchange o up show)
 
-abbrev pub up_exchange : Options → Exchange
+abbrev pub up_exchange : FlightOptions → Exchange
 up_exchange o = text_exchange o.depth (λ up. show_exchange o up)
 
 -- ---- the command
@@ -77,7 +77,7 @@ up_exchange o = text_exchange o.depth (λ up. show_exchange o up)
 -- what it says, and apart. What was written is what the director says at events that stand in the frames. By these
 -- events each drone was told all its orders and nothing else, was at its curve in each sample of the show, and was
 -- never silent in it.
-pub record FliesWhole (o : Options) (input : List ℕ) (old new : Option (List ℕ)) : Type 0 where
+pub record FliesWhole (o : FlightOptions) (input : List ℕ) (old new : Option (List ℕ)) : Type 0 where
   pub up : FliesText (part_of input)
   pub show : PlainShow
   pub down : PlainShow
@@ -90,13 +90,13 @@ pub record FliesWhole (o : Options) (input : List ℕ) (old new : Option (List �
   pub written : Appends old new output
 
 -- the way up, and then the show
-abbrev pub direct_verb : Options → Verb
+abbrev pub direct_verb : FlightOptions → Verb
 direct_verb o =
     record (text_verb o.depth (λ up. show_exchange o up)) { headline = λ input old new. FliesWhole o input old new }
 
 -- The three texts at the front of an input stand for shows that are a flight. At every instant of each of them what its
 -- drones are sent keeps near to what it says, and any two drones keep apart.
-pub record FlyAsOne (o : Options) (input : List ℕ) : Type 0 where
+pub record FlyAsOne (o : FlightOptions) (input : List ℕ) : Type 0 where
   pub up : FliesText (part_of input)
   pub show : FliesText (part_of (rest_of input))
   pub down : FliesText (part_of (rest_of (rest_of input)))
@@ -111,6 +111,6 @@ HasBegun old new =
 
 -- the laws of the three commands
 pub record DirectLaw : Type 0 where
-  pub up : (o : Options) → IsVerb (direct_verb o)
-  pub show : (o : Options) (up : PlainShow) → IsVerb (show_verb o up)
-  pub down : (o : Options) (up show : PlainShow) → IsVerb (down_verb o up show)
+  pub up : (o : FlightOptions) → IsVerb (direct_verb o)
+  pub show : (o : FlightOptions) (up : PlainShow) → IsVerb (show_verb o up)
+  pub down : (o : FlightOptions) (up show : PlainShow) → IsVerb (down_verb o up show)

@@ -13,11 +13,11 @@ use Rattle.flight_steps.specs.declared.faults.Way.TheVariants as way
 use Rattle.flight_steps.specs.declared.ways.Ellipsoid.{Ellipsoid}
 use Rattle.flight_steps.specs.Faults.{first_other, other_drone, route_fault, size_fault}
 use Rattle.show_judge.specs.Shows.{names_of, sent_of, trajectories_of, words_of}
-use Rattle.show_direct.specs.declared.options.Options.{Options}
+use Rattle.command_words.specs.declared.flight.FlightOptions.{FlightOptions}
 
 -- The routes of a way up, a show and a way down, one segment a cue. How far drones may stray from their way up is what
 -- the settings of that show say.
-abbrev pub routes_of : Options → PlainShow → PlainShow → PlainShow → Routes
+abbrev pub routes_of : FlightOptions → PlainShow → PlainShow → PlainShow → Routes
 routes_of o up show down = record {
   up = trajectories_of up;
   show = trajectories_of show;
@@ -35,7 +35,7 @@ abbrev pub ellipsoid_of : PlainShow → Ellipsoid
 ellipsoid_of s = ellipsoid_in s.settings
 
 -- The first cause why the three are no flight: of their names, then of their ellipsoids, and then of their ways.
-abbrev pub fault_of : Options → PlainShow → PlainShow → PlainShow → Option FlightFault
+abbrev pub fault_of : FlightOptions → PlainShow → PlainShow → PlainShow → Option FlightFault
 fault_of o up show down =
     option_or (option_or (option_or (other_drone way.Up (first_other 0 (names_of up) (names_of show)))
     (other_drone way.Down (first_other 0 (names_of down) (names_of show))))
@@ -44,7 +44,7 @@ fault_of o up show down =
 
 -- The three are a flight: the same drones, by name, in the same order; one ellipsoid, so that in all three the same
 -- drones are apart; and their ways are a flight.
-pub record AreFlight (o : Options) (up show down : PlainShow) : Type 0 where
+pub record AreFlight (o : FlightOptions) (up show down : PlainShow) : Type 0 where
   pub up_names : words_of up ≡ words_of show
   pub down_names : words_of down ≡ words_of show
   pub up_ellipsoid : ellipsoid_of up ≡ ellipsoid_of show
@@ -81,7 +81,7 @@ room_in up show down =
 
 -- The flight. Its curves are what the drones were sent for the show, and how far drones may be from them is what the
 -- show's settings say; so it is of the ways.
-abbrev pub flight_of : Options → PlainShow → PlainShow → PlainShow → Flight
+abbrev pub flight_of : FlightOptions → PlainShow → PlainShow → PlainShow → Flight
 flight_of o up show down = record {
   steps = steps_of (routes_of o up show down);
   curves = sent_of show;

@@ -9,7 +9,7 @@ use Rattle.flight_steps.specs.declared.faults.Seam.{Seam}
 use Rattle.flight_steps.specs.declared.faults.Seam.TheVariants as seam
 use Rattle.flight_steps.specs.declared.faults.Way.{Way}
 use Rattle.flight_steps.specs.declared.faults.Way.TheVariants as way
-use Rattle.show_direct.specs.declared.options.Options.{Options}
+use Rattle.command_words.specs.declared.flight.FlightOptions.{FlightOptions}
 use Rattle.show_direct.specs.Exchanges.{Accepts}
 use Rattle.show_direct.specs.Flights.{fault_of}
 
@@ -88,6 +88,6 @@ pub record FaultFrameLaw : Type 0 where
   -- the bytes of a cause that can be named say which it is
   pub one : (near stray : ℕ) (f : FlightFault) → IsNamed near stray f → fault_in near stray (fault_frame f) ≡ f
   -- the first cause against three shows that are accepted can be named
-  pub named : (o : Options) (first second third : List ℕ) (up show down : PlainShow) (f : FlightFault) →
+  pub named : (o : FlightOptions) (first second third : List ℕ) (up show down : PlainShow) (f : FlightFault) →
       Accepts o.depth first up → Accepts o.depth second show → Accepts o.depth third down →
       fault_of o up show down ≡ Some f → IsNamed o.near up.settings.stray f

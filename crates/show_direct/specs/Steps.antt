@@ -21,7 +21,7 @@ use Rattle.show_judge.specs.Refused.{IsOfInput}
 use Rattle.show_judge.specs.Shows.{Cut, cut_of}
 use Rattle.show_judge.specs.Verb.{IsJudged, Outcome, Span}
 use Rattle.show_judge.specs.declared.judging.Accepted.{Accepted}
-use Rattle.show_direct.specs.declared.options.Options.{Options}
+use Rattle.command_words.specs.declared.flight.FlightOptions.{FlightOptions}
 use Rattle.show_direct.specs.declared.reading.Unflown.{Unflown}
 use Rattle.show_direct.specs.declared.reading.Unflown.TheVariants as unflown
 use Rattle.show_direct.specs.Flights.{fault_of, flight_of, routes_of}
@@ -121,13 +121,13 @@ pub record Carries (x : Exchange) (bytes left : List ℕ) (ended : Bool) (m : Sp
 -- ---- a flight is made
 
 -- The steps of the flight of three shows, where nothing keeps them from being one; else the first cause.
-abbrev pub StepsMade : Options → PlainShow → PlainShow → PlainShow → Result (List Step) StepsError → Type 0
+abbrev pub StepsMade : FlightOptions → PlainShow → PlainShow → PlainShow → Result (List Step) StepsError → Type 0
 StepsMade o up show down (Ok steps) = (steps ≡ steps_of (routes_of o up show down)) × (fault_of o up show down ≡ None)
 StepsMade o up show down (Err (error.Fault fault)) = fault_of o up show down ≡ Some fault
 StepsMade o up show down (Err error.Memory) = Unit {0}
 
 -- The flight of three shows, where nothing keeps them from being one; else the first cause.
-abbrev pub FlightMade : Options → PlainShow → PlainShow → PlainShow → Result Flight StepsError → Type 0
+abbrev pub FlightMade : FlightOptions → PlainShow → PlainShow → PlainShow → Result Flight StepsError → Type 0
 FlightMade o up show down (Ok f) = (f ≡ flight_of o up show down) × (fault_of o up show down ≡ None)
 FlightMade o up show down (Err (error.Fault fault)) = fault_of o up show down ≡ Some fault
 FlightMade o up show down (Err error.Memory) = Unit {0}
@@ -151,7 +151,7 @@ LeadsTo all x held t y holds u = (left : List ℕ) (m : Span) (status : ℕ) →
 
 -- What was read of an exchange: a flight, from which on it is that flight's; or why there is none, and how the exchange
 -- ends for that.
-abbrev pub FlightRead : Options → List ℕ → Exchange → Held → Told → Held → Told → Result Flight Unflown → Type 0
+abbrev pub FlightRead : FlightOptions → List ℕ → Exchange → Held → Told → Held → Told → Result Flight Unflown → Type 0
 FlightRead o all x held t holds u (Ok f) =
     (up show down : PlainShow) × (f ≡ flight_of o up show down) × (fault_of o up show down ≡ None)
     × LeadsTo all x held t (flight_exchange o up show down) holds u

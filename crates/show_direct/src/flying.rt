@@ -8,12 +8,12 @@ ghost use Rattle.byte_streams.specs.Told.{MayGive, Told, Went};
 ghost use Rattle.flight_director.specs.Held.{IsHeld};
 ghost use Rattle.show_judge.specs.Runs.{Does};
 ghost use Rattle.show_judge.specs.Verb.{during};
-ghost use Rattle.show_direct.specs.declared.options.Options.{Options as Allowed};
+ghost use Rattle.command_words.specs.declared.flight.FlightOptions.{FlightOptions as Allowed};
 ghost use Rattle.show_direct.specs.Direct.{DirectLaw, FlyAsOne, HasBegun, direct_verb, up_exchange};
 ghost use Rattle.show_direct.specs.Steps.{Carries, FlightRead, TookLittle, coming, left_of, since};
 
 use crate::making::make_flight;
-use crate::options::Options;
+use command_words::FlightOptions;
 use crate::reading::{Unflown, end_unflown, read_show};
 use byte_streams::{Parts, Sink, Source, marker_law};
 use choreo_reader::show_law;
@@ -24,7 +24,7 @@ use std::alloc::Global;
 // Reads a way up, a show and a way down, and makes the flight of the three.
 fn read_flight<S: Source>(
     alloc: Global,
-    options: &Options,
+    options: &FlightOptions,
     parts: &mut Parts,
     source: &mut S,
 ) -> Result<Flight, Unflown>
@@ -94,7 +94,7 @@ pub fn direct_law()
 /// the three shows are a flight, and fly apart.
 pub fn direct<S: Source, K: Sink>(
     alloc: Global,
-    options: &Options,
+    options: &FlightOptions,
     source: &mut S,
     sink: &mut K,
 ) -> u8

@@ -9,9 +9,7 @@
 mod fault_frame;
 mod flying;
 mod making;
-mod options;
 mod reading;
 
 pub use fault_frame::{NO_FLIGHT, fault_frame_law};
 pub use flying::{direct, direct_law};
-pub use options::Options;

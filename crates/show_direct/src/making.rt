@@ -10,7 +10,7 @@ ghost use Rattle.show_direct.specs.Flights.{course_of as word_course, ellipsoid_
 ghost use Rattle.show_direct.specs.Flights.{room_in as word_room, room_mm};
 ghost use Rattle.show_direct.specs.Steps.{FlightMade, StepsMade};
 
-use crate::options::Options;
+use command_words::FlightOptions;
 use flight_model::{Course, Flight, Room, Step};
 use flight_steps::{Crew, Crews, Ellipsoid, StepsError, Ways, room_of, steps_of};
 use listed::Listed;
@@ -35,7 +35,7 @@ fn crew_of<'a>(show: &'a Fitted) -> Crew<'a>
 // The steps of a flight of three shows, or the first cause why they are none.
 fn make_steps(
     alloc: Global,
-    options: &Options,
+    options: &FlightOptions,
     up: &Fitted,
     show: &Fitted,
     down: &Fitted,
@@ -64,7 +64,7 @@ fn make_steps(
     steps_of(alloc, &crews, &ways)
 }
 
-fn floor_of(options: &Options) -> i16
+fn floor_of(options: &FlightOptions) -> i16
     ensures value { result ≡ options.now.floor }
     ensures fits { FitsSigned w16 result }
 {
@@ -74,7 +74,7 @@ fn floor_of(options: &Options) -> i16
 // The longest silence that the director would find, which counts times up to 1,000,000,000 ms.
 const MOST_SILENCE: u32 = 999_999_999;
 
-fn silence_of(options: &Options) -> u32
+fn silence_of(options: &FlightOptions) -> u32
     ensures { result ≡ min options.now.silence most_silence }
 {
     options.silence.min(MOST_SILENCE)
@@ -133,7 +133,7 @@ fn room_in(up: &Fitted, show: &Fitted, down: &Fitted) -> Room
 /// The flight of a way up, a show and a way down, or the first cause why they are none.
 pub fn make_flight(
     alloc: Global,
-    options: &Options,
+    options: &FlightOptions,
     up: Fitted,
     show: Fitted,
     down: Fitted,

@@ -7,10 +7,10 @@ pub use Rattle.command_words.specs.declared.command.Command.TheVariants.{Boxes, 
 pub use Rattle.drill_show.specs.Drill.{drill_text}
 pub use Rattle.byte_streams.proofs.ToldLemmas.{IsInput-now, comes}
 pub use Rattle.show_direct.specs.Direct.{DirectLaw, FlyAsOne, direct_verb}
-pub use Rattle.show_direct.specs.declared.options.Options.{Options}
+pub use Rattle.command_words.specs.declared.flight.FlightOptions.{FlightOptions}
 pub use Rattle.show_judge.proofs.HeadlineLemmas.{behaves_left, flies_own, read_to_end, uploads_of}
 pub use Rattle.show_judge.specs.Runs.{Behaves, Does, Runs}
 pub use Rattle.show_judge.specs.Verb.{Run, Span, during}
 pub use Rattle.show_looks.specs.Drilled.{drill_of}
 pub use Rattle.show_looks.specs.Reports.{report_of}
-pub use Rattle.show_run.specs.Verbs.{IsCalled, command_in, judges_apart, options_of, verb_of}
+pub use Rattle.show_run.specs.Verbs.{IsCalled, command_in, judges_apart, verb_of}

@@ -1,5 +1,5 @@
 -- A run of the program, from that of its command.
-use Rattle.show_run.proofs.Prelude.{◌≡◌, ◌⊎◌, inl, inr, ℕ, ◌≤◌, ◌==◌, nat_le, Bool, true, not, Contains, Option, Some, None, ap, refl, subst, arith, All-contains, Command, Direct, Options, Behaves, Does, Run, Span, options_of, verb_of}
+use Rattle.show_run.proofs.Prelude.{◌≡◌, ◌⊎◌, inl, inr, ℕ, ◌≤◌, ◌==◌, nat_le, Bool, true, not, Contains, Option, Some, None, ap, refl, subst, arith, All-contains, Command, Direct, FlightOptions, Behaves, Does, Run, Span, verb_of}
 use Rattle.std.proofs.lemmas.Bool.Decides.{nat_tests}
 use Rattle.std.proofs.lemmas.List.Sums.{AllPass-from_list_all}
 use Rattle.std.specs.List.{list_all}
@@ -48,14 +48,13 @@ pub does_as : (c d : Command) (m : Span) (status : ℕ) → c ≡ d → Does (ve
 does_as c d m status same does = subst (λ (e : Command). Does (verb_of e) m status) same does
 
 -- what a flight is allowed by its command; of another command nothing
-abbrev pub options_in : Command → Options → Options
-options_in (Direct depth near at_place silence floor descent then_land) o = options_of depth near at_place silence floor descent then_land
+abbrev pub options_in : Command → FlightOptions → FlightOptions
+options_in (Direct options) o = options
 options_in c o = o
 
--- what holds of a flight by its command holds of it by its numbers
-pub flight_as : (P : Options → Type 0) (c : Command) (o : Options) (depth near at_place silence floor descent : ℕ) (then_land : Bool) → c ≡ Direct depth near at_place silence floor descent then_land → P (options_in c o) →
-    P (options_of depth near at_place silence floor descent then_land)
-flight_as P c o depth near at_place silence floor descent then_land same holds = subst P (ap (λ (d : Command). options_in d o) same) holds
+-- what holds of a flight by one name of its command holds of it by another
+pub flight_as : (P : FlightOptions → Type 0) (o p : FlightOptions) → Direct o ≡ Direct p → P o → P p
+flight_as P o p same holds = subst P (ap (λ (d : Command). options_in d o) same) holds
 
 -- words are one command
 pub one_command : (words : Option Command) (c d : Command) → words ≡ Some c → words ≡ Some d → c ≡ d

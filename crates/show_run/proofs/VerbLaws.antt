@@ -1,5 +1,5 @@
 -- Each command keeps the laws of a command, and what status 0 of it says.
-use Rattle.show_run.proofs.Prelude.{help_text, Command, Help, Version, Check, Compile, Certify, Play, Report, Verify, Rehearse, Upload, Direct, Drill, Boxes, Speed, Explain, Dynamics, drill_text, DirectLaw, drill_of, report_of, options_of, verb_of}
+use Rattle.show_run.proofs.Prelude.{help_text, Command, Help, Version, Check, Compile, Certify, Play, Report, Verify, Rehearse, Upload, Direct, Drill, Boxes, Speed, Explain, Dynamics, drill_text, DirectLaw, drill_of, report_of, verb_of}
 use Rattle.report_text.specs.Report.{report_text}
 use Rattle.show_judge.specs.Outcome.{IsVerb}
 use Rattle.show_judge.proofs.DriverLemmas.{show_verb}
@@ -26,7 +26,7 @@ laws verify rehearse uploading direct boxes (Report depth) = show_verb depth (λ
 laws verify rehearse uploading direct boxes Verify = verify
 laws verify rehearse uploading direct boxes (Rehearse depth start readback) = rehearse depth start readback
 laws verify rehearse uploading direct boxes (Upload depth start readback) = uploading depth start readback
-laws verify rehearse uploading direct boxes (Direct depth near at_place silence floor descent then_land) = direct.up (options_of depth near at_place silence floor descent then_land)
+laws verify rehearse uploading direct boxes (Direct options) = direct.up options
 laws verify rehearse uploading direct boxes (Drill drones depth) = own_verb depth (drill_text drones) (λ s. drill_of (report_of s depth))
 laws verify rehearse uploading direct boxes (Boxes depth) = boxes depth
 laws verify rehearse uploading direct boxes (Speed depth limit) = speed_laws depth limit

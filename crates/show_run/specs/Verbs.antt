@@ -1,5 +1,5 @@
 -- The commands of the program.
-use Rattle.std.specs.Prelude.{◌≡◌, ℕ, pos, Bool, List, [], ◌∷◌, map, string_bytes, codes, slice_get, Option, Some}
+use Rattle.std.specs.Prelude.{◌≡◌, ℕ, List, [], ◌∷◌, map, string_bytes, codes, slice_get, Option, Some}
 use Rattle.std.specs.Prelude.{String}
 use Rattle.std.specs.declared.alloc.Global.{Global}
 use Rattle.command_words.specs.Commands.{command_of, help_text}
@@ -7,7 +7,6 @@ use Rattle.command_words.specs.declared.command.Command.{Command}
 use Rattle.command_words.specs.declared.command.Command.TheVariants.{Help, Version, Check, Compile, Certify, Play}
 use Rattle.command_words.specs.declared.command.Command.TheVariants.{Report, Verify, Rehearse, Upload, Direct, Drill}
 use Rattle.command_words.specs.declared.command.Command.TheVariants.{Boxes, Speed, Explain, Dynamics}
-use Rattle.show_direct.specs.declared.options.Options.{Options}
 use Rattle.show_direct.specs.Direct.{direct_verb}
 use Rattle.show_judge.specs.Verb.{Verb}
 use Rattle.show_looks.specs.Certify.{certify_verb}
@@ -30,18 +29,6 @@ use Rattle.show_verify.specs.Verify.{verify_verb}
 abbrev pub command_in : List (String Global) → Option Command
 command_in words = command_of (map string_bytes words)
 
--- what a flight is allowed, as an option names each
-abbrev pub options_of : ℕ → ℕ → ℕ → ℕ → ℕ → ℕ → Bool → Options
-options_of depth near at_place silence floor descent then_land = record {
-  near = near;
-  at_place = at_place;
-  silence = silence;
-  floor = pos floor;
-  descent = descent;
-  then_land = then_land;
-  depth = depth;
-}
-
 -- what it reads, gives, promises and writes: a line a command
 abbrev pub verb_of : Command → Verb
 verb_of Help = help_verb help_text
@@ -54,8 +41,7 @@ verb_of (Report depth) = report_verb depth
 verb_of Verify = verify_verb
 verb_of (Rehearse depth start readback) = rehearse_verb depth start readback
 verb_of (Upload depth start readback) = upload_verb depth start readback
-verb_of (Direct depth near at_place silence floor descent then_land) =
-    direct_verb (options_of depth near at_place silence floor descent then_land)
+verb_of (Direct options) = direct_verb options
 verb_of (Drill drones depth) = drill_verb drones depth
 verb_of (Boxes depth) = boxes_verb depth
 verb_of (Speed depth limit) = speed_verb depth limit

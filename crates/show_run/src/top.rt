@@ -8,6 +8,7 @@ ghost use Rattle.byte_streams.specs.Memory.{told_sure};
 ghost use Rattle.byte_streams.specs.Taken.{AppendsFront};
 ghost use Rattle.byte_streams.specs.Told.{Gives};
 ghost use Rattle.command_words.specs.Commands.{IsCommand};
+ghost use Rattle.command_words.specs.declared.flight.FlightOptions.{FlightOptions};
 ghost use Rattle.drill_show.specs.Drill.{drill_text};
 ghost use Rattle.refusals.specs.Lines.{usage_line};
 ghost use Rattle.show_judge.specs.Headline.{FliesText, UploadsText};
@@ -21,43 +22,19 @@ ghost use Rattle.show_studies.specs.Explained.{TellsTouches};
 ghost use Rattle.show_studies.specs.Speeds.{KeepsSpeeds};
 ghost use Rattle.show_direct.specs.Direct.{FliesWhole, FlyAsOne, HasBegun as FlightBegun};
 ghost use Rattle.show_uploads.specs.Upload.{HasBegun};
-ghost use Rattle.show_run.specs.Verbs.{IsCalled, command_in, judges_apart, options_of, verb_of};
+ghost use Rattle.show_run.specs.Verbs.{IsCalled, command_in, judges_apart, verb_of};
 
 use byte_streams::{Sink, Source, SureSink, SureSource};
 use choreo_reader::show_law;
 use command_words::{Command, command_of, help_text};
 use refusals::Refusal;
-use show_direct::{Options, direct, direct_law};
+use show_direct::{direct, direct_law};
 use show_judge::refuse;
 use show_looks::{certify, check, compile, drill, help, play, report, version};
 use show_studies::{Study, boxes, boxes_law, dynamics, explain, speed};
 use show_uploads::{rehearse, rehearse_law, upload, uploading_law};
 use show_verify::{verify, verify_law};
 use std::alloc::Global;
-use whole_numbers::Depth;
-
-fn options_of(
-    depth: Depth,
-    near: u16,
-    at_place: u16,
-    silence: u32,
-    floor: u16,
-    descent: u32,
-    then_land: bool,
-) -> Options
-    requires { floor ≤ 32767 }
-    ensures { result ≡ options_of depth near at_place silence floor descent then_land }
-{
-    Options {
-        near,
-        at_place,
-        silence,
-        floor: floor as i16,
-        descent,
-        then_land,
-        depth,
-    }
-}
 
 fn run_command<S: Source, K: Sink>(
     alloc: Global,
@@ -71,11 +48,10 @@ fn run_command<S: Source, K: Sink>(
     ensures begun { (depth : ℕ) (start readback : Bool) (input : List ℕ) → command ≡ Command.Upload depth start readback
         → (S.told source.new).given ≡ (S.told source.old).given ++ input
         → HasBegun (K.written sink.old) (K.written sink.new) → UploadsText (part_of input) }
-    ensures flight { (depth near at_place silence floor descent : ℕ) (then_land : Bool) (input : List ℕ)
-        → command ≡ Command.Direct depth near at_place silence floor descent then_land
+    ensures flight { (options : FlightOptions) (input : List ℕ) → command ≡ Command.Direct options
         → (S.told source.new).given ≡ (S.told source.old).given ++ input
         → FlightBegun (K.written sink.old) (K.written sink.new) ⊎ (result ≡ 0)
-        → FlyAsOne (options_of depth near at_place silence floor descent then_land) input }
+        → FlyAsOne options input }
 {
     match command {
         Command::Help => help(help_text(), source, sink),
@@ -96,18 +72,7 @@ fn run_command<S: Source, K: Sink>(
             start,
             readback,
         } => upload(alloc, depth, start, readback, source, sink),
-        Command::Direct {
-            depth,
-            near,
-            at_place,
-            silence,
-            floor,
-            descent,
-            then_land,
-        } => {
-            let options = options_of(depth, near, at_place, silence, floor, descent, then_land);
-            direct(alloc, &options, source, sink)
-        }
+        Command::Direct { options } => direct(alloc, &options, source, sink),
         Command::Drill { drones, depth } => drill(alloc, drones, depth, source, sink),
         Command::Boxes { depth } => boxes(alloc, depth, source, sink),
         Command::Speed { depth, limit } => speed(alloc, depth, limit, source, sink),
@@ -204,18 +169,17 @@ pub fn run<S: Source, K: Sink>(
     // 0 of `direct`: the input is three texts and frames. The texts stand for shows that are a flight. By the events in
     // the frames each drone was told all its orders and nothing else, was at its curve in each sample of the show, and
     // was never silent in it.
-    ensures flown { (depth near at_place silence floor descent : ℕ) (then_land : Bool) (input : List ℕ)
-        → command_in words.now.items ≡ Some (Command.Direct depth near at_place silence floor descent then_land)
+    ensures flown { (options : FlightOptions) (input : List ℕ)
+        → command_in words.now.items ≡ Some (Command.Direct options)
         → (S.told source.new).given ≡ (S.told source.old).given ++ input → result ≡ 0
-        → FliesWhole (options_of depth near at_place silence floor descent then_land) input (K.written sink.old)
-        (K.written sink.new) }
+        → FliesWhole options input (K.written sink.old) (K.written sink.new) }
     // Then, and at each status once a byte was written that begins no end frame: at every instant of each of the
     // three what drones are sent keeps near to what the show says, and any two drones keep apart.
-    ensures flight { (depth near at_place silence floor descent : ℕ) (then_land : Bool) (input : List ℕ)
-        → command_in words.now.items ≡ Some (Command.Direct depth near at_place silence floor descent then_land)
+    ensures flight { (options : FlightOptions) (input : List ℕ)
+        → command_in words.now.items ≡ Some (Command.Direct options)
         → (S.told source.new).given ≡ (S.told source.old).given ++ input
         → FlightBegun (K.written sink.old) (K.written sink.new) ⊎ (result ≡ 0)
-        → FlyAsOne (options_of depth near at_place silence floor descent then_land) input }
+        → FlyAsOne options input }
 
     // 0 of `compile`: the input stands for a show, and its plan was written. Of the trajectories of this plan each
     // upload goes right, as `uploads` says: once it is done, or once each drone accepted its packets from any

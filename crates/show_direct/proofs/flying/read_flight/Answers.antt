@@ -1,24 +1,24 @@
-use Rattle.show_direct.proofs.Prelude.{◌≡◌, Err, List, Ok, Result, ℕ, subst, sym, Exchange, Went, Went-trans, back, Accepted, Flight, Held, MarkerLaw, Options, ShowLaw, Told, Unflown, unflown_by, FlightRead, IsRead, coming, down_exchange, flight_exchange, show_exchange, up_exchange}
+use Rattle.show_direct.proofs.Prelude.{◌≡◌, Err, List, Ok, Result, ℕ, subst, sym, Exchange, Went, Went-trans, back, Accepted, Flight, Held, MarkerLaw, FlightOptions, ShowLaw, Told, Unflown, unflown_by, FlightRead, IsRead, coming, down_exchange, flight_exchange, show_exchange, up_exchange}
 use Rattle.std.specs.Result.{IsErrAnd}
 use Rattle.show_direct.proofs.CarryLemmas.{ends, little_read, read_next}
 use Rattle.show_direct.proofs.FlownLemmas.{flight_read, no_flight_read}
 use Rattle.show_direct.proofs.flying.read_flight.Goals as goal
 
 -- what a `?` returns
-failed : (o : Options) (all : List ℕ) (x : Exchange) (held holds : Held) (t u : Told) (result : Result Flight Unflown) (why : Unflown) → IsErrAnd result (λ e. e ≡ why) →
+failed : (o : FlightOptions) (all : List ℕ) (x : Exchange) (held holds : Held) (t u : Told) (result : Result Flight Unflown) (why : Unflown) → IsErrAnd result (λ e. e ≡ why) →
     FlightRead o all x held t holds u (Err why) → FlightRead o all x held t holds u result
 failed o all x held holds t u (Ok f) why is read = absurd is
 failed o all x held holds t u (Err e) why is read = subst (λ (w : Unflown). FlightRead o all x held t holds u (Err w)) (sym is) read
 
 -- two texts were read, or three
-two : ShowLaw → MarkerLaw → (o : Options) (all : List ℕ) (p q r z : Held) (t u v w : Told) (a b : Accepted) (result : Result Flight Unflown) → (up : IsRead o.depth (coming p all t) (coming q all u) q.ended a) →
+two : ShowLaw → MarkerLaw → (o : FlightOptions) (all : List ℕ) (p q r z : Held) (t u v w : Told) (a b : Accepted) (result : Result Flight Unflown) → (up : IsRead o.depth (coming p all t) (coming q all u) q.ended a) →
     (show : IsRead o.depth (coming q all u) (coming r all v) r.ended b) → Went p.ended q.ended t u → Went q.ended r.ended u v →
     FlightRead o all (down_exchange o up.accepted.s show.accepted.s) r v z w result → FlightRead o all (up_exchange o) p t z w result
 two law marker o all p q r z t u v w a b result up show first second later =
     read_next law marker o.depth (λ s. show_exchange o s) o all p q z t u w a result up first
     (read_next law marker o.depth (λ s. down_exchange o up.accepted.s s) o all q r z u v w b result show second later)
 
-three : ShowLaw → MarkerLaw → (o : Options) (all : List ℕ) (p q r s z : Held) (t u v x w : Told) (a b d : Accepted) (result : Result Flight Unflown) → (up : IsRead o.depth (coming p all t) (coming q all u) q.ended a) →
+three : ShowLaw → MarkerLaw → (o : FlightOptions) (all : List ℕ) (p q r s z : Held) (t u v x w : Told) (a b d : Accepted) (result : Result Flight Unflown) → (up : IsRead o.depth (coming p all t) (coming q all u) q.ended a) →
     (show : IsRead o.depth (coming q all u) (coming r all v) r.ended b) → (down : IsRead o.depth (coming r all v) (coming s all x) s.ended d) → Went p.ended q.ended t u → Went q.ended r.ended u v → Went r.ended s.ended v x →
     FlightRead o all (flight_exchange o up.accepted.s show.accepted.s down.accepted.s) s x z w result → FlightRead o all (up_exchange o) p t z w result
 three law marker o all p q r s z t u v x w a b d result up show down first second third later =

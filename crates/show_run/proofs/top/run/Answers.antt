@@ -38,14 +38,14 @@ returns-in-Some-clause-begun g c = λ depth start readback input is left begun.
     c.run_command.ensures.begun depth start readback input (one_command _ c.in-Some.command (Upload depth start readback) (sym c.command_of.ensures.value ∙ c.in-Some.is) is) left begun
 
 pub returns-in-Some-clause-flight : goal.returns-in-Some-clause-flight
-returns-in-Some-clause-flight g c = λ depth near at_place silence floor descent then_land input is left began.
-    c.run_command.ensures.flight depth near at_place silence floor descent then_land input
-    (one_command _ c.in-Some.command (Direct depth near at_place silence floor descent then_land) (sym c.command_of.ensures.value ∙ c.in-Some.is) is) left began
+returns-in-Some-clause-flight g c = λ options input is left began.
+    c.run_command.ensures.flight options input
+    (one_command _ c.in-Some.command (Direct options) (sym c.command_of.ensures.value ∙ c.in-Some.is) is) left began
 
 pub returns-in-Some-clause-flown : goal.returns-in-Some-clause-flown
-returns-in-Some-clause-flown g c = λ depth near at_place silence floor descent then_land input is left done.
-    let behaves = behaves_as c.in-Some.command (Direct depth near at_place silence floor descent then_land) _ _
-    (one_command _ c.in-Some.command (Direct depth near at_place silence floor descent then_land) (sym c.command_of.ensures.value ∙ c.in-Some.is) is) (c.run_command.ensures.behaves.behaves (g.S.Source.told c.run_command.new.source).given (IsInput-now (g.S.Source.told c.run_command.new.source))) in
+returns-in-Some-clause-flown g c = λ options input is left done.
+    let behaves = behaves_as c.in-Some.command (Direct options) _ _
+    (one_command _ c.in-Some.command (Direct options) (sym c.command_of.ensures.value ∙ c.in-Some.is) is) (c.run_command.ensures.behaves.behaves (g.S.Source.told c.run_command.new.source).given (IsInput-now (g.S.Source.told c.run_command.new.source))) in
     rw (comes (g.S.Source.told c.args.source.now) (g.S.Source.told c.run_command.new.source).given input left) at (behaves.headline done)
 
 pub returns-in-Some-clause-drilled : goal.returns-in-Some-clause-drilled

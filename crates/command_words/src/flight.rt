@@ -3,8 +3,8 @@
 use whole_numbers::Depth;
 
 /// What a flight is allowed, and how deep its shows are searched. Lengths in millimetres, times in milliseconds.
-#[derive(Clone, Copy)]
-pub struct Options {
+#[derive(Clone, Copy, PartialEq, Eq)]
+pub struct FlightOptions {
     /// How near a drone has to be to its pad, and to its position in the air.
     pub near: u16,
     pub at_place: u16,
