@@ -1,15 +1,10 @@
 """Judges texts of shows from the documents alone: their first fault, or what the commands answer.
 
-For bench/language. `language/choreo.py` of the package reads texts and writes cues out, separation.py searches for
-directions; this module puts their refusals into the order of docs/COMMANDS.md.
+For bench/language and bench/random, behind scripts.py. `language/choreo.py` of the package reads texts and writes cues
+out, separation.py searches for directions; this module puts their refusals into the order of docs/COMMANDS.md.
 """
 from __future__ import annotations
 
-import os
-import sys
-
-sys.dont_write_bytecode = True  # so that importing leaves no file beside the scripts
-sys.path.insert(0, os.path.join(os.path.dirname(os.path.dirname(os.path.abspath(__file__))), "python"))
 from hemtoghai.language import choreo
 from hemtoghai.language.choreo import Refused
 import separation

@@ -2,7 +2,7 @@
 the program writes. The package's folder has to be on `sys.path`."""
 from __future__ import annotations
 
-from collections.abc import Iterator
+from collections.abc import Iterable, Iterator
 
 from hemtoghai.language.choreo import Flown
 
@@ -21,13 +21,16 @@ def packets(memory: int, offset: int, trajectory: int, data: bytes, pieces: int)
     yield "start", bytes([0x8C, 5, 0, 0, 0, trajectory, 0, 0, 0x80, 0x3F])
 
 
+def plan_text(rows: Iterable[tuple[str, bytes, int]], memory: int = 2, offset: int = 0, trajectory: int = 0) -> str:
+    """The text of a plan, of each drone's name, the bytes of its trajectory, and how many pieces these have."""
+    out = "plan 1\n"
+    for name, data, pieces in rows:
+        out += "drone %s bytes %d pieces %d\ndata %s\n" % (name, len(data), pieces, digits(data))
+        out += "".join("%s %s\n" % (word, digits(it)) for word, it in packets(memory, offset, trajectory, data, pieces))
+    return out + "end\n"
+
+
 def plan_of(flown: Flown) -> str:
     """The text of a show's plan."""
-    memory, offset = flown.show.settings["memory"]
-    (trajectory,) = flown.show.settings["trajectory"]
-    out = "plan 1\n"
-    for name, segments, data in zip(flown.names, flown.sent, flown.data()):
-        out += "drone %s bytes %d pieces %d\ndata %s\n" % (name, len(data), len(segments), digits(data))
-        for word, packet in packets(memory, offset, trajectory, data, len(segments)):
-            out += "%s %s\n" % (word, digits(packet))
-    return out + "end\n"
+    rows = zip(flown.names, flown.data(), map(len, flown.sent))
+    return plan_text(rows, *flown.show.settings["memory"], *flown.show.settings["trajectory"])

@@ -15,7 +15,7 @@ from unittest import mock
 
 import common
 from common import TOP
-
+import scripts
 
 
 def module_of(name, *path):
@@ -85,6 +85,45 @@ class Table(unittest.TestCase):
 
     def test_names_differ(self):
         self.assertEqual(len({row.name for row in ALL.ROWS}), len(ALL.ROWS))
+
+
+class Words(unittest.TestCase):
+    def words_of(self, *words, **more):
+        with mock.patch("sys.argv", ["bench", *words]), contextlib.redirect_stderr(io.StringIO()):
+            return vars(scripts.words_of("", more.pop("program", False), more.pop("names", ""), **more))
+
+    def test_options(self):
+        given = {"seed": 7, "minutes": 1.5, "quick": False, "form": [1, 2], "rows_of": (), "out": ""}
+        self.assertEqual(self.words_of(**given), {**given, "form": None})
+        words = "--seed 9 --minutes 2 --quick --form 2 --rows-of a b --out there".split()
+        self.assertEqual(self.words_of(*words, **given),
+                         {"seed": 9, "minutes": 2.0, "quick": True, "form": 2, "rows_of": ["a", "b"], "out": "there"})
+        self.assertEqual(self.words_of("a", "--seed", "2", "b", names="NAME", seed=1), {"seed": 2, "names": ["a", "b"]})
+        for words in (["--seed", "x"], ["--form", "3"], ["--quick", "a"], ["--none"]):
+            with self.assertRaises(SystemExit):
+                self.words_of(*words, **given)
+
+    def test_program(self):
+        self.assertEqual(self.words_of("/bin/sh", program=True), {"program": "/bin/sh"})
+        with self.assertRaises(SystemExit) as ended:
+            self.words_of("/none", program=True)
+        self.assertEqual(ended.exception.code, "no program at /none: run ./show once, which builds it")
+        self.assertEqual(self.words_of("/none", "--unproved", program=True, unproved=False)["unproved"], True)
+
+    def test_differing(self):
+        # The first job whose answer is another: its status, its output, or a line on standard error.
+        jobs = [(["-c", "cat; exit 3"], b"a", (3, "a")), (["-c", "echo b"], b"", (0, "b\n"))]
+        self.assertIsNone(scripts.differing("/bin/sh", jobs))
+        for words, wanted, came in (("exit 1", (0, ""), (1, "")), ("echo b", (0, "c\n"), (0, "b\n")),
+                                    ("echo b >&2", (0, ""), (0, "b\n"))):
+            job = ["-c", words], b"", wanted
+            self.assertEqual(scripts.differing("/bin/sh", [*jobs, job]), (*job, came))
+
+    def test_needed(self):
+        self.assertEqual(scripts.needed_by(["itoa"]), set())  # one of the toolchain's
+        with mock.patch.object(scripts, "libraries", lambda: {"a": ("a: b", ["b", "std"]), "b": ("b:", []), "c": ("c: a", ["a"])}):
+            self.assertEqual(scripts.needed_by(["a"]), {"a", "b"})
+            self.assertEqual(scripts.needed_by(["c", "none"]), {"a", "b", "c"})
 
 
 @unittest.skipUnless(shutil.which("rt"), "the toolchain isn't installed")
