@@ -68,18 +68,6 @@ def all_of(frames: Sequence[Frames]) -> Frames:
     return list(chain.from_iterable(frames))
 
 
-def many_frames(plan: bytes, count: int) -> bytes:
-    """So many frames: answers that were heard already, answers that match nothing and packets of another port, and last
-    the answers to all packets."""
-    loading = answers(plan)[0]
-    some = []
-    for first, *_ in loading:
-        some += [first, first, first[:-3] + b"\x77" + first[-2:], frame(1, b"\0Hi")]
-    last = all_of(loading)
-    rest = count - len(last)
-    return b"".join(some) * (rest // len(some)) + b"".join(some[:rest % len(some)] + last)
-
-
 def flown(plan: bytes) -> str:
     """A schedule in which each packet is taken twice, and the answers are heard."""
     lines = []

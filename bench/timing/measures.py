@@ -8,7 +8,7 @@ import shutil
 import subprocess
 import sys
 import tempfile
-from typing import IO, Callable, Sequence
+from typing import Callable, Sequence
 
 from scripts import TOP
 
@@ -22,7 +22,7 @@ def processor_ms() -> float:
     return 1000 * (taken.ru_utime + taken.ru_stime)
 
 
-def least(fits: Callable[[int], bool], near: int = 16) -> int:
+def least(fits: Callable[[int], bool], near: int) -> int:
     """The least KiB for which this holds, to so many KiB. The script ends if it doesn't hold for MOST_KIB."""
     if not fits(MOST_KIB):
         sys.exit("%d KiB of address space aren't enough; an unproved program's run-time tests take more" % MOST_KIB)
@@ -34,22 +34,22 @@ def least(fits: Callable[[int], bool], near: int = 16) -> int:
 
 
 class Run:
-    """A command over an input and an output, or none. `ms` is the least processor time of its runs in milliseconds."""
+    """A command over an input. `ms` is the least processor time of its runs in milliseconds."""
 
-    def __init__(self, words: Sequence[str], text: bytes = b"", sink: int | IO[bytes] = subprocess.DEVNULL) -> None:
-        self.words, self.sink, self.ms = list(words), sink, float("inf")
+    def __init__(self, words: Sequence[str], text: bytes = b"") -> None:
+        self.words, self.ms = list(words), float("inf")
         self.source = tempfile.TemporaryFile()
         self.source.write(text)
         self.source.flush()
 
-    def ended(self, most: int | None = None, sink: int | IO[bytes] | None = None,
+    def ended(self, most: int | None = None, sink: int = subprocess.DEVNULL,
               before: Sequence[str] = ()) -> subprocess.CompletedProcess[bytes]:
         """One run with at most this many KiB of address space, after these words. Its output goes to the sink."""
         def limit() -> None:
             if most is not None:
                 resource.setrlimit(resource.RLIMIT_AS, (most << 10, most << 10))
         self.source.seek(0)
-        return subprocess.run([*before, *self.words], stdin=self.source, stdout=self.sink if sink is None else sink,
+        return subprocess.run([*before, *self.words], stdin=self.source, stdout=sink,
                               stderr=subprocess.PIPE if before else subprocess.DEVNULL,
                               preexec_fn=None if most is None else limit)
 
@@ -74,24 +74,17 @@ class Run:
         """The status, and how many instructions valgrind's cachegrind counts, 0 without valgrind."""
         if not shutil.which("valgrind"):
             return self.ended().returncode, 0
-        done = self.ended(sink=subprocess.DEVNULL, before=(
-            "valgrind", "--tool=cachegrind", "--cache-sim=no", "--cachegrind-out-file=/dev/null"))
+        done = self.ended(before=("valgrind", "--tool=cachegrind", "--cache-sim=no", "--cachegrind-out-file=/dev/null"))
         found = re.search(rb"I\s+refs:\s+([\d,]+)", done.stderr)
         return done.returncode, int(found[1].replace(b",", b"")) if found else 0
 
 
-def timed(*runs: Run, times: int | None = None) -> None:
+def timed(*runs: Run) -> None:
     """Runs all of them in turns, so that a load of the machine meets each, and keeps the least time of each."""
-    for _ in range(times or RUNS):
+    for _ in range(RUNS):
         for run in runs:
-            if isinstance(run.sink, int):
-                before = processor_ms()
-                run.ended()
-            else:
-                run.sink.seek(0)
-                run.sink.truncate()
-                before = processor_ms()
-                run.ended()
+            before = processor_ms()
+            run.ended()
             run.ms = min(run.ms, processor_ms() - before)
 
 

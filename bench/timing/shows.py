@@ -40,14 +40,12 @@ def grid(drones: int, apart: int) -> list[Point]:
     return [(apart * (i % 6), apart * (i // 6)) for i in range(drones)]
 
 
-def drill(drones: int, repeated: bool = True) -> bytes:
-    """A grid of drones that rise, step aside, sink and step back in turn, ten times: by `repeat`, or written out."""
+def drill(drones: int) -> bytes:
+    """A grid of drones that rise, step aside, sink and step back in turn, ten times."""
     places, cues = grid(drones, HEIGHT), []
     for aside, up in ((0, True), (500000, True), (500000, False), (0, False)):
         cues.append((3000, [move(i, (x + aside, y, HEIGHT * (2 if up and i % 2 else 1)))
                             for i, (x, y) in enumerate(places)]))
-    if not repeated:
-        return show(places, 10 * cues, ())
     return show(places, cues, ()).replace(b"cue", b"repeat 10\ncue", 1) + b"end\n"
 
 
@@ -71,11 +69,6 @@ def tall(cues: int) -> bytes:
                 for i, (x, y) in enumerate(places)]
     both = acts(100000, 200000), acts(100000, 0)
     return show(places, [(2000, both[cue % 2]) for cue in range(cues)])
-
-
-def holds(drones: int, cues: int, ms: int) -> bytes:
-    """A grid of drones that hold."""
-    return show(grid(drones, 2000000), [(ms, [])] * cues)
 
 
 def dense(cues: int) -> bytes:

@@ -1,14 +1,15 @@
-"""Tables of the program alone: times, memory and instructions over generated shows."""
+"""Tables of times, memory and instructions over generated shows, and of the plain program beside, which needs rustc."""
 from __future__ import annotations
 
 import subprocess
 import sys
-from itertools import chain
+import tempfile
+from itertools import chain, islice
 from typing import Iterable
 
 from timing import inputs, shows
 from timing.inputs import MARKER, said
-from timing.measures import Run, row, timed
+from timing.measures import Run, plain_program, row, timed
 
 MIB = 1 << 20
 
@@ -20,17 +21,6 @@ def measured(program: str, words: list[str], text: bytes) -> Run:
     return run
 
 
-def cues(program: str) -> None:
-    """`check` of 32 drones that fly curves in 64, 128 and 255 cues: memory beside the text and a least show's."""
-    row("cues", "bytes", "check ms", "KiB", "beside KiB")
-    least = Run([program, "check"], shows.curves(1, 1)).least_kib()
-    for count in (64, 128, 255):
-        text = shows.curves(32, count)
-        run = measured(program, ["check"], text)
-        most = run.least_kib()
-        row(count, len(text), run.ms, most, most - least - len(text) // 1024)
-
-
 def drill(program: str) -> None:
     """`certify` of the drill for 4 to 32 drones at depths 6 and 8, with the nodes of the certificate."""
     row("drones", "depth", "status", "nodes", "certify ms", "nodes/ms", "KiB")
@@ -40,56 +30,6 @@ def drill(program: str) -> None:
             status, out = run.answer()
             count = sum(map(inputs.nodes, inputs.trees(out))) if status == 0 else 0
             row(drones, depth, status, count, run.ms, count / run.ms, run.least_kib())
-
-
-def verify(program: str) -> None:
-    """`verify` of the drill for four drones with certificates of 1,000, 10,000 and 100,000 nodes."""
-    show = shows.drill(4)
-    certificate = said(program, ["certify", "--depth", "8"], show)
-    row("nodes", "verify ms", "nodes/ms", "KiB")
-    for wanted in (1000, 10000, 100000):
-        grown = inputs.grown(certificate, wanted)
-        run = measured(program, ["verify"], show + MARKER + grown)
-        count = sum(map(inputs.nodes, inputs.trees(grown)))
-        row(count, run.ms, count / run.ms, run.least_kib())
-        run.output()
-
-
-SOLO = {1: b"choreo 1\ndrone solo 0 0 1000000 0\ncue 2000\nsolo move 1000000 0 1000000 0\nend\n",
-        2: b"choreo 2\ndrone solo 0 0 1m 0\ncue 2s\nsolo move 1m 0 1m 0\nend\n"}
-UNUSED = {1: b"cue 2000\nr move 1234567 -234567 1000000 905\nend\n",
-          2: b"cue 2s\nr move 1.234567m -0.234567m 100cm 90.5deg\nend\n"}
-
-
-def comments(form: int, size: int) -> bytes:
-    """A text of this many bytes: lines of comments, and then the show."""
-    line = b"#" + b" a comment of some words" * 3 + b"\n"
-    room = size - len(SOLO[form])
-    front = line * (room // len(line))
-    return front + b"#" * (room - len(front) - 1) + b"\n" + SOLO[form]
-
-
-def numbers(form: int, size: int) -> bytes:
-    """A text of nearly this many bytes: the show, and then a figure of as many cues as there is room for."""
-    head, cue, end = b"figure f r\n", UNUSED[form], b"end\n"
-    room = size - len(SOLO[form] + head + end)
-    return SOLO[form] + (head + cue * (room // len(cue)) + end if room >= len(cue) else b"#\n")
-
-
-def texts(program: str) -> None:
-    """`compile` of a small show with much text around it, comments or numbers, beside `cat`; memory beyond it."""
-    row("text", "form", "bytes", "compile ms", "cat ms", "more KiB")
-    for form in (1, 2):
-        for kind in (comments, numbers):
-            base = None
-            for size in (len(SOLO[form]) + 2, 64 << 10, 256 << 10, MIB):
-                text = kind(form, size)
-                run, cat = Run([program, "compile"], text), Run(["cat"], text)
-                run.output()
-                timed(run, cat)
-                most = run.least_kib()
-                base = most if base is None else base
-                row(kind.__name__, form, len(text), run.ms, cat.ms, most - base)
 
 
 def readback(program: str) -> None:
@@ -165,3 +105,27 @@ def certificates(program: str) -> None:
                                ("a byte longer", most + 1, inputs.splits(most + 1))):
         status, answer = fed(program, chain((show, MARKER), second))
         row(name, size, status, "", "", answer)
+
+
+def same(mine: Run, theirs: Run) -> None:
+    """The script ends if the two programs write different things or end with different statuses."""
+    if mine.answer() != theirs.answer():
+        sys.exit("%s: the two programs end differently" % " ".join(mine.words[1:]))
+
+
+def plain(program: str) -> None:
+    """Ten commands beside the plain program, over dense and other shows: times, millions of instructions, ratios."""
+    row("show and command", "program ms", "plain ms", "ratio", "program M", "plain M", "ratio")
+    with tempfile.TemporaryDirectory() as folder:
+        other = plain_program(folder)
+        for name, text in shows.compared():
+            jobs = inputs.jobs(program, name, text, ("play", "--step", "10"))
+            for words, whole in islice(jobs, 3 if name.endswith(" set") else None):
+                if words[0] in ("report", "rehearse"):
+                    continue
+                mine, theirs = (Run([path, *words], whole) for path in (program, other))
+                same(mine, theirs)
+                timed(mine, theirs)
+                counts = [run.instructions()[1] / 1e6 for run in (mine, theirs)]
+                row("%s, %s" % (name, words[0]), mine.ms, theirs.ms, mine.ms / theirs.ms, *counts,
+                    counts[0] / counts[1] if counts[1] else "")
